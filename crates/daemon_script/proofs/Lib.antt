@@ -1,0 +1,5 @@
+pub mod Collected
+pub mod Ran
+pub mod Ranges
+pub mod Runs
+pub mod Writes

@@ -1,0 +1,88 @@
+-- What the lines of a script can hold.
+use Rattle.std.proofs.Common.{◌≡◌, ℕ, ◌<◌, ◌≤◌, ◌-◌, Bool, true, false, List, [], ◌∷◌, Option, Some, None, Result, Ok, Err, cond, refl, ap, sym, arith}
+use Rattle.std.specs.Prelude.{◌==◌, ◌&&◌, nat_le, codes}
+use Rattle.std.specs.List.{list_all}
+use Rattle.std.specs.Str.{bytes_eq}
+use Rattle.std.proofs.lemmas.Bool.Decides.{nat_tests}
+use Rattle.mpd_text.specs.Numbers.{number_of}
+use Rattle.mpd_text.specs.Scan.{words_of}
+use Rattle.mpd_text.specs.Songs.{SongData}
+use Rattle.mpd_text.specs.declared.quoting.WordsFault.{WordsFault}
+use Rattle.script_lines.specs.Cuts.{before, behind}
+use Rattle.script_lines.specs.Limits.{limit_named, greatest_of, within, number_within}
+use Rattle.script_lines.specs.Lines.{LineData, ClientLine, StepLine, BadLine, by_head, script_line_of}
+use Rattle.script_lines.specs.Steps.{step_of, step_if_read, song_of, song_with, is_uri, limit_of, limit_with, limit_to}
+use Rattle.script_lines.specs.Tags.{is_tag, tags_of}
+use Rattle.script_lines.specs.declared.limit.LimitName.{LimitName}
+use Rattle.script_lines.specs.declared.step.Step.{Step}
+use Rattle.script_lines.specs.declared.step.Step.TheVariants.{Song, Limit}
+
+digit : (a b : Bool) (c : ℕ) (rest line : List ℕ) (number : ℕ) → (b ≡ true → c ≤ 57)
+    → cond a (StepLine rest) (cond b (ClientLine (c - 48) rest) BadLine) ≡ ClientLine number line → number < 10
+digit true b c rest line number h e = cc
+digit false true c rest line number h e = let n : c - 48 ≡ number = cc in let le = h refl in omega arith
+digit false false c rest line number h e = cc
+
+head_digit : (head rest line : List ℕ) (number : ℕ) → by_head head rest ≡ ClientLine number line → number < 10
+head_digit [] rest line number e = cc
+head_digit (c ∷ []) rest line number e =
+    digit (c == 33) (nat_le 49 c && nat_le c 57) c rest line number (λ t. grind (arith, nat_tests)) e
+head_digit (c ∷ d ∷ ds) rest line number e = cc
+
+-- a client's number is a digit
+pub client_digit : (text line : List ℕ) (number : ℕ) → ClientLine number line ≡ script_line_of text → number < 10
+unfolding script_line_of
+client_digit text line number e = head_digit (before 32 text) (behind 32 text) line number (sym e)
+
+positive : (b : Bool) (m n : ℕ) → (b ≡ true → 1 ≤ m) → cond b (Some m) None ≡ Some n → 1 ≤ n
+positive true m n h e = let same : m ≡ n = cc in let le = h refl in omega arith
+positive false m n h e = cc
+
+within_positive : (greatest : ℕ) (o : Option ℕ) (n : ℕ) → within greatest o ≡ Some n → 1 ≤ n
+within_positive greatest None n e = cc
+within_positive greatest (Some m) n e = positive (nat_le 1 m && nat_le m greatest) m n (λ t. grind (arith, nat_tests)) e
+
+limit_is : (name : LimitName) (o : Option ℕ) (found : LimitName) (n : ℕ) → limit_to name o ≡ Some (Limit found n) → o ≡ Some n
+limit_is name None found n e = cc
+limit_is name (Some m) found n e = let same : m ≡ n = cc in ap Some same
+
+limit_positive : (named : Option LimitName) (word : List ℕ) (found : LimitName) (n : ℕ) → limit_with named word ≡ Some (Limit found n) → 1 ≤ n
+unfolding number_within
+limit_positive None word found n e = cc
+limit_positive (Some name) word found n e =
+    within_positive (greatest_of name) (number_of word) n (limit_is name (number_within (greatest_of name) word) found n e)
+
+limits_positive : (words : List (List ℕ)) (found : LimitName) (n : ℕ) → limit_of words ≡ Some (Limit found n) → 1 ≤ n
+limits_positive [] found n e = cc
+limits_positive (a ∷ []) found n e = cc
+limits_positive (a ∷ b ∷ []) found n e = limit_positive (limit_named a) b found n e
+limits_positive (a ∷ b ∷ c ∷ more) found n e = cc
+
+song_if : (b : Bool) (song : SongData) (found : LimitName) (n : ℕ) → cond b (Some (Song song)) None ≡ Some (Limit found n) → 1 ≤ n
+song_if true song found n e = cc
+song_if false song found n e = cc
+
+song_no_limit : (uri : List ℕ) (frames : Option ℕ) (words : List (List ℕ)) (found : LimitName) (n : ℕ) → song_with uri frames words ≡ Some (Limit found n) → 1 ≤ n
+song_no_limit uri None words found n e = cc
+song_no_limit uri (Some frames) words found n e =
+    song_if (is_uri uri && list_all is_tag words) (record { uri = uri; tags = tags_of words; frames = frames }) found n e
+
+songs_no_limit : (words : List (List ℕ)) (found : LimitName) (n : ℕ) → song_of words ≡ Some (Limit found n) → 1 ≤ n
+songs_no_limit [] found n e = cc
+songs_no_limit (a ∷ []) found n e = cc
+songs_no_limit (a ∷ b ∷ more) found n e = song_no_limit a (number_within 4294967295 b) more found n e
+
+step_if : (a b : Bool) (words : List (List ℕ)) (found : LimitName) (n : ℕ) → cond a (song_of words) (cond b (limit_of words) None) ≡ Some (Limit found n) → 1 ≤ n
+step_if true b words found n e = songs_no_limit words found n e
+step_if false true words found n e = limits_positive words found n e
+step_if false false words found n e = cc
+
+step_positive : (r : Result (List (List ℕ)) WordsFault) (found : LimitName) (n : ℕ) → step_if_read r ≡ Some (Limit found n) → 1 ≤ n
+step_positive (Err fault) found n e = cc
+step_positive (Ok []) found n e = cc
+step_positive (Ok (word ∷ words)) found n e = step_if (bytes_eq word (codes "song")) (bytes_eq word (codes "limit")) words found n e
+
+-- a limit that a step sets is at least 1
+pub limit_at_least_one : (rest : List ℕ) (found : LimitName) (n : ℕ) → Some (Limit found n) ≡ step_of rest → 1 ≤ n
+unfolding step_of
+limit_at_least_one rest found n e = step_positive (words_of rest) found n (sym e)

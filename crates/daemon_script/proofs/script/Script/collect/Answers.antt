@@ -1,0 +1,16 @@
+use Rattle.std.proofs.Common.{◌≡◌, ◌++◌, ◌∷◌, [], List, length, sym, ◌∙◌, ap, arith, rules, length-append, false}
+use Rattle.mpd_text.specs.Songs.{SongData}
+use Rattle.daemon_script.specs.Script.{has_uri}
+use Rattle.daemon_script.proofs.Collected.{once_more}
+use Rattle.daemon_script.proofs.script.Script.collect.Goals as goal
+
+pub invariant_of-self-2 : goal.invariant_of-self-2
+invariant_of-self-2 c =
+    let pushed : c.push.new.self.items ≡ c.self.inside.songs.items ++ c.args.song ∷ [] = search rules in
+    let new_uri : has_uri c.args.song.uri c.self.inside.songs.items ≡ false = search rules in
+    rw pushed
+    (record {
+      version = c.self.invariant.version;
+      few = omega (arith, length-append c.self.inside.songs.items (c.args.song ∷ []), c.len.ensures, c.if-len-ge-MAX_SONGS.false);
+      distinct = once_more c.self.inside.songs.items c.args.song c.self.invariant.distinct new_uri;
+    })

@@ -1,0 +1,4 @@
+pub mod Script
+pub mod Output
+pub mod Pieces
+pub mod Invariant

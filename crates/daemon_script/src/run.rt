@@ -1,0 +1,131 @@
+//! Whole runs of a script.
+ghost use Rattle.std.specs.Prelude.{◌≡◌, ◌⊎◌, OnOk, OnErr, IfErr, IfSome, IsErrOf, IsSome};
+ghost use Rattle.std.specs.Io.KnownBytes.{Appends};
+ghost use Rattle.mpd_text.specs.Cut.{split_from};
+ghost use Rattle.mpd_text.specs.Devices.{HasFailed, NoFewer};
+ghost use Rattle.mpd_text.specs.Lines.{views};
+ghost use Rattle.daemon_script.specs.Output.{WritesOutput, WritesAll, WritesFront, AppendsFront, CalledTooOften};
+ghost use Rattle.daemon_script.specs.Pieces.{ShowsLines, ShowsPiece};
+
+use crate::script::Script;
+use mpd_text::{Line, Sink, Source, SplitFault, Splitter, any_cut};
+use std::alloc::{AllocError, Global};
+
+/// The most reads of a run.
+pub const MAX_READS: u64 = 1 << 32;
+
+/// How many bytes are read at once.
+const PIECE: usize = 16_384;
+
+/// Why a run ended early.
+#[derive(Clone, Copy, Debug, PartialEq, Eq)]
+pub enum ScriptFault {
+    /// The input failed, or was read [`MAX_READS`] times.
+    ReadFault,
+    /// The output failed, or took no byte.
+    WriteFault,
+    /// There was no room to cut the input into lines or to hold what is printed.
+    NoMemory,
+}
+
+impl From<AllocError> for ScriptFault {
+    ghost use Rattle.std.specs.Prelude.{◌≡◌};
+    ghost use Rattle.daemon_script.specs.declared.run.ScriptFault.TheVariants.{NoMemory};
+
+    ghost from_gives = { λ _ e. e ≡ NoMemory };
+
+    fn from(_e: AllocError) -> ScriptFault {
+        ScriptFault::NoMemory
+    }
+}
+
+/// Reads a script to its end, or to a line that is too long, and writes what its lines print.
+///
+/// Client lines that find no memory print their line of number 52 and change nothing, and the run goes on.
+pub fn run_script<R: Source, W: Sink>(
+    alloc: Global,
+    reader: &mut R,
+    writer: &mut W,
+) -> Result<(), ScriptFault>
+    // What is written is the output for the input, by what its lines found of memory.
+    ensures ok { OnOk result (IfSome (R.remaining reader.old) (WritesOutput (W.contents writer.old) (W.contents writer.new))) }
+    // After a read fault it is the whole output for what was read, and else a front of it.
+    ensures read { IsErrOf result ScriptFault.ReadFault → WritesAll (R.remaining reader.old) (R.remaining reader.new) (W.contents writer.old) (W.contents writer.new) }
+    ensures front { OnErr result (WritesFront (R.remaining reader.old) (R.remaining reader.new) (W.contents writer.old) (W.contents writer.new)) }
+    // A fault of a device comes only where it failed, or was read too often, or its count stands at its greatest value.
+    ensures read_fault { IsErrOf result ScriptFault.ReadFault → HasFailed (R.tally reader.old) (R.tally reader.new) ⊎ CalledTooOften (R.tally reader.old) (R.tally reader.new) }
+    ensures write_fault { IsErrOf result ScriptFault.WriteFault → HasFailed (W.tally writer.old) (W.tally writer.new) }
+{
+    any_cut();
+    let mut splitter = Splitter::new(alloc);
+    let mut script = Script::new(alloc);
+    let mut shown = Vec::new(alloc);
+    let mut piece = [0u8; PIECE];
+    for _ in 0..MAX_READS {
+        let count = match reader.read_some(&mut piece) {
+            Ok(count) => count,
+            Err(_) => return Err(ScriptFault::ReadFault),
+        };
+        if count == 0 {
+            return Ok(());
+        }
+        shown.clear();
+        show_piece(&mut splitter, &mut script, &piece[..count], &mut shown)?;
+        write_whole(writer, shown.as_slice())?;
+        if splitter.is_closed() {
+            return Ok(());
+        }
+    }
+    Err(ScriptFault::ReadFault)
+}
+
+/// Runs the lines that a piece of the input ends, and appends what they print.
+fn show_piece(
+    splitter: &mut Splitter,
+    script: &mut Script,
+    piece: &[u8],
+    shown: &mut Vec<u8>,
+) -> Result<(), ScriptFault>
+    requires { IsSome splitter.old }
+    ensures shows { OnOk result (ShowsPiece splitter.old piece.now script.old script.new shown.old.items shown.new.items) }
+    ensures next { OnOk result (splitter.new ≡ (split_from splitter.old piece.now).next) }
+    ensures fault { IfErr result (λ fault. fault ≡ ScriptFault.NoMemory) }
+{
+    match splitter.feed(piece) {
+        Ok(lines) => Ok(show_lines(script, lines.as_slice(), shown)?),
+        Err(SplitFault::LineTooLong(lines)) => {
+            show_lines(script, lines.as_slice(), shown)?;
+            Ok(shown.extend_from_slice(b"! bad\n")?)
+        }
+        Err(SplitFault::NoMemory) => Err(ScriptFault::NoMemory),
+    }
+}
+
+/// Runs lines one after the other, and appends what they print.
+fn show_lines(script: &mut Script, lines: &[Line], shown: &mut Vec<u8>) -> Result<(), AllocError>
+    ensures { OnOk result (ShowsLines script.old script.new (views lines.now) shown.old.items shown.new.items) }
+{
+    for line in lines {
+        script.show(line, shown)?;
+    }
+    Ok(())
+}
+
+/// Writes all of the bytes.
+fn write_whole<W: Sink>(writer: &mut W, bytes: &[u8]) -> Result<(), ScriptFault>
+    ensures ok { OnOk result (Appends (W.contents writer.old) (W.contents writer.new) bytes.now) }
+    ensures err { IfErr result (λ fault. fault ≡ ScriptFault.WriteFault) }
+    ensures front { OnErr result (AppendsFront (W.contents writer.old) (W.contents writer.new) bytes.now) }
+    ensures failed { OnErr result (HasFailed (W.tally writer.old) (W.tally writer.new)) }
+    ensures calm { NoFewer (W.tally writer.old) (W.tally writer.new) }
+{
+    let mut rest = bytes;
+    while !rest.is_empty() {
+        match writer.write_some(rest) {
+            Ok(0) => return Err(ScriptFault::WriteFault),
+            Ok(n) => rest = &rest[n..],
+            Err(_) => return Err(ScriptFault::WriteFault),
+        }
+    }
+    Ok(())
+}

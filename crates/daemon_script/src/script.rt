@@ -1,0 +1,204 @@
+//! A script: what it collects, and its player.
+ghost use Rattle.std.specs.Prelude.{◌≡◌, ◌<◌, ◌≤◌, ◌++◌, codes, IfOk, OnOk};
+ghost use Rattle.mpd_text.specs.Lines.{view as view_of_line};
+ghost use Rattle.song_db.specs.Library.{in_byte_order};
+ghost use Rattle.partition.specs.Image.{opening};
+ghost use Rattle.daemon_script.specs.Script.{opening_script, shown_of, step_line, collect_line, lowers, shown_client, has_uri as has_uri_lem};
+
+use crate::hear::{hear, push_fault};
+use crate::memory::Memory;
+use mpd_text::{Line, Song, Tag};
+use partition::{Limits, Partition, PartitionFault};
+use script_lines::{LimitName, MAX_ID, MAX_QUEUE, MAX_VERSION, ScriptLine, Step};
+use song_db::{Db, DbFault, MAX_SONGS};
+use std::alloc::{AllocError, Global};
+use std::marker::Model;
+
+/// What a script collected, and its player from the first client line on.
+#[derive(Drop)]
+pub(crate) struct Script {
+    alloc: Global,
+    limits: Limits,
+    songs: Vec<Song>,
+    player: Option<Partition>,
+}
+
+impl Model for Script {
+    ghost use Rattle.std.specs.Prelude.{option_map};
+    ghost use Rattle.daemon_script.specs.Script.{ScriptData};
+    ghost use Rattle.daemon_script.specs.Invariant.{IsScript};
+
+    ghost Value = { ScriptData };
+
+    ghost view = { λ s. record { limits = s.limits; songs = s.songs.items; player = option_map (λ p. p.present) s.player } };
+
+    ghost invariant = { λ s. IsScript s.limits s.songs.items };
+}
+
+impl Script {
+    /// A script to which no line came.
+    pub(crate) fn new(alloc: Global) -> Script
+        ensures { result ≡ opening_script }
+    {
+        Script {
+            alloc,
+            limits: Limits {
+                max_queue: MAX_QUEUE,
+                max_version: MAX_VERSION,
+                max_id: MAX_ID,
+            },
+            songs: Vec::new(alloc),
+            player: None,
+        }
+    }
+
+    /// Runs a line, and appends what it prints. An `Err` says that there was no room to append.
+    #[tactic(auto, unfolding(crate::specs::Script::shown_of))]
+    pub(crate) fn show(&mut self, line: &Line, shown: &mut Vec<u8>) -> Result<Memory, AllocError>
+        ensures script { IfOk result (λ memory. self.new ≡ (shown_of self.old (view_of_line line.now) memory).script) }
+        ensures text { IfOk result (λ memory. shown.new.items ≡ shown.old.items ++ (shown_of self.old (view_of_line line.now) memory).text) }
+    {
+        let Line::Text(text) = line else {
+            push_bad(shown)?;
+            return Ok(Memory::Ample);
+        };
+        match ScriptLine::of(text.as_str()) {
+            ScriptLine::Client(number, line) => self.hear(number, line, shown),
+            ScriptLine::Step(rest) => self.step(rest, shown),
+            ScriptLine::Bad => {
+                push_bad(shown)?;
+                Ok(Memory::Ample)
+            }
+        }
+    }
+
+    fn step(&mut self, rest: &str, shown: &mut Vec<u8>) -> Result<Memory, AllocError>
+        ensures script { IfOk result (λ memory. self.new ≡ (step_line self.old rest.now memory).script) }
+        ensures text { IfOk result (λ memory. shown.new.items ≡ shown.old.items ++ (step_line self.old rest.now memory).text) }
+    {
+        let Ok(step) = Step::of_line(self.alloc, rest) else {
+            shown.extend_from_slice(b"! refused out of memory\n")?;
+            return Ok(Memory::NoneToRun);
+        };
+        match step {
+            None => {
+                push_bad(shown)?;
+                Ok(Memory::Ample)
+            }
+            Some(Step::Song(song)) => self.collect(song, shown),
+            Some(Step::Limit(name, n)) => {
+                self.lower(name, n, shown)?;
+                Ok(Memory::Ample)
+            }
+        }
+    }
+
+    fn collect(&mut self, song: Song, shown: &mut Vec<u8>) -> Result<Memory, AllocError>
+        ensures script { IfOk result (λ memory. self.new ≡ (collect_line self.old song memory).script) }
+        ensures text { IfOk result (λ memory. shown.new.items ≡ shown.old.items ++ (collect_line self.old song memory).text) }
+    {
+        if self.songs.len() >= MAX_SONGS || has_uri(&self.songs, song.uri()) {
+            push_bad(shown)?;
+            return Ok(Memory::Ample);
+        }
+        if self.songs.push(song).is_err() {
+            shown.extend_from_slice(b"! refused out of memory\n")?;
+            return Ok(Memory::NoneToRun);
+        }
+        Ok(Memory::Ample)
+    }
+
+    fn lower(&mut self, name: LimitName, n: u32, shown: &mut Vec<u8>) -> Result<(), AllocError>
+        requires { 1 ≤ n }
+        ensures script { OnOk result (self.new ≡ (lowers self.old name n).script) }
+        ensures text { OnOk result (shown.new.items ≡ shown.old.items ++ (lowers self.old name n).text) }
+    {
+        if self.player.is_some() {
+            return push_bad(shown);
+        }
+        match name {
+            LimitName::MaxQueue => self.limits.max_queue = n,
+            LimitName::MaxVersion => self.limits.max_version = n,
+            LimitName::MaxId => self.limits.max_id = n,
+        }
+        Ok(())
+    }
+
+    #[tactic(auto, unfolding(crate::specs::Script::heard_client))]
+    fn hear(&mut self, number: u32, line: &str, shown: &mut Vec<u8>) -> Result<Memory, AllocError>
+        requires { number < 10 }
+        ensures script { IfOk result (λ memory. self.new ≡ (shown_client self.old self.old.player number line.now memory).script) }
+        ensures text { IfOk result (λ memory. shown.new.items ≡ shown.old.items ++ (shown_client self.old self.old.player number line.now memory).text) }
+    {
+        if let Some(player) = &mut self.player {
+            let heard = hear(self.alloc, player, number, line, shown)?;
+            return Ok(heard.memory);
+        }
+        let Ok(mut player) = self.opened() else {
+            push_fault(self.alloc, shown, number, "", PartitionFault::NoMemory)?;
+            return Ok(Memory::NoneToConnect);
+        };
+        let heard = hear(self.alloc, &mut player, number, line, shown)?;
+        if heard.connected {
+            self.player = Some(player);
+        }
+        Ok(heard.memory)
+    }
+
+    /// A player over the songs so far.
+    fn opened(&self) -> Result<Partition, AllocError>
+        ensures { IfOk result (λ player. player.present ≡ opening self.now.limits (in_byte_order self.now.songs)) }
+    {
+        let songs = copies(self.alloc, &self.songs)?;
+        match Db::of_songs(self.alloc, songs) {
+            Ok(songs) => Ok(Partition::open(self.alloc, self.limits, songs)),
+            Err(DbFault::NoMemory) => Err(AllocError),
+            Err(DbFault::TwiceNamed | DbFault::TooMany) => unreachable!(),
+        }
+    }
+}
+
+fn push_bad(shown: &mut Vec<u8>) -> Result<(), AllocError>
+    ensures { OnOk result (shown.new.items ≡ shown.old.items ++ codes "! bad\n") }
+{
+    shown.extend_from_slice(b"! bad\n")
+}
+
+/// Whether a song of this URI is among these.
+fn has_uri(songs: &[Song], uri: &str) -> bool
+    ensures { result ≡ has_uri_lem uri.now songs.now }
+{
+    songs.iter().any(|song| song.uri() == uri)
+}
+
+fn copies(alloc: Global, songs: &[Song]) -> Result<Vec<Song>, AllocError>
+    ensures { IfOk result (λ copies. copies.items ≡ songs.now) }
+{
+    let mut copies = Vec::with_capacity(alloc, songs.len())?;
+    for song in songs {
+        copies.push(copy_of(alloc, song)?)?;
+    }
+    Ok(copies)
+}
+
+fn copy_of(alloc: Global, song: &Song) -> Result<Song, AllocError>
+    ensures { IfOk result (λ copy. copy ≡ song.now) }
+{
+    let uri = String::from_str(alloc, song.uri())?;
+    let tags = copies_of_tags(alloc, song.tags())?;
+    match Song::new(uri, tags, song.frames()) {
+        Some(copy) => Ok(copy),
+        None => unreachable!(),
+    }
+}
+
+fn copies_of_tags(alloc: Global, tags: &[Tag]) -> Result<Vec<Tag>, AllocError>
+    ensures { IfOk result (λ copies. copies.items ≡ tags.now) }
+{
+    let mut copies = Vec::with_capacity(alloc, tags.len())?;
+    for tag in tags {
+        let text = String::from_str(alloc, tag.text())?;
+        copies.push(Tag::new(tag.name(), text))?;
+    }
+    Ok(copies)
+}

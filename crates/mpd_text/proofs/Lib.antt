@@ -1,0 +1,10 @@
+pub mod CutLemmas
+pub mod LineLemmas
+pub mod CutLaws
+pub mod Scans
+pub mod GrammarScan
+pub mod ScanGrammar
+pub mod Utf8Words
+pub mod ExactWords
+pub mod DeviceLemmas
+pub mod Digits

@@ -1,0 +1,9 @@
+pub mod Cut
+pub mod Lines
+pub mod Answers
+pub mod Scan
+pub mod Words
+pub mod Grammar
+pub mod Devices
+pub mod Songs
+pub mod Numbers

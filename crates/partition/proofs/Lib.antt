@@ -1,0 +1,5 @@
+pub mod Chronicles
+pub mod Counts
+pub mod Rows
+pub mod Slashes
+pub mod Worlds

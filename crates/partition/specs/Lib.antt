@@ -1,0 +1,11 @@
+pub mod Names
+pub mod Arguments
+pub mod Requests
+pub mod Answers
+pub mod Image
+pub mod Commands
+pub mod Step
+pub mod History
+pub mod World
+pub mod Legal
+pub mod Invariant

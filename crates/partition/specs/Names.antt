@@ -1,0 +1,20 @@
+-- The names of commands (MPD protocol reference, Command reference).
+use Rattle.std.specs.Prelude.{ℕ, List, [], ◌∷◌, Option, Some, None, codes, find}
+use Rattle.std.specs.Str.{bytes_eq}
+use Rattle.partition.specs.declared.name.Name.{Name}
+use Rattle.partition.specs.declared.name.Name.TheVariants.{Add, Delete, Ping, PlChangesPosId, Status}
+
+abbrev pub text_of : Name → List ℕ
+text_of Add = codes "add"
+text_of Delete = codes "delete"
+text_of Ping = codes "ping"
+text_of PlChangesPosId = codes "plchangesposid"
+text_of Status = codes "status"
+
+-- all commands, in the byte order of their names
+abbrev pub all_names : List Name
+all_names = Add ∷ Delete ∷ Ping ∷ PlChangesPosId ∷ Status ∷ []
+
+-- the command of a name
+unfoldable pub name_of : List ℕ → Option Name
+name_of word = find (λ name. bytes_eq (text_of name) word) all_names

@@ -1,0 +1,80 @@
+-- What a line asks for (MPD protocol reference, Requests and Failure responses; the texts are this profile's).
+use Rattle.std.specs.Prelude.{ℕ, List, [], ◌∷◌, ◌++◌, codes, Option, Some, None, Result, Ok, Err}
+use Rattle.mpd_text.specs.Numbers.{number_of}
+use Rattle.mpd_text.specs.Scan.{words_of}
+use Rattle.mpd_text.specs.declared.answer.ErrorNumber.{ErrorNumber}
+use Rattle.mpd_text.specs.declared.answer.ErrorNumber.TheVariants.{Argument, Unknown}
+use Rattle.mpd_text.specs.declared.quoting.WordsFault.{WordsFault}
+use Rattle.mpd_text.specs.declared.quoting.WordsFault.TheVariants.{BadUnquoted, NoClosingQuote, NoSpaceAfterQuote, TooMany, NoMemory as NoMemoryForWords}
+use Rattle.partition.specs.Arguments.{uri_of, map_ok, none_of, one_of}
+use Rattle.partition.specs.Names.{name_of, text_of}
+use Rattle.partition.specs.declared.argument.Misread.{Misread}
+use Rattle.partition.specs.declared.argument.Misread.TheVariants.{WrongNumber, Bad, NoMemory}
+use Rattle.partition.specs.declared.name.Name.{Name}
+use Rattle.partition.specs.declared.name.Name.TheVariants.{Add as name_add, Delete as name_delete, Ping as name_ping, PlChangesPosId as name_plchangesposid, Status as name_status}
+use Rattle.partition.specs.declared.command.Ack.{Ack}
+use Rattle.partition.specs.declared.command.Command.{Command}
+use Rattle.partition.specs.declared.command.Command.TheVariants.{Add, Delete, Ping, PlChangesPosId, Status}
+use Rattle.partition.specs.declared.command.Request.{Request}
+use Rattle.partition.specs.declared.command.Request.TheVariants.{Run, Refused}
+
+-- the arguments of each command
+unfoldable pub command_of : Name → List (List ℕ) → Result Command Misread
+command_of name_add words = map_ok Add (one_of uri_of words)
+command_of name_delete words = map_ok Delete (one_of number_of words)
+command_of name_ping words = none_of Ping words
+command_of name_plchangesposid words = map_ok PlChangesPosId (one_of number_of words)
+command_of name_status words = none_of Status words
+
+abbrev pub refuses : ErrorNumber → List ℕ → List ℕ → Request
+refuses number command text = Refused (record { number = number; command = command; text = text })
+
+abbrev pub quoted : List ℕ → List ℕ → List ℕ
+quoted text word = text ++ (word ++ codes "\"")
+
+-- what is said of arguments that are not the command's
+abbrev pub told : List ℕ → Result Command Misread → Request
+told word (Ok command) = Run command
+told word (Err WrongNumber) = refuses Argument word (quoted (codes "wrong number of arguments for \"") word)
+told word (Err (Bad argument)) = refuses Argument word (quoted (codes "bad argument \"") argument)
+told word (Err NoMemory) = refuses Argument word []
+
+abbrev pub of_name : Option Name → List ℕ → List (List ℕ) → Request
+of_name None word words = refuses Unknown [] (quoted (codes "unknown command \"") word)
+of_name (Some name) word words = told word (command_of name words)
+
+-- the command of the words of a line, or the first refusal: unknown, wrong number, first argument of a wrong form
+abbrev pub of_words : List (List ℕ) → Request
+of_words [] = refuses Unknown [] (codes "no command given")
+of_words (word ∷ words) = of_name (name_of word) word words
+
+abbrev pub fault_text : WordsFault → List ℕ
+fault_text BadUnquoted = codes "bad unquoted argument"
+fault_text NoClosingQuote = codes "missing closing quote"
+fault_text NoSpaceAfterQuote = codes "missing space after quote"
+fault_text TooMany = codes "too many arguments"
+fault_text NoMemoryForWords = []
+
+abbrev pub fault_request : Result (List (List ℕ)) WordsFault → Request
+fault_request (Ok words) = of_words words
+fault_request (Err fault) = refuses Argument [] (fault_text fault)
+
+-- what a line asks for, or the first refusal before effects
+unfoldable pub request_of : List ℕ → Request
+request_of line = fault_request (words_of line)
+
+abbrev pub name_of_command : Command → Name
+name_of_command (Add uri) = name_add
+name_of_command (Delete place) = name_delete
+name_of_command Ping = name_ping
+name_of_command (PlChangesPosId version) = name_plchangesposid
+name_of_command Status = name_status
+
+abbrev pub text_of_name : Option Name → List ℕ
+text_of_name None = []
+text_of_name (Some name) = text_of name
+
+-- the name of the command that is asked for, or nothing where none is known
+abbrev pub name_in : Request → List ℕ
+name_in (Run command) = text_of (name_of_command command)
+name_in (Refused ack) = text_of_name (name_of ack.command)

@@ -1,0 +1,93 @@
+//! The arguments of commands, each with its form.
+ghost use Rattle.std.specs.Prelude.{◌≡◌, ℕ, List, [], ◌∷◌, Option, Some, None, IfOk, string_bytes, map};
+ghost use Rattle.mpd_text.specs.Numbers.{number_of};
+ghost use Rattle.partition.specs.Arguments.{uri_of, Gives, argument_of, none_of, one_of};
+ghost use Rattle.partition.specs.declared.argument.Misread.TheVariants.{NoMemory};
+
+use mpd_text::{Text, number};
+use std::alloc::{AllocError, Global};
+
+/// Why arguments are not those of a command.
+#[derive(Drop)]
+pub(crate) enum Misread {
+    WrongNumber,
+    /// The first argument from the left whose form is refused.
+    Bad(Text),
+    NoMemory,
+}
+
+impl From<AllocError> for Misread {
+    ghost from_gives = { λ _ e. e ≡ NoMemory };
+
+    fn from(_e: AllocError) -> Misread {
+        Misread::NoMemory
+    }
+}
+
+/// What one word can be read as.
+pub(crate) trait Argument: Sized + Drop {
+    ghost read_gives: { List ℕ → Option Self };
+
+    fn read(alloc: Global, word: &str) -> Result<Option<Self>, AllocError>
+        ensures { IfOk result (λ read. read ≡ read_gives word.now) };
+}
+
+impl Argument for u32 {
+    ghost read_gives = { number_of };
+
+    fn read(_alloc: Global, word: &str) -> Result<Option<u32>, AllocError> {
+        Ok(number(word))
+    }
+}
+
+/// A name in the library. One slash at its end is dropped.
+#[derive(Drop)]
+pub struct Uri(pub Text);
+
+impl Argument for Uri {
+    ghost read_gives = { uri_of };
+
+    fn read(alloc: Global, word: &str) -> Result<Option<Uri>, AllocError> {
+        Ok(Some(Uri(Text::new(alloc, without_slash(word))?)))
+    }
+}
+
+fn without_slash(word: &str) -> &str
+    ensures { uri_of word.now ≡ Some (record { 0 = result.now }) }
+{
+    match word.strip_suffix('/') {
+        Some(front) => front,
+        None => word,
+    }
+}
+
+/// The value of a word.
+fn read_word<A: Argument>(alloc: Global, word: &str) -> Result<A, Misread>
+    ensures { Gives result (argument_of A.read_gives word.now) }
+{
+    match A::read(alloc, word)? {
+        Some(value) => Ok(value),
+        None => Err(Misread::Bad(Text::new(alloc, word)?)),
+    }
+}
+
+/// No argument.
+pub(crate) fn none<A: Drop>(words: &[String], value: A) -> Result<A, Misread>
+    ensures { Gives result (none_of value (map string_bytes words.now)) }
+{
+    if words.is_empty() {
+        Ok(value)
+    } else {
+        Err(Misread::WrongNumber)
+    }
+}
+
+/// One argument.
+pub(crate) fn one<A: Argument>(alloc: Global, words: &[String]) -> Result<A, Misread>
+    ensures { Gives result (one_of A.read_gives (map string_bytes words.now)) }
+{
+    match words {
+        [word] => read_word(alloc, word.as_str()),
+        _ => Err(Misread::WrongNumber),
+    }
+}

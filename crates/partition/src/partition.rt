@@ -1,0 +1,182 @@
+//! The player with its history.
+ghost use Rattle.std.specs.Prelude.{◌≡◌, ◌≢◌, ◌↔◌, ◌++◌, ◌∷◌, ◌-◌, ◌^◌, ◌≤◌, ◌<◌, [], List, IfOk, OnErr, OnOk, IsErrOf, slice_index_or, is_some, AllPairs};
+ghost use Rattle.mpd_text.specs.Songs.{SongData};
+ghost use Rattle.song_queue.specs.State.{queue_of};
+ghost use Rattle.partition.specs.declared.event.Happened.{Happened};
+ghost use Rattle.partition.specs.declared.state.Limits.{Limits};
+ghost use Rattle.partition.specs.History.{replay, AreTold, own as own_of};
+ghost use Rattle.partition.specs.Image.{Image, image_of_state, opening, client_of};
+ghost use Rattle.partition.specs.Legal.{IsPast, ReplaysWorlds};
+ghost use Rattle.partition.specs.Step.{next, told};
+
+use crate::event::{Event, Happened, Outcome};
+use crate::state::{Client, Limits, MAX_OWN, SEATS, State};
+use crate::turns::{has_client, take_turn};
+use song_db::Db;
+use song_queue::Queue;
+use std::alloc::{AllocError, Global};
+use std::marker::Model;
+
+/// Why an event was not applied.
+#[derive(Clone, Copy, Debug, PartialEq, Eq)]
+pub enum PartitionFault {
+    /// The seat made [`MAX_OWN`] events.
+    AtLimit,
+    /// A growth was refused.
+    NoMemory,
+}
+
+/// A player of one thread, and everything that happened to it.
+#[derive(Drop)]
+pub struct Partition {
+    alloc: Global,
+    limits: Limits,
+    state: State,
+    history: Vec<Happened>,
+}
+
+impl Model for Partition {
+    ghost use Rattle.partition.specs.History.{Chronicle};
+    ghost use Rattle.partition.specs.Invariant.{chronicle_of, IsReplayed};
+
+    ghost Value = { Chronicle };
+
+    ghost view = { chronicle_of };
+
+    ghost invariant = { IsReplayed };
+}
+
+impl Partition {
+    /// A player over a library, to which nothing happened.
+    pub fn open(alloc: Global, limits: Limits, songs: Db) -> Partition
+        requires { 1 ≤ limits.max_version }
+        ensures { result ≡ record { base = opening limits songs; window = []; present = opening limits songs } }
+    {
+        let queue = Queue::new(
+            alloc,
+            limits.max_queue as usize,
+            limits.max_version,
+            limits.max_id,
+        );
+        Partition {
+            alloc,
+            limits,
+            state: State {
+                queue,
+                songs,
+                made: [0; 16],
+                clients: Vec::new(alloc),
+            },
+            history: Vec::new(alloc),
+        }
+    }
+
+    /// Applies an event of a seat, and keeps it with what it made clients hear.
+    pub fn apply(&mut self, seat: u8, event: Event) -> Result<Outcome, PartitionFault>
+        requires { seat < SEATS }
+
+        // The event and its reply join the history, and the reply is the one of the player of one thread.
+        ensures base { self.new.base ≡ self.old.base }
+        ensures window { IfOk result (λ outcome. self.new.window ≡ self.old.window ++ record { seat = seat; event = event; told = outcome } ∷ []) }
+        ensures told { IfOk result (λ outcome. outcome ≡ told self.old.present event) }
+        // The state that stands is that player's next one.
+        ensures present { OnOk result (self.new.present ≡ next seat self.old.present event) }
+        ensures err { OnErr result (self.new ≡ self.old) }
+        ensures at_limit { IsErrOf result PartitionFault.AtLimit ↔ (MAX_OWN ≤ slice_index_or self.old.present.shared.made seat 0) }
+        ensures legal { IsPast self.old }
+    {
+        self.legal();
+        if self.state.made[usize::from(seat)] >= MAX_OWN {
+            return Err(PartitionFault::AtLimit);
+        }
+        let Ok(outcome) = happen(self.alloc, &mut self.state, &mut self.history, seat, event) else {
+            return Err(PartitionFault::NoMemory);
+        };
+        Ok(outcome)
+    }
+
+    /// All that happened, the first event first.
+    pub fn history(&self) -> &[Happened]
+        ensures window { result.now ≡ self.now.window }
+        // Every reply is the one-thread player's at its place in the history.
+        ensures told { AreTold self.now.base self.now.window }
+        // The state that stands is the replay's, and has the versions, stamps, marks and ids of the past queues.
+        ensures present { self.now.present ≡ replay self.now.base self.now.window }
+        ensures legal { IsPast self.now }
+        // Song ids are distinct.
+        ensures distinct { AllPairs (λ e f. e.id ≢ f.id) (queue_of self.now.present.part.queue) }
+    {
+        self.legal();
+        &self.history
+    }
+
+    /// What is true of each player: its queue keeps distinct ids, and all else follows from its history.
+    fn legal(&self)
+        ensures legal { IsPast self.now }
+        ensures replayed { self.now.present ≡ replay self.now.base self.now.window }
+    {
+        replays_worlds();
+        let _valid = self.state.queue.len();
+    }
+
+    /// How many events a seat made.
+    pub fn own(&self, seat: u8) -> u64
+        requires { seat < SEATS }
+        ensures made { result ≡ slice_index_or self.now.present.shared.made seat 0 }
+        ensures own { result ≡ own_of seat self.now.window }
+    {
+        self.legal();
+        self.state.made[usize::from(seat)]
+    }
+
+    /// The queue that stands.
+    pub fn queue(&self) -> &Queue
+        ensures { result.now ≡ self.now.present.part.queue }
+    {
+        &self.state.queue
+    }
+
+    /// Whether a client is connected.
+    pub fn has_client(&self, number: u32) -> bool
+        ensures { result ≡ is_some (client_of number self.now.present.clients) }
+    {
+        has_client(&self.state.clients, number)
+    }
+
+    /// The clients that are connected, in the order in which they came.
+    pub fn clients(&self) -> &[Client]
+        ensures { result.now ≡ self.now.present.clients }
+    {
+        &self.state.clients
+    }
+}
+
+/// Runs one event and keeps it. It fails only for memory, and then changes nothing.
+#[tactic(auto, unfolding(crate::specs::Step::next, crate::specs::Step::told))]
+fn happen(
+    alloc: Global,
+    state: &mut State,
+    history: &mut Vec<Happened>,
+    seat: u8,
+    event: Event,
+) -> Result<Outcome, AllocError>
+    requires seat { seat < SEATS }
+    requires count { slice_index_or state.old.made seat 0 < MAX_OWN }
+    ensures image { OnOk result (image_of_state state.new ≡ next seat (image_of_state state.old) event) }
+    ensures told { IfOk result (λ outcome. outcome ≡ told (image_of_state state.old) event) }
+    ensures history { IfOk result (λ outcome. history.new.items ≡ history.old.items ++ record { seat = seat; event = event; told = outcome } ∷ []) }
+    ensures unchanged { OnErr result (image_of_state state.new ≡ image_of_state state.old) }
+    ensures unkept { OnErr result (history.new.items ≡ history.old.items) }
+{
+    history.reserve(1)?;
+    let twin = take_turn(alloc, state, &event)?;
+    state.made[usize::from(seat)] += 1;
+    let (outcome, told) = twin.apart();
+    let _ = history.push(Happened { seat, event, told });
+    Ok(outcome)
+}
+
+/// A replay from a player to which nothing happened is the image of the world with every past queue.
+pub fn replays_worlds()
+    ensures { ReplaysWorlds }
+{}

@@ -1,0 +1,5 @@
+pub mod Cuts
+pub mod Lines
+pub mod Limits
+pub mod Tags
+pub mod Steps

@@ -1,0 +1,55 @@
+-- The steps of a script (this profile's script).
+use Rattle.std.specs.Prelude.{ℕ, List, [], ◌∷◌, length, codes, Option, Some, None, Result, Ok, Err, Bool, not, ◌&&◌, nat_le, if◌then◌else◌}
+use Rattle.std.specs.List.{list_all}
+use Rattle.std.specs.Str.{bytes_eq}
+use Rattle.mpd_text.specs.Scan.{words_of}
+use Rattle.mpd_text.specs.declared.quoting.WordsFault.{WordsFault}
+use Rattle.script_lines.specs.Cuts.{has_byte}
+use Rattle.script_lines.specs.Limits.{limit_named, greatest_of, number_within}
+use Rattle.script_lines.specs.Tags.{is_tag, tags_of}
+use Rattle.script_lines.specs.declared.limit.LimitName.{LimitName}
+use Rattle.script_lines.specs.declared.step.Step.{Step}
+use Rattle.script_lines.specs.declared.step.Step.TheVariants.{Song, Limit}
+
+-- 1 to 1,024 bytes without a newline
+unfoldable pub is_uri : List ℕ → Bool
+is_uri uri = nat_le 1 (length uri) && nat_le (length uri) 1024 && not (has_byte 10 uri)
+
+abbrev pub song_with : List ℕ → Option ℕ → List (List ℕ) → Option Step
+song_with uri None words = None
+song_with uri (Some frames) words =
+    if is_uri uri && list_all is_tag words then Some (Song (record { uri = uri; tags = tags_of words; frames = frames })) else None
+
+-- URI FRAMES [TAG=VALUE...]
+abbrev pub song_of : List (List ℕ) → Option Step
+song_of (uri ∷ frames ∷ words) = song_with uri (number_within 4294967295 frames) words
+song_of _ = None
+
+abbrev pub limit_to : LimitName → Option ℕ → Option Step
+limit_to name None = None
+limit_to name (Some n) = Some (Limit name n)
+
+abbrev pub limit_with : Option LimitName → List ℕ → Option Step
+limit_with None n = None
+limit_with (Some name) n = limit_to name (number_within (greatest_of name) n)
+
+-- NAME N
+abbrev pub limit_of : List (List ℕ) → Option Step
+limit_of (name ∷ n ∷ []) = limit_with (limit_named name) n
+limit_of _ = None
+
+-- the step of its words
+abbrev pub step_of_words : List (List ℕ) → Option Step
+step_of_words [] = None
+step_of_words (word ∷ arguments) =
+    if bytes_eq word (codes "song") then song_of arguments
+    else (if bytes_eq word (codes "limit") then limit_of arguments
+    else None)
+
+abbrev pub step_if_read : Result (List (List ℕ)) WordsFault → Option Step
+step_if_read (Ok words) = step_of_words words
+step_if_read (Err fault) = None
+
+-- the step behind a step's head, or None where it is bad
+unfoldable pub step_of : List ℕ → Option Step
+step_of rest = step_if_read (words_of rest)

@@ -1,0 +1,15 @@
+//! The lines of a script: whose a line is, and what a step asks for before any player is there.
+#![tactic(auto)]
+
+mod cut;
+mod limit;
+mod line;
+mod step;
+mod tag;
+#[cfg(test)]
+mod tests;
+
+pub use limit::{LimitName, MAX_ID, MAX_QUEUE, MAX_VERSION};
+pub use line::ScriptLine;
+pub use step::{MAX_URI, Step};
+pub use tag::MAX_TEXT;

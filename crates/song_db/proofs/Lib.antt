@@ -1,0 +1,3 @@
+pub mod Order
+pub mod Names
+pub mod Search

@@ -1,0 +1,62 @@
+-- Queues as lists of entries (MPD protocol reference, The queue).
+use Rattle.std.specs.Prelude.{ℕ, Bool, true, false, ◌==◌, ◌&&◌, if◌then◌else◌, List, [], ◌∷◌, ◌++◌, length, take, map, Option, Some, None, slice_get, slice_set, fold}
+use Rattle.std.specs.List.{enumerate_from}
+use lib.Pointwise.{pointwise}
+use Rattle.mpd_text.specs.declared.song.TagName.{TagName}
+use Rattle.mpd_text.specs.declared.song.TagName.TheVariants.{Title, Artist, Album, Date, Genre, Comment}
+use Rattle.mpd_text.specs.Songs.{SongData, TagData}
+use Rattle.song_queue.specs.declared.entry.Entry.{Entry}
+
+-- a number for each tag, by which tags are told apart
+abbrev pub tag_number : TagName → ℕ
+tag_number Title = 0
+tag_number Artist = 1
+tag_number Album = 2
+tag_number Date = 3
+tag_number Genre = 4
+tag_number Comment = 5
+
+-- whether two tags are one: the name and the text
+abbrev pub same_tag : TagData → TagData → Bool
+same_tag a b = (tag_number a.name == tag_number b.name) && pointwise ◌==◌ a.text b.text
+
+-- whether two songs are one: the URI, the tags and the length
+abbrev pub same_song : SongData → SongData → Bool
+same_song a b = pointwise ◌==◌ a.uri b.uri && pointwise same_tag a.tags b.tags && (a.frames == b.frames)
+
+-- whether two entries are one: the id, the song and the priority
+abbrev pub same_entry : Entry → Entry → Bool
+same_entry a b = (a.id == b.id) && (a.priority == b.priority) && same_song a.song b.song
+
+-- whether two queues are one
+abbrev pub same_queue : List Entry → List Entry → Bool
+same_queue = pointwise same_entry
+
+-- whether a slot holds the same in both, where absence counts as a value
+abbrev pub same_slot : Option Entry → Option Entry → Bool
+same_slot None None = true
+same_slot (Some a) (Some b) = same_entry a b
+same_slot None (Some b) = false
+same_slot (Some a) None = false
+
+-- entries for added songs, with ids from `first` on
+abbrev pub entries_for : ℕ → List SongData → List Entry
+entries_for first songs = map (λ p. record { id = p.0; song = p.1; priority = 0 }) (enumerate_from first songs)
+
+-- a row overwrites its slot, or is appended where its slot is the end
+abbrev pub patch_row : List Entry → ℕ × Entry → List Entry
+patch_row queue row = if row.0 == length queue then queue ++ row.1 ∷ [] else slice_set queue row.0 row.1
+
+-- a client's queue after the rows, cut to a length (MPD protocol reference, `plchanges`)
+abbrev pub patch : List Entry → List (ℕ × Entry) → ℕ → List Entry
+patch queue rows len = take len (fold patch_row queue rows)
+
+-- the row of an entry, if there is one
+abbrev pub row_of : ℕ → Option Entry → List (ℕ × Entry)
+row_of place None = []
+row_of place (Some entry) = (place, entry) ∷ []
+
+-- the rows of places in a queue
+abbrev pub rows_at : List Entry → List ℕ → List (ℕ × Entry)
+rows_at queue [] = []
+rows_at queue (place ∷ places) = row_of place (slice_get queue place) ++ rows_at queue places

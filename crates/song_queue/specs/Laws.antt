@@ -1,0 +1,86 @@
+-- Laws of the definitions, over every list of edits (this profile's, from the MPD protocol reference, The queue).
+use Rattle.std.specs.Prelude.{ℕ, ◌≡◌, ◌≢◌, ◌+◌, ◌<◌, ◌≤◌, List, [], ◌∷◌, ◌++◌, length, take, drop, All, AllPairs}
+use Rattle.mpd_text.specs.Songs.{SongData}
+use Rattle.song_queue.specs.declared.entry.Entry.{Entry}
+use Rattle.song_queue.specs.Entries.{entries_for, patch, rows_at}
+use Rattle.song_queue.specs.Past.{present, number, version_of, after_event, greatest_id, state_of}
+use Rattle.song_queue.specs.State.{QueueState, queue_of, opened, inserted, removed, changed}
+
+-- songs put in before a place; the entries from a place up to another taken out
+pub data Edit : Type 0 where
+  Insert : ℕ → List SongData → Edit
+  Remove : ℕ → ℕ → Edit
+
+-- the queue that an edit leaves
+abbrev pub queue_after : List (List Entry) → Edit → List Entry
+queue_after past (Insert at songs) = take at (present past) ++ entries_for (greatest_id past + 1) songs ++ drop at (present past)
+queue_after past (Remove start end) = take start (present past) ++ drop end (present past)
+
+-- the past after edits
+abbrev pub past_after : List (List Entry) → List Edit → List (List Entry)
+past_after past [] = past
+past_after past (edit ∷ edits) = past_after (after_event past (queue_after past edit)) edits
+
+-- the state after an edit
+abbrev pub state_after_edit : QueueState → Edit → QueueState
+state_after_edit q (Insert at songs) = inserted q at songs
+state_after_edit q (Remove start end) = removed q start end
+
+-- the state after edits
+abbrev pub state_after : QueueState → List Edit → QueueState
+state_after q [] = q
+state_after q (edit ∷ edits) = state_after (state_after_edit q edit) edits
+
+-- the places of an edit lie in the queue
+abbrev pub FitsIn : List Entry → Edit → Type 0
+FitsIn queue (Insert at songs) = at ≤ length queue
+FitsIn queue (Remove start end) = (start ≤ end) × (end ≤ length queue)
+
+-- each edit's places lie in the queue that it finds
+abbrev pub AllFitIn : List (List Entry) → List Edit → Type 0
+AllFitIn past [] = Unit {0}
+AllFitIn past (edit ∷ edits) = FitsIn (present past) edit × AllFitIn (after_event past (queue_after past edit)) edits
+
+-- a past ends in the queue that the last event left, and is never without one; its state has that queue; an empty
+-- queue's state begins it
+pub record PastsKeepQueues : Type 0 where
+  pub ends : (past : List (List Entry)) (queue : List Entry) → present (after_event past queue) ≡ queue
+  pub stays : (past : List (List Entry)) (queue : List Entry) → 1 ≤ length past → 1 ≤ length (after_event past queue)
+  pub shows : (max_len max_version max_id : ℕ) (past : List (List Entry)) → queue_of (state_of max_len max_version max_id past) ≡ present past
+  pub begins : (max_len max_version max_id : ℕ) → 1 ≤ max_version → opened max_len max_version max_id ≡ state_of max_len max_version max_id ([] ∷ [])
+
+-- an edit of the state at the end of a past gives the state at the end of the past with the queue that it leaves
+abbrev pub EditsFollowPast : Type 0
+EditsFollowPast = (max_len max_version max_id : ℕ) (past : List (List Entry)) (edit : Edit) → 1 ≤ max_version → 1 ≤ length past
+    → state_after_edit (state_of max_len max_version max_id past) edit ≡ state_of max_len max_version max_id (after_event past (queue_after past edit))
+
+-- after any edits the version, stamps, marks and ids are those of the past
+abbrev pub StatesFollowPasts : Type 0
+StatesFollowPasts = (max_len max_version max_id : ℕ) (edits : List Edit) → 1 ≤ max_version
+    → state_after (opened max_len max_version max_id) edits ≡ state_of max_len max_version max_id (past_after ([] ∷ []) edits)
+
+-- while versions have not begun anew, a client that knows an earlier queue, and patches it, has the present one
+abbrev pub PatchesGivePresent : Type 0
+PatchesGivePresent = (max_len max_version max_id : ℕ) (newer older : List (List Entry)) (known : List Entry)
+    → let past = newer ++ known ∷ older in
+    number past < max_version → patch known (changed (state_of max_len max_version max_id past) (version_of max_version (number (known ∷ older)))) (length (present past)) ≡ present past
+
+-- the same of the places that a queue answers: with its entries at these places, each earlier queue of the version that
+-- was asked is patched to the present one
+abbrev pub PatchesEarlier : QueueState → ℕ → List ℕ → Type 0
+PatchesEarlier q version places = (newer older : List (List Entry)) (known : List Entry)
+    → let past = newer ++ known ∷ older in
+    q ≡ state_of q.max_len q.max_version q.max_id past → number past < q.max_version → version ≡ version_of q.max_version (number (known ∷ older))
+    → patch known (rows_at (queue_of q) places) (length (present past)) ≡ present past
+
+-- after any edits the ids of the present queue are distinct
+abbrev pub IdsAreDistinct : Type 0
+IdsAreDistinct = (edits : List Edit) → AllFitIn ([] ∷ []) edits → AllPairs (λ a b. a.id ≢ b.id) (present (past_after ([] ∷ []) edits))
+
+-- no entry has this id
+abbrev pub Lacks : ℕ → List Entry → Type 0
+Lacks id queue = All (λ e. e.id ≢ id) queue
+
+-- an id that was given, and that no entry has any more, never comes back
+abbrev pub IdsNeverReturn : Type 0
+IdsNeverReturn = (past : List (List Entry)) (edits : List Edit) (id : ℕ) → 1 ≤ length past → id ≤ greatest_id past → Lacks id (present past) → Lacks id (present (past_after past edits))

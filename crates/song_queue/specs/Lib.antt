@@ -1,0 +1,5 @@
+pub mod Entries
+pub mod Past
+pub mod State
+pub mod Laws
+pub mod Rows

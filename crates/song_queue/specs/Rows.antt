@@ -1,0 +1,50 @@
+-- Worked rows, computed by the definitions.
+use Rattle.std.specs.Prelude.{ℕ, ◌≡◌, List, [], ◌∷◌, map, refl}
+use Rattle.mpd_text.specs.Songs.{SongData}
+use Rattle.song_queue.specs.declared.entry.Entry.{Entry}
+use Rattle.song_queue.specs.Entries.{patch}
+use Rattle.song_queue.specs.Past.{present, state_of}
+use Rattle.song_queue.specs.State.{opened, changed, queue_of}
+use Rattle.song_queue.specs.Laws.{Edit, Insert, Remove, past_after, state_after}
+
+abbrev song : ℕ → SongData
+song n = record { uri = n ∷ []; tags = []; frames = 8 }
+
+abbrev ids : List (ℕ × Entry) → List (ℕ × ℕ)
+ids rows = map (λ (r : ℕ × Entry). (r.0, r.1.id)) rows
+
+-- the past of edits from the empty queue
+abbrev past_of : List Edit → List (List Entry)
+past_of edits = past_after ([] ∷ []) edits
+
+abbrev four : List Edit
+four = Insert 0 (song 1 ∷ []) ∷ Insert 1 (song 2 ∷ []) ∷ Insert 2 (song 3 ∷ []) ∷ Insert 3 (song 4 ∷ []) ∷ []
+
+abbrev adds : List Edit
+adds = Insert 0 (song 1 ∷ []) ∷ Insert 1 (song 2 ∷ []) ∷ Insert 2 (song 3 ∷ []) ∷ Insert 3 (song 4 ∷ []) ∷ Insert 4 (song 5 ∷ []) ∷ Remove 2 3 ∷ []
+
+-- five songs, the third deleted: what a client of version 6 is shown, by the past and by the state
+deleted : ids (changed (state_of 10 100 100 (past_of adds)) 6) ≡ (2, 4) ∷ (3, 5) ∷ []
+deleted = refl
+
+deleted_state : ids (changed (state_after (opened 10 100 100) adds) 6) ≡ (2, 4) ∷ (3, 5) ∷ []
+deleted_state = refl
+
+-- a client that knows the four songs of version 5 patches them to the present four
+patched : patch (present (past_of four)) (changed (state_after (opened 10 100 100) adds) 5) 4 ≡ present (past_of adds)
+patched = refl
+
+-- with four versions, the fourth edit begins anew: each slot is marked, until it changes
+anew : (state_of 10 4 100 (past_of four)).version ≡ 1
+anew = refl
+
+all_marked : ids (changed (state_of 10 4 100 (past_of four)) 1) ≡ (0, 1) ∷ (1, 2) ∷ (2, 3) ∷ (3, 4) ∷ []
+all_marked = refl
+
+-- with one version alone, each slot is always marked
+one_version : ids (changed (state_after (opened 10 1 100) four) 1) ≡ (0, 1) ∷ (1, 2) ∷ (2, 3) ∷ (3, 4) ∷ []
+one_version = refl
+
+-- the id of a deleted song is not given again
+again : map (λ e. e.id) (queue_of (state_after (opened 10 100 100) (Insert 0 (song 1 ∷ []) ∷ Remove 0 1 ∷ Insert 0 (song 2 ∷ []) ∷ []))) ≡ 2 ∷ []
+again = refl

@@ -1,0 +1,81 @@
+-- A queue with the stamps and marks of its slots, and what an edit makes of it (MPD protocol reference, The queue;
+-- the marks at a wrap are this profile's).
+use Rattle.std.specs.Prelude.{ℕ, ◌≢◌, ◌+◌, ◌≤◌, Bool, ◌||◌, nat_lt, ◌==◌, if◌then◌else◌, List, [], ◌∷◌, ◌++◌, length, take, drop, map, filter, All, AllPairs, Option, position}
+use Rattle.std.specs.List.{enumerate_from}
+use Rattle.mpd_text.specs.Songs.{SongData}
+use Rattle.song_queue.specs.declared.entry.Entry.{Entry}
+use Rattle.song_queue.specs.declared.entry.Slot.{Slot}
+use Rattle.song_queue.specs.Entries.{same_entry, same_queue, entries_for}
+
+-- slots, the version of the last change, the greatest id that was given, and the limits
+pub record QueueState : Type 0 where
+  pub slots : List Slot
+  pub version : ℕ
+  pub greatest_id : ℕ
+  pub max_len : ℕ
+  pub max_version : ℕ
+  pub max_id : ℕ
+
+abbrev pub entries_of : List Slot → List Entry
+entries_of slots = map (λ s. s.entry) slots
+
+abbrev pub queue_of : QueueState → List Entry
+queue_of q = entries_of q.slots
+
+-- a slot whose entry is new at this version
+abbrev pub written : ℕ → Bool → Entry → Slot
+written version wraps entry = record { entry = entry; stamp = version; marked = wraps }
+
+-- a slot whose entry stays
+abbrev pub kept : Bool → Slot → Slot
+kept wraps slot = record { entry = slot.entry; stamp = slot.stamp; marked = wraps || slot.marked }
+
+-- the slots that hold these entries next, compared one by one with what they held
+abbrev pub restamped : ℕ → Bool → List Slot → List Entry → List Slot
+restamped version wraps slots [] = []
+restamped version wraps [] (e ∷ es) = written version wraps e ∷ restamped version wraps [] es
+restamped version wraps (s ∷ ss) (e ∷ es) = (if same_entry s.entry e then kept wraps s else written version wraps e) ∷ restamped version wraps ss es
+
+-- whether the next version begins anew
+abbrev pub wraps : QueueState → Bool
+wraps q = q.version == q.max_version
+
+abbrev pub next_version : QueueState → ℕ
+next_version q = if wraps q then 1 else q.version + 1
+
+-- the state after an edit that leaves these entries
+abbrev pub edited : QueueState → List Entry → QueueState
+edited q entries = if same_queue (queue_of q) entries then q else record q { slots = restamped (next_version q) (wraps q) q.slots entries; version = next_version q }
+
+-- songs are put in before the entry at a place
+abbrev pub inserted : QueueState → ℕ → List SongData → QueueState
+inserted q at songs =
+    record (edited q (take at (queue_of q) ++ entries_for (q.greatest_id + 1) songs ++ drop at (queue_of q))) { greatest_id = q.greatest_id + length songs }
+
+-- the entries from start up to end are taken out
+abbrev pub removed : QueueState → ℕ → ℕ → QueueState
+removed q start end = edited q (take start (queue_of q) ++ drop end (queue_of q))
+
+-- where the entry with an id stands
+abbrev pub position_of : QueueState → ℕ → Option ℕ
+position_of q id = position (λ s. s.entry.id == id) q.slots
+
+-- whether a slot is shown to a client that knows a version
+abbrev pub is_changed : QueueState → ℕ → Slot → Bool
+is_changed q version slot = slot.marked || nat_lt version slot.stamp || nat_lt q.version version
+
+-- the changed slots in rising order, each with its entry
+abbrev pub changed : QueueState → ℕ → List (ℕ × Entry)
+changed q version = map (λ p. (p.0, p.1.entry)) (filter (λ p. is_changed q version p.1) (enumerate_from 0 q.slots))
+
+-- an empty queue that has not been edited
+abbrev pub opened : ℕ → ℕ → ℕ → QueueState
+opened max_len max_version max_id = record { slots = []; version = 1; greatest_id = 0; max_len = max_len; max_version = max_version; max_id = max_id }
+
+-- what is true of each queue
+pub record IsQueue (q : QueueState) : Type 0 where
+  pub len : length q.slots ≤ q.max_len
+  pub version : (1 ≤ q.version) × (q.version ≤ q.max_version)
+  pub ids : All (λ e. e.id ≤ q.greatest_id) (queue_of q)
+  pub distinct : AllPairs (λ e f. e.id ≢ f.id) (queue_of q)
+  pub greatest_id : q.greatest_id ≤ q.max_id

@@ -1,0 +1,32 @@
+//! Laws of the definitions. A caller that calls one may use it; each does nothing.
+ghost use Rattle.song_queue.specs.Laws.{EditsFollowPast, IdsAreDistinct, IdsNeverReturn, PastsKeepQueues, PatchesGivePresent, StatesFollowPasts};
+
+/// A past ends in the queue that the last event left, and its state has that queue.
+pub fn pasts_keep_queues()
+    ensures { PastsKeepQueues }
+{}
+
+/// After an edit the version, stamps, marks and greatest id of a queue are those of its longer past.
+pub fn edits_follow_past()
+    ensures { EditsFollowPast }
+{}
+
+/// After any edits the version, stamps, marks and greatest id of a queue are those of its past.
+pub fn states_follow_pasts()
+    ensures { StatesFollowPasts }
+{}
+
+/// A client that knows an earlier queue and patches it has the present one, while versions have not begun anew.
+pub fn patches_give_present()
+    ensures { PatchesGivePresent }
+{}
+
+/// After any edits the ids of the present queue are distinct.
+pub fn ids_are_distinct()
+    ensures { IdsAreDistinct }
+{}
+
+/// An id that was given, and that no entry has any more, never comes back.
+pub fn ids_never_return()
+    ensures { IdsNeverReturn }
+{}

@@ -1,0 +1,16 @@
+//! The song queue: its entries, their ids, and the version at which each slot last changed.
+#![tactic(auto)]
+
+mod entry;
+mod laws;
+mod queue;
+mod slots;
+#[cfg(test)]
+mod tests;
+
+pub use entry::{Entry, Slot};
+pub use laws::{
+    edits_follow_past, ids_are_distinct, ids_never_return, pasts_keep_queues, patches_give_present,
+    states_follow_pasts,
+};
+pub use queue::{Queue, QueueFault};

@@ -1,0 +1,182 @@
+//! The queue and its edits.
+ghost use Rattle.std.specs.Prelude.{◌≡◌, ◌↔◌, ◌+◌, ◌<◌, ◌≤◌, ◌⊎◌, length, map, IfOk, OnOk, OnErr, IsErrOf, IsOkUnless, slice_get, vec_len};
+ghost use Rattle.std.specs.Option.{option_copied};
+ghost use Rattle.std.specs.Bool.{OnTrue, OnFalse};
+ghost use Rattle.song_queue.specs.State.{QueueState, IsQueue, queue_of, position_of, inserted, removed, changed, opened};
+ghost use Rattle.song_queue.specs.Laws.{PatchesEarlier};
+
+use crate::entry::{Entry, Slot};
+use crate::slots::{changed_places, new_slots, put_in, take_out, version_after};
+use song_db::SharedSong;
+use std::alloc::{AllocError, Global};
+use std::marker::Model;
+use std::ops::Range;
+
+/// Why a call is refused. Where several apply, the first here is answered.
+#[derive(Clone, Copy, Debug, PartialEq, Eq)]
+pub enum QueueFault {
+    /// No entry has the id.
+    NoSuchSong,
+    /// A place is not in the queue.
+    BadIndex,
+    /// The queue would have more entries than it may.
+    Full,
+    /// An id would be above the greatest that may be given.
+    NoMoreIds,
+    /// A growth was refused.
+    NoMemory,
+}
+
+impl From<AllocError> for QueueFault {
+    ghost use Rattle.song_queue.specs.declared.queue.QueueFault.{QueueFault};
+    ghost use Rattle.std.specs.Prelude.{◌≡◌};
+
+    ghost from_gives = { λ _ fault. fault ≡ QueueFault.NoMemory };
+
+    fn from(_: AllocError) -> Self {
+        QueueFault::NoMemory
+    }
+}
+
+/// The queue. Contracts see it as a record: slots with stamp and mark, version, greatest id and limits.
+#[derive(Drop)]
+pub struct Queue {
+    slots: Vec<Slot>,
+    version: u32,
+    greatest_id: u32,
+    max_len: usize,
+    max_version: u32,
+    max_id: u32,
+}
+
+impl Model for Queue {
+    ghost use Rattle.song_queue.specs.State.{QueueState, IsQueue};
+
+    ghost Value = { QueueState };
+
+    ghost view = { λ q. record { slots = q.slots.items; version = q.version; greatest_id = q.greatest_id; max_len = q.max_len; max_version = q.max_version; max_id = q.max_id } };
+
+    ghost invariant = { λ q. IsQueue (record { slots = q.slots.items; version = q.version; greatest_id = q.greatest_id; max_len = q.max_len; max_version = q.max_version; max_id = q.max_id }) };
+}
+
+impl Queue {
+    /// An empty queue of at most `max_len` entries, whose versions end at `max_version` and ids at `max_id`.
+    pub fn new(alloc: Global, max_len: usize, max_version: u32, max_id: u32) -> Queue
+        requires { 1 ≤ max_version }
+        ensures { result ≡ opened max_len max_version max_id }
+    {
+        Queue {
+            slots: Vec::new(alloc),
+            version: 1,
+            greatest_id: 0,
+            max_len,
+            max_version,
+            max_id,
+        }
+    }
+
+    /// How many entries there are.
+    pub fn len(&self) -> usize
+        ensures len { result ≡ length (queue_of self.now) }
+
+        // Ids are distinct, versions and lengths within their limits.
+        ensures valid { IsQueue self.now }
+    {
+        self.slots.len()
+    }
+
+    /// The version of the last edit that changed something; 1 at first.
+    pub fn version(&self) -> u32
+        ensures { result ≡ self.now.version }
+    {
+        self.version
+    }
+
+    /// The entry at a place.
+    pub fn get(&self, place: usize) -> Option<&Entry>
+        ensures { option_copied result ≡ slice_get (queue_of self.now) place }
+    {
+        match self.slots.get(place) {
+            Some(slot) => Some(&slot.entry),
+            None => None,
+        }
+    }
+
+    /// Where the entry with an id stands.
+    pub fn position_of(&self, id: u32) -> Option<usize>
+        ensures { result ≡ position_of self.now id }
+    {
+        self.slots.iter().position(|slot| slot.entry.id == id)
+    }
+
+    /// The places that a client has to learn that knows the queue of a version, rising (MPD protocol reference,
+    /// `plchanges`).
+    pub fn changed_since(&self, version: u32) -> Result<Vec<usize>, AllocError>
+        ensures places { IfOk result (λ places. places.items ≡ map (λ row. row.0) (changed self.now version)) }
+        ensures patches { IfOk result (λ places. PatchesEarlier self.now version places.items) }
+    {
+        let alloc = *self.slots.allocator();
+        let places = changed_places(alloc, &self.slots, version, self.version)?;
+        Ok(places)
+    }
+
+    /// Puts songs in before the entry at a place, or at the end; the songs of a refused call are dropped.
+    pub fn insert(&mut self, at: usize, songs: Vec<SharedSong>) -> Result<(), QueueFault>
+        ensures ok { OnOk result (self.new ≡ inserted self.old at songs.items) }
+        ensures no_such_song { IsErrOf result QueueFault.NoSuchSong → ⊥ }
+        ensures bad_index { IsErrOf result QueueFault.BadIndex ↔ (length (queue_of self.old) < at) }
+        ensures full { IsErrOf result QueueFault.Full ↔ ((at ≤ length (queue_of self.old)) × (self.old.max_len < length (queue_of self.old) + vec_len songs)) }
+        ensures no_more_ids { IsErrOf result QueueFault.NoMoreIds ↔ ((at ≤ length (queue_of self.old)) × (length (queue_of self.old) + vec_len songs ≤ self.old.max_len) × (self.old.max_id < self.old.greatest_id + vec_len songs)) }
+        ensures err { OnErr result (self.new ≡ self.old) }
+    {
+        let len = self.slots.len();
+        let count = songs.len();
+        if at > len {
+            return Err(QueueFault::BadIndex);
+        }
+        if count > self.max_len - len {
+            return Err(QueueFault::Full);
+        }
+        if count > (self.max_id - self.greatest_id) as usize {
+            return Err(QueueFault::NoMoreIds);
+        }
+        if count == 0 {
+            return Ok(());
+        }
+        let (version, wraps) = version_after(self.version, self.max_version);
+        let alloc = *self.slots.allocator();
+        let added = new_slots(alloc, self.greatest_id, songs)?;
+        put_in(&mut self.slots, at, added, version, wraps)?;
+        self.greatest_id += count as u32;
+        self.version = version;
+        Ok(())
+    }
+
+    /// Takes the entries of a range out. It takes no memory.
+    pub fn remove(&mut self, range: Range<usize>) -> Result<(), QueueFault>
+        ensures ok { OnOk result (self.new ≡ removed self.old range.start range.end) }
+        ensures bad_index { IsErrOf result QueueFault.BadIndex ↔ ((range.end < range.start) ⊎ (length (queue_of self.old) < range.end)) }
+        ensures faults { IsOkUnless result QueueFault.BadIndex }
+        ensures err { OnErr result (self.new ≡ self.old) }
+    {
+        let Range { start, end } = range;
+        if lies_outside(start, end, self.slots.len()) {
+            return Err(QueueFault::BadIndex);
+        }
+        if start == end {
+            return Ok(());
+        }
+        let (version, wraps) = version_after(self.version, self.max_version);
+        take_out(&mut self.slots, start, end, version, wraps);
+        self.version = version;
+        Ok(())
+    }
+}
+
+/// Whether a range does not lie within so many entries.
+fn lies_outside(start: usize, end: usize, len: usize) -> bool
+    ensures outside { OnTrue result ((end < start) ⊎ (len < end)) }
+    ensures within { OnFalse result ((start ≤ end) × (end ≤ len)) }
+{
+    start > end || end > len
+}

@@ -1,0 +1,151 @@
+//! Lists of slots: what edits write and keep.
+ghost use Rattle.std.specs.Prelude.{◌≡◌, ◌+◌, ◌<◌, ◌≤◌, ◌++◌, ◌==◌, ◌-◌, ◌^◌, ◌||◌, nat_lt, length, map, take, drop, filter, vec_len, true, IfOk, OnOk, OnErr, if◌then◌else◌};
+ghost use Rattle.std.specs.List.{enumerate_from};
+ghost use Rattle.song_queue.specs.State.{kept, written, entries_of};
+ghost use Rattle.song_queue.specs.Entries.{entries_for};
+
+use crate::entry::{Entry, Slot};
+use song_db::SharedSong;
+use std::alloc::{AllocError, Global};
+
+/// The version after one, and whether versions begin anew.
+pub fn version_after(version: u32, max_version: u32) -> (u32, bool)
+    requires { version ≤ max_version }
+    ensures next { result.0 ≡ (if version == max_version then 1 else version + 1) }
+    ensures wraps { result.1 ≡ (version == max_version) }
+{
+    if version == max_version {
+        (1, true)
+    } else {
+        (version + 1, false)
+    }
+}
+
+/// The places of the slots that are shown to a client that knows a version.
+pub fn changed_places(
+    alloc: Global,
+    slots: &[Slot],
+    version: u32,
+    present: u32,
+) -> Result<Vec<usize>, AllocError>
+    ensures { IfOk result (λ places. places.items ≡ map (λ p. p.0) (filter (λ p. p.1.marked || nat_lt version p.1.stamp || nat_lt present version) (enumerate_from 0 slots.now))) }
+{
+    slots
+        .iter()
+        .enumerate()
+        .filter(|(_, slot)| slot.marked || version < slot.stamp || present < version)
+        .map(|(place, _)| place)
+        .collect(alloc)
+}
+
+/// Slots for songs, whose ids come after one.
+pub fn new_slots(
+    alloc: Global,
+    mut id: u32,
+    songs: Vec<SharedSong>,
+) -> Result<Vec<Slot>, AllocError>
+    requires { id + vec_len songs < 2 ^ 32 }
+    ensures { IfOk result (λ slots. entries_of slots.items ≡ entries_for (id + 1) songs.items) }
+{
+    let mut slots = Vec::new(alloc);
+    for song in songs {
+        id += 1;
+        slots.push(Slot {
+            entry: Entry {
+                song,
+                id,
+                priority: 0,
+            },
+            stamp: 1,
+            marked: false,
+        })?;
+    }
+    Ok(slots)
+}
+
+/// Puts slots in at a place. They and all behind them are written, and those before them kept.
+pub fn put_in(
+    slots: &mut Vec<Slot>,
+    at: usize,
+    mut added: Vec<Slot>,
+    version: u32,
+    wraps: bool,
+) -> Result<(), AllocError>
+    requires { at ≤ vec_len slots.old }
+    ensures ok { OnOk result (slots.new.items ≡ map (kept wraps) (take at slots.old.items) ++ map (written version wraps) (entries_of added.items ++ drop at (entries_of slots.old.items))) }
+    ensures err { OnErr result (slots.new.items ≡ slots.old.items) }
+{
+    let count = added.len();
+    slots.append(&mut added)?;
+    let slots = slots.as_mut_slice();
+    move_last(slots, at, count);
+    restamp(slots, at, version, wraps);
+    Ok(())
+}
+
+/// Takes the slots from `start` up to `end` out. All behind them are written, and those before them kept.
+pub fn take_out(slots: &mut Vec<Slot>, start: usize, end: usize, version: u32, wraps: bool)
+    requires order { start ≤ end }
+    requires within { end ≤ vec_len slots.old }
+    ensures { slots.new.items ≡ map (kept wraps) (take start slots.old.items) ++ map (written version wraps) (drop end (entries_of slots.old.items)) }
+{
+    let count = end - start;
+    let left = slots.len() - count;
+    move_first(slots.as_mut_slice(), start, count);
+    slots.truncate(left);
+    restamp(slots.as_mut_slice(), start, version, wraps);
+}
+
+/// Moves slots from a place to the end.
+fn move_first(slots: &mut [Slot], start: usize, count: usize)
+    requires { start + count ≤ length slots.old }
+    ensures { slots.new ≡ take start slots.old ++ (drop count (drop start slots.old) ++ take count (drop start slots.old)) }
+{
+    slots[start..].rotate_left(count);
+}
+
+/// Moves the last slots to a place.
+fn move_last(slots: &mut [Slot], at: usize, count: usize)
+    requires { at + count ≤ length slots.old }
+    ensures { slots.new ≡ take at slots.old ++ (drop (length slots.old - count) slots.old ++ take (length slots.old - count - at) (drop at slots.old)) }
+{
+    slots[at..].rotate_right(count);
+}
+
+/// The slots from a place on are written, and those before it kept.
+fn restamp(slots: &mut [Slot], from: usize, version: u32, wraps: bool)
+    requires { from ≤ length slots.old }
+    ensures { slots.new ≡ map (kept wraps) (take from slots.old) ++ map (written version wraps) (drop from (entries_of slots.old)) }
+{
+    let (front, back) = slots.split_at_mut(from);
+    keep_all(front, wraps);
+    write_all(back, version, wraps);
+}
+
+/// Marks slots where versions begin anew. Else none is touched, so an edit behind them costs nothing for them.
+fn keep_all(slots: &mut [Slot], wraps: bool)
+    ensures { slots.new ≡ map (kept wraps) slots.old }
+{
+    if wraps {
+        mark_all(slots);
+    }
+}
+
+/// Marks slots.
+fn mark_all(slots: &mut [Slot])
+    ensures { slots.new ≡ map (kept true) slots.old }
+{
+    for slot in slots {
+        slot.marked = true;
+    }
+}
+
+/// Gives slots a stamp, and a mark where versions begin anew.
+fn write_all(slots: &mut [Slot], version: u32, wraps: bool)
+    ensures { slots.new ≡ map (written version wraps) (entries_of slots.old) }
+{
+    for slot in slots {
+        slot.stamp = version;
+        slot.marked = wraps;
+    }
+}

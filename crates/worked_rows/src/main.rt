@@ -1,0 +1,53 @@
+//! Runs worked script sessions, the files `*.row` of the folder in which it stands, and compares what they print.
+//!
+//! A row file has lines `# TEXT`, `since:`, `until:`, `again:` (all passed over), input lines `> LINE`, and behind each the
+//! lines that it prints: `< LINE` exactly, or `<~ LINE`, a line that the answer has among others. `>e` and `<e` are the
+//! same with escapes: `\r`, `\t`, `\\`, `\xHH`, and `\{TEXT*N}` for a text N times.
+#![tactic(auto)]
+
+mod row;
+
+use daemon_script::run_script;
+use mpd_text::{FailAt, FailurePoint};
+use row::Row;
+use std::{fs, io};
+
+/// The most row files.
+const MAX_ROWS: usize = 4_096;
+
+fn main(rt: HostRuntime) -> io::Result<()> {
+    let mut names = Vec::new(rt.alloc());
+    for entry in fs::read_dir(&rt, ".")?.take(MAX_ROWS) {
+        let name = String::from_str(rt.alloc(), entry?.file_name())?;
+        if name.as_str().ends_with(".row") {
+            names.push(name)?;
+        }
+    }
+    names.sort()?;
+    let mut compared = 0u64;
+    for name in &names {
+        let text = fs::read_to_string(&rt, name.as_str())?;
+        match passes(&rt, text.as_str())? {
+            Some(lines) => {
+                println!(rt; "{name}: {lines} lines as wanted")?;
+                compared = compared.saturating_add(lines);
+            }
+            None => println!(rt; "{name}: DIFFERS")?,
+        }
+    }
+    println!(rt; "{} rows, {compared} lines", names.len())
+}
+
+/// How many wanted lines a row has, if what the script prints for its input is what it wants.
+fn passes(rt: &HostRuntime, text: &str) -> io::Result<Option<u64>> {
+    let Some(row) = Row::read(rt.alloc(), text)? else {
+        return Ok(None);
+    };
+    let (input, wanted) = row.parts();
+    let mut reader = FailAt::new(input, FailurePoint::Never);
+    let mut writer = FailAt::new(Vec::new(rt.alloc()), FailurePoint::Never);
+    if run_script(rt.alloc(), &mut reader, &mut writer).is_err() {
+        return Ok(None);
+    }
+    Ok(row::compare(&wanted, writer.bytes()))
+}

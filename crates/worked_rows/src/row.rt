@@ -1,0 +1,250 @@
+//! Row files, and what a script printed beside what one wants.
+
+ghost use Rattle.std.specs.Prelude.{◌<◌, IfSome};
+
+use std::alloc::{AllocError, Global};
+use std::str::Lines;
+
+/// How an output line is wanted.
+#[derive(Clone, Copy, Debug, PartialEq, Eq)]
+enum Kind {
+    /// The next line is this one.
+    Exact,
+    /// The answer has this line; other lines may stand before it.
+    Has,
+}
+
+/// A wanted output line.
+#[derive(Drop)]
+pub struct Wanted {
+    kind: Kind,
+    /// The client whose answer it is; no byte of a client at a step.
+    speaker: u8,
+    /// How many input lines stand before it.
+    step: u64,
+    text: Vec<u8>,
+}
+
+/// A session: its input, and the output that is wanted.
+#[derive(Drop)]
+pub struct Row {
+    input: Vec<u8>,
+    wanted: Vec<Wanted>,
+}
+
+impl Row {
+    /// Reads a row file; `None` where a line is of no kind.
+    pub fn read(alloc: Global, text: &str) -> Result<Option<Row>, AllocError> {
+        let mut row = Row {
+            input: Vec::new(alloc),
+            wanted: Vec::new(alloc),
+        };
+        let mut step = 0u64;
+        let mut speaker = 0u8;
+        for line in text.lines() {
+            if let Some(given) = read_line(alloc, line, "> ", ">e ")? {
+                step = step.saturating_add(1);
+                speaker = given.first().copied().unwrap_or(0);
+                row.input.extend_from_slice(given.as_slice())?;
+                row.input.push(b'\n')?;
+            } else if let Some(text) = read_line(alloc, line, "< ", "<e ")? {
+                row.want(Kind::Exact, speaker, step, text)?;
+            } else if let Some(text) = read_line(alloc, line, "<~ ", "<~e ")? {
+                row.want(Kind::Has, speaker, step, text)?;
+            } else if line == ">" {
+                step = step.saturating_add(1);
+                speaker = 0;
+                row.input.push(b'\n')?;
+            } else if !is_passed_over(line) {
+                return Ok(None);
+            }
+        }
+        Ok(Some(row))
+    }
+
+    fn want(
+        &mut self,
+        kind: Kind,
+        speaker: u8,
+        step: u64,
+        text: Vec<u8>,
+    ) -> Result<(), AllocError> {
+        self.wanted.push(Wanted {
+            kind,
+            speaker,
+            step,
+            text,
+        })?;
+        Ok(())
+    }
+
+    /// The input and the wanted lines.
+    pub fn parts(self) -> (Vec<u8>, Vec<Wanted>) {
+        let Row { input, wanted } = self;
+        (input, wanted)
+    }
+}
+
+fn is_passed_over(line: &str) -> bool {
+    line.is_empty()
+        || line.starts_with('#')
+        || line.starts_with("since: ")
+        || line.starts_with("until: ")
+        || line.starts_with("again: ")
+}
+
+/// The bytes behind one of two marks, the second of which has escapes.
+fn read_line(
+    alloc: Global,
+    line: &str,
+    plain: &str,
+    escaped: &str,
+) -> Result<Option<Vec<u8>>, AllocError> {
+    if let Some(text) = line.strip_prefix(plain) {
+        return Ok(Some(Vec::from_slice(alloc, text.as_bytes())?));
+    }
+    match line.strip_prefix(escaped) {
+        Some(text) => unescaped(alloc, text),
+        None => Ok(None),
+    }
+}
+
+/// The bytes of a text with escapes; `None` where one is unknown.
+fn unescaped(alloc: Global, text: &str) -> Result<Option<Vec<u8>>, AllocError> {
+    let mut bytes = Vec::new(alloc);
+    let mut rest = text;
+    for _ in 0..=text.len() {
+        let Some((front, behind)) = rest.split_once('\\') else {
+            break;
+        };
+        bytes.extend_from_slice(front.as_bytes())?;
+        let Some(more) = push_escape(&mut bytes, behind)? else {
+            return Ok(None);
+        };
+        rest = more;
+    }
+    bytes.extend_from_slice(rest.as_bytes())?;
+    Ok(Some(bytes))
+}
+
+/// Appends what one escape stands for, and gives the text behind it.
+fn push_escape<'a>(bytes: &mut Vec<u8>, text: &'a str) -> Result<Option<&'a str>, AllocError> {
+    let mut characters = text.chars();
+    match characters.next() {
+        Some('r') => bytes.push(b'\r')?,
+        Some('t') => bytes.push(b'\t')?,
+        Some('\\') => bytes.push(b'\\')?,
+        Some('x') => {
+            let (Some(high), Some(low)) = (hex(characters.next()), hex(characters.next())) else {
+                return Ok(None);
+            };
+            bytes.push(high * 16 + low)?;
+        }
+        Some('{') => return push_repeated(bytes, characters.as_str()),
+        _ => return Ok(None),
+    }
+    Ok(Some(characters.as_str()))
+}
+
+fn hex(digit: Option<char>) -> Option<u8>
+    ensures { IfSome result (λ value. value < 16) }
+{
+    match digit {
+        Some(c) if c.is_ascii_digit() => Some(c as u8 - b'0'),
+        Some('a') => Some(10),
+        Some('b') => Some(11),
+        Some('c') => Some(12),
+        Some('d') => Some(13),
+        Some('e') => Some(14),
+        Some('f') => Some(15),
+        _ => None,
+    }
+}
+
+/// Appends the text of `TEXT*N}` N times, and gives the text behind it.
+fn push_repeated<'a>(bytes: &mut Vec<u8>, text: &'a str) -> Result<Option<&'a str>, AllocError> {
+    let Some((inside, behind)) = text.split_once('}') else {
+        return Ok(None);
+    };
+    let Some((repeated, count)) = inside.split_once('*') else {
+        return Ok(None);
+    };
+    let Some(count) = mpd_text::number(count) else {
+        return Ok(None);
+    };
+    for _ in 0..count {
+        bytes.extend_from_slice(repeated.as_bytes())?;
+    }
+    Ok(Some(behind))
+}
+
+/// How many lines were wanted, if the output is as wanted.
+pub fn compare(wanted: &[Wanted], output: &[u8]) -> Option<u64> {
+    let text = str::from_utf8(output).ok()?;
+    let mut lines = text.lines();
+    let mut open = None;
+    let mut count = 0u64;
+    for line in wanted {
+        if let Some((speaker, step)) = open
+            && (step != line.step || line.kind == Kind::Exact)
+        {
+            skip_answer(&mut lines, speaker)?;
+            open = None;
+        }
+        let found = match line.kind {
+            Kind::Exact => lines.next()?.as_bytes() == line.text.as_slice(),
+            Kind::Has => find_in_answer(&mut lines, line)?,
+        };
+        if !found {
+            return None;
+        }
+        if line.kind == Kind::Has && !ends_answer(line.text.as_slice(), line.speaker) {
+            open = Some((line.speaker, line.step));
+        }
+        count = count.saturating_add(1);
+    }
+    if let Some((speaker, _)) = open {
+        skip_answer(&mut lines, speaker)?;
+    }
+    if lines.next().is_none() {
+        Some(count)
+    } else {
+        None
+    }
+}
+
+/// Whether the answer has a line, from here on.
+fn find_in_answer(lines: &mut Lines<'_>, wanted: &Wanted) -> Option<bool> {
+    for line in lines {
+        if line.as_bytes() == wanted.text.as_slice() {
+            return Some(true);
+        }
+        if ends_answer(line.as_bytes(), wanted.speaker) {
+            return Some(false);
+        }
+    }
+    None
+}
+
+/// Passes over the rest of an answer, which has to be a success.
+fn skip_answer(lines: &mut Lines<'_>, speaker: u8) -> Option<()> {
+    for line in lines {
+        if ends_answer(line.as_bytes(), speaker) {
+            return if line.as_bytes() == [speaker, b' ', b'O', b'K'].as_slice() {
+                Some(())
+            } else {
+                None
+            };
+        }
+    }
+    None
+}
+
+/// Whether a line ends an answer of a client.
+fn ends_answer(line: &[u8], speaker: u8) -> bool {
+    match line {
+        [first, b' ', b'O', b'K'] => *first == speaker,
+        [first, b' ', b'A', b'C', b'K', b' ', ..] => *first == speaker,
+        _ => false,
+    }
+}
