@@ -5,6 +5,8 @@ mod hear;
 mod memory;
 mod run;
 mod script;
+#[cfg(test)]
+mod tests;
 
 pub use memory::Memory;
 pub use run::{MAX_READS, ScriptFault, run_script};

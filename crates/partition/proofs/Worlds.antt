@@ -1,13 +1,12 @@
 -- The images of worlds are the images of the replay.
-use Rattle.std.proofs.Common.{◌≡◌, ℕ, ◌+◌, ◌%◌, ◌<◌, ◌≤◌, List, [], ◌∷◌, ◌++◌, length, Option, Some, None, refl, ap, sym, ◌∙◌, arith, append_assoc, append-nil, subst}
+use Rattle.std.proofs.Common.{◌≡◌, ℕ, ◌+◌, ◌%◌, ◌<◌, ◌≤◌, List, [], ◌∷◌, ◌++◌, length, Option, Some, None, refl, ap, sym, ◌∙◌, arith, append_assoc, append-nil}
 use Rattle.std.proofs.Math.Nat.{mod-eq_of_lt}
 use Rattle.mpd_text.specs.Songs.{SongData}
 use Rattle.song_queue.specs.declared.entry.Entry.{Entry}
-use Rattle.song_queue.specs.Laws.{Edit, queue_after, EditsFollowPast}
-use Rattle.song_queue.specs.Past.{after_event, state_of}
-use Rattle.song_queue.specs.State.{QueueState, opened}
+use Rattle.song_queue.specs.Laws.{Edit, queue_after}
+use Rattle.song_queue.specs.Past.{state_of}
+use Rattle.song_queue.specs.State.{QueueState}
 use Rattle.song_queue.proofs.Runs.{length-after_event, after_edit}
-use Rattle.partition.specs.declared.event.Event.{Event}
 use Rattle.partition.specs.declared.event.Happened.{Happened}
 use Rattle.partition.specs.declared.state.Client.{Client}
 use Rattle.partition.specs.declared.state.Limits.{Limits}

@@ -1,5 +1,5 @@
 -- What each command does (MPD protocol reference, Command reference: The queue, Querying MPD's status, Connection settings).
-use Rattle.std.specs.Prelude.{ℕ, ◌+◌, Bool, true, false, nat_lt, nat_le, List, [], ◌∷◌, ◌++◌, Option, Some, None, length, if◌then◌else◌, codes, decimal}
+use Rattle.std.specs.Prelude.{ℕ, ◌+◌, nat_lt, nat_le, List, [], ◌∷◌, ◌++◌, Option, Some, None, length, if◌then◌else◌, codes, decimal}
 use Rattle.std.specs.List.{flat_map}
 use Rattle.mpd_text.specs.Answers.{pair_line, ack_line, number_of}
 use Rattle.mpd_text.specs.Songs.{SongData}
@@ -9,8 +9,7 @@ use Rattle.song_db.specs.Library.{song_of}
 use Rattle.song_queue.specs.declared.entry.Entry.{Entry}
 use Rattle.song_queue.specs.State.{QueueState, queue_of, changed}
 use Rattle.song_queue.specs.Laws.{Edit, Insert, Remove}
-use Rattle.partition.specs.declared.event.Next.{Next}
-use Rattle.partition.specs.declared.event.Next.TheVariants.{Goes, Closes}
+use Rattle.partition.specs.declared.event.Next.TheVariants.{Goes}
 use Rattle.partition.specs.Image.{Image, Turn, Stay}
 
 abbrev pub okay : List ℕ

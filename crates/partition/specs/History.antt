@@ -2,7 +2,6 @@
 use Rattle.std.specs.Prelude.{◌≡◌, ℕ, ◌==◌, List, [], ◌∷◌, map, count_by}
 use Rattle.std.specs.List.{range_with_len}
 use Rattle.partition.specs.declared.event.Happened.{Happened}
-use Rattle.partition.specs.Answers.{Told}
 use Rattle.partition.specs.Image.{Image}
 use Rattle.partition.specs.Step.{next, told}
 

@@ -1,5 +1,5 @@
 -- What a command can read of a player, and what it makes of it.
-use Rattle.std.specs.Prelude.{ℕ, ◌+◌, ◌==◌, Bool, not, List, [], ◌∷◌, ◌++◌, Option, Some, None, map, filter, slice_set, slice_index_or, if◌then◌else◌}
+use Rattle.std.specs.Prelude.{ℕ, ◌+◌, ◌==◌, Bool, not, List, [], ◌∷◌, ◌++◌, Option, Some, None, filter, slice_set, slice_index_or, if◌then◌else◌}
 use Rattle.mpd_text.specs.Songs.{SongData}
 use Rattle.song_queue.specs.State.{QueueState, opened}
 use Rattle.song_queue.specs.Laws.{Edit, state_after_edit}

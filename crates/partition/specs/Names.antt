@@ -1,5 +1,5 @@
 -- The names of commands (MPD protocol reference, Command reference).
-use Rattle.std.specs.Prelude.{ℕ, List, [], ◌∷◌, Option, Some, None, codes, find}
+use Rattle.std.specs.Prelude.{ℕ, List, [], ◌∷◌, Option, codes, find}
 use Rattle.std.specs.Str.{bytes_eq}
 use Rattle.partition.specs.declared.name.Name.{Name}
 use Rattle.partition.specs.declared.name.Name.TheVariants.{Add, Delete, Ping, PlChangesPosId, Status}

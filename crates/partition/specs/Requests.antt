@@ -12,7 +12,6 @@ use Rattle.partition.specs.declared.argument.Misread.{Misread}
 use Rattle.partition.specs.declared.argument.Misread.TheVariants.{WrongNumber, Bad, NoMemory}
 use Rattle.partition.specs.declared.name.Name.{Name}
 use Rattle.partition.specs.declared.name.Name.TheVariants.{Add as name_add, Delete as name_delete, Ping as name_ping, PlChangesPosId as name_plchangesposid, Status as name_status}
-use Rattle.partition.specs.declared.command.Ack.{Ack}
 use Rattle.partition.specs.declared.command.Command.{Command}
 use Rattle.partition.specs.declared.command.Command.TheVariants.{Add, Delete, Ping, PlChangesPosId, Status}
 use Rattle.partition.specs.declared.command.Request.{Request}

@@ -1,6 +1,5 @@
 -- What an event does to a player, and what it makes clients hear.
-use Rattle.std.specs.Prelude.{ℕ, Bool, List, [], Option, Some, None, is_some, length, nat_le, codes, if◌then◌else◌}
-use Rattle.partition.specs.declared.argument.Uri.{Uri}
+use Rattle.std.specs.Prelude.{ℕ, [], Option, Some, None, is_some, length, nat_le, codes, if◌then◌else◌}
 use Rattle.partition.specs.declared.command.Command.{Command}
 use Rattle.partition.specs.declared.command.Command.TheVariants.{Add, Delete, Ping, PlChangesPosId, Status}
 use Rattle.partition.specs.declared.command.Request.{Request}

@@ -7,6 +7,8 @@ mod event;
 mod name;
 mod partition;
 mod state;
+#[cfg(test)]
+mod tests;
 mod turns;
 
 pub use argument::Uri;

@@ -1,4 +1,4 @@
-use Rattle.std.proofs.Common.{sym, ◌∙◌, arith}
+use Rattle.std.proofs.Common.{◌∙◌, arith}
 use Rattle.song_queue.specs.State.{queue_of}
 use Rattle.partition.proofs.Rows.{one_row, all_rows}
 use Rattle.partition.proofs.turns.changed_rows.Goals as goal

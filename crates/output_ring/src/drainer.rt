@@ -1,0 +1,237 @@
+//! The end of a ring that an output drains.
+ghost use Rattle.std.specs.Prelude.{◌≡◌, ◌+◌, ◌^◌, ◌<◌, ◌≤◌, [], ◌++◌, length, take, drop, vec_len};
+ghost use mathlib.Core.List.{IsPrefix};
+ghost use Rattle.rtrb.specs.Ring.{received, known_items, SameConsumer};
+ghost use Rattle.output_ring.specs.Sending.{HasRoom};
+
+use crate::feeder::{Feeder, FeederEnd};
+use crate::frames::{Cut, CutFrame, Fates, Live, Totals, WriteFault};
+use crate::outgoing::{Outgoing, write_bytes};
+use mpd_text::Sink;
+use rtrb::Consumer;
+use std::alloc::{AllocError, Global};
+
+const NO_FATES: Fates = Fates {
+    written: 0,
+    discarded: 0,
+};
+
+/// Pops frames into its hand, and gives each its fate. No call waits, and none but the making takes memory.
+#[derive(Drop)]
+pub struct Drainer {
+    pub(crate) consumer: Consumer<CutFrame>,
+    // The hand is the first `held` of these.
+    pub(crate) slots: Vec<CutFrame>,
+    pub(crate) held: usize,
+    pub(crate) totals: Totals,
+    pub(crate) unreported: Fates,
+    pub(crate) failed: bool,
+    outgoing: Outgoing,
+    ghost room: { HasRoom (vec_len slots) outgoing },
+    ghost within: { held ≤ vec_len slots },
+    ghost counted: { (totals.written + totals.discarded) + held ≡ length (received consumer) },
+    ghost bounded: { (totals.written + totals.discarded) + held < 2 ^ 64 },
+    ghost unreported_within: { (unreported.written ≤ totals.written) × (unreported.discarded ≤ totals.discarded) },
+    ghost torn: { totals.torn < 4 },
+    ghost hand_is: { take held slots.items ≡ drop (totals.written + totals.discarded) (received consumer) },
+}
+
+impl Drainer {
+    ghost use mathlib.Core.List.{IsPrefix};
+    ghost use Rattle.std.specs.Prelude.{◌≡◌, ◌+◌, ◌-◌, ◌^◌, ◌<◌, ◌≤◌, [], ◌++◌, IfOk, IfSome, IsSome, MatchResult, ◌||◌, ◌↔◌, is_err, OnErr, length, true, false};
+    ghost use Rattle.std.specs.Io.KnownBytes.{Appends};
+    ghost use Rattle.mpd_text.specs.Devices.{HasFailed};
+    ghost use Rattle.output_ring.specs.Frames.{heard, bytes_of, StopsInside, fates, no_fates, no_totals, both, counted, totals_after, fates_in};
+    ghost use Rattle.output_ring.specs.Rings.{taken_of, owed_of, fates_of, popped_of, came_of, hand_of, most_of, ring_of, totals_of, unreported_of, has_failed, AreEnds, AreEndsAfter, EndTook, end_owed, SameFeeder, SameDrainer};
+
+    pub(crate) fn new(
+        alloc: Global,
+        consumer: Consumer<CutFrame>,
+        most: usize,
+    ) -> Result<Drainer, AllocError>
+        requires { received consumer ≡ [] }
+        ensures { IfOk result (λ d. (d.consumer ≡ consumer) × (hand_of d ≡ []) × (most_of d ≡ most) × (totals_of d ≡ no_totals) × (unreported_of d ≡ no_fates) × (has_failed d ≡ false)) }
+    {
+        let silence = CutFrame {
+            frame: [0, 0],
+            cut: Cut { number: 0 },
+        };
+        let mut slots = Vec::new(alloc);
+        slots.resize(most, silence)?;
+        let outgoing = Outgoing::new(alloc, most)?;
+        Ok(Drainer {
+            consumer,
+            slots,
+            held: 0,
+            totals: Totals {
+                written: 0,
+                discarded: 0,
+                torn: 0,
+            },
+            unreported: NO_FATES,
+            failed: false,
+            outgoing,
+        })
+    }
+
+    /// Fills the hand from the ring, and says by how many frames. Once 2^64-1 frames were popped in all it pops no more.
+    pub fn pop(&mut self) -> usize
+        ensures popped { popped_of self.new ≡ popped_of self.old ++ came_of self.old self.new }
+        ensures hand { hand_of self.new ≡ hand_of self.old ++ came_of self.old self.new }
+        ensures count { length (came_of self.old self.new) ≡ result }
+
+        // The known frames come first, all that have room in the hand, and it stops only where no more are known.
+        ensures known { IsPrefix (ring_of self.old) (came_of self.old self.new ++ ring_of self.new) }
+        ensures all { length (hand_of self.old) + length (ring_of self.old) ≤ most_of self.old → length (popped_of self.old) + length (ring_of self.old) < 2 ^ 64 → length (ring_of self.old) ≤ result }
+        ensures stops { length (hand_of self.new) < most_of self.new → length (popped_of self.new) < 2 ^ 64 - 1 → ring_of self.new ≡ [] }
+        ensures order { popped_of self.new ≡ fates_of self.new ++ hand_of self.new }
+        ensures kept { (fates_of self.new ≡ fates_of self.old) × (totals_of self.new ≡ totals_of self.old) × (unreported_of self.new ≡ unreported_of self.old) × (most_of self.new ≡ most_of self.old) × (has_failed self.new ≡ has_failed self.old) }
+        ensures ring { SameDrainer self.old self.new }
+    {
+        let popped = self.totals.written + self.totals.discarded + self.held as u64;
+        let room = (self.slots.len() - self.held) as u64;
+        let most = room.min(u64::MAX - popped) as usize;
+        let count = pop_behind(&mut self.consumer, &mut self.slots, self.held, most);
+        self.held += count;
+        count
+    }
+
+    /// Gives each frame of the hand its fate, and says how many were written and how many discarded. After a fault of a
+    /// writer all is discarded; else a pause or the end keeps the hand; else a frame is written where the output is
+    /// enabled and the frame's cut is at least the live one, and discarded otherwise.
+    pub fn write_out<W: Sink>(&mut self, writer: &mut W, live: Live) -> Result<Fates, WriteFault>
+        ensures after_fault { has_failed self.old ≡ true → (result ≡ Ok (fates 0 (length (hand_of self.old)))) × (hand_of self.new ≡ []) × (writer.new ≡ writer.old) }
+        ensures held { has_failed self.old ≡ false → (live.paused || live.ended) ≡ true → (result ≡ Ok no_fates) × (hand_of self.new ≡ hand_of self.old) × (writer.new ≡ writer.old) }
+        ensures played { has_failed self.old ≡ false → (live.paused || live.ended) ≡ false → (hand_of self.new ≡ []) × MatchResult result
+            (λ f. (f ≡ fates (length (heard live (hand_of self.old))) (length (hand_of self.old) - length (heard live (hand_of self.old)))) × Appends (W.contents writer.old) (W.contents writer.new) (bytes_of (heard live (hand_of self.old))))
+            (λ e. (e.fates ≡ fates e.fates.written (length (hand_of self.old) - e.fates.written)) × StopsInside (W.contents writer.old) (W.contents writer.new) live (hand_of self.old) e.fates.written e.torn) }
+
+        // Only a failure of this writer during this call is a fault.
+        ensures fault { OnErr result (HasFailed (W.tally writer.old) (W.tally writer.new)) }
+        ensures failed { has_failed self.new ≡ (has_failed self.old || is_err result) }
+
+        ensures totals { totals_of self.new ≡ totals_after (totals_of self.old) result }
+        ensures unreported { unreported_of self.new ≡ both (unreported_of self.old) (fates_in result) }
+        ensures order { popped_of self.new ≡ fates_of self.new ++ hand_of self.new }
+        ensures kept { (popped_of self.new ≡ popped_of self.old) × (ring_of self.new ≡ ring_of self.old) × (most_of self.new ≡ most_of self.old) }
+        ensures ring { SameDrainer self.old self.new }
+    {
+        if self.failed {
+            return Ok(self.settle_hand(0));
+        }
+        if live.paused || live.ended {
+            return Ok(NO_FATES);
+        }
+        match self.outgoing.send(writer, &self.slots[..self.held], live) {
+            Ok(written) => Ok(self.settle_hand(written)),
+            Err(torn) => {
+                self.failed = true;
+                self.totals.torn = torn.bytes;
+                Err(WriteFault {
+                    fates: self.settle_hand(torn.written),
+                    torn: torn.bytes,
+                })
+            }
+        }
+    }
+
+    // The hand's frames have their fates: so many were written.
+    fn settle_hand(&mut self, written: u64) -> Fates
+        requires { written ≤ length (hand_of self.old) }
+        ensures result { result ≡ fates written (length (hand_of self.old) - written) }
+        ensures hand { hand_of self.new ≡ [] }
+        ensures totals { totals_of self.new ≡ counted (totals_of self.old) (fates written (length (hand_of self.old) - written)) }
+        ensures unreported { unreported_of self.new ≡ both (unreported_of self.old) (fates written (length (hand_of self.old) - written)) }
+        ensures kept { (popped_of self.new ≡ popped_of self.old) × (ring_of self.new ≡ ring_of self.old) × (most_of self.new ≡ most_of self.old) × (has_failed self.new ≡ has_failed self.old) }
+        ensures ring { SameDrainer self.old self.new }
+    {
+        let discarded = self.held as u64 - written;
+        self.held = 0;
+        self.totals.written += written;
+        self.totals.discarded += discarded;
+        self.unreported.written += written;
+        self.unreported.discarded += discarded;
+        Fates { written, discarded }
+    }
+
+    /// The fates since the last report.
+    pub fn fates(&self) -> Fates
+        ensures { result ≡ unreported_of self.now }
+    {
+        self.unreported
+    }
+
+    /// Says that the fates so far were reported.
+    pub fn reported(&mut self)
+        ensures unreported { unreported_of self.new ≡ no_fates }
+        ensures kept { (totals_of self.new ≡ totals_of self.old) × (popped_of self.new ≡ popped_of self.old) × (hand_of self.new ≡ hand_of self.old) × (ring_of self.new ≡ ring_of self.old) × (most_of self.new ≡ most_of self.old) × (has_failed self.new ≡ has_failed self.old) }
+        ensures ring { SameDrainer self.old self.new }
+    {
+        self.unreported = NO_FATES;
+    }
+
+    /// The fates of all frames so far, with the bytes of a frame in which a writer failed.
+    pub fn totals(&self) -> Totals
+        ensures totals { result ≡ totals_of self.now }
+        ensures count { result.written + result.discarded ≡ length (fates_of self.now) }
+        ensures bound { (result.written + result.discarded) + length (hand_of self.now) < 2 ^ 64 }
+        ensures torn { result.torn < 4 }
+    {
+        let _held = self.held;
+        self.totals
+    }
+
+    /// How many popped frames have no fate yet.
+    pub fn held(&self) -> usize
+        ensures { result ≡ length (hand_of self.now) }
+    {
+        self.held
+    }
+
+    /// With both ends of one ring in one thread, the ring's length. What was taken is the fates, then the hand, the ring and what is owed.
+    pub fn beside(&mut self, feeder: &mut Feeder) -> usize
+        requires { AreEnds feeder.old self.old }
+        ensures all { taken_of feeder.new ≡ ((fates_of self.new ++ hand_of self.new) ++ ring_of self.new) ++ owed_of feeder.new }
+        ensures length { result ≡ length (ring_of self.new) }
+        ensures feeder { (taken_of feeder.new ≡ taken_of feeder.old) × (owed_of feeder.new ≡ owed_of feeder.old) × SameFeeder feeder.old feeder.new }
+        ensures kept { (totals_of self.new ≡ totals_of self.old) × (unreported_of self.new ≡ unreported_of self.old) × (popped_of self.new ≡ popped_of self.old) × (hand_of self.new ≡ hand_of self.old) × (most_of self.new ≡ most_of self.old) × (has_failed self.new ≡ has_failed self.old) }
+        ensures ring { SameDrainer self.old self.new }
+    {
+        self.consumer.slots_beside(&mut feeder.producer)
+    }
+
+    /// With the end of this ring's feeder, the ring's length. What was taken is the fates, then the hand, the ring and what is owed.
+    /// `None` without the token.
+    pub fn after(&mut self, end: &mut FeederEnd) -> Option<usize>
+        requires { AreEndsAfter end.old self.old }
+        ensures token { IsSome result ↔ IsSome end.old.finished }
+        ensures all { IfSome result (λ n. (n ≡ length (ring_of self.new)) × EndTook end.old (((fates_of self.new ++ hand_of self.new) ++ ring_of self.new) ++ end_owed end.old)) }
+        ensures end { (end_owed end.new ≡ end_owed end.old) × AreEndsAfter end.new self.new }
+        ensures kept { (totals_of self.new ≡ totals_of self.old) × (unreported_of self.new ≡ unreported_of self.old) × (popped_of self.new ≡ popped_of self.old) × (hand_of self.new ≡ hand_of self.old) × (most_of self.new ≡ most_of self.old) × (has_failed self.new ≡ has_failed self.old) }
+        ensures ring { SameDrainer self.old self.new }
+    {
+        match &mut end.finished {
+            Some(finished) => Some(self.consumer.slots_after(finished)),
+            None => None,
+        }
+    }
+}
+
+// Pops up to `most` frames into the slots behind the first `held`, and says how many.
+fn pop_behind(
+    consumer: &mut Consumer<CutFrame>,
+    slots: &mut [CutFrame],
+    held: usize,
+    most: usize,
+) -> usize
+    requires { held + most ≤ length slots.old }
+    ensures popped { received consumer.new ≡ received consumer.old ++ take result (drop held slots.new) }
+    ensures hand { take (held + result) slots.new ≡ take held slots.old ++ take result (drop held slots.new) }
+    ensures length { length slots.new ≡ length slots.old }
+    ensures count { (result ≤ most) × (length (take result (drop held slots.new)) ≡ result) }
+    ensures known { IsPrefix (known_items consumer.old) (take result (drop held slots.new) ++ known_items consumer.new) }
+    ensures stops { result < most → known_items consumer.new ≡ [] }
+    ensures ring { SameConsumer consumer.old consumer.new }
+{
+    consumer.pop_partial_slice(&mut slots[held..held + most])
+}

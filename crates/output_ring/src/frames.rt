@@ -1,0 +1,49 @@
+//! Frames with their cuts, and what an output does with them.
+use pcm_mix::Frame;
+
+/// The cut number of a block. Every manual start, seek and stop raises it, and frames of an earlier cut are heard no more.
+#[derive(Clone, Copy, PartialEq, Eq, PartialOrd, Ord, Debug)]
+pub struct Cut {
+    pub number: u64,
+}
+
+/// A frame with the cut of its block.
+#[derive(Clone, Copy, PartialEq, Eq, Debug)]
+pub struct CutFrame {
+    pub frame: Frame,
+    pub cut: Cut,
+}
+
+/// What an output is told at its turn.
+#[derive(Clone, Copy, PartialEq, Eq, Debug)]
+pub struct Live {
+    /// Frames of an earlier cut are discarded.
+    pub cut: Cut,
+    pub enabled: bool,
+    pub paused: bool,
+    pub ended: bool,
+}
+
+/// How many frames were written and how many discarded.
+#[derive(Clone, Copy, PartialEq, Eq, Debug)]
+pub struct Fates {
+    pub written: u64,
+    pub discarded: u64,
+}
+
+/// The fates of all frames so far.
+#[derive(Clone, Copy, PartialEq, Eq, Debug)]
+pub struct Totals {
+    pub written: u64,
+    pub discarded: u64,
+    /// Bytes, 0 to 3, of a discarded frame in which the writer failed.
+    pub torn: u8,
+}
+
+/// The writer failed. The frame in which it did and the rest of the hand are discarded, and so is all that comes later.
+#[derive(Clone, Copy, PartialEq, Eq, Debug)]
+pub struct WriteFault {
+    pub fates: Fates,
+    /// Bytes, 0 to 3, that were written of the frame in which the writer failed.
+    pub torn: u8,
+}

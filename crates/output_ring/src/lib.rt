@@ -1,0 +1,34 @@
+//! A wait-free ring of frames between a decoder and an output, whose two ends account for each frame:
+//! what was taken is written or discarded, in order, then held, in the ring, or owed.
+#![tactic(auto)]
+
+ghost use Rattle.std.specs.Prelude.{◌≡◌, [], IfOk, false};
+ghost use Rattle.output_ring.specs.Frames.{no_totals, no_fates};
+ghost use Rattle.output_ring.specs.Rings.{AreEnds, taken_of, owed_of, room_of, popped_of, hand_of, most_of, ring_of, totals_of, unreported_of, has_failed};
+
+pub mod drainer;
+pub mod feeder;
+pub mod frames;
+mod outgoing;
+
+pub use drainer::Drainer;
+pub use feeder::{Feeder, FeederEnd, MOST_FRAMES};
+pub use frames::{Cut, CutFrame, Fates, Live, Totals, WriteFault};
+use rtrb::RingBuffer;
+use std::alloc::{AllocError, Global};
+
+/// A ring with room for `capacity` frames, whose drainer holds up to `hand` frames at a time.
+pub fn ring(alloc: Global, capacity: usize, hand: usize) -> Result<(Feeder, Drainer), AllocError>
+    ensures ends { IfOk result (λ r. AreEnds r.0 r.1) }
+    ensures feeder { IfOk result (λ r. (taken_of r.0 ≡ []) × (owed_of r.0 ≡ []) × (room_of r.0 ≡ capacity)) }
+    ensures frames { IfOk result (λ r. (popped_of r.1 ≡ []) × (hand_of r.1 ≡ []) × (ring_of r.1 ≡ []) × (most_of r.1 ≡ hand)) }
+    ensures counts { IfOk result (λ r. (totals_of r.1 ≡ no_totals) × (unreported_of r.1 ≡ no_fates) × (has_failed r.1 ≡ false)) }
+{
+    let (producer, consumer) = RingBuffer::new(alloc, capacity)?;
+    let feeder = Feeder::new(alloc, producer)?;
+    let drainer = Drainer::new(alloc, consumer, hand)?;
+    Ok((feeder, drainer))
+}
+
+#[cfg(test)]
+mod tests;

@@ -1,0 +1,4 @@
+pub mod Entries
+pub mod Lines
+pub mod Maps
+pub mod Memory
