@@ -1,0 +1,120 @@
+"""Benchmark: times and memory of the built program beside the wanted values. It asserts nothing."""
+import os
+import statistics
+import tempfile
+import time
+
+ENTRIES = 16384  # of the longest queue that is measured
+RUNS = 5         # of which the best counts
+PAIRS = 51       # of which the median counts where the difference of two runs is short
+SONG = b'! song a.wav 8000\n'
+ADD, DELETE, STATUS, CHANGES, PING = b'1 add a.wav\n', b'1 delete 0\n', b'1 status\n', b'1 plchangesposid 0\n', b'1 ping\n'
+NO_SONG = b'1 add nosuch\n'
+PING_TEXTS, NO_SONG_TEXTS = len(b'OK\n'), len(b'nosuch' + b'ACK [50@0] {add} no such song\n')
+
+
+class Time:
+    """Seconds that passed, and seconds of the processor (less disturbed by other programs)."""
+
+    def __init__(self, passed, processor):
+        self.passed, self.processor = passed, processor
+
+    def each(self, less, times):
+        """Microseconds of each of so many lines, by which this run is longer than another."""
+        return Time((self.passed - less.passed) / times * 1e6, (self.processor - less.processor) / times * 1e6)
+
+
+def timed(path, script):
+    """One run of a script file, its output dropped."""
+    actions = [(os.POSIX_SPAWN_OPEN, 0, script, os.O_RDONLY, 0), (os.POSIX_SPAWN_OPEN, 1, os.devnull, os.O_WRONLY, 0)]
+    start = time.perf_counter()
+    process = os.posix_spawn(path, [path, 'script'], os.environ, file_actions=actions)
+    _, status, usage = os.wait4(process, 0)
+    passed = time.perf_counter() - start
+    if status != 0:
+        raise SystemExit('benchmark: the program ended with wait status %d' % status)
+    return Time(passed, usage.ru_utime + usage.ru_stime)
+
+
+def turns(path, inputs, count):
+    """The times of each of the inputs, which take turns, so that a change of the machine's speed meets all alike."""
+    with tempfile.TemporaryDirectory() as folder:
+        scripts = []
+        for lines in inputs:
+            scripts.append(os.path.join(folder, str(len(scripts))))
+            with open(scripts[-1], 'wb') as script:
+                script.write(lines)
+        return list(zip(*[[timed(path, script) for script in scripts] for _ in range(count)]))
+
+
+def best(times):
+    """The best of the runs, of each of the two times alone."""
+    return Time(min(t.passed for t in times), min(t.processor for t in times))
+
+
+def median(more, less, lines):
+    """Microseconds of each of so many lines: the median over pairs of runs that stood in one turn."""
+    each = [m.each(l, lines) for m, l in zip(more, less)]
+    return Time(statistics.median(t.passed for t in each), statistics.median(t.processor for t in each))
+
+
+def row(name, values, wanted=''):
+    print('  %-44s %12s %12s   %s' % (name, *values, wanted))
+
+
+def shown(value):
+    return '%.0f' % value if abs(value) >= 100 else '%.2f' % value
+
+
+def both(measured):
+    return shown(measured.passed), shown(measured.processor)
+
+
+def show_long_times(path, queue):
+    row('best of %d' % RUNS, ('passed', 'processor'), 'wanted')
+    pings, = map(best, turns(path, [PING * 100000], RUNS))
+    row('ping, lines a second', ('%.0f' % (1e5 / pings.passed), '%.0f' % (1e5 / pings.processor)), '1000000 or more')
+    full, deleted, listed = map(best, turns(path, [queue, queue + DELETE * 10000, queue + CHANGES * 20], RUNS))
+    row('delete 0 at %d entries (us each)' % ENTRIES, both(deleted.each(full, 10000)), 'less than 100')
+    row('plchangesposid 0 at %d entries (us each)' % ENTRIES, both(listed.each(full, 20)))
+
+
+def show_short_times(path, start, queue):
+    row('median of %d differences of two runs' % PAIRS, ('passed', 'processor'), 'wanted')
+    none, few, most, full, full_status, one, one_status = turns(path, [
+        start, start + ADD * 1000, start + ADD * (ENTRIES - 1000), queue, queue + STATUS * 1000,
+        start + ADD, start + ADD + STATUS * 1000], PAIRS)
+    first, last = median(few, none, 1000), median(full, most, 1000)
+    row('add, first 1000 (us each)', both(first))
+    row('add, last 1000 of %d (us each)' % ENTRIES, both(last))
+    row('.. last to first', (shown(last.passed / first.passed), shown(last.processor / first.processor)), '1.5 or less')
+    row('status at 1 entry (us each)', both(median(one_status, one, 1000)))
+    row('status at %d entries (us each)' % ENTRIES, both(median(full_status, full, 1000)), 'as at 1 entry')
+
+
+def show_memory(program):
+    def peak(lines):
+        """The most memory that the program held, in KiB."""
+        return program.run_with(lines).counts['peak_kib']
+
+    def each(line):
+        """Bytes by which the peak grows with each event, from 100,000 to 200,000 of them."""
+        return '%.0f' % ((peak(line * 200000) - peak(line * 100000)) * 1024 / 100000)
+
+    row('memory', ('', ''), 'wanted')
+    row('peak, 1 ping (KiB)', (peak(PING), ''))
+    row('peak, 100000 pings (KiB)', (peak(PING * 100000), ''))
+    row('peak, %d adds, 10000 deletes (KiB)' % ENTRIES, (peak(SONG + ADD * ENTRIES + DELETE * 10000), ''))
+    row('ping, bytes for each stored event', (each(PING), ''), '%d or less, with its texts' % (200 + PING_TEXTS))
+    row('add of no song, bytes for each stored event', (each(NO_SONG), ''), '%d or less, with its texts' % (200 + NO_SONG_TEXTS))
+
+
+def check(program):
+    """Prints a table; no failures."""
+    print('Benchmark (load of the machine %.1f, %d processors)' % (os.getloadavg()[0], os.cpu_count()))
+    start = SONG + PING
+    queue = start + ADD * ENTRIES
+    show_long_times(program.path, queue)
+    show_short_times(program.path, start, queue)
+    show_memory(program)
+    return 0

@@ -1,0 +1,109 @@
+/* A preload library for checks from outside: the Nth allocation, read or write of a program fails.
+ *
+ *   gcc -shared -fPIC -O2 -o faulty.so faulty.c -ldl
+ *   FAULTY_ALLOCATION=3 LD_PRELOAD=./faulty.so PROGRAM ..
+ *
+ * The environment says what fails; N counts from 1, and nothing fails where it is absent or 0.
+ *   FAULTY_ALLOCATION=N  the Nth malloc or realloc finds no memory (ENOMEM)
+ *   FAULTY_READ=N        the Nth read fails (EIO)
+ *   FAULTY_WRITE=N       the Nth write fails (EIO); those to standard error neither fail nor count
+ *   FAULTY_PIECE=N       no read and no such write moves more than N bytes
+ *   FAULTY_REPORT=FILE   at exit FILE gets a line 'NAME COUNT' for each count and for the peak memory
+ */
+#define _GNU_SOURCE
+#include <dlfcn.h>
+#include <errno.h>
+#include <fcntl.h>
+#include <stdatomic.h>
+#include <stdio.h>
+#include <stdlib.h>
+#include <string.h>
+#include <unistd.h>
+
+static atomic_long allocations, reads, writes, bytes_read;
+static long refused_allocation, failing_read, failing_write, piece;
+
+static void *(*real_malloc)(size_t);
+static void *(*real_realloc)(void *, size_t);
+static ssize_t (*real_read)(int, void *, size_t);
+static ssize_t (*real_write)(int, const void *, size_t);
+
+/* The C library may allocate before `begin` has run, so this may be called first from there. */
+static void find_real_calls(void) {
+    real_malloc = dlsym(RTLD_NEXT, "malloc");
+    real_realloc = dlsym(RTLD_NEXT, "realloc");
+    real_read = dlsym(RTLD_NEXT, "read");
+    real_write = dlsym(RTLD_NEXT, "write");
+}
+
+static long number_in(const char *variable) {
+    const char *text = getenv(variable);
+    return text ? atol(text) : 0;
+}
+
+static int is_due(atomic_long *count, long at) {
+    return atomic_fetch_add(count, 1) + 1 == at;
+}
+
+static size_t cut(size_t size) {
+    return piece > 0 && size > (size_t)piece ? (size_t)piece : size;
+}
+
+void *malloc(size_t size) {
+    if (!real_malloc) find_real_calls();
+    if (is_due(&allocations, refused_allocation)) { errno = ENOMEM; return NULL; }
+    return real_malloc(size);
+}
+
+void *realloc(void *old, size_t size) {
+    if (!real_realloc) find_real_calls();
+    if (is_due(&allocations, refused_allocation)) { errno = ENOMEM; return NULL; }
+    return real_realloc(old, size);
+}
+
+ssize_t read(int file, void *into, size_t size) {
+    if (!real_read) find_real_calls();
+    if (is_due(&reads, failing_read)) { errno = EIO; return -1; }
+    ssize_t got = real_read(file, into, cut(size));
+    if (got > 0) atomic_fetch_add(&bytes_read, got);
+    return got;
+}
+
+ssize_t write(int file, const void *from, size_t size) {
+    if (!real_write) find_real_calls();
+    if (file == STDERR_FILENO) return real_write(file, from, size);
+    if (is_due(&writes, failing_write)) { errno = EIO; return -1; }
+    return real_write(file, from, cut(size));
+}
+
+/* The most memory that the process held, in KiB, or 0 where the system does not say. */
+static long peak_memory(void) {
+    char text[4096];
+    int file = open("/proc/self/status", O_RDONLY);
+    if (file < 0) return 0;
+    ssize_t size = real_read(file, text, sizeof text - 1);
+    close(file);
+    text[size > 0 ? size : 0] = 0;
+    const char *peak = strstr(text, "VmHWM:");
+    return peak ? atol(peak + strlen("VmHWM:")) : 0;
+}
+
+static void report(void) {
+    char text[256];
+    int size = snprintf(text, sizeof text, "allocations %ld\nreads %ld\nwrites %ld\nbytes_read %ld\npeak_kib %ld\n",
+                        allocations, reads, writes, bytes_read, peak_memory());
+    int file = open(getenv("FAULTY_REPORT"), O_CREAT | O_TRUNC | O_WRONLY, 0644);
+    if (file < 0) return;
+    if (real_write(file, text, size) != size) unlink(getenv("FAULTY_REPORT"));
+    close(file);
+}
+
+__attribute__((constructor)) static void begin(void) {
+    find_real_calls();
+    refused_allocation = number_in("FAULTY_ALLOCATION");
+    failing_read = number_in("FAULTY_READ");
+    failing_write = number_in("FAULTY_WRITE");
+    piece = number_in("FAULTY_PIECE");
+    if (getenv("FAULTY_REPORT")) atexit(report);
+    allocations = 0; /* those of the program alone are counted */
+}

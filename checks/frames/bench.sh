@@ -1,0 +1,34 @@
+#!/bin/sh
+# Prints frames a second of the sample kernels and of a ring, beside plain C loops.
+# Usage: bench.sh [ROOT]     (ROOT is the repository's top folder; two folders up from here if left out)
+# It builds on a copy in a temporary folder. What the crates have proved is copied along; the rest is proved there first.
+set -eu
+here=$(cd "$(dirname "$0")" && pwd)
+root=$(cd "${1:-$here/../..}" && pwd)
+work=$(mktemp -d)
+trap 'rm -rf "$work"' EXIT
+mkdir "$work/crates"
+for crate in mpd_text pcm_mix output_ring; do
+    cp -a "$root/crates/$crate" "$work/crates/$crate"
+done
+cp -r "$here/frame_bench" "$work/crates/frame_bench"
+cp "$root/HANDLES" "$work/HANDLES"
+cat > "$work/crates.txt" <<END
+mpd_text:
+pcm_mix:
+output_ring: mpd_text pcm_mix rtrb
+frame_bench: mpd_text pcm_mix output_ring
+END
+gcc -O2 -o "$work/kernels" "$here/kernels.c"
+(cd "$work/crates/frame_bench" && rt run > "$work/ours.log" 2>&1) || { cat "$work/ours.log"; exit 1; }
+"$work/kernels" > "$work/c.txt"
+grep -E '^[a-z_0-9]+ [0-9]+ [0-9]+ [0-9]+$' "$work/ours.log" > "$work/ours.txt"
+awk '
+    NR == FNR { time[$1] = $3; sum[$1] = $4; next }
+    FNR == 1 { printf "%-22s %14s %14s %7s  %s\n", "", "million/s", "C, million/s", "ratio", "same result" }
+    {
+        printf "%-22s %14.1f", $1, $2 * 1000 / $3
+        if ($1 in time) printf " %14.1f %7.2f  %s\n", $2 * 1000 / time[$1], $3 / time[$1], ($4 == sum[$1] ? "yes" : "NO")
+        else printf "\n"
+    }
+' "$work/c.txt" "$work/ours.txt"

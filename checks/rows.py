@@ -1,0 +1,41 @@
+"""Input for the checks, with the output that is wanted: (line, what it prints) for each input line."""
+import os
+
+FOLDER = os.path.join(os.path.dirname(os.path.abspath(__file__)), 'rows')
+LONG_LINE = (b'1 add ' + b'x' * 16000 + b'\n', b'1 ACK [50@0] {add} no such song\n')
+
+
+def read_row(name):
+    """The steps of a row. Of a row's notation this reads `> LINE` and the exact `< LINE`."""
+    steps = []
+    with open(os.path.join(FOLDER, name), 'rb') as row:
+        for line in row:
+            if line.startswith(b'> '):
+                steps.append((line[2:], b''))
+            elif line.startswith(b'< '):
+                steps[-1] = (steps[-1][0], steps[-1][1] + line[2:])
+            elif line.strip() and not line.startswith((b'#', b'since: ', b'until: ', b'again: ')):
+                raise SystemExit('%s: no line for these checks: %r' % (name, line))
+    return steps
+
+
+def sessions():
+    """Each row as it is, and once more in several pieces of 16 KiB: with long lines behind lines of client 1 and later ones."""
+    found = []
+    for name in sorted(os.listdir(FOLDER)):
+        steps = read_row(name)
+        found.append((name[:-len('.row')], steps))
+        longer, here = [], False
+        for step in steps:
+            here = here or step[1].startswith(b'1 OK MPD')
+            longer += [step, LONG_LINE] if here else [step]
+        found.append(('.. with long lines', longer))
+    return found
+
+
+def input_of(steps):
+    return b''.join(line for line, _ in steps)
+
+
+def output_of(steps):
+    return b''.join(printed for _, printed in steps)

@@ -1,0 +1,6 @@
+pub mod Entries
+pub mod Lines
+pub mod Maps
+pub mod Memory
+pub mod Settled
+pub mod Tables

@@ -1,0 +1,121 @@
+-- Stored playlists and stickers as two maps, and what each call answers and leaves of them (MPD protocol reference, Stored playlists, Stickers).
+use Rattle.std.specs.Prelude.{◌≡◌, ◌⊎◌, ℕ, ◌<◌, ◌≤◌, nat_lt, nat_le, Bool, true, false, not, ◌&&◌, ◌||◌, ◌==◌, if◌then◌else◌, List, [], ◌∷◌, length, map, Option, Some, None, is_some, IsSome, IsTrue, Result, Ok, Err, bytes_eq, is_ok}
+use Rattle.std.specs.Map.{update, lookup}
+use Rattle.std.specs.List.{list_any}
+use Rattle.std.specs.List.Sorted.{IsStrictlySortedBy}
+use Rattle.std.specs.Cmp.Lexicographic.{slice_cmp}
+use Rattle.std.specs.Ordering.{nat_cmp}
+use Rattle.shelf.specs.declared.faults.ShelfFault.{ShelfFault}
+use Rattle.shelf.specs.declared.faults.ShelfFault.TheVariants.{NoSuchList, Exists, BadName, NoSticker, StoreFault, NoMemory}
+
+-- the URIs of each stored playlist by its name, and the text of each sticker by its URI and its name
+pub record Maps : Type 0 where
+  pub lists : List ℕ → Option (List (List ℕ))
+  pub stickers : List ℕ → List ℕ → Option (List ℕ)
+
+-- the same answer at every name
+pub record Same (a b : Maps) : Type 0 where
+  pub lists : (name : List ℕ) → b.lists name ≡ a.lists name
+  pub stickers : (uri name : List ℕ) → b.stickers uri name ≡ a.stickers uri name
+
+-- a shelf with nothing on it
+abbrev pub no_maps : Maps
+no_maps = record { lists = λ name. None; stickers = λ uri name. None }
+
+abbrev pub no_stickers : List ℕ → Option (List ℕ)
+no_stickers name = None
+
+-- the maps with this list, or none, at the name
+abbrev pub with_list : Maps → List ℕ → Option (List (List ℕ)) → Maps
+with_list m name uris = record m { lists = update bytes_eq m.lists name uris }
+
+-- the maps where the list moved to another name
+abbrev pub with_renamed : Maps → List ℕ → List ℕ → Maps
+with_renamed m name new = with_list (with_list m name None) new (m.lists name)
+
+-- the maps with these stickers at the URI
+abbrev pub with_stickers : Maps → List ℕ → (List ℕ → Option (List ℕ)) → Maps
+with_stickers m uri named = record m { stickers = λ other. if bytes_eq uri other then named else m.stickers other }
+
+-- the maps with this text, or none, at the URI and the name
+abbrev pub with_sticker : Maps → List ℕ → List ℕ → Option (List ℕ) → Maps
+with_sticker m uri name value = with_stickers m uri (update bytes_eq (m.stickers uri) name value)
+
+-- 1 to 255 bytes, without `/` and bytes below 0x20
+abbrev pub is_list_name : List ℕ → Bool
+is_list_name name = nat_lt 0 (length name) && nat_le (length name) 255 && not (list_any (λ b. nat_lt b 0x20 || b == 47) name)
+
+-- not empty, and without `=`
+abbrev pub is_sticker_name : List ℕ → Bool
+is_sticker_name name = nat_lt 0 (length name) && not (list_any (λ b. b == 61) name)
+
+-- what refuses each call, or nothing: the first cause by the order NoSuchList, Exists, BadName, NoSticker
+abbrev pub no_refusal : Option ShelfFault
+no_refusal = None
+
+abbrev pub refusal_of_list : Maps → List ℕ → Option ShelfFault
+refusal_of_list m name = if is_some (m.lists name) then None else Some NoSuchList
+
+abbrev pub refusal_of_put : List ℕ → Option ShelfFault
+refusal_of_put name = if is_list_name name then None else Some BadName
+
+abbrev pub refusal_of_create : Maps → List ℕ → Option ShelfFault
+refusal_of_create m name = if is_some (m.lists name) then Some Exists else refusal_of_put name
+
+abbrev pub refusal_of_rename : Maps → List ℕ → List ℕ → Option ShelfFault
+refusal_of_rename m name new = if is_some (m.lists name) then refusal_of_create m new else Some NoSuchList
+
+abbrev pub refusal_of_set : List ℕ → Option ShelfFault
+refusal_of_set name = if is_sticker_name name then None else Some BadName
+
+abbrev pub refusal_of_sticker : Maps → List ℕ → List ℕ → Option ShelfFault
+refusal_of_sticker m uri name = if is_some (m.stickers uri name) then None else Some NoSticker
+
+-- Success means that nothing refuses, and a named refusal is the one that does; want of memory and the store's own failure may take its place.
+abbrev pub Answers : {X : Type 0} → Type 0 → Option ShelfFault → Result X ShelfFault → Type 0
+Answers can_fail refusal (Ok x) = refusal ≡ None
+Answers can_fail refusal (Err NoMemory) = Unit {0}
+Answers can_fail refusal (Err StoreFault) = can_fail
+Answers can_fail refusal (Err e) = refusal ≡ Some e
+
+-- the same for the call that takes all stickers of a URI: one must be there
+abbrev pub AnswersAll : {X : Type 0} → Type 0 → (List ℕ → Option (List ℕ)) → Result X ShelfFault → Type 0
+AnswersAll can_fail named (Ok x) = (name : List ℕ) × IsSome (named name)
+AnswersAll can_fail named (Err NoMemory) = Unit {0}
+AnswersAll can_fail named (Err StoreFault) = can_fail
+AnswersAll can_fail named (Err NoSticker) = (name : List ℕ) → named name ≡ None
+AnswersAll can_fail named (Err e) = ⊥
+
+-- the keys of a map, each once, by rising bytes
+pub record AreKeys {X : Type 0} (f : List ℕ → Option X) (keys : List (List ℕ)) : Type 0 where
+  pub rising : IsStrictlySortedBy (slice_cmp nat_cmp) keys
+  pub whole : (key : List ℕ) → list_any (bytes_eq key) keys ≡ is_some (f key)
+
+-- the entries of a map, by rising bytes of their keys
+pub record AreEntries (f : List ℕ → Option (List ℕ)) (entries : List (List ℕ × List ℕ)) : Type 0 where
+  pub rising : IsStrictlySortedBy (slice_cmp nat_cmp) (map (λ e. e.0) entries)
+  pub whole : (key : List ℕ) → lookup (bytes_eq key) entries ≡ f key
+
+-- what a shelf shows
+pub record Standing : Type 1 where
+  pub maps : Maps
+  -- so far the device has returned what was written
+  pub IsClean : Type 0
+  -- the store is open and has the tables of a shelf and no others, as where shelves alone wrote it
+  pub IsOurs : Type 0
+  -- no failure of the device has shut the store
+  pub is_open : Bool
+  -- what an open after a stop at this moment may find
+  pub MayLeave : Maps → Type 0
+
+-- The premise of what is said of a call: the store was ours, and the device still returns what was written.
+abbrev pub Trusted : Standing → Standing → Type 0
+Trusted old new = new.IsClean × old.IsOurs
+
+-- a call that is to turn the maps into `after`: it does, or changes nothing while the store is open; a stop during it leaves the maps from before it or after it
+pub record Turns (old new : Standing) (is_done : Bool) (after : Maps) : Type 0 where
+  pub clean : new.IsClean → old.IsClean
+  pub ours : Trusted old new → IsTrue new.is_open → new.IsOurs
+  pub done : Trusted old new → IsTrue is_done → IsTrue new.is_open × Same after new.maps
+  pub kept : Trusted old new → is_done ≡ false → IsTrue new.is_open → Same old.maps new.maps
+  pub stop : Trusted old new → (m : Maps) → new.MayLeave m → old.MayLeave m ⊎ Same after m
