@@ -12,6 +12,7 @@ for crate in mpd_text pcm_mix output_ring; do
     cp -a "$root/crates/$crate" "$work/crates/$crate"
 done
 cp -r "$here/frame_bench" "$work/crates/frame_bench"
+mv "$work/crates/frame_bench/src/main.rt.txt" "$work/crates/frame_bench/src/main.rt"
 cp "$root/HANDLES" "$work/HANDLES"
 cat > "$work/crates.txt" <<END
 mpd_text:
