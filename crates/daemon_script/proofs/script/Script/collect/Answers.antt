@@ -11,6 +11,6 @@ invariant_of-self-2 c =
     rw pushed
     (record {
       version = c.self.invariant.version;
-      few = omega (arith, length-append c.self.inside.songs.items (c.args.song ∷ []), c.len.ensures, c.if-len-ge-MAX_SONGS.false);
+      few = omega (arith, length-append c.self.inside.songs.items (c.args.song ∷ []));
       distinct = once_more c.self.inside.songs.items c.args.song c.self.invariant.distinct new_uri;
     })
