@@ -2,7 +2,9 @@
 import os
 
 FOLDER = os.path.join(os.path.dirname(os.path.abspath(__file__)), 'rows')
-LONG_LINE = (b'1 add ' + b'x' * 16000 + b'\n', b'1 ACK [50@0] {add} no such song\n')
+# A line of a client of its own, which never waits: whatever stands in a row, this line is answered alike.
+LONG_LINE = (b'8 add ' + b'x' * 16000 + b'\n', b'8 ACK [50@0] {add} no such song\n')
+GREETED = (LONG_LINE[0], b'8 OK MPD 0.23.0\n' + LONG_LINE[1])
 
 
 def read_row(name):
@@ -20,15 +22,19 @@ def read_row(name):
 
 
 def sessions():
-    """Each row as it is, and once more in several pieces of 16 KiB: with long lines behind lines of client 1 and later ones."""
+    """Each row as it is, and once more in several pieces of 16 KiB: with long lines behind the lines of clients."""
     found = []
     for name in sorted(os.listdir(FOLDER)):
         steps = read_row(name)
+        if any(line.startswith(b'8') for line, _ in steps):
+            raise SystemExit('%s: client 8 is the one of the long lines' % name)
         found.append((name[:-len('.row')], steps))
         longer, here = [], False
         for step in steps:
-            here = here or step[1].startswith(b'1 OK MPD')
-            longer += [step, LONG_LINE] if here else [step]
+            longer.append(step)
+            if here or b' OK MPD ' in step[1]:
+                longer.append(LONG_LINE if here else GREETED)
+                here = True
         found.append(('.. with long lines', longer))
     return found
 

@@ -1,4 +1,5 @@
 pub mod Collected
+pub mod Numbered
 pub mod Ran
 pub mod Ranges
 pub mod Runs

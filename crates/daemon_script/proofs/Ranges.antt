@@ -1,6 +1,6 @@
 -- What the lines of a script can hold.
-use Rattle.std.proofs.Common.{◌≡◌, ℕ, ◌<◌, ◌≤◌, ◌-◌, Bool, true, false, List, [], ◌∷◌, Option, Some, None, Result, Ok, Err, cond, refl, ap, sym, arith}
-use Rattle.std.specs.Prelude.{◌==◌, ◌&&◌, nat_le, codes}
+use Rattle.std.proofs.Common.{◌≡◌, ℕ, ◌≤◌, Bool, true, false, List, [], ◌∷◌, Option, Some, None, Result, Ok, Err, cond, refl, ap, sym, arith}
+use Rattle.std.specs.Prelude.{◌&&◌, nat_le, codes}
 use Rattle.std.specs.List.{list_all}
 use Rattle.std.specs.Str.{bytes_eq}
 use Rattle.std.proofs.lemmas.Bool.Decides.{nat_tests}
@@ -8,31 +8,11 @@ use Rattle.mpd_text.specs.Numbers.{number_of}
 use Rattle.mpd_text.specs.Scan.{words_of}
 use Rattle.mpd_text.specs.Songs.{SongData}
 use Rattle.mpd_text.specs.declared.quoting.WordsFault.{WordsFault}
-use Rattle.script_lines.specs.Cuts.{before, behind}
 use Rattle.script_lines.specs.Limits.{limit_named, greatest_of, within, number_within}
-use Rattle.script_lines.specs.Lines.{LineData, ClientLine, StepLine, BadLine, by_head, script_line_of}
-use Rattle.script_lines.specs.Steps.{step_of, step_if_read, song_of, song_with, is_uri, limit_of, limit_with, limit_to}
+use Rattle.script_lines.specs.Steps.{step_of, step_if_read, song_of, song_with, is_uri, limit_of, limit_with, limit_to, gone_of, gone_with}
 use Rattle.script_lines.specs.Tags.{is_tag, tags_of}
 use Rattle.script_lines.specs.declared.limit.LimitName.{LimitName}
-use Rattle.script_lines.specs.declared.step.Step.{Step}
 use Rattle.script_lines.specs.declared.step.Step.TheVariants.{Song, Limit}
-
-digit : (a b : Bool) (c : ℕ) (rest line : List ℕ) (number : ℕ) → (b ≡ true → c ≤ 57)
-    → cond a (StepLine rest) (cond b (ClientLine (c - 48) rest) BadLine) ≡ ClientLine number line → number < 10
-digit true b c rest line number h e = cc
-digit false true c rest line number h e = let n : c - 48 ≡ number = cc in let le = h refl in omega arith
-digit false false c rest line number h e = cc
-
-head_digit : (head rest line : List ℕ) (number : ℕ) → by_head head rest ≡ ClientLine number line → number < 10
-head_digit [] rest line number e = cc
-head_digit (c ∷ []) rest line number e =
-    digit (c == 33) (nat_le 49 c && nat_le c 57) c rest line number (λ t. grind (arith, nat_tests)) e
-head_digit (c ∷ d ∷ ds) rest line number e = cc
-
--- a client's number is a digit
-pub client_digit : (text line : List ℕ) (number : ℕ) → ClientLine number line ≡ script_line_of text → number < 10
-unfolding script_line_of
-client_digit text line number e = head_digit (before 32 text) (behind 32 text) line number (sym e)
 
 positive : (b : Bool) (m n : ℕ) → (b ≡ true → 1 ≤ m) → cond b (Some m) None ≡ Some n → 1 ≤ n
 positive true m n h e = let same : m ≡ n = cc in let le = h refl in omega arith
@@ -72,15 +52,26 @@ songs_no_limit [] found n e = cc
 songs_no_limit (a ∷ []) found n e = cc
 songs_no_limit (a ∷ b ∷ more) found n e = song_no_limit a (number_within 4294967295 b) more found n e
 
-step_if : (a b : Bool) (words : List (List ℕ)) (found : LimitName) (n : ℕ) → cond a (song_of words) (cond b (limit_of words) None) ≡ Some (Limit found n) → 1 ≤ n
-step_if true b words found n e = songs_no_limit words found n e
-step_if false true words found n e = limits_positive words found n e
-step_if false false words found n e = cc
+gone_no_limit : (number : Option ℕ) (found : LimitName) (n : ℕ) → gone_with number ≡ Some (Limit found n) → 1 ≤ n
+gone_no_limit None found n e = cc
+gone_no_limit (Some number) found n e = cc
+
+gones_no_limit : (words : List (List ℕ)) (found : LimitName) (n : ℕ) → gone_of words ≡ Some (Limit found n) → 1 ≤ n
+gones_no_limit [] found n e = cc
+gones_no_limit (a ∷ []) found n e = gone_no_limit (number_within 9 a) found n e
+gones_no_limit (a ∷ b ∷ more) found n e = cc
+
+step_if : (a b c : Bool) (words : List (List ℕ)) (found : LimitName) (n : ℕ)
+    → cond a (song_of words) (cond b (limit_of words) (cond c (gone_of words) None)) ≡ Some (Limit found n) → 1 ≤ n
+step_if true b c words found n e = songs_no_limit words found n e
+step_if false true c words found n e = limits_positive words found n e
+step_if false false true words found n e = gones_no_limit words found n e
+step_if false false false words found n e = cc
 
 step_positive : (r : Result (List (List ℕ)) WordsFault) (found : LimitName) (n : ℕ) → step_if_read r ≡ Some (Limit found n) → 1 ≤ n
 step_positive (Err fault) found n e = cc
 step_positive (Ok []) found n e = cc
-step_positive (Ok (word ∷ words)) found n e = step_if (bytes_eq word (codes "song")) (bytes_eq word (codes "limit")) words found n e
+step_positive (Ok (word ∷ words)) found n e = step_if (bytes_eq word (codes "song")) (bytes_eq word (codes "limit")) (bytes_eq word (codes "gone")) words found n e
 
 -- a limit that a step sets is at least 1
 pub limit_at_least_one : (rest : List ℕ) (found : LimitName) (n : ℕ) → Some (Limit found n) ≡ step_of rest → 1 ≤ n

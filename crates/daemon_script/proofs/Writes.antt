@@ -1,10 +1,9 @@
 -- What was written of some bytes, and what is left.
-use Rattle.std.proofs.Common.{◌≡◌, ◌≢◌, ℕ, ◌+◌, ◌-◌, ◌^◌, ◌<◌, ◌≤◌, min, inl, inr, List, [], ◌∷◌, ◌++◌, length, take, drop, Option, None, Some, Result, Ok, Err, refl, sym, ap, subst, ◌∙◌, append_assoc, arith}
+use Rattle.std.proofs.Common.{◌≡◌, ℕ, List, [], ◌++◌, take, drop, Option, None, Some, refl, sym, ap, ◌∙◌, append_assoc, arith}
 use Rattle.std.specs.Io.KnownBytes.{Appends}
 use Rattle.std.proofs.lemmas.List.{append-nil, take-append-drop}
 use Rattle.mpd_text.specs.declared.device.Tally.{Tally}
 use Rattle.mpd_text.specs.Devices.{NoFewer}
-use Rattle.daemon_script.specs.Output.{AppendsFront}
 
 pub record Written (old new : Option (List ℕ)) (bytes rest : List ℕ) (before after : Tally) : Type 0 where
   pub front : List ℕ

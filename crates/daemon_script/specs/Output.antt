@@ -2,7 +2,7 @@
 use Rattle.std.specs.Prelude.{◌≡◌, ℕ, ◌+◌, ◌-◌, ◌^◌, ◌≤◌, ◌⊎◌, List, [], ◌∷◌, ◌++◌, map, codes, Option, Some, None}
 use Rattle.std.specs.Io.KnownBytes.{Appends, Consumes}
 use Rattle.mpd_text.specs.declared.device.Tally.{Tally}
-use Rattle.mpd_text.specs.Cut.{split, split_from}
+use Rattle.mpd_text.specs.Cut.{split}
 use Rattle.mpd_text.specs.Lines.{line_of}
 use Rattle.daemon_script.specs.declared.memory.Memory.{Memory}
 use Rattle.daemon_script.specs.Script.{ScriptData, shown_of, opening_script}

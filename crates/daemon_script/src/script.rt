@@ -1,14 +1,14 @@
 //! A script: what it collects, and its player.
-ghost use Rattle.std.specs.Prelude.{◌≡◌, ◌<◌, ◌≤◌, ◌++◌, codes, IfOk, OnOk};
+ghost use Rattle.std.specs.Prelude.{◌≡◌, ◌≤◌, ◌++◌, codes, IfOk, OnOk};
 ghost use Rattle.mpd_text.specs.Lines.{view as view_of_line};
 ghost use Rattle.song_db.specs.Library.{in_byte_order};
 ghost use Rattle.partition.specs.Image.{opening};
-ghost use Rattle.daemon_script.specs.Script.{opening_script, shown_of, step_line, collect_line, lowers, shown_client, has_uri as has_uri_lem};
+ghost use Rattle.daemon_script.specs.Script.{opening_script, shown_of, step_line, collect_line, gone_line, lowers, shown_client, has_uri as has_uri_lem};
 
-use crate::hear::{hear, push_fault};
+use crate::hear::{SEAT, hear, push_fault, push_notices};
 use crate::memory::Memory;
 use mpd_text::{Line, Song, Tag};
-use partition::{Limits, Partition, PartitionFault};
+use partition::{Event, Limits, Partition, PartitionFault};
 use script_lines::{LimitName, MAX_ID, MAX_QUEUE, MAX_VERSION, ScriptLine, Step};
 use song_db::{Db, DbFault, MAX_SONGS};
 use std::alloc::{AllocError, Global};
@@ -90,6 +90,7 @@ impl Script {
                 self.lower(name, n, shown)?;
                 Ok(Memory::Ample)
             }
+            Some(Step::Gone(number)) => self.send_off(number, shown),
         }
     }
 
@@ -124,9 +125,33 @@ impl Script {
         Ok(())
     }
 
+    /// A client goes, once the player is there.
+    fn send_off(&mut self, number: u32, shown: &mut Vec<u8>) -> Result<Memory, AllocError>
+        ensures script { IfOk result (λ memory. self.new ≡ (gone_line self.old number memory).script) }
+        ensures text { IfOk result (λ memory. shown.new.items ≡ shown.old.items ++ (gone_line self.old number memory).text) }
+    {
+        let Some(player) = &mut self.player else {
+            push_bad(shown)?;
+            return Ok(Memory::Ample);
+        };
+        match player.apply(SEAT, Event::Disconnect(number)) {
+            Ok(outcome) => {
+                push_notices(self.alloc, shown, outcome.notices())?;
+                Ok(Memory::Ample)
+            }
+            Err(PartitionFault::AtLimit) => {
+                shown.extend_from_slice(b"! refused player limit reached\n")?;
+                Ok(Memory::Ample)
+            }
+            Err(PartitionFault::NoMemory) => {
+                shown.extend_from_slice(b"! refused out of memory\n")?;
+                Ok(Memory::NoneToRun)
+            }
+        }
+    }
+
     #[tactic(auto, unfolding(crate::specs::Script::heard_client))]
     fn hear(&mut self, number: u32, line: &str, shown: &mut Vec<u8>) -> Result<Memory, AllocError>
-        requires { number < 10 }
         ensures script { IfOk result (λ memory. self.new ≡ (shown_client self.old self.old.player number line.now memory).script) }
         ensures text { IfOk result (λ memory. shown.new.items ≡ shown.old.items ++ (shown_client self.old self.old.player number line.now memory).text) }
     {

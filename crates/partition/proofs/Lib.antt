@@ -1,5 +1,12 @@
 pub mod Chronicles
 pub mod Counts
+pub mod Flags
+pub mod Heard
+pub mod Names
 pub mod Rows
+pub mod Pending
+pub mod Raised
+pub mod Rises
 pub mod Slashes
+pub mod Tells
 pub mod Worlds

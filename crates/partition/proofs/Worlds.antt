@@ -1,27 +1,35 @@
--- The images of worlds are the images of the replay.
-use Rattle.std.proofs.Common.{◌≡◌, ℕ, ◌+◌, ◌%◌, ◌<◌, ◌≤◌, List, [], ◌∷◌, ◌++◌, length, Option, Some, None, refl, ap, sym, ◌∙◌, arith, append_assoc, append-nil}
+-- The images of lives are the images of the replay.
+use Rattle.std.proofs.Common.{◌≡◌, ℕ, ◌+◌, ◌%◌, ◌<◌, ◌≤◌, ◌==◌, Bool, true, false, ◌||◌, List, [], ◌∷◌, ◌++◌, length, map, Option, Some, None, refl, ap, sym, subst, ◌∙◌, arith, append_assoc, append-nil, if◌then◌else◌}
+use Rattle.std.specs.List.{list_any}
 use Rattle.std.proofs.Math.Nat.{mod-eq_of_lt}
+use Rattle.std.proofs.lemmas.Bool.Decides.{nat_tests}
+use Rattle.idle_notes.specs.declared.sets.Subsystems.{Subsystems}
+use Rattle.idle_notes.specs.Sets.{none, union}
 use Rattle.mpd_text.specs.Songs.{SongData}
 use Rattle.song_queue.specs.declared.entry.Entry.{Entry}
 use Rattle.song_queue.specs.Laws.{Edit, queue_after}
-use Rattle.song_queue.specs.Past.{state_of}
-use Rattle.song_queue.specs.State.{QueueState}
+use Rattle.song_queue.specs.Past.{present, state_of}
+use Rattle.song_queue.specs.State.{QueueState, queue_of}
+use Rattle.song_queue.proofs.Ids.{pasts_keep_queues}
 use Rattle.song_queue.proofs.Runs.{length-after_event, after_edit}
+use Rattle.partition.specs.declared.event.Event.{Event}
 use Rattle.partition.specs.declared.event.Happened.{Happened}
 use Rattle.partition.specs.declared.state.Client.{Client}
+use Rattle.partition.specs.declared.state.Controls.{Controls}
 use Rattle.partition.specs.declared.state.Limits.{Limits}
+use Rattle.partition.specs.Clients.{raised, hears, closes, Rising}
 use Rattle.partition.specs.History.{made_of, replay}
-use Rattle.partition.specs.Image.{Image, Turn, state_after, clients_after, opening}
+use Rattle.partition.specs.Image.{Image, Turn, client_of, state_after, first_controls, opening}
 use Rattle.partition.specs.Legal.{ReplaysWorlds}
-use Rattle.partition.specs.Step.{turn, next}
-use Rattle.partition.specs.World.{World, image_of, past_after, step, world_from, opening_world}
+use Rattle.partition.specs.Step.{turn, speaker, raised_by, after_turn, told_by, next}
+use Rattle.partition.specs.World.{Listener, Moment, Life, raised_at, is_there, begins_anew, pending_for, client_in, listener_of, image_of, past_after, world_after_turn, lived, step, life_from, opening_life}
 use Rattle.partition.proofs.Counts.{made_of-more}
+use Rattle.partition.proofs.Heard.{Each, flagged, all_stand}
+use Rattle.partition.proofs.Pending.{pending_more}
+use Rattle.partition.proofs.Rises.{rising_after}
 
 abbrev state_at : Limits → List (List Entry) → QueueState
 state_at limits past = state_of limits.max_queue limits.max_version limits.max_id past
-
-abbrev image_with : List SongData → QueueState → List ℕ → List Client → Image
-image_with songs queue made clients = record { part = record { queue = queue }; shared = record { songs = songs; made = made }; clients = clients }
 
 some_past : (past : List (List Entry)) (edit : Option Edit) → 0 < length past → 0 < length (past_after past edit)
 some_past past None some = some
@@ -32,31 +40,132 @@ follows : (limits : Limits) (past : List (List Entry)) (edit : Option Edit) → 
 follows limits past None above some = refl
 follows limits past (Some edit) above some = sym (after_edit limits.max_queue limits.max_version limits.max_id (omega arith) past edit some)
 
--- a step of a world is the step of its image
-image_of-step : (w : World) (done : List Happened) (h : Happened) → 1 ≤ w.limits.max_version → 0 < length w.past
-    → image_of (step done w h.event) (done ++ h ∷ []) ≡ next h.seat (image_of w done) h.event
-unfolding next
-image_of-step w done h above some =
-    let t : Turn = turn (image_of w done) h.event in
-    let clients = clients_after w.clients t.move in
-    ap (λ (q : QueueState). image_with w.songs q (made_of (done ++ h ∷ [])) clients) (follows w.limits w.past t.edit above some)
-    ∙ ap (λ (m : List ℕ). image_with w.songs (state_after (state_at w.limits w.past) t.edit) m clients) (sym (made_of-more done h))
+-- what an event raised by the worlds is what its turn raises
+same_raised : (limits : Limits) (past : List (List Entry)) (before after : Controls) (edit : Option Edit) → 1 ≤ limits.max_version → 0 < length past
+    → raised (record { queue = present past; controls = before }) (record { queue = present (past_after past edit); controls = after })
+    ≡ raised (record { queue = queue_of (state_at limits past); controls = before }) (record { queue = queue_of (state_after (state_at limits past) edit); controls = after })
+same_raised limits past before after edit above some =
+    let shows : (p : List (List Entry)) → present p ≡ queue_of (state_at limits p) = λ p. sym (pasts_keep_queues.shows limits.max_queue limits.max_version limits.max_id p) in
+    ap (λ (q : List Entry). raised (record { queue = q; controls = before }) (record { queue = present (past_after past edit); controls = after })) (shows past)
+    ∙ ap (λ (q : List Entry). raised (record { queue = queue_of (state_at limits past); controls = before }) (record { queue = q; controls = after }))
+    (shows (past_after past edit) ∙ ap queue_of (follows limits past edit above some))
 
-from : (w : World) (done hs : List Happened) → 1 ≤ w.limits.max_version → 0 < length w.past
-    → replay (image_of w done) hs ≡ image_of (world_from done w hs) (done ++ hs)
-from w done [] above some = ap (image_of w) (sym (append-nil done))
-from w done (h ∷ hs) above some =
-    let t : Turn = turn (image_of w done) h.event in
-    ap (λ (i : Image). replay i hs) (sym (image_of-step w done h above some))
-    ∙ from (step done w h.event) (done ++ h ∷ []) hs above (some_past w.past t.edit some)
-    ∙ ap (image_of (world_from (done ++ h ∷ []) (step done w h.event) hs)) (append_assoc done (h ∷ []) hs)
+same_first : (n : ℕ) → (n == n) ≡ true
+same_first n = grind (arith, nat_tests)
 
-opens : (limits : Limits) (songs : List SongData) → 1 ≤ limits.max_version → opening limits songs ≡ image_of (opening_world limits songs) []
+or_more : (a b : Bool) → b ≡ true → (a || b) ≡ true
+or_more true b e = refl
+or_more false b e = e
+
+module _ (moments : List Moment) where
+  abbrev among : ℕ → List Listener → Bool
+  among n ls = list_any (λ (k : Listener). k.number == n) ls
+
+  further : (l : Listener) (all ls : List Listener) → Each (λ k. among k.number all ≡ true) (map (client_in moments) ls)
+      → Each (λ k. among k.number (l ∷ all) ≡ true) (map (client_in moments) ls)
+  further l all [] e = tt
+  further l all (x ∷ xs) e = (or_more (l.number == x.number) (among x.number all) e.0, further l all xs e.1)
+
+  all_among : (ls : List Listener) → Each (λ k. among k.number ls ≡ true) (map (client_in moments) ls)
+  all_among [] = tt
+  all_among (l ∷ ls) = (ap (λ b. b || among l.number ls) (same_first l.number), further l ls ls (all_among ls))
+
+  with_flags : (there : ℕ → Bool) (ls : List Listener) → Each (λ k. there k.number ≡ true) (map (client_in moments) ls)
+      → Each (λ k. (there k.number ≡ true) × (k.pending.changed ≡ pending_for k.number moments)) (map (client_in moments) ls)
+  with_flags there [] e = tt
+  with_flags there (l ∷ ls) e = ((e.0, refl), with_flags there ls e.1)
+
+  absent : (r : Subsystems) (n : ℕ) (ls : List Listener) → client_of n (map (hears r) (map (client_in moments) ls)) ≡ None → among n ls ≡ false
+  absent r n [] e = refl
+  absent r n (l ∷ ls) e =
+      let rest : Option Client = client_of n (map (hears r) (map (client_in moments) ls)) in
+      let first : Client = hears r (client_in moments l) in
+      let cases : (b : Bool) → (l.number == n) ≡ b → (b || among n ls) ≡ false =
+      λ b. elim b as (λ b. (l.number == n) ≡ b → (b || among n ls) ≡ false) [
+        | true ↦ λ t. (let found : (if l.number == n then Some first else rest) ≡ Some first = rw t refl in let clash : Some first ≡ None = sym found ∙ e in cc)
+        | false ↦ λ t. absent r n ls (rw t at e)
+      ] in
+      cases (l.number == n) refl
+
+-- a list of clients that its flags leave as it is
+all_same : (moments : List Moment) (ks : List Client) → Each (λ k. flagged (λ n. pending_for n moments) k ≡ k) ks
+    → map (client_in moments) (map listener_of ks) ≡ ks
+all_same moments [] e = refl
+all_same moments (k ∷ ks) e = λ i. e.0 i ∷ all_same moments ks e.1 i
+
+module _ (life : Life) (done : List Happened) (event : Event) (above : 1 ≤ life.world.limits.max_version) (some : 0 < length life.world.past)
+    (rising : Rising (image_of life done).clients) where
+  abbrev i : Image
+  i = image_of life done
+
+  abbrev t : Turn
+  t = turn i event
+
+  abbrev r : Subsystems
+  r = raised_by i.part t
+
+  abbrev m : Moment
+  m = record { before = life.world; event = event; turn = t; notices = (told_by i event t).notices; after = world_after_turn life.world i event t }
+
+  is_raised : raised_at m ≡ r
+  is_raised = same_raised life.world.limits life.world.past life.world.controls t.controls t.edit above some
+
+  grows : (n : ℕ) → pending_for n (m ∷ life.moments) ≡ (if begins_anew n m then none else union (pending_for n life.moments) r)
+  grows n =
+      pending_more n m life.moments (begins_anew n m) refl
+      ∙ ap (λ (s : Subsystems). if begins_anew n m then none else union (pending_for n life.moments) s) is_raised
+
+  -- the flags of the clients after an event are what is pending with one more moment
+  clients_stand : map (client_in (m ∷ life.moments)) (map listener_of (after_turn i event t).clients) ≡ (after_turn i event t).clients
+  clients_stand =
+      all_same (m ∷ life.moments) (after_turn i event t).clients
+      (all_stand r (λ n. pending_for n life.moments) (λ n. pending_for n (m ∷ life.moments)) (λ n. is_there n life.world) (speaker event)
+      i.clients rising (with_flags life.moments (λ n. is_there n life.world) life.world.clients (all_among life.moments life.world.clients))
+      (closes t.said.answer.next) t.said.move grows (absent life.moments r (speaker event) life.world.clients))
+
+  pub image_of-step : (h : Happened) → h.event ≡ event → image_of (lived life i event t) (done ++ h ∷ []) ≡ next h.seat i event
+  unfolding next
+  image_of-step h same =
+      let all : List Client → QueueState → List ℕ → Image = λ k q made. record {
+        part = record { queue = q; controls = t.controls };
+        shared = record { songs = life.world.songs; made = made };
+        clients = k;
+      } in
+      ap (λ k. all k (state_at life.world.limits (past_after life.world.past t.edit)) (made_of (done ++ h ∷ []))) clients_stand
+      ∙ ap (λ q. all (after_turn i event t).clients q (made_of (done ++ h ∷ []))) (follows life.world.limits life.world.past t.edit above some)
+      ∙ ap (all (after_turn i event t).clients (state_after i.part.queue t.edit)) (sym (made_of-more done h))
+
+  pub rising-step : (h : Happened) → Rising (image_of (lived life i event t) (done ++ h ∷ [])).clients
+  rising-step h = subst Rising (sym clients_stand) (rising_after (speaker event) r t.said i.clients rising)
+
+from : (life : Life) (done hs : List Happened) → 1 ≤ life.world.limits.max_version → 0 < length life.world.past → Rising (image_of life done).clients
+    → (replay (image_of life done) hs ≡ image_of (life_from done life hs) (done ++ hs)) × Rising (image_of (life_from done life hs) (done ++ hs)).clients
+from life done [] above some rising =
+    (ap (image_of life) (sym (append-nil done)), subst (λ (l : List Happened). Rising (image_of life l).clients) (sym (append-nil done)) rising)
+from life done (h ∷ hs) above some rising =
+    let t : Turn = turn (image_of life done) h.event in
+    let rest = from (step done life h.event) (done ++ h ∷ []) hs above (some_past life.world.past t.edit some)
+    (rising-step life done h.event above some rising h) in
+    let joined : image_of (life_from (done ++ h ∷ []) (step done life h.event) hs) ((done ++ h ∷ []) ++ hs) ≡ image_of (life_from (done ++ h ∷ []) (step done life h.event) hs) (done ++ h ∷ hs) =
+    ap (image_of (life_from (done ++ h ∷ []) (step done life h.event) hs)) (append_assoc done (h ∷ []) hs) in (
+      ap (λ (i : Image). replay i hs) (sym (image_of-step life done h.event above some rising h refl)) ∙ rest.0 ∙ joined,
+      subst (λ (i : Image). Rising i.clients) joined rest.1,
+    )
+
+opens : (limits : Limits) (songs : List SongData) → 1 ≤ limits.max_version → opening limits songs ≡ image_of (opening_life limits songs) []
 opens limits songs above =
     let zeroth : 1 ≡ 0 % limits.max_version + 1 = ap (λ n. n + 1) (sym (mod-eq_of_lt (let h : 0 < limits.max_version = omega arith in h))) in
-    ap (λ (v : ℕ). image_with songs (record { slots = []; version = v; greatest_id = 0; max_len = limits.max_queue; max_version = limits.max_version; max_id = limits.max_id }) (made_of []) []) zeroth
+    ap (λ (v : ℕ). record {
+      part = record {
+        queue = record { slots = []; version = v; greatest_id = 0; max_len = limits.max_queue; max_version = limits.max_version; max_id = limits.max_id; parity = false };
+        controls = first_controls;
+      };
+      shared = record { songs = songs; made = made_of [] };
+      clients = [];
+    }) zeroth
 
 -- over every history
 pub replays_worlds : ReplaysWorlds
 replays_worlds limits songs history above =
-    ap (λ (i : Image). replay i history) (opens limits songs above) ∙ from (opening_world limits songs) [] history above (omega arith)
+    let rest = from (opening_life limits songs) [] history above (omega arith) tt in
+    (ap (λ (i : Image). replay i history) (opens limits songs above) ∙ rest.0, rest.1)

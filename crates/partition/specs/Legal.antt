@@ -1,24 +1,46 @@
 -- Histories that a player of one thread could have.
-use Rattle.std.specs.Prelude.{◌≡◌, ◌≢◌, ◌≤◌, List, AllPairs}
+use Rattle.std.specs.Prelude.{◌≡◌, ◌≢◌, ◌≤◌, ◌↔◌, ℕ, true, List, All, AllPairs}
+use Rattle.idle_notes.specs.declared.subsystem.Subsystem.{Subsystem}
+use Rattle.idle_notes.specs.Sets.{has}
 use Rattle.mpd_text.specs.Songs.{SongData}
 use Rattle.song_queue.specs.State.{queue_of}
 use Rattle.partition.specs.declared.event.Happened.{Happened}
+use Rattle.partition.specs.declared.state.Client.{Client}
 use Rattle.partition.specs.declared.state.Limits.{Limits}
+use Rattle.partition.specs.Clients.{Rising}
 use Rattle.partition.specs.History.{Chronicle, replay, AreTold}
-use Rattle.partition.specs.Image.{opening}
-use Rattle.partition.specs.World.{image_of, world_after}
+use Rattle.partition.specs.Image.{Image, opening}
+use Rattle.partition.specs.World.{Life, Moment, IsPending, pending_for, image_of, life_after}
 
--- The player opened with some limits and songs; the state that stands is what can be read of the world after its history,
--- so each slot's stamp and mark are those of all past queues; each reply was the one of its place; ids are distinct.
+abbrev pub limits_of : Image → Limits
+limits_of i = record { max_queue = i.part.queue.max_len; max_version = i.part.queue.max_version; max_id = i.part.queue.max_id }
+
+-- the life of the player of one thread that a history tells
+abbrev pub life_of : Chronicle → Life
+life_of c = life_after (limits_of c.base) c.base.shared.songs c.window
+
+-- the flags of a client are its pending set by the moments
+abbrev pub HasPending : List Moment → Client → Type 0
+HasPending moments client = (subsystem : Subsystem) → (has client.pending.changed subsystem ≡ true) ↔ IsPending client.number subsystem moments
+
+-- The player was opened with some limits and songs; the state that stands is what can be read of the life after its
+-- history, so each slot's stamp and mark are those of all past queues; each client's flags are its pending set; each reply
+-- was the one of its place; ids are distinct; clients stand by rising number.
 pub record IsPast (c : Chronicle) : Type 0 where
-  pub limits : Limits
-  pub songs : List SongData
-  pub opened : c.base ≡ opening limits songs
-  pub world : c.present ≡ image_of (world_after limits songs c.window) c.window
+  pub opened : c.base ≡ opening (limits_of c.base) c.base.shared.songs
+  pub world : c.present ≡ image_of (life_of c) c.window
+  pub pending : All (HasPending (life_of c).moments) c.present.clients
   pub told : AreTold c.base c.window
   pub distinct : AllPairs (λ e f. e.id ≢ f.id) (queue_of c.present.part.queue)
+  pub rising : Rising c.present.clients
 
--- the images of the worlds after a history, which remember every queue, are the replay's images
+-- the images of the lives after a history, which remember every queue and every moment, are the replay's images, and their
+-- clients stand by rising number
 abbrev pub ReplaysWorlds : Type 0
 ReplaysWorlds = (limits : Limits) (songs : List SongData) (history : List Happened) → 1 ≤ limits.max_version
-    → replay (opening limits songs) history ≡ image_of (world_after limits songs history) history
+    → (replay (opening limits songs) history ≡ image_of (life_after limits songs history) history) × Rising (image_of (life_after limits songs history) history).clients
+
+-- what commands read as pending for a client is what is pending by the moments
+abbrev pub ReadsPending : Type 0
+ReadsPending = (number : ℕ) (subsystem : Subsystem) (moments : List Moment)
+    → (has (pending_for number moments) subsystem ≡ true) ↔ IsPending number subsystem moments

@@ -3,6 +3,8 @@ pub mod Arguments
 pub mod Requests
 pub mod Answers
 pub mod Image
+pub mod Clients
+pub mod Rooms
 pub mod Commands
 pub mod Step
 pub mod History

@@ -6,14 +6,14 @@ use Rattle.mpd_text.specs.declared.answer.ErrorNumber.{ErrorNumber}
 use Rattle.mpd_text.specs.declared.answer.ErrorNumber.TheVariants.{Argument, Unknown}
 use Rattle.mpd_text.specs.declared.quoting.WordsFault.{WordsFault}
 use Rattle.mpd_text.specs.declared.quoting.WordsFault.TheVariants.{BadUnquoted, NoClosingQuote, NoSpaceAfterQuote, TooMany, NoMemory as NoMemoryForWords}
-use Rattle.partition.specs.Arguments.{uri_of, map_ok, none_of, one_of}
+use Rattle.partition.specs.Arguments.{uri_of, switch_of, volume_of, subsystems_of, map_ok, none_of, one_of, two_of}
 use Rattle.partition.specs.Names.{name_of, text_of}
 use Rattle.partition.specs.declared.argument.Misread.{Misread}
 use Rattle.partition.specs.declared.argument.Misread.TheVariants.{WrongNumber, Bad, NoMemory}
 use Rattle.partition.specs.declared.name.Name.{Name}
-use Rattle.partition.specs.declared.name.Name.TheVariants.{Add as name_add, Delete as name_delete, Ping as name_ping, PlChangesPosId as name_plchangesposid, Status as name_status}
+use Rattle.partition.specs.declared.name.Name.TheVariants.{Add as name_add, Delete as name_delete, GetVol as name_getvol, Idle as name_idle, NoIdle as name_noidle, Ping as name_ping, PlChangesPosId as name_plchangesposid, Repeat as name_repeat, SetVol as name_setvol, Status as name_status, Swap as name_swap}
 use Rattle.partition.specs.declared.command.Command.{Command}
-use Rattle.partition.specs.declared.command.Command.TheVariants.{Add, Delete, Ping, PlChangesPosId, Status}
+use Rattle.partition.specs.declared.command.Command.TheVariants.{Add, Delete, GetVol, Idle, NoIdle, Ping, PlChangesPosId, Repeat, SetVol, Status, Swap}
 use Rattle.partition.specs.declared.command.Request.{Request}
 use Rattle.partition.specs.declared.command.Request.TheVariants.{Run, Refused}
 
@@ -21,9 +21,15 @@ use Rattle.partition.specs.declared.command.Request.TheVariants.{Run, Refused}
 unfoldable pub command_of : Name → List (List ℕ) → Result Command Misread
 command_of name_add words = map_ok Add (one_of uri_of words)
 command_of name_delete words = map_ok Delete (one_of number_of words)
+command_of name_getvol words = none_of GetVol words
+command_of name_idle words = map_ok Idle (subsystems_of words)
+command_of name_noidle words = none_of NoIdle words
 command_of name_ping words = none_of Ping words
 command_of name_plchangesposid words = map_ok PlChangesPosId (one_of number_of words)
+command_of name_repeat words = map_ok Repeat (one_of switch_of words)
+command_of name_setvol words = map_ok SetVol (one_of volume_of words)
 command_of name_status words = none_of Status words
+command_of name_swap words = map_ok (λ p. Swap p.0 p.1) (two_of number_of number_of words)
 
 abbrev pub refuses : ErrorNumber → List ℕ → List ℕ → Request
 refuses number command text = Refused (record { number = number; command = command; text = text })
@@ -65,9 +71,15 @@ request_of line = fault_request (words_of line)
 abbrev pub name_of_command : Command → Name
 name_of_command (Add uri) = name_add
 name_of_command (Delete place) = name_delete
+name_of_command GetVol = name_getvol
+name_of_command (Idle named) = name_idle
+name_of_command NoIdle = name_noidle
 name_of_command Ping = name_ping
 name_of_command (PlChangesPosId version) = name_plchangesposid
+name_of_command (Repeat on) = name_repeat
+name_of_command (SetVol volume) = name_setvol
 name_of_command Status = name_status
+name_of_command (Swap first second) = name_swap
 
 abbrev pub text_of_name : Option Name → List ℕ
 text_of_name None = []

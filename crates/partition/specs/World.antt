@@ -1,31 +1,118 @@
--- The plain data of a player of one thread, with every queue that it had.
-use Rattle.std.specs.Prelude.{List, [], ◌∷◌, ◌++◌, Option, Some, None}
+-- The plain data of a player of one thread, with every queue that it had, and everything that happened to it.
+use Rattle.std.specs.Prelude.{◌≡◌, ℕ, ◌==◌, Bool, true, false, not, ◌&&◌, ◌||◌, List, [], ◌∷◌, ◌++◌, Option, Some, None, map, take_while}
+use Rattle.std.specs.List.{list_any}
+use Rattle.idle_notes.specs.declared.sets.Subsystems.{Subsystems}
+use Rattle.idle_notes.specs.declared.subsystem.Subsystem.{Subsystem}
+use Rattle.idle_notes.specs.Sets.{none, union, has}
 use Rattle.mpd_text.specs.Songs.{SongData}
 use Rattle.song_queue.specs.declared.entry.Entry.{Entry}
-use Rattle.song_queue.specs.Past.{after_event, state_of}
+use Rattle.song_queue.specs.Past.{present, after_event, state_of}
 use Rattle.song_queue.specs.Laws.{Edit, queue_after}
 use Rattle.partition.specs.declared.event.Event.{Event}
 use Rattle.partition.specs.declared.event.Happened.{Happened}
+use Rattle.partition.specs.declared.event.Move.{Move}
+use Rattle.partition.specs.declared.event.Move.TheVariants.{Stay, Wait, Hear, Resume, Join}
+use Rattle.partition.specs.declared.event.Notice.{Notice}
 use Rattle.partition.specs.declared.state.Client.{Client}
+use Rattle.partition.specs.declared.state.Controls.{Controls}
 use Rattle.partition.specs.declared.state.Limits.{Limits}
-use Rattle.partition.specs.Image.{Image, Turn, clients_after}
-use Rattle.partition.specs.Step.{turn}
+use Rattle.partition.specs.Clients.{Parts, raised, move_of}
 use Rattle.partition.specs.History.{made_of}
+use Rattle.partition.specs.Image.{Image, Turn, first_controls}
+use Rattle.partition.specs.Step.{turn, speaker, after_turn, told_by}
 
--- all queues that the player had, the newest first; its limits, its library and its clients
+-- a client, and what it waits for, if it waits
+pub record Listener : Type 0 where
+  pub number : ℕ
+  pub waiting : Option Subsystems
+
+-- all queues that the player had, the newest first; its limits, its library, its controls and its clients
 pub record World : Type 0 where
   pub past : List (List Entry)
   pub limits : Limits
   pub songs : List SongData
-  pub clients : List Client
+  pub controls : Controls
+  pub clients : List Listener
 
--- what commands can read of a world that these events led to: the present queue with the stamps and marks of its past,
--- and what each seat made
-abbrev pub image_of : World → List Happened → Image
-image_of w history = record {
-  part = record { queue = state_of w.limits.max_queue w.limits.max_version w.limits.max_id w.past };
-  shared = record { songs = w.songs; made = made_of history };
-  clients = w.clients;
+-- one event: the worlds before and after it, what it made of the player, and the notices that went out
+pub record Moment : Type 0 where
+  pub before : World
+  pub event : Event
+  pub turn : Turn
+  pub notices : List Notice
+  pub after : World
+
+-- a world, and the moments that led to it, the latest first
+pub record Life : Type 0 where
+  pub world : World
+  pub moments : List Moment
+
+abbrev pub parts_in : World → Parts
+parts_in w = record { queue = present w.past; controls = w.controls }
+
+-- what an event raised: the subsystems whose parts differ between the worlds before and after it
+abbrev pub raised_at : Moment → Subsystems
+raised_at m = raised (parts_in m.before) (parts_in m.after)
+
+abbrev pub is_there : ℕ → World → Bool
+is_there number w = list_any (λ k. k.number == number) w.clients
+
+abbrev pub is_heard : Move → Bool
+is_heard Stay = false
+is_heard (Wait names) = false
+is_heard Hear = true
+is_heard Resume = false
+is_heard Join = false
+
+-- a client was sent a notice: behind another's event, or as the answer to its own `idle`
+abbrev pub is_told : ℕ → Moment → Bool
+is_told number m = list_any (λ n. n.client == number) m.notices || ((number == speaker m.event) && is_heard (move_of m.turn.said))
+
+-- the client was not there before the event, or was sent a notice at it
+abbrev pub begins_anew : ℕ → Moment → Bool
+begins_anew number m = not (is_there number m.before) || is_told number m
+
+-- the moments after a client's connect or last notice, whichever is later
+abbrev pub since : ℕ → List Moment → List Moment
+since number moments = take_while (λ m. not (begins_anew number m)) moments
+
+abbrev pub union_all : List Subsystems → Subsystems
+union_all [] = none
+union_all (set ∷ sets) = union (union_all sets) set
+
+-- what is pending for a client: everything that was raised since
+abbrev pub pending_for : ℕ → List Moment → Subsystems
+pending_for number moments = union_all (map raised_at (since number moments))
+
+-- at none of these moments a client's pending set begins anew
+abbrev pub NeverAnew : ℕ → List Moment → Type 0
+NeverAnew number [] = Unit {0}
+NeverAnew number (m ∷ ms) = (begins_anew number m ≡ false) × NeverAnew number ms
+
+-- a subsystem is pending for a client where some event raised it, at which and since which the client was there and was
+-- sent no notice
+pub record IsPending (number : ℕ) (subsystem : Subsystem) (moments : List Moment) : Type 0 where
+  pub later : List Moment
+  pub moment : Moment
+  pub earlier : List Moment
+  pub order : moments ≡ later ++ moment ∷ earlier
+  pub raised : has (raised_at moment) subsystem ≡ true
+  pub since : NeverAnew number (later ++ moment ∷ [])
+
+-- what commands can read of a client
+abbrev pub client_in : List Moment → Listener → Client
+client_in moments k = record { number = k.number; pending = record { waiting = k.waiting; changed = pending_for k.number moments } }
+
+abbrev pub listener_of : Client → Listener
+listener_of client = record { number = client.number; waiting = client.pending.waiting }
+
+-- what commands can read of a life that these events led to: the present queue with the stamps and marks of its past, what
+-- is pending for each client by the moments, and what each seat made
+abbrev pub image_of : Life → List Happened → Image
+image_of life history = record {
+  part = record { queue = state_of life.world.limits.max_queue life.world.limits.max_version life.world.limits.max_id life.world.past; controls = life.world.controls };
+  shared = record { songs = life.world.songs; made = made_of history };
+  clients = map (client_in life.moments) life.world.clients;
 }
 
 -- a queue joins the past where it differs from the one before
@@ -33,22 +120,38 @@ abbrev pub past_after : List (List Entry) → Option Edit → List (List Entry)
 past_after past None = past
 past_after past (Some edit) = after_event past (queue_after past edit)
 
-abbrev pub world_after_turn : World → Turn → World
-world_after_turn w t = record w { past = past_after w.past t.edit; clients = clients_after w.clients t.move }
+-- the world after a turn, of which the image of the world before it is known
+abbrev pub world_after_turn : World → Image → Event → Turn → World
+world_after_turn w i event t = record w {
+  past = past_after w.past t.edit;
+  controls = t.controls;
+  clients = map listener_of (after_turn i event t).clients;
+}
 
--- one event on a world that these events led to
-abbrev pub step : List Happened → World → Event → World
-step history w event = world_after_turn w (turn (image_of w history) event)
+abbrev pub lived : Life → Image → Event → Turn → Life
+lived life i event t =
+    let after = world_after_turn life.world i event t in
+    record {
+      world = after;
+      moments = record { before = life.world; event = event; turn = t; notices = (told_by i event t).notices; after = after } ∷ life.moments;
+    }
 
--- a world that some events led to, after more
-abbrev pub world_from : List Happened → World → List Happened → World
-world_from done w [] = w
-world_from done w (h ∷ hs) = world_from (done ++ h ∷ []) (step done w h.event) hs
+-- one event in a life that these events led to
+abbrev pub step : List Happened → Life → Event → Life
+step history life event = lived life (image_of life history) event (turn (image_of life history) event)
 
--- a world that nothing happened to
-abbrev pub opening_world : Limits → List SongData → World
-opening_world limits songs = record { past = [] ∷ []; limits = limits; songs = songs; clients = [] }
+-- a life that some events led to, after more
+abbrev pub life_from : List Happened → Life → List Happened → Life
+life_from done life [] = life
+life_from done life (h ∷ hs) = life_from (done ++ h ∷ []) (step done life h.event) hs
 
--- the world after a history
-abbrev pub world_after : Limits → List SongData → List Happened → World
-world_after limits songs history = world_from [] (opening_world limits songs) history
+-- a life in which nothing happened
+abbrev pub opening_life : Limits → List SongData → Life
+opening_life limits songs = record {
+  world = record { past = [] ∷ []; limits = limits; songs = songs; controls = first_controls; clients = [] };
+  moments = [];
+}
+
+-- the life after a history
+abbrev pub life_after : Limits → List SongData → List Happened → Life
+life_after limits songs history = life_from [] (opening_life limits songs) history

@@ -4,8 +4,9 @@ ghost use Rattle.partition.specs.Arguments.{Gives};
 ghost use Rattle.partition.specs.Requests.{command_of, told, of_words as of_words_lem, request_of, name_in};
 ghost use Rattle.partition.specs.declared.argument.Misread.TheVariants.{WrongNumber, Bad};
 
-use crate::argument::{Misread, Uri, none, one};
+use crate::argument::{Misread, Uri, Volume, none, one, subsystems, two};
 use crate::name::Name;
+use idle_notes::Subsystems;
 use mpd_text::{ErrorNumber, Text, WordsFault, words};
 use std::alloc::{AllocError, Global};
 
@@ -16,10 +17,20 @@ pub enum Command {
     Add(Uri),
     /// Takes the song at a place out of the queue.
     Delete(u32),
+    GetVol,
+    /// Waits until one of these changes.
+    Idle(Subsystems),
+    /// Waits no more.
+    NoIdle,
     Ping,
     /// The places that changed since a version, with their ids.
     PlChangesPosId(u32),
+    /// Whether the queue begins anew at its end.
+    Repeat(bool),
+    SetVol(Volume),
     Status,
+    /// The songs at two places change round.
+    Swap(u32, u32),
 }
 
 /// A refusal as it is sent.
@@ -46,9 +57,18 @@ fn read(alloc: Global, name: Name, words: &[String]) -> Result<Command, Misread>
     match name {
         Name::Add => Ok(Command::Add(one(alloc, words)?)),
         Name::Delete => Ok(Command::Delete(one(alloc, words)?)),
+        Name::GetVol => none(words, Command::GetVol),
+        Name::Idle => Ok(Command::Idle(subsystems(alloc, words)?)),
+        Name::NoIdle => none(words, Command::NoIdle),
         Name::Ping => none(words, Command::Ping),
         Name::PlChangesPosId => Ok(Command::PlChangesPosId(one(alloc, words)?)),
+        Name::Repeat => Ok(Command::Repeat(one(alloc, words)?)),
+        Name::SetVol => Ok(Command::SetVol(one(alloc, words)?)),
         Name::Status => none(words, Command::Status),
+        Name::Swap => {
+            let (first, second) = two(alloc, words)?;
+            Ok(Command::Swap(first, second))
+        }
     }
 }
 
@@ -89,9 +109,15 @@ impl Request {
         match self {
             Request::Run(Command::Add(_)) => Name::Add.text(),
             Request::Run(Command::Delete(_)) => Name::Delete.text(),
+            Request::Run(Command::GetVol) => Name::GetVol.text(),
+            Request::Run(Command::Idle(_)) => Name::Idle.text(),
+            Request::Run(Command::NoIdle) => Name::NoIdle.text(),
             Request::Run(Command::Ping) => Name::Ping.text(),
             Request::Run(Command::PlChangesPosId(_)) => Name::PlChangesPosId.text(),
+            Request::Run(Command::Repeat(_)) => Name::Repeat.text(),
+            Request::Run(Command::SetVol(_)) => Name::SetVol.text(),
             Request::Run(Command::Status) => Name::Status.text(),
+            Request::Run(Command::Swap(_, _)) => Name::Swap.text(),
             Request::Refused(ack) => match Name::of_word(ack.command.as_str()) {
                 Some(name) => name.text(),
                 None => "",

@@ -1,8 +1,9 @@
 //! Events, and what they make clients hear.
 ghost use Rattle.std.specs.Prelude.{◌≡◌, IfOk};
-ghost use Rattle.partition.specs.Answers.{Answer, Told};
+ghost use Rattle.partition.specs.Answers.{Answer, Said, Told};
 
 use crate::command::Request;
+use idle_notes::Subsystems;
 use mpd_text::SharedText;
 use std::alloc::AllocError;
 use std::marker::Model;
@@ -21,8 +22,34 @@ pub enum Event {
 /// What becomes of a client after a reply.
 #[derive(Clone, Copy, Debug, PartialEq, Eq)]
 pub enum Next {
+    /// Its next line may come.
     Goes,
+    /// It waits for a notice.
+    Waits,
+    /// It is gone.
     Closes,
+}
+
+/// What an event does to what is pending for the client that it comes from.
+#[derive(Clone, Copy, Debug, PartialEq, Eq)]
+pub enum Move {
+    Stay,
+    /// It waits for changes of these.
+    Wait(Subsystems),
+    /// It is told what changed, by the answer itself.
+    Hear,
+    /// It waits no more.
+    Resume,
+    /// It comes.
+    Join,
+}
+
+/// What a client that waited is told.
+#[derive(Clone, Copy, Debug, PartialEq, Eq)]
+pub struct Notice {
+    pub client: u32,
+    /// The subsystems that changed, of those that it waited for.
+    pub names: Subsystems,
 }
 
 /// The bytes for the client that spoke, and what becomes of it.
@@ -57,7 +84,8 @@ impl Reply {
 /// What an event makes clients hear.
 #[derive(Drop)]
 pub struct Outcome {
-    reply: Reply,
+    pub(crate) reply: Reply,
+    pub(crate) notices: Vec<Notice>,
 }
 
 impl Model for Outcome {
@@ -65,7 +93,7 @@ impl Model for Outcome {
 
     ghost Value = { Told };
 
-    ghost view = { λ o. record { answer = o.reply } };
+    ghost view = { λ o. record { answer = o.reply; notices = o.notices.items } };
 }
 
 impl Outcome {
@@ -74,6 +102,13 @@ impl Outcome {
         ensures { result.now ≡ self.now.answer }
     {
         &self.reply
+    }
+
+    /// What others are told that waited, by rising client.
+    pub fn notices(&self) -> &[Notice]
+        ensures { result.now ≡ self.now.notices }
+    {
+        &self.notices
     }
 }
 
@@ -85,41 +120,55 @@ pub struct Happened {
     pub told: Outcome,
 }
 
-/// A reply twice, over one text: one to hand out, one to keep.
+/// A reply twice, over one text, one to hand out and one to keep; and what its client does.
 #[derive(Drop)]
 pub(crate) struct Twin {
     given: Reply,
     kept: Reply,
+    step: Move,
 }
 
 impl Model for Twin {
     ghost use Rattle.std.specs.Prelude.{◌≡◌};
-    ghost use Rattle.partition.specs.Answers.{Answer};
+    ghost use Rattle.partition.specs.Answers.{Said};
 
-    ghost Value = { Answer };
+    ghost Value = { Said };
 
-    ghost view = { λ t. t.given };
+    ghost view = { λ t. record { answer = t.given; move = t.step } };
 
     ghost invariant = { λ t. t.kept ≡ t.given };
 }
 
 impl Twin {
-    pub(crate) fn of(text: SharedText, next: Next) -> Result<Twin, AllocError>
-        ensures { IfOk result (λ twin. twin ≡ record { text = text; next = next }) }
+    pub(crate) fn of(text: SharedText, next: Next, step: Move) -> Result<Twin, AllocError>
+        ensures { IfOk result (λ twin. twin ≡ record { answer = record { text = text; next = next }; move = step }) }
     {
         let kept = text.clone()?;
         Ok(Twin {
             given: Reply { text, next },
             kept: Reply { text: kept, next },
+            step,
         })
     }
 
-    /// The outcome to hand out, and the one to keep.
-    pub(crate) fn apart(self) -> (Outcome, Outcome)
-        ensures given { result.0 ≡ record { answer = self } }
-        ensures kept { result.1 ≡ record { answer = self } }
+    pub(crate) fn next(&self) -> Next
+        ensures { result ≡ self.now.answer.next }
     {
-        let Twin { given, kept } = self;
-        (Outcome { reply: given }, Outcome { reply: kept })
+        self.given.next
+    }
+
+    pub(crate) fn step(&self) -> Move
+        ensures { result ≡ self.now.move }
+    {
+        self.step
+    }
+
+    /// The reply to hand out, and the one to keep.
+    pub(crate) fn apart(self) -> (Reply, Reply)
+        ensures given { result.0 ≡ self.answer }
+        ensures kept { result.1 ≡ self.answer }
+    {
+        let Twin { given, kept, .. } = self;
+        (given, kept)
     }
 }

@@ -2,8 +2,11 @@
 #![tactic(auto)]
 
 mod argument;
+mod clients;
 mod command;
 mod event;
+mod happen;
+mod laws;
 mod name;
 mod partition;
 mod state;
@@ -11,9 +14,10 @@ mod state;
 mod tests;
 mod turns;
 
-pub use argument::Uri;
+pub use argument::{Uri, Volume};
 pub use command::{Ack, Command, Request};
-pub use event::{Event, Happened, Next, Outcome, Reply};
+pub use event::{Event, Happened, Move, Next, Notice, Outcome, Reply};
+pub use laws::{reads_pending, replays_worlds};
 pub use name::{NAMES, Name};
-pub use partition::{Partition, PartitionFault, replays_worlds};
-pub use state::{Client, Limits, MAX_CLIENTS, MAX_OWN, SEATS};
+pub use partition::{Partition, PartitionFault};
+pub use state::{Client, Controls, Limits, MAX_CLIENTS, MAX_OWN, Modes, Part, SEATS};

@@ -7,18 +7,30 @@ ghost use Rattle.partition.specs.Names.{text_of, name_of};
 pub enum Name {
     Add,
     Delete,
+    GetVol,
+    Idle,
+    NoIdle,
     Ping,
     PlChangesPosId,
+    Repeat,
+    SetVol,
     Status,
+    Swap,
 }
 
 /// All commands.
-pub const NAMES: [Name; 5] = [
+pub const NAMES: [Name; 11] = [
     Name::Add,
     Name::Delete,
+    Name::GetVol,
+    Name::Idle,
+    Name::NoIdle,
     Name::Ping,
     Name::PlChangesPosId,
+    Name::Repeat,
+    Name::SetVol,
     Name::Status,
+    Name::Swap,
 ];
 
 impl Name {
@@ -36,9 +48,15 @@ impl Name {
         match self {
             Name::Add => "add",
             Name::Delete => "delete",
+            Name::GetVol => "getvol",
+            Name::Idle => "idle",
+            Name::NoIdle => "noidle",
             Name::Ping => "ping",
             Name::PlChangesPosId => "plchangesposid",
+            Name::Repeat => "repeat",
+            Name::SetVol => "setvol",
             Name::Status => "status",
+            Name::Swap => "swap",
         }
     }
 }

@@ -1,17 +1,19 @@
 //! The player with its history.
-ghost use Rattle.std.specs.Prelude.{◌≡◌, ◌≢◌, ◌↔◌, ◌++◌, ◌∷◌, ◌-◌, ◌^◌, ◌≤◌, ◌<◌, [], List, IfOk, OnErr, OnOk, IsErrOf, slice_index_or, is_some, AllPairs};
+ghost use Rattle.std.specs.Prelude.{◌≡◌, ◌≢◌, ◌↔◌, ◌++◌, ◌∷◌, ◌-◌, ◌^◌, ◌≤◌, ◌<◌, [], List, IfOk, OnErr, OnOk, IsErrOf, slice_index_or, is_some, All, AllPairs};
 ghost use Rattle.mpd_text.specs.Songs.{SongData};
 ghost use Rattle.song_queue.specs.State.{queue_of};
 ghost use Rattle.partition.specs.declared.event.Happened.{Happened};
 ghost use Rattle.partition.specs.declared.state.Limits.{Limits};
 ghost use Rattle.partition.specs.History.{replay, AreTold, own as own_of};
 ghost use Rattle.partition.specs.Image.{Image, image_of_state, opening, client_of};
-ghost use Rattle.partition.specs.Legal.{IsPast, ReplaysWorlds};
+ghost use Rattle.partition.specs.Legal.{HasPending, IsPast, life_of};
 ghost use Rattle.partition.specs.Step.{next, told};
 
+use crate::clients::find;
 use crate::event::{Event, Happened, Outcome};
-use crate::state::{Client, Limits, MAX_OWN, SEATS, State};
-use crate::turns::{has_client, take_turn};
+use crate::happen::happen;
+use crate::laws::replays_worlds;
+use crate::state::{Client, Controls, Limits, MAX_OWN, Modes, Part, SEATS, State};
 use song_db::Db;
 use song_queue::Queue;
 use std::alloc::{AllocError, Global};
@@ -62,7 +64,13 @@ impl Partition {
             alloc,
             limits,
             state: State {
-                queue,
+                part: Part {
+                    queue,
+                    controls: Controls {
+                        volume: 100,
+                        modes: Modes { repeat: false },
+                    },
+                },
                 songs,
                 made: [0; 16],
                 clients: Vec::new(alloc),
@@ -103,6 +111,8 @@ impl Partition {
         // The state that stands is the replay's, and has the versions, stamps, marks and ids of the past queues.
         ensures present { self.now.present ≡ replay self.now.base self.now.window }
         ensures legal { IsPast self.now }
+        // The flags of each client are its pending set: what changed since its connect or last notice.
+        ensures pending { All (HasPending (life_of self.now).moments) self.now.present.clients }
         // Song ids are distinct.
         ensures distinct { AllPairs (λ e f. e.id ≢ f.id) (queue_of self.now.present.part.queue) }
     {
@@ -116,7 +126,7 @@ impl Partition {
         ensures replayed { self.now.present ≡ replay self.now.base self.now.window }
     {
         replays_worlds();
-        let _valid = self.state.queue.len();
+        let _valid = self.state.part.queue.len();
     }
 
     /// How many events a seat made.
@@ -133,50 +143,27 @@ impl Partition {
     pub fn queue(&self) -> &Queue
         ensures { result.now ≡ self.now.present.part.queue }
     {
-        &self.state.queue
+        &self.state.part.queue
     }
 
     /// Whether a client is connected.
     pub fn has_client(&self, number: u32) -> bool
         ensures { result ≡ is_some (client_of number self.now.present.clients) }
     {
-        has_client(&self.state.clients, number)
+        find(&self.state.clients, number).is_some()
     }
 
-    /// The clients that are connected, in the order in which they came.
+    /// What the player is set to.
+    pub fn controls(&self) -> Controls
+        ensures { result ≡ self.now.present.part.controls }
+    {
+        self.state.part.controls
+    }
+
+    /// The clients that are connected, by rising number.
     pub fn clients(&self) -> &[Client]
         ensures { result.now ≡ self.now.present.clients }
     {
         &self.state.clients
     }
 }
-
-/// Runs one event and keeps it. It fails only for memory, and then changes nothing.
-#[tactic(auto, unfolding(crate::specs::Step::next, crate::specs::Step::told))]
-fn happen(
-    alloc: Global,
-    state: &mut State,
-    history: &mut Vec<Happened>,
-    seat: u8,
-    event: Event,
-) -> Result<Outcome, AllocError>
-    requires seat { seat < SEATS }
-    requires count { slice_index_or state.old.made seat 0 < MAX_OWN }
-    ensures image { OnOk result (image_of_state state.new ≡ next seat (image_of_state state.old) event) }
-    ensures told { IfOk result (λ outcome. outcome ≡ told (image_of_state state.old) event) }
-    ensures history { IfOk result (λ outcome. history.new.items ≡ history.old.items ++ record { seat = seat; event = event; told = outcome } ∷ []) }
-    ensures unchanged { OnErr result (image_of_state state.new ≡ image_of_state state.old) }
-    ensures unkept { OnErr result (history.new.items ≡ history.old.items) }
-{
-    history.reserve(1)?;
-    let twin = take_turn(alloc, state, &event)?;
-    state.made[usize::from(seat)] += 1;
-    let (outcome, told) = twin.apart();
-    let _ = history.push(Happened { seat, event, told });
-    Ok(outcome)
-}
-
-/// A replay from a player to which nothing happened is the image of the world with every past queue.
-pub fn replays_worlds()
-    ensures { ReplaysWorlds }
-{}

@@ -1,8 +1,5 @@
 //! The state of a player.
-ghost use Rattle.std.specs.Prelude.{◌≡◌, ◌≤◌, ◌<◌, ◌^◌, IfOk, length, not, is_some};
-ghost use Rattle.std.specs.List.{filter};
-ghost use Rattle.partition.specs.Image.{image_of_state, is_other, client_of};
-
+use idle_notes::Pending;
 use song_db::Db;
 use song_queue::Queue;
 
@@ -26,17 +23,41 @@ pub struct Limits {
     pub max_id: u32,
 }
 
+/// The modes of a player (MPD protocol reference, Playback options).
+#[derive(Clone, Copy, Debug, PartialEq, Eq)]
+pub struct Modes {
+    /// Whether the queue begins anew at its end.
+    pub repeat: bool,
+}
+
+/// What a player can be set to.
+#[derive(Clone, Copy, Debug, PartialEq, Eq)]
+pub struct Controls {
+    /// The volume, 0 to 100.
+    pub volume: u8,
+    pub modes: Modes,
+}
+
 /// A client that is connected.
 #[derive(Clone, Copy, Debug, PartialEq, Eq)]
 pub struct Client {
     pub number: u32,
+    pub pending: Pending,
+}
+
+/// What one player owns.
+#[derive(Drop)]
+pub struct Part {
+    pub queue: Queue,
+    pub controls: Controls,
 }
 
 /// The state that stands.
 #[derive(Drop)]
 pub(crate) struct State {
-    pub(crate) queue: Queue,
+    pub(crate) part: Part,
     pub(crate) songs: Db,
     pub(crate) made: [u64; 16],
+    /// By rising number.
     pub(crate) clients: Vec<Client>,
 }

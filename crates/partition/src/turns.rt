@@ -1,98 +1,121 @@
-//! What each event does to the state that stands.
-ghost use Rattle.std.specs.Prelude.{◌≡◌, ◌<◌, ℕ, List, [], ◌++◌, codes, IfOk, OnOk, OnErr, is_some, string_bytes};
-ghost use Rattle.std.specs.List.{flat_map, filter};
+//! What each event makes of a player, and what it answers.
+ghost use Rattle.std.specs.Prelude.{◌≡◌, ◌++◌, Some, length, IfOk, OnOk, OnErr};
+ghost use Rattle.std.specs.List.{flat_map};
 ghost use Rattle.std.specs.Option.{option_copied};
-ghost use Rattle.mpd_text.specs.Answers.{ack_line, number_of};
+ghost use Rattle.idle_notes.specs.Notes.{waits, notice_of};
 ghost use Rattle.song_queue.specs.Entries.{row_of};
-ghost use Rattle.song_queue.specs.State.{changed};
-ghost use Rattle.partition.specs.Answers.{Answer};
-ghost use Rattle.partition.specs.Commands.{okay, says as says_lem, refuses as refuses_lem, turn_add, turn_delete, turn_status, turn_changes, changed_row};
-ghost use Rattle.partition.specs.Image.{image_of_state, image_after, client_of, is_other};
-ghost use Rattle.partition.specs.Step.{turn, turn_connect, turn_disconnect, turn_line, turn_request, turn_command, turned_away as turned_away_lem};
+ghost use Rattle.song_queue.specs.State.{changed, queue_of};
+ghost use Rattle.partition.specs.Commands.{okay, goes_on as goes_on_lem, refusal, idles, resumes, status_text, volume_text, digit as digit_lem, turn_add, turn_delete, turn_swap, turn_repeat, turn_set_volume, changed_row};
+ghost use Rattle.partition.specs.Image.{part_after};
+ghost use Rattle.partition.specs.Step.{turn_of, said_to_new, turn_line, turn_request, turned_away as turned_away_lem, ends_waiting as ends_waiting_lem};
 
 use crate::argument::Uri;
+use crate::clients::find;
 use crate::command::{Command, Request};
-use crate::event::{Event, Next, Twin};
-use crate::state::{Client, MAX_CLIENTS, State};
+use crate::event::{Event, Move, Next, Twin};
+use crate::state::{Client, Controls, MAX_CLIENTS, Modes, Part};
+use idle_notes::Subsystems;
 use mpd_text::{Answer, ErrorNumber, SharedText};
+use song_db::Db;
 use song_queue::{Entry, Queue, QueueFault};
 use std::alloc::{AllocError, Global};
 
-/// Applies an event, all but the count of its seat. It fails only for memory, and then changes nothing.
-pub(crate) fn take_turn(alloc: Global, state: &mut State, event: &Event) -> Result<Twin, AllocError>
-    ensures image { OnOk result (image_of_state state.new ≡ image_after (image_of_state state.old) (turn (image_of_state state.old) event.now)) }
-    ensures answer { IfOk result (λ twin. twin ≡ (turn (image_of_state state.old) event.now).answer) }
-    ensures err { OnErr result (image_of_state state.new ≡ image_of_state state.old) }
+/// Applies an event to a part. It fails only for memory, and then changes nothing.
+pub(crate) fn take_turn(
+    alloc: Global,
+    part: &mut Part,
+    songs: &Db,
+    clients: &[Client],
+    event: &Event,
+) -> Result<Twin, AllocError>
+    ensures part { OnOk result (part.new ≡ part_after part.old (turn_of part.old songs.now clients.now event.now)) }
+    ensures said { IfOk result (λ twin. twin ≡ (turn_of part.old songs.now clients.now event.now).said) }
+    ensures err { OnErr result (part.new ≡ part.old) }
 {
     match event {
-        Event::Connect(number) => connect(alloc, state, *number),
-        Event::Disconnect(number) => disconnect(alloc, state, *number),
-        Event::Line(number, request) => {
-            if has_client(&state.clients, *number) {
-                run(alloc, state, request)
-            } else {
-                turned_away(alloc)
-            }
-        }
+        Event::Connect(number) => connect(alloc, clients, *number),
+        Event::Disconnect(_) => turned_away(alloc),
+        Event::Line(number, request) => match find(clients, *number) {
+            Some(client) => hear(alloc, part, songs, client, request),
+            None => turned_away(alloc),
+        },
     }
 }
 
-fn connect(alloc: Global, state: &mut State, number: u32) -> Result<Twin, AllocError>
-    ensures image { OnOk result (image_of_state state.new ≡ image_after (image_of_state state.old) (turn_connect (image_of_state state.old) number)) }
-    ensures answer { IfOk result (λ twin. twin ≡ (turn_connect (image_of_state state.old) number).answer) }
-    ensures err { OnErr result (image_of_state state.new ≡ image_of_state state.old) }
+fn connect(alloc: Global, clients: &[Client], number: u32) -> Result<Twin, AllocError>
+    ensures { IfOk result (λ twin. twin ≡ said_to_new clients.now number) }
 {
-    if has_client(&state.clients, number) {
+    if find(clients, number).is_some() {
         return says(alloc, "");
     }
-    if state.clients.len() >= MAX_CLIENTS {
+    if clients.len() >= MAX_CLIENTS {
         return turned_away(alloc);
     }
-    let answer = says(alloc, "OK MPD 0.23.0\n")?;
-    state.clients.push(Client { number })?;
-    Ok(answer)
+    let greeting = String::from_str(alloc, "OK MPD 0.23.0\n")?;
+    Twin::of(SharedText::of(greeting)?, Next::Goes, Move::Join)
 }
 
-fn disconnect(alloc: Global, state: &mut State, number: u32) -> Result<Twin, AllocError>
-    ensures image { OnOk result (image_of_state state.new ≡ image_after (image_of_state state.old) (turn_disconnect number)) }
-    ensures answer { IfOk result (λ twin. twin ≡ (turn_disconnect number).answer) }
-    ensures err { OnErr result (image_of_state state.new ≡ image_of_state state.old) }
+fn turned_away(alloc: Global) -> Result<Twin, AllocError>
+    ensures { IfOk result (λ twin. twin ≡ turned_away_lem) }
 {
-    let answer = says(alloc, "")?;
-    leave(&mut state.clients, number);
-    Ok(answer)
+    Twin::of(
+        SharedText::of(String::new(alloc))?,
+        Next::Closes,
+        Move::Stay,
+    )
 }
 
-fn leave(clients: &mut Vec<Client>, number: u32)
-    ensures { clients.new.items ≡ filter (is_other number) clients.old.items }
+/// Hears a line of a client that is there. While it waits, any other line than `noidle` closes it.
+fn hear(
+    alloc: Global,
+    part: &mut Part,
+    songs: &Db,
+    client: Client,
+    request: &Request,
+) -> Result<Twin, AllocError>
+    ensures part { OnOk result (part.new ≡ part_after part.old (turn_line part.old songs.now (Some client) request.now)) }
+    ensures said { IfOk result (λ twin. twin ≡ (turn_line part.old songs.now (Some client) request.now).said) }
+    ensures err { OnErr result (part.new ≡ part.old) }
 {
-    clients.retain(|client| client.number != number);
-}
-
-/// Whether a client is among these.
-pub(crate) fn has_client(clients: &[Client], number: u32) -> bool
-    ensures { result ≡ is_some (client_of number clients.now) }
-{
-    for client in clients {
-        if client.number == number {
-            return true;
-        }
+    if client.pending.is_waiting() && !ends_waiting(request) {
+        return turned_away(alloc);
     }
-    false
+    run(alloc, part, songs, client, request)
 }
 
-/// Runs what a client asks for that is there.
-fn run(alloc: Global, state: &mut State, request: &Request) -> Result<Twin, AllocError>
-    ensures image { OnOk result (image_of_state state.new ≡ image_after (image_of_state state.old) (turn_request (image_of_state state.old) request.now)) }
-    ensures answer { IfOk result (λ twin. twin ≡ (turn_request (image_of_state state.old) request.now).answer) }
-    ensures err { OnErr result (image_of_state state.new ≡ image_of_state state.old) }
+fn ends_waiting(request: &Request) -> bool
+    ensures { result ≡ ends_waiting_lem request.now }
 {
     match request {
-        Request::Run(Command::Add(uri)) => add(alloc, state, uri),
-        Request::Run(Command::Delete(place)) => delete(alloc, state, *place),
+        Request::Run(Command::NoIdle) => true,
+        _ => false,
+    }
+}
+
+/// Runs what a client asks for that may.
+fn run(
+    alloc: Global,
+    part: &mut Part,
+    songs: &Db,
+    client: Client,
+    request: &Request,
+) -> Result<Twin, AllocError>
+    ensures part { OnOk result (part.new ≡ part_after part.old (turn_request part.old songs.now client request.now)) }
+    ensures said { IfOk result (λ twin. twin ≡ (turn_request part.old songs.now client request.now).said) }
+    ensures err { OnErr result (part.new ≡ part.old) }
+{
+    match request {
+        Request::Run(Command::Add(uri)) => add(alloc, part, songs, uri),
+        Request::Run(Command::Delete(place)) => delete(alloc, part, *place),
+        Request::Run(Command::GetVol) => get_volume(alloc, part.controls.volume),
+        Request::Run(Command::Idle(named)) => idle(alloc, client, *named),
+        Request::Run(Command::NoIdle) => no_idle(alloc, client),
         Request::Run(Command::Ping) => says(alloc, "OK\n"),
-        Request::Run(Command::PlChangesPosId(version)) => changes(alloc, state, *version),
-        Request::Run(Command::Status) => status(alloc, state),
+        Request::Run(Command::PlChangesPosId(version)) => changes(alloc, &part.queue, *version),
+        Request::Run(Command::Repeat(on)) => repeat(alloc, part, *on),
+        Request::Run(Command::SetVol(volume)) => set_volume(alloc, part, volume.0),
+        Request::Run(Command::Status) => status(alloc, part.controls, &part.queue),
+        Request::Run(Command::Swap(first, second)) => swap(alloc, part, *first, *second),
         Request::Refused(ack) => {
             refuses(alloc, ack.number, ack.command.as_str(), ack.text.as_str())
         }
@@ -101,15 +124,20 @@ fn run(alloc: Global, state: &mut State, request: &Request) -> Result<Twin, Allo
 
 /// A reply after which the client goes on.
 fn says(alloc: Global, text: &str) -> Result<Twin, AllocError>
-    ensures { IfOk result (λ twin. twin ≡ (says_lem text.now).answer) }
+    ensures { IfOk result (λ twin. twin ≡ goes_on_lem text.now) }
 {
-    Twin::of(SharedText::of(String::from_str(alloc, text)?)?, Next::Goes)
+    let text = String::from_str(alloc, text)?;
+    Twin::of(SharedText::of(text)?, Next::Goes, Move::Stay)
 }
 
-fn turned_away(alloc: Global) -> Result<Twin, AllocError>
-    ensures { IfOk result (λ twin. twin ≡ turned_away_lem.answer) }
+fn goes_on(answer: Answer) -> Result<Twin, AllocError>
+    ensures { IfOk result (λ twin. twin ≡ goes_on_lem answer) }
 {
-    Twin::of(SharedText::of(String::new(alloc))?, Next::Closes)
+    Twin::of(
+        SharedText::of(answer.into_string())?,
+        Next::Goes,
+        Move::Stay,
+    )
 }
 
 fn refuses(
@@ -118,32 +146,26 @@ fn refuses(
     command: &str,
     text: &str,
 ) -> Result<Twin, AllocError>
-    ensures { IfOk result (λ twin. twin ≡ (refuses_lem number command.now text.now).answer) }
+    ensures { IfOk result (λ twin. twin ≡ goes_on_lem (refusal number command.now text.now)) }
 {
     let mut answer = Answer::new(alloc);
     answer.ack(number, 0, command, text)?;
     goes_on(answer)
 }
 
-fn goes_on(answer: Answer) -> Result<Twin, AllocError>
-    ensures { IfOk result (λ twin. twin ≡ (says_lem answer).answer) }
+fn add(alloc: Global, part: &mut Part, songs: &Db, uri: &Uri) -> Result<Twin, AllocError>
+    ensures part { OnOk result (part.new ≡ part_after part.old (turn_add part.old songs.now uri.now.0)) }
+    ensures said { IfOk result (λ twin. twin ≡ (turn_add part.old songs.now uri.now.0).said) }
+    ensures err { OnErr result (part.new ≡ part.old) }
 {
-    Twin::of(SharedText::of(answer.into_string())?, Next::Goes)
-}
-
-fn add(alloc: Global, state: &mut State, uri: &Uri) -> Result<Twin, AllocError>
-    ensures image { OnOk result (image_of_state state.new ≡ image_after (image_of_state state.old) (turn_add (image_of_state state.old) uri.now.0)) }
-    ensures answer { IfOk result (λ twin. twin ≡ (turn_add (image_of_state state.old) uri.now.0).answer) }
-    ensures err { OnErr result (image_of_state state.new ≡ image_of_state state.old) }
-{
-    let Some(song) = state.songs.share(uri.0.as_str())? else {
+    let Some(song) = songs.share(uri.0.as_str())? else {
         return refuses(alloc, ErrorNumber::NoExist, "add", "no such song");
     };
     let answer = says(alloc, "OK\n")?;
-    let mut songs = Vec::new(alloc);
-    songs.push(song)?;
-    let end = state.queue.len();
-    match state.queue.insert(end, songs) {
+    let mut added = Vec::new(alloc);
+    added.push(song)?;
+    let end = part.queue.len();
+    match part.queue.insert(end, added) {
         Ok(()) => Ok(answer),
         Err(QueueFault::Full) => {
             refuses(alloc, ErrorNumber::PlaylistMax, "add", "playlist is full")
@@ -156,37 +178,137 @@ fn add(alloc: Global, state: &mut State, uri: &Uri) -> Result<Twin, AllocError>
     }
 }
 
-fn delete(alloc: Global, state: &mut State, place: u32) -> Result<Twin, AllocError>
-    ensures image { OnOk result (image_of_state state.new ≡ image_after (image_of_state state.old) (turn_delete (image_of_state state.old) place)) }
-    ensures answer { IfOk result (λ twin. twin ≡ (turn_delete (image_of_state state.old) place).answer) }
-    ensures err { OnErr result (image_of_state state.new ≡ image_of_state state.old) }
+fn delete(alloc: Global, part: &mut Part, place: u32) -> Result<Twin, AllocError>
+    ensures part { OnOk result (part.new ≡ part_after part.old (turn_delete part.old place)) }
+    ensures said { IfOk result (λ twin. twin ≡ (turn_delete part.old place).said) }
+    ensures err { OnErr result (part.new ≡ part.old) }
 {
     let place = place as usize;
-    if place >= state.queue.len() {
+    if place >= part.queue.len() {
         return refuses(alloc, ErrorNumber::Argument, "delete", "bad song index");
     }
     let answer = says(alloc, "OK\n")?;
-    match state.queue.remove(place..place + 1) {
+    match part.queue.remove(place..place + 1) {
         Ok(()) => Ok(answer),
         Err(_) => unreachable!(),
     }
 }
 
-fn status(alloc: Global, state: &State) -> Result<Twin, AllocError>
-    ensures { IfOk result (λ twin. twin ≡ (turn_status (image_of_state state.now)).answer) }
+fn swap(alloc: Global, part: &mut Part, first: u32, second: u32) -> Result<Twin, AllocError>
+    ensures part { OnOk result (part.new ≡ part_after part.old (turn_swap part.old first second)) }
+    ensures said { IfOk result (λ twin. twin ≡ (turn_swap part.old first second).said) }
+    ensures err { OnErr result (part.new ≡ part.old) }
 {
-    let version = state.queue.version();
-    let length = state.queue.len();
-    let text = format!(in alloc;
-        "volume: 100\nrepeat: 0\nrandom: 0\nsingle: 0\nconsume: 0\npartition: default\nplaylist: {version}\nplaylistlength: {length}\nstate: stop\nOK\n"
-    )?;
-    Twin::of(SharedText::of(text)?, Next::Goes)
+    let len = part.queue.len();
+    if first as usize >= len || second as usize >= len {
+        return refuses(alloc, ErrorNumber::Argument, "swap", "bad song index");
+    }
+    let answer = says(alloc, "OK\n")?;
+    match part.queue.swap(first as usize, second as usize) {
+        Ok(()) => Ok(answer),
+        Err(_) => unreachable!(),
+    }
 }
 
-fn changes(alloc: Global, state: &State, version: u32) -> Result<Twin, AllocError>
-    ensures { IfOk result (λ twin. twin ≡ (turn_changes (image_of_state state.now) version).answer) }
+fn repeat(alloc: Global, part: &mut Part, on: bool) -> Result<Twin, AllocError>
+    ensures part { OnOk result (part.new ≡ part_after part.old (turn_repeat part.old on)) }
+    ensures said { IfOk result (λ twin. twin ≡ (turn_repeat part.old on).said) }
+    ensures err { OnErr result (part.new ≡ part.old) }
 {
-    let mut answer = changed_rows(alloc, &state.queue, version)?;
+    let answer = says(alloc, "OK\n")?;
+    part.controls.modes = Modes { repeat: on };
+    Ok(answer)
+}
+
+fn set_volume(alloc: Global, part: &mut Part, volume: u8) -> Result<Twin, AllocError>
+    ensures part { OnOk result (part.new ≡ part_after part.old (turn_set_volume part.old volume)) }
+    ensures said { IfOk result (λ twin. twin ≡ (turn_set_volume part.old volume).said) }
+    ensures err { OnErr result (part.new ≡ part.old) }
+{
+    let answer = says(alloc, "OK\n")?;
+    part.controls.volume = volume;
+    Ok(answer)
+}
+
+fn get_volume(alloc: Global, volume: u8) -> Result<Twin, AllocError>
+    ensures { IfOk result (λ twin. twin ≡ goes_on_lem (volume_text volume)) }
+{
+    let mut answer = Answer::new(alloc);
+    answer.pair("volume", volume)?;
+    answer.ok()?;
+    goes_on(answer)
+}
+
+/// Tells a client at once of what changed already, or lets it wait.
+fn idle(alloc: Global, client: Client, named: Subsystems) -> Result<Twin, AllocError>
+    ensures { IfOk result (λ twin. twin ≡ idles named (notice_of (waits named client.pending))) }
+{
+    let mut pending = client.pending;
+    let Some(names) = pending.wait(named) else {
+        return Twin::of(
+            SharedText::of(String::new(alloc))?,
+            Next::Waits,
+            Move::Wait(named),
+        );
+    };
+    let mut answer = Answer::new(alloc);
+    names.push_lines(&mut answer)?;
+    answer.ok()?;
+    Twin::of(
+        SharedText::of(answer.into_string())?,
+        Next::Goes,
+        Move::Hear,
+    )
+}
+
+fn no_idle(alloc: Global, client: Client) -> Result<Twin, AllocError>
+    ensures { IfOk result (λ twin. twin ≡ resumes client) }
+{
+    if !client.pending.is_waiting() {
+        return says(alloc, "");
+    }
+    let text = String::from_str(alloc, "OK\n")?;
+    Twin::of(SharedText::of(text)?, Next::Goes, Move::Resume)
+}
+
+fn status(alloc: Global, controls: Controls, queue: &Queue) -> Result<Twin, AllocError>
+    ensures { IfOk result (λ twin. twin ≡ goes_on_lem (status_text controls.volume (digit_lem controls.modes.repeat) queue.now.version (length (queue_of queue.now)))) }
+{
+    show_status(
+        alloc,
+        controls.volume,
+        digit(controls.modes.repeat),
+        queue.version(),
+        queue.len(),
+    )
+}
+
+fn show_status(
+    alloc: Global,
+    volume: u8,
+    repeat: u8,
+    version: u32,
+    length: usize,
+) -> Result<Twin, AllocError>
+    ensures { IfOk result (λ twin. twin ≡ goes_on_lem (status_text volume repeat version length)) }
+{
+    let text = format!(in alloc;
+        "volume: {volume}\nrepeat: {repeat}\nrandom: 0\nsingle: 0\nconsume: 0\npartition: default\nplaylist: {version}\nplaylistlength: {length}\nstate: stop\nOK\n"
+    )?;
+    Twin::of(SharedText::of(text)?, Next::Goes, Move::Stay)
+}
+
+/// A mode as it is sent.
+fn digit(on: bool) -> u8
+    ensures { result ≡ digit_lem on }
+{
+    if on { 1 } else { 0 }
+}
+
+fn changes(alloc: Global, queue: &Queue, version: u32) -> Result<Twin, AllocError>
+    ensures { IfOk result (λ twin. twin ≡ goes_on_lem (flat_map changed_row (changed queue.now version) ++ okay)) }
+{
+    let mut answer = changed_rows(alloc, queue, version)?;
     answer.ok()?;
     goes_on(answer)
 }

@@ -9,7 +9,7 @@ use Rattle.script_lines.specs.Limits.{limit_named, greatest_of, number_within}
 use Rattle.script_lines.specs.Tags.{is_tag, tags_of}
 use Rattle.script_lines.specs.declared.limit.LimitName.{LimitName}
 use Rattle.script_lines.specs.declared.step.Step.{Step}
-use Rattle.script_lines.specs.declared.step.Step.TheVariants.{Song, Limit}
+use Rattle.script_lines.specs.declared.step.Step.TheVariants.{Song, Limit, Gone}
 
 -- 1 to 1,024 bytes without a newline
 unfoldable pub is_uri : List ℕ → Bool
@@ -38,13 +38,23 @@ abbrev pub limit_of : List (List ℕ) → Option Step
 limit_of (name ∷ n ∷ []) = limit_with (limit_named name) n
 limit_of _ = None
 
+abbrev pub gone_with : Option ℕ → Option Step
+gone_with None = None
+gone_with (Some number) = Some (Gone number)
+
+-- the number of a client, 1 to 9
+abbrev pub gone_of : List (List ℕ) → Option Step
+gone_of (number ∷ []) = gone_with (number_within 9 number)
+gone_of _ = None
+
 -- the step of its words
 abbrev pub step_of_words : List (List ℕ) → Option Step
 step_of_words [] = None
 step_of_words (word ∷ arguments) =
     if bytes_eq word (codes "song") then song_of arguments
     else (if bytes_eq word (codes "limit") then limit_of arguments
-    else None)
+    else (if bytes_eq word (codes "gone") then gone_of arguments
+    else None))
 
 abbrev pub step_if_read : Result (List (List ℕ)) WordsFault → Option Step
 step_if_read (Ok words) = step_of_words words

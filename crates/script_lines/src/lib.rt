@@ -1,4 +1,4 @@
-//! The lines of a script: whose a line is, and what a step asks for before any player is there.
+//! The lines of a script: whose a line is, and what a step asks for.
 #![tactic(auto)]
 
 mod cut;
@@ -11,5 +11,5 @@ mod tests;
 
 pub use limit::{LimitName, MAX_ID, MAX_QUEUE, MAX_VERSION};
 pub use line::ScriptLine;
-pub use step::{MAX_URI, Step};
+pub use step::{MAX_CLIENT, MAX_URI, Step};
 pub use tag::MAX_TEXT;

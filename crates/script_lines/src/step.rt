@@ -1,7 +1,7 @@
 //! Steps of a script.
 ghost use Rattle.std.specs.Prelude.{◌≡◌, IfOk, map, string_bytes, Some, true};
 ghost use Rattle.mpd_text.specs.Cut.{HasNoNewline};
-ghost use Rattle.script_lines.specs.Steps.{is_uri as is_uri_lem, song_with as song_with_lem, song_of, limit_of, step_of_words, step_of};
+ghost use Rattle.script_lines.specs.Steps.{is_uri as is_uri_lem, song_with as song_with_lem, song_of, limit_of, gone_of, step_of_words, step_of};
 
 use crate::cut::has;
 use crate::limit::{LimitName, number_within};
@@ -9,21 +9,26 @@ use crate::tag::{are_tags, tags_of};
 use mpd_text::{Song, WordsFault, words};
 use std::alloc::{AllocError, Global};
 
+/// The greatest number of a client.
+pub const MAX_CLIENT: u32 = 9;
+
 /// The greatest length of a song's URI, in bytes.
 pub const MAX_URI: usize = 1_024;
 
-/// A step that comes before the first line of a client, or beside them.
+/// A step that comes before the first line of a client, beside them, or behind it.
 #[derive(Drop)]
 pub enum Step {
     /// A song for the library: its URI as written, its tags in the order of answers, its frames.
     Song(Song),
     /// A limit and its value, from 1 to its greatest.
     Limit(LimitName, u32),
+    /// A client, from 1 to 9, goes.
+    Gone(u32),
 }
 
 impl Step {
     /// The step that stands behind a step's head; `None` where it is bad: its words cannot be read, the first one is
-    /// not `song` or `limit`, or the others are not what it takes. `Err` where memory runs out.
+    /// not `song`, `limit` or `gone`, or the others are not what it takes. `Err` where memory runs out.
     #[tactic(auto, unfolding(crate::specs::Steps::step_of))]
     pub fn of_line(alloc: Global, rest: &str) -> Result<Option<Step>, AllocError>
         ensures { IfOk result (λ step. step ≡ step_of rest.now) }
@@ -45,6 +50,8 @@ impl Step {
             song(alloc, arguments)
         } else if word.as_str() == "limit" {
             Ok(limit(arguments))
+        } else if word.as_str() == "gone" {
+            Ok(gone(arguments))
         } else {
             Ok(None)
         }
@@ -99,4 +106,14 @@ fn limit(arguments: &[String]) -> Option<Step>
     let name = LimitName::of_word(name.as_str())?;
     let value = number_within(value.as_str(), name.greatest())?;
     Some(Step::Limit(name, value))
+}
+
+fn gone(arguments: &[String]) -> Option<Step>
+    ensures { result ≡ gone_of (map string_bytes arguments.now) }
+{
+    let [number] = arguments else {
+        return None;
+    };
+    let number = number_within(number.as_str(), MAX_CLIENT)?;
+    Some(Step::Gone(number))
 }

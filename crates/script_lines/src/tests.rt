@@ -37,6 +37,7 @@ fn shown(alloc: Global, rest: &str) -> Result<String, AllocError> {
             Ok(all)
         }
         Some(Step::Limit(name, value)) => format!(in alloc; "{name:?} {value}"),
+        Some(Step::Gone(number)) => format!(in alloc; "gone {number}"),
         None => String::from_str(alloc, "bad"),
     }
 }
@@ -99,6 +100,10 @@ fn limits(rt: HostRuntime) -> Result<(), Fail> {
         ("limit max_queue", "bad"),
         ("limit max_queue 5 5", "bad"),
         ("limit MAX_QUEUE 5", "bad"),
+        ("gone 9", "gone 9"),
+        ("gone 0", "bad"),
+        ("gone 10", "bad"),
+        ("gone 1 2", "bad"),
     ] {
         assert_eq!(rt; shown(rt.alloc(), rest)?.as_str(), want, "{rest}");
     }

@@ -1,5 +1,5 @@
 -- What edits leave.
-use Rattle.std.proofs.Common.{◌≡◌, ◌≢◌, ◌⊎◌, ℕ, zero, suc, ◌+◌, ◌-◌, ◌<◌, ◌≤◌, Bool, true, false, cond, List, [], ◌∷◌, ◌++◌, length, map, take, drop, get_or, refl, ap, sym, subst, ◌∙◌, inl, inr, arith, append_assoc, length-append, length-drop, length-take, min}
+use Rattle.std.proofs.Common.{◌≡◌, ◌≢◌, ◌⊎◌, ℕ, zero, suc, ◌+◌, ◌-◌, ◌<◌, ◌≤◌, Bool, true, false, cond, not, List, [], ◌∷◌, ◌++◌, length, map, take, drop, get_or, refl, ap, sym, subst, ◌∙◌, inl, inr, arith, append_assoc, length-append, length-drop, length-take, min}
 use Rattle.std.specs.Prelude.{All, AllPairs, Some, slice_get, filter}
 use Rattle.std.specs.List.{enumerate_from, take-map}
 use Rattle.std.proofs.lemmas.Bool.{cond-true, cond-false, cases_Bool, cases_lt, eqb-false}
@@ -21,7 +21,7 @@ AtMost n es = All (λ e. e.id ≤ n) es
 
 -- the state after an edit that changes something
 abbrev pub stepped : QueueState → List Entry → QueueState
-stepped q es = record q { slots = restamped (next_version q) (wraps q) q.slots es; version = next_version q }
+stepped q es = record q { slots = restamped (next_version q) (wraps q) q.slots es; version = next_version q; parity = not q.parity }
 
 pub edited_cases : (q : QueueState) (es : List Entry) → ((edited q es ≡ q) × (queue_of q ≡ es)) ⊎ (edited q es ≡ stepped q es)
 edited_cases q es = elim (cases_Bool (same_queue (queue_of q) es)) [
@@ -245,13 +245,14 @@ module _ (q : QueueState) (is : IsQueue q) (at : ℕ) (songs : List SongData) (w
     max_len = q.max_len;
     max_version = q.max_version;
     max_id = q.max_id;
+    parity = not q.parity;
   }
   inserted-slots some =
       let same : take at es ++ news ++ drop at es ≡ after = append_assoc (take at es) news (drop at es) in
       let other : es ≢ after = λ e. let size : length es ≡ length after = ap length e in omega (arith, length-es, length-after) in
       let slots = stepped-joined q at (news ++ drop at es) (inserted-others some) in
       (λ i. record (edited q (same i)) { greatest_id = g + length songs }) ∙ (λ i. record (edited-changed q after other i) { greatest_id = g + length songs })
-      ∙ (λ i. record { slots = slots i; version = next_version q; greatest_id = g + length songs; max_len = q.max_len; max_version = q.max_version; max_id = q.max_id })
+      ∙ (λ i. record { slots = slots i; version = next_version q; greatest_id = g + length songs; max_len = q.max_len; max_version = q.max_version; max_id = q.max_id; parity = not q.parity })
 
   pub inserted-nothing : length songs ≡ 0 → inserted q at songs ≡ q
   inserted-nothing none =
@@ -263,12 +264,12 @@ module _ (q : QueueState) (is : IsQueue q) (at : ℕ) (songs : List SongData) (w
   -- the fields that the code leaves
   pub inserted-is : (v n : ℕ) (w : Bool) (added slots : List Slot) → v ≡ next_version q → w ≡ wraps q → n ≡ length songs → 0 < n → entries_of added ≡ news
       → slots ≡ map (kept w) (take at q.slots) ++ map (written v w) (entries_of added ++ drop at es)
-      → record { slots = slots; version = v; greatest_id = g + n; max_len = q.max_len; max_version = q.max_version; max_id = q.max_id } ≡ inserted q at songs
+      → record { slots = slots; version = v; greatest_id = g + n; max_len = q.max_len; max_version = q.max_version; max_id = q.max_id; parity = not q.parity } ≡ inserted q at songs
   inserted-is v n w added slots is_v is_w is_n some is_news is_slots =
       let some' : 0 < length songs = omega arith in
       let is_all : slots ≡ map (kept (wraps q)) (take at q.slots) ++ map (written (next_version q) (wraps q)) (news ++ drop at es) =
       is_slots ∙ (λ i. map (kept (is_w i)) (take at q.slots) ++ map (written (is_v i) (is_w i)) (is_news i ++ drop at es)) in
-      (λ i. record { slots = is_all i; version = is_v i; greatest_id = g + is_n i; max_len = q.max_len; max_version = q.max_version; max_id = q.max_id }) ∙ sym (inserted-slots some')
+      (λ i. record { slots = is_all i; version = is_v i; greatest_id = g + is_n i; max_len = q.max_len; max_version = q.max_version; max_id = q.max_id; parity = not q.parity }) ∙ sym (inserted-slots some')
 
 -- entries taken out
 module _ (q : QueueState) (is : IsQueue q) (start end : ℕ) (order : start ≤ end) (within : end ≤ length q.slots) where
@@ -313,13 +314,21 @@ module _ (q : QueueState) (is : IsQueue q) (start end : ℕ) (order : start ≤ 
   -- the fields that the code leaves
   pub removed-is : (v : ℕ) (w : Bool) (slots : List Slot) → v ≡ next_version q → w ≡ wraps q → start < end
       → slots ≡ map (kept w) (take start q.slots) ++ map (written v w) (drop end all)
-      → record { slots = slots; version = v; greatest_id = q.greatest_id; max_len = q.max_len; max_version = q.max_version; max_id = q.max_id } ≡ removed q start end
+      → record { slots = slots; version = v; greatest_id = q.greatest_id; max_len = q.max_len; max_version = q.max_version; max_id = q.max_id; parity = not q.parity } ≡ removed q start end
   removed-is v w slots is_v is_w some is_slots =
       let is_all : slots ≡ map (kept (wraps q)) (take start q.slots) ++ map (written (next_version q) (wraps q)) (drop end all) =
       is_slots ∙ (λ i. map (kept (is_w i)) (take start q.slots) ++ map (written (is_v i) (is_w i)) (drop end all)) in
       let other : all ≢ left = λ e. let size : length all ≡ length left = ap length e in omega (arith, length-all, length-left) in
       let stamps = stepped-joined q start (drop end all) (removed-others some) in
-      (λ i. record { slots = (is_all ∙ sym stamps) i; version = is_v i; greatest_id = q.greatest_id; max_len = q.max_len; max_version = q.max_version; max_id = q.max_id }) ∙ sym (edited-changed q left other)
+      (λ i. record { slots = (is_all ∙ sym stamps) i; version = is_v i; greatest_id = q.greatest_id; max_len = q.max_len; max_version = q.max_version; max_id = q.max_id; parity = not q.parity }) ∙ sym (edited-changed q left other)
+
+  -- they are a queue, whatever the parity
+  pub IsQueue-left : (v : ℕ) (w p : Bool) (slots : List Slot) → v ≡ next_version q → w ≡ wraps q → start < end
+      → slots ≡ map (kept w) (take start q.slots) ++ map (written v w) (drop end all)
+      → IsQueue (record { slots = slots; version = v; greatest_id = q.greatest_id; max_len = q.max_len; max_version = q.max_version; max_id = q.max_id; parity = p })
+  IsQueue-left v w p slots is_v is_w some is_slots =
+      let valid : IsQueue (record { slots = slots; version = v; greatest_id = q.greatest_id; max_len = q.max_len; max_version = q.max_version; max_id = q.max_id; parity = not q.parity }) = subst IsQueue (sym (removed-is v w slots is_v is_w some is_slots)) IsQueue-removed in
+      record { len = valid.len; version = valid.version; ids = valid.ids; distinct = valid.distinct; greatest_id = valid.greatest_id }
 
 pub removed-nothing : (q : QueueState) (start : ℕ) → removed q start start ≡ q
 removed-nothing q start = edited-same q (take start (queue_of q) ++ drop start (queue_of q)) (sym (take-append-drop start (queue_of q)))

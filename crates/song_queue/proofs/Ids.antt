@@ -1,16 +1,17 @@
 -- Ids never return.
-use Rattle.std.proofs.Common.{◌≡◌, ◌≢◌, ℕ, zero, suc, ◌+◌, ◌<◌, ◌≤◌, true, false, cond, List, [], ◌∷◌, ◌++◌, length, take, drop, get_or, ap, sym, subst, ◌∙◌, inl, inr, arith, append_assoc}
+use Rattle.std.proofs.Common.{◌≡◌, ◌≢◌, ℕ, ◌+◌, ◌<◌, ◌≤◌, true, false, cond, List, [], ◌∷◌, ◌++◌, length, take, drop, get_or, ap, sym, subst, ◌∙◌, inl, inr, arith, append_assoc}
 use Rattle.std.proofs.lemmas.Bool.{cond-true, cond-false, cases_Bool}
 use Rattle.std.proofs.lemmas.List.Elements.{All-append, All-take, All-drop}
 use Rattle.song_queue.specs.declared.entry.Entry.{Entry}
 use Rattle.mpd_text.specs.Songs.{SongData}
 use Rattle.song_queue.specs.Entries.{entries_for, same_queue}
 use Rattle.song_queue.specs.Past.{present, after_event, greatest_in, greatest_id}
-use Rattle.song_queue.specs.Laws.{Edit, Insert, Remove, FitsIn, AllFitIn, queue_after, past_after, Lacks, IdsNeverReturn, IdsAreDistinct, PastsKeepQueues}
+use Rattle.song_queue.specs.Laws.{Edit, Insert, Remove, Swap, FitsIn, AllFitIn, queue_after, past_after, Lacks, IdsNeverReturn, IdsAreDistinct, PastsKeepQueues}
 use Rattle.song_queue.proofs.Same.{same_queue-true}
-use Rattle.song_queue.proofs.Edits.{Distinct, AtMost, AtMost-more, Distinct-put, Distinct-cut, length-entries_for, get_or-entries_for}
+use Rattle.song_queue.proofs.Edits.{Distinct, AtMost-more, Distinct-put, Distinct-cut, length-entries_for, get_or-entries_for}
+use Rattle.song_queue.proofs.Swaps.{All-swap, Distinct-swap}
 use Rattle.song_queue.proofs.Pasts.{entries_of-slots_of}
-use Rattle.song_queue.proofs.Runs.{length-after_event, greatest_in-present, opened-is}
+use Rattle.song_queue.proofs.Runs.{length-after_event, AtMost-greatest_in, greatest_in-present, opened-is}
 
 pub present-after_event : (past : List (List Entry)) (queue : List Entry) → present (after_event past queue) ≡ queue
 present-after_event past queue = elim (cases_Bool (same_queue (present past) queue)) [
@@ -38,6 +39,7 @@ Lacks-queue_after past (Insert at songs) id given lacks =
 Lacks-queue_after past (Remove start end) id given lacks =
     let P : Entry → Type 0 = λ e. e.id ≢ id in
     All-append P (take start (present past)) (drop end (present past)) (All-take P start (present past) lacks) (All-drop P end (present past) lacks)
+Lacks-queue_after past (Swap a b) id given lacks = All-swap (λ e. e.id ≢ id) (present past) a b lacks
 
 pub ids_never_return : IdsNeverReturn
 ids_never_return past [] id some given lacks = lacks
@@ -47,14 +49,6 @@ ids_never_return past (edit ∷ edits) id some given lacks =
     ids_never_return (after_event past queue) edits id (length-after_event past queue some) (omega arith)
     (subst (Lacks id) (sym (present-after_event past queue)) (Lacks-queue_after past edit id given lacks))
 
-AtMost-cons : (n : ℕ) (e : Entry) (es : List Entry) → e.id ≤ n → AtMost n es → AtMost n (e ∷ es)
-AtMost-cons n e es here rest zero d l = here
-AtMost-cons n e es here rest (suc k) d l = rest k d (omega arith)
-
-AtMost-greatest_in : (es : List Entry) → AtMost (greatest_in es) es
-AtMost-greatest_in [] = λ k d l. absurd (omega arith)
-AtMost-greatest_in (e ∷ es) = AtMost-cons (greatest_in (e ∷ es)) e es (omega arith) (AtMost-more (greatest_in es) (greatest_in (e ∷ es)) es (omega arith) (AtMost-greatest_in es))
-
 Distinct-queue_after : (past : List (List Entry)) (edit : Edit) → FitsIn (present past) edit → Distinct (present past) → Distinct (queue_after past edit)
 Distinct-queue_after past (Insert at songs) fits distinct =
     let now : List Entry = present past in
@@ -62,6 +56,7 @@ Distinct-queue_after past (Insert at songs) fits distinct =
     subst Distinct (sym (append_assoc (take at now) news (drop at now)))
     (Distinct-put now (greatest_id past) at songs distinct (AtMost-more (greatest_in now) (greatest_id past) now (greatest_in-present past) (AtMost-greatest_in now)) fits)
 Distinct-queue_after past (Remove start end) fits distinct = Distinct-cut (present past) start end distinct fits.0 fits.1
+Distinct-queue_after past (Swap a b) fits distinct = Distinct-swap (present past) a b fits.0 fits.1 distinct
 
 distinct_after : (past : List (List Entry)) (edits : List Edit) → AllFitIn past edits → Distinct (present past) → Distinct (present (past_after past edits))
 distinct_after past [] fit distinct = distinct

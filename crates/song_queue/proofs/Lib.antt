@@ -4,5 +4,7 @@ pub mod Pasts
 pub mod Patches
 pub mod Lists
 pub mod Edits
+pub mod Swaps
 pub mod Runs
 pub mod Ids
+pub mod Parity

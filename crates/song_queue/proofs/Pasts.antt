@@ -8,7 +8,7 @@ use Rattle.std.proofs.lemmas.Bool.{cond-true, cond-false, eq-eqb, ne_eqb, lt-ltb
 use Rattle.song_queue.specs.declared.entry.Entry.{Entry}
 use Rattle.song_queue.specs.declared.entry.Slot.{Slot}
 use Rattle.song_queue.specs.Entries.{same_entry, same_queue, same_slot}
-use Rattle.song_queue.specs.Past.{number, after_event, version_of, last_change, last_wrap, stamp, is_marked, slots_of, state_of}
+use Rattle.song_queue.specs.Past.{number, is_odd, after_event, version_of, last_change, last_wrap, stamp, is_marked, slots_of, state_of}
 use Rattle.song_queue.specs.State.{QueueState, restamped, kept, written, entries_of, queue_of, edited}
 use Rattle.song_queue.proofs.Same.{same_entry-true}
 
@@ -147,6 +147,6 @@ edited-state_with max_len k max_id g (before ∷ older) now above some =
     elim (cases_Bool (same_queue before now)) [
       | inl t ↦ cond-true _ _ _ (test ∙ t) ∙ sym (ap (λ x. state_with max_len k max_id g x) (cond-true _ _ _ t))
       | inr t ↦ cond-false _ _ _ (test ∙ t)
-          ∙ (λ i. record { slots = sym (slots_of-next k above before older now) i; version = sym (version-next k above before older now) i; greatest_id = g; max_len = max_len; max_version = k; max_id = max_id })
+          ∙ (λ i. record { slots = sym (slots_of-next k above before older now) i; version = sym (version-next k above before older now) i; greatest_id = g; max_len = max_len; max_version = k; max_id = max_id; parity = is_odd (number (now ∷ past)) })
           ∙ sym (ap (λ x. state_with max_len k max_id g x) (cond-false _ _ _ t))
     ]

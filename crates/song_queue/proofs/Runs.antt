@@ -1,5 +1,6 @@
 -- Whole runs of edits.
 use Rattle.std.proofs.Common.{◌≡◌, ◌≢◌, ℕ, zero, suc, ◌+◌, ◌-◌, ◌%◌, ◌<◌, ◌≤◌, true, false, cond, List, [], ◌∷◌, ◌++◌, length, take, drop, min, max, refl, ap, sym, ◌∙◌, inl, inr, arith, length-append}
+use Rattle.std.specs.Prelude.{swap}
 use Rattle.std.proofs.lemmas.Bool.{cond-true, cond-false, cases_Bool, cases_lt}
 use Rattle.std.proofs.lemmas.List.{length-take, length-drop}
 use Rattle.std.proofs.Math.Nat.{mod-eq_of_lt}
@@ -7,9 +8,10 @@ use Rattle.song_queue.specs.declared.entry.Entry.{Entry}
 use Rattle.mpd_text.specs.Songs.{SongData}
 use Rattle.song_queue.specs.Entries.{entries_for, same_queue}
 use Rattle.song_queue.specs.Past.{present, after_event, greatest_in, greatest_id, state_of}
-use Rattle.song_queue.specs.State.{QueueState, opened, edited, inserted, removed, queue_of}
-use Rattle.song_queue.specs.Laws.{Edit, Insert, Remove, queue_after, past_after, state_after_edit, state_after, StatesFollowPasts}
-use Rattle.song_queue.proofs.Edits.{length-entries_for}
+use Rattle.song_queue.specs.State.{QueueState, opened, edited, inserted, removed, swapped, queue_of}
+use Rattle.song_queue.specs.Laws.{Edit, Insert, Remove, Swap, queue_after, past_after, state_after_edit, state_after, StatesFollowPasts}
+use Rattle.song_queue.proofs.Edits.{AtMost, AtMost-more, length-entries_for}
+use Rattle.song_queue.proofs.Swaps.{All-swap}
 use Rattle.song_queue.proofs.Pasts.{state_with, edited-state_with, entries_of-slots_of}
 use Rattle.song_queue.proofs.Same.{same_queue-other}
 
@@ -31,6 +33,24 @@ pub greatest_in-entries_for : (f : ℕ) (songs : List SongData) → 0 < length s
 greatest_in-entries_for f [] l = absurd (omega arith)
 greatest_in-entries_for f (x ∷ []) l = omega arith
 greatest_in-entries_for f (x ∷ y ∷ ys) l = let rec : greatest_in (entries_for (f + 1) (y ∷ ys)) + 1 ≡ f + 1 + length (y ∷ ys) = greatest_in-entries_for (f + 1) (y ∷ ys) (omega arith) in omega arith
+
+AtMost-cons : (n : ℕ) (e : Entry) (es : List Entry) → e.id ≤ n → AtMost n es → AtMost n (e ∷ es)
+AtMost-cons n e es here rest zero d l = here
+AtMost-cons n e es here rest (suc k) d l = rest k d (omega arith)
+
+pub AtMost-greatest_in : (es : List Entry) → AtMost (greatest_in es) es
+AtMost-greatest_in [] = λ k d l. absurd (omega arith)
+AtMost-greatest_in (e ∷ es) = AtMost-cons (greatest_in (e ∷ es)) e es (omega arith) (AtMost-more (greatest_in es) (greatest_in (e ∷ es)) es (omega arith) (AtMost-greatest_in es))
+
+greatest_in-AtMost : (n : ℕ) (es : List Entry) → AtMost n es → greatest_in es ≤ n
+greatest_in-AtMost n [] low = omega arith
+greatest_in-AtMost n (e ∷ es) low =
+    let here : e.id ≤ n = low 0 e (omega arith) in
+    let rest : greatest_in es ≤ n = greatest_in-AtMost n es (λ k d l. low (suc k) d (omega arith)) in
+    omega arith
+
+pub greatest_in-swap : (a b : ℕ) (es : List Entry) → greatest_in (swap es a b) ≤ greatest_in es
+greatest_in-swap a b es = greatest_in-AtMost (greatest_in es) (swap es a b) (All-swap (λ e. e.id ≤ greatest_in es) es a b (AtMost-greatest_in es))
 
 -- the greatest id after an event that adds none
 pub greatest_id-after_event : (past : List (List Entry)) (queue : List Entry) → greatest_in queue ≤ greatest_id past → greatest_id (after_event past queue) ≡ greatest_id past
@@ -100,6 +120,13 @@ module _ (max_len k max_id : ℕ) (above : 0 < k) where
       let d : greatest_in now ≤ greatest_id past = greatest_in-present past in
       ap (λ x. edited (at_end past) (take start x ++ drop end x)) (queue_of-at_end past) ∙ edited-at_end past (take start now ++ drop end now) some (omega arith)
 
+  pub swapped-at_end : (past : List (List Entry)) (a b : ℕ) → 0 < length past → swapped (at_end past) a b ≡ at_end (after_event past (queue_after past (Swap a b)))
+  swapped-at_end past a b some =
+      let now : List Entry = present past in
+      let low : greatest_in (swap now a b) ≤ greatest_in now = greatest_in-swap a b now in
+      let d : greatest_in now ≤ greatest_id past = greatest_in-present past in
+      ap (λ x. edited (at_end past) (swap x a b)) (queue_of-at_end past) ∙ edited-at_end past (swap now a b) some (omega arith)
+
   pub inserted-at_end : (past : List (List Entry)) (at : ℕ) (songs : List SongData) → 0 < length past → inserted (at_end past) at songs ≡ at_end (after_event past (queue_after past (Insert at songs)))
   inserted-at_end past at songs some =
       let now : List Entry = present past in
@@ -113,6 +140,7 @@ module _ (max_len k max_id : ℕ) (above : 0 < k) where
   pub after_edit : (past : List (List Entry)) (edit : Edit) → 0 < length past → state_after_edit (at_end past) edit ≡ at_end (after_event past (queue_after past edit))
   after_edit past (Insert at songs) some = inserted-at_end past at songs some
   after_edit past (Remove start end) some = removed-at_end past start end some
+  after_edit past (Swap a b) some = swapped-at_end past a b some
 
   pub after_edits : (past : List (List Entry)) (edits : List Edit) → 0 < length past → state_after (at_end past) edits ≡ at_end (past_after past edits)
   after_edits past [] some = refl
@@ -122,7 +150,7 @@ module _ (max_len k max_id : ℕ) (above : 0 < k) where
 pub opened-is : (max_len k max_id : ℕ) → 1 ≤ k → opened max_len k max_id ≡ state_of max_len k max_id ([] ∷ [])
 opened-is max_len k max_id above =
     let first : 1 ≡ 0 % k + 1 = ap (λ n. n + 1) (sym (mod-eq_of_lt above)) in
-    λ i. record { slots = []; version = first i; greatest_id = 0; max_len = max_len; max_version = k; max_id = max_id }
+    λ i. record { slots = []; version = first i; greatest_id = 0; max_len = max_len; max_version = k; max_id = max_id; parity = false }
 
 pub states_follow : StatesFollowPasts
 states_follow max_len k max_id edits above = ap (λ x. state_after x edits) (opened-is max_len k max_id above) ∙ after_edits max_len k max_id above ([] ∷ []) edits (omega arith)

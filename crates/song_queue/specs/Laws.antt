@@ -1,20 +1,22 @@
 -- Laws of the definitions, over every list of edits (this profile's, from the MPD protocol reference, The queue).
-use Rattle.std.specs.Prelude.{ℕ, ◌≡◌, ◌≢◌, ◌+◌, ◌<◌, ◌≤◌, List, [], ◌∷◌, ◌++◌, length, take, drop, All, AllPairs}
+use Rattle.std.specs.Prelude.{ℕ, ◌≡◌, ◌≢◌, ◌+◌, ◌<◌, ◌≤◌, not, List, [], ◌∷◌, ◌++◌, length, take, drop, swap, All, AllPairs}
 use Rattle.mpd_text.specs.Songs.{SongData}
 use Rattle.song_queue.specs.declared.entry.Entry.{Entry}
-use Rattle.song_queue.specs.Entries.{entries_for, patch, rows_at}
+use Rattle.song_queue.specs.Entries.{same_queue, entries_for, patch, rows_at}
 use Rattle.song_queue.specs.Past.{present, number, version_of, after_event, greatest_id, state_of}
-use Rattle.song_queue.specs.State.{QueueState, queue_of, opened, inserted, removed, changed}
+use Rattle.song_queue.specs.State.{QueueState, queue_of, opened, inserted, removed, swapped, changed, differ}
 
--- songs put in before a place; the entries from a place up to another taken out
+-- songs put in before a place; the entries from a place up to another taken out; the entries at two places changed round
 pub data Edit : Type 0 where
   Insert : ℕ → List SongData → Edit
   Remove : ℕ → ℕ → Edit
+  Swap : ℕ → ℕ → Edit
 
 -- the queue that an edit leaves
 abbrev pub queue_after : List (List Entry) → Edit → List Entry
 queue_after past (Insert at songs) = take at (present past) ++ entries_for (greatest_id past + 1) songs ++ drop at (present past)
 queue_after past (Remove start end) = take start (present past) ++ drop end (present past)
+queue_after past (Swap a b) = swap (present past) a b
 
 -- the past after edits
 abbrev pub past_after : List (List Entry) → List Edit → List (List Entry)
@@ -25,6 +27,7 @@ past_after past (edit ∷ edits) = past_after (after_event past (queue_after pas
 abbrev pub state_after_edit : QueueState → Edit → QueueState
 state_after_edit q (Insert at songs) = inserted q at songs
 state_after_edit q (Remove start end) = removed q start end
+state_after_edit q (Swap a b) = swapped q a b
 
 -- the state after edits
 abbrev pub state_after : QueueState → List Edit → QueueState
@@ -35,6 +38,7 @@ state_after q (edit ∷ edits) = state_after (state_after_edit q edit) edits
 abbrev pub FitsIn : List Entry → Edit → Type 0
 FitsIn queue (Insert at songs) = at ≤ length queue
 FitsIn queue (Remove start end) = (start ≤ end) × (end ≤ length queue)
+FitsIn queue (Swap a b) = (a < length queue) × (b < length queue)
 
 -- each edit's places lie in the queue that it finds
 abbrev pub AllFitIn : List (List Entry) → List Edit → Type 0
@@ -58,6 +62,10 @@ EditsFollowPast = (max_len max_version max_id : ℕ) (past : List (List Entry)) 
 abbrev pub StatesFollowPasts : Type 0
 StatesFollowPasts = (max_len max_version max_id : ℕ) (edits : List Edit) → 1 ≤ max_version
     → state_after (opened max_len max_version max_id) edits ≡ state_of max_len max_version max_id (past_after ([] ∷ []) edits)
+
+-- two readings of the parity, before an edit and after it, differ exactly where it changed the queue
+abbrev pub ParityTellsChanges : Type 0
+ParityTellsChanges = (q : QueueState) (edit : Edit) → not (same_queue (queue_of q) (queue_of (state_after_edit q edit))) ≡ differ q.parity (state_after_edit q edit).parity
 
 -- while versions have not begun anew, a client that knows an earlier queue, and patches it, has the present one
 abbrev pub PatchesGivePresent : Type 0

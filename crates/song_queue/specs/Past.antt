@@ -1,7 +1,7 @@
 -- The past of a queue: the present queue first, then each earlier one, and last the empty one. A queue joins the past
 -- where it differs from the one before. The queue that has n below it is number n (MPD protocol reference, The queue;
 -- what happens above the greatest version is this profile's).
-use Rattle.std.specs.Prelude.{ℕ, ◌+◌, ◌-◌, ◌%◌, Bool, ◌&&◌, nat_lt, nat_le, if◌then◌else◌, List, [], ◌∷◌, length, map, slice_get, max}
+use Rattle.std.specs.Prelude.{ℕ, zero, suc, ◌+◌, ◌-◌, ◌%◌, Bool, false, not, ◌&&◌, nat_lt, nat_le, if◌then◌else◌, List, [], ◌∷◌, length, map, slice_get, max}
 use Rattle.std.specs.List.{enumerate_from}
 use Rattle.song_queue.specs.declared.entry.Entry.{Entry}
 use Rattle.song_queue.specs.declared.entry.Slot.{Slot}
@@ -17,6 +17,11 @@ present (now ∷ older) = now
 abbrev pub number : List (List Entry) → ℕ
 number [] = 0
 number (now ∷ older) = length older
+
+-- whether a number is odd
+abbrev pub is_odd : ℕ → Bool
+is_odd zero = false
+is_odd (suc n) = not (is_odd n)
 
 -- the greatest id in a queue
 abbrev pub greatest_in : List Entry → ℕ
@@ -67,4 +72,5 @@ state_of max_len max_version max_id past = record {
   max_len = max_len;
   max_version = max_version;
   max_id = max_id;
+  parity = is_odd (number past);
 }

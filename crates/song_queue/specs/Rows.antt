@@ -1,11 +1,11 @@
 -- Worked rows, computed by the definitions.
-use Rattle.std.specs.Prelude.{ℕ, ◌≡◌, List, [], ◌∷◌, map, refl}
+use Rattle.std.specs.Prelude.{ℕ, ◌≡◌, false, true, List, [], ◌∷◌, map, refl}
 use Rattle.mpd_text.specs.Songs.{SongData}
 use Rattle.song_queue.specs.declared.entry.Entry.{Entry}
 use Rattle.song_queue.specs.Entries.{patch}
 use Rattle.song_queue.specs.Past.{present, state_of}
 use Rattle.song_queue.specs.State.{opened, changed, queue_of}
-use Rattle.song_queue.specs.Laws.{Edit, Insert, Remove, past_after, state_after}
+use Rattle.song_queue.specs.Laws.{Edit, Insert, Remove, Swap, past_after, state_after}
 
 abbrev song : ℕ → SongData
 song n = record { uri = n ∷ []; tags = []; frames = 8 }
@@ -44,6 +44,28 @@ all_marked = refl
 -- with one version alone, each slot is always marked
 one_version : ids (changed (state_after (opened 10 1 100) four) 1) ≡ (0, 1) ∷ (1, 2) ∷ (2, 3) ∷ (3, 4) ∷ []
 one_version = refl
+
+abbrev swaps : List Edit
+swaps = Insert 0 (song 1 ∷ []) ∷ Insert 1 (song 2 ∷ []) ∷ Swap 0 1 ∷ Swap 0 1 ∷ []
+
+-- two songs that change places and back are both shown to a client of version 3, by the state and by the past
+swapped_back : ids (changed (state_after (opened 10 100 100) swaps) 3) ≡ (0, 1) ∷ (1, 2) ∷ []
+swapped_back = refl
+
+swapped_back_past : ids (changed (state_of 10 100 100 (past_of swaps)) 3) ≡ (0, 1) ∷ (1, 2) ∷ []
+swapped_back_past = refl
+
+-- and to a client of a version that is not there yet
+ahead : ids (changed (state_of 10 100 100 (past_of swaps)) 99) ≡ (0, 1) ∷ (1, 2) ∷ []
+ahead = refl
+
+-- one change: a swap of a place with itself adds none
+odd : (state_after (opened 10 4 100) (Insert 0 (song 1 ∷ []) ∷ Swap 0 0 ∷ [])).parity ≡ true
+odd = refl
+
+-- six changes, whatever the greatest version
+even : (state_of 10 4 100 (past_of adds)).parity ≡ false
+even = refl
 
 -- the id of a deleted song is not given again
 again : map (λ e. e.id) (queue_of (state_after (opened 10 100 100) (Insert 0 (song 1 ∷ []) ∷ Remove 0 1 ∷ Insert 0 (song 2 ∷ []) ∷ []))) ≡ 2 ∷ []

@@ -1,13 +1,15 @@
 -- A queue with the stamps and marks of its slots, and what an edit makes of it (MPD protocol reference, The queue;
 -- the marks at a wrap are this profile's).
-use Rattle.std.specs.Prelude.{ℕ, ◌≢◌, ◌+◌, ◌≤◌, Bool, ◌||◌, nat_lt, ◌==◌, if◌then◌else◌, List, [], ◌∷◌, ◌++◌, length, take, drop, map, filter, All, AllPairs, Option, position}
+use Rattle.std.specs.Prelude.{ℕ, zero, suc, ◌≢◌, ◌+◌, ◌≤◌, Bool, false, not, ◌||◌, nat_lt, ◌==◌, if◌then◌else◌, List, [], ◌∷◌, ◌++◌, length, take, drop, map, filter, swap, All, AllPairs, Option, position}
+use Rattle.std.specs.Bool.{beq}
 use Rattle.std.specs.List.{enumerate_from}
 use Rattle.mpd_text.specs.Songs.{SongData}
 use Rattle.song_queue.specs.declared.entry.Entry.{Entry}
 use Rattle.song_queue.specs.declared.entry.Slot.{Slot}
 use Rattle.song_queue.specs.Entries.{same_entry, same_queue, entries_for}
 
--- slots, the version of the last change, the greatest id that was given, and the limits
+-- slots, the version of the last change, the greatest id that was given, the limits, and whether the number of changes
+-- is odd, so that two readings of it tell whether an edit between them changed the queue
 pub record QueueState : Type 0 where
   pub slots : List Slot
   pub version : ℕ
@@ -15,6 +17,7 @@ pub record QueueState : Type 0 where
   pub max_len : ℕ
   pub max_version : ℕ
   pub max_id : ℕ
+  pub parity : Bool
 
 abbrev pub entries_of : List Slot → List Entry
 entries_of slots = map (λ s. s.entry) slots
@@ -29,6 +32,12 @@ written version wraps entry = record { entry = entry; stamp = version; marked = 
 -- a slot whose entry stays
 abbrev pub kept : Bool → Slot → Slot
 kept wraps slot = record { entry = slot.entry; stamp = slot.stamp; marked = wraps || slot.marked }
+
+-- the slots after one is written with the entry that it has
+abbrev pub write_at : ℕ → Bool → List Slot → ℕ → List Slot
+write_at version wraps [] place = []
+write_at version wraps (s ∷ ss) zero = written version wraps s.entry ∷ ss
+write_at version wraps (s ∷ ss) (suc place) = s ∷ write_at version wraps ss place
 
 -- the slots that hold these entries next, compared one by one with what they held
 abbrev pub restamped : ℕ → Bool → List Slot → List Entry → List Slot
@@ -45,7 +54,7 @@ next_version q = if wraps q then 1 else q.version + 1
 
 -- the state after an edit that leaves these entries
 abbrev pub edited : QueueState → List Entry → QueueState
-edited q entries = if same_queue (queue_of q) entries then q else record q { slots = restamped (next_version q) (wraps q) q.slots entries; version = next_version q }
+edited q entries = if same_queue (queue_of q) entries then q else record q { slots = restamped (next_version q) (wraps q) q.slots entries; version = next_version q; parity = not q.parity }
 
 -- songs are put in before the entry at a place
 abbrev pub inserted : QueueState → ℕ → List SongData → QueueState
@@ -55,6 +64,10 @@ inserted q at songs =
 -- the entries from start up to end are taken out
 abbrev pub removed : QueueState → ℕ → ℕ → QueueState
 removed q start end = edited q (take start (queue_of q) ++ drop end (queue_of q))
+
+-- the entries at two places change places
+abbrev pub swapped : QueueState → ℕ → ℕ → QueueState
+swapped q a b = edited q (swap (queue_of q) a b)
 
 -- where the entry with an id stands
 abbrev pub position_of : QueueState → ℕ → Option ℕ
@@ -70,7 +83,11 @@ changed q version = map (λ p. (p.0, p.1.entry)) (filter (λ p. is_changed q ver
 
 -- an empty queue that has not been edited
 abbrev pub opened : ℕ → ℕ → ℕ → QueueState
-opened max_len max_version max_id = record { slots = []; version = 1; greatest_id = 0; max_len = max_len; max_version = max_version; max_id = max_id }
+opened max_len max_version max_id = record { slots = []; version = 1; greatest_id = 0; max_len = max_len; max_version = max_version; max_id = max_id; parity = false }
+
+-- whether two bits differ
+abbrev pub differ : Bool → Bool → Bool
+differ a b = not (beq a b)
 
 -- what is true of each queue
 pub record IsQueue (q : QueueState) : Type 0 where

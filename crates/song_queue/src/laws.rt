@@ -1,5 +1,5 @@
 //! Laws of the definitions. A caller that calls one may use it; each does nothing.
-ghost use Rattle.song_queue.specs.Laws.{EditsFollowPast, IdsAreDistinct, IdsNeverReturn, PastsKeepQueues, PatchesGivePresent, StatesFollowPasts};
+ghost use Rattle.song_queue.specs.Laws.{EditsFollowPast, IdsAreDistinct, IdsNeverReturn, ParityTellsChanges, PastsKeepQueues, PatchesGivePresent, StatesFollowPasts};
 
 /// A past ends in the queue that the last event left, and its state has that queue.
 pub fn pasts_keep_queues()
@@ -14,6 +14,11 @@ pub fn edits_follow_past()
 /// After any edits the version, stamps, marks and greatest id of a queue are those of its past.
 pub fn states_follow_pasts()
     ensures { StatesFollowPasts }
+{}
+
+/// Two readings of the parity, before an edit and after it, differ exactly where it changed the queue.
+pub fn parity_tells_changes()
+    ensures { ParityTellsChanges }
 {}
 
 /// A client that knows an earlier queue and patches it has the present one, while versions have not begun anew.

@@ -10,7 +10,7 @@ mod tests;
 
 pub use entry::{Entry, Slot};
 pub use laws::{
-    edits_follow_past, ids_are_distinct, ids_never_return, pasts_keep_queues, patches_give_present,
-    states_follow_pasts,
+    edits_follow_past, ids_are_distinct, ids_never_return, parity_tells_changes, pasts_keep_queues,
+    patches_give_present, states_follow_pasts,
 };
 pub use queue::{Queue, QueueFault};

@@ -2,11 +2,11 @@
 ghost use Rattle.std.specs.Prelude.{◌≡◌, ◌↔◌, ◌+◌, ◌<◌, ◌≤◌, ◌⊎◌, length, map, IfOk, OnOk, OnErr, IsErrOf, IsOkUnless, slice_get, vec_len};
 ghost use Rattle.std.specs.Option.{option_copied};
 ghost use Rattle.std.specs.Bool.{OnTrue, OnFalse};
-ghost use Rattle.song_queue.specs.State.{QueueState, IsQueue, queue_of, position_of, inserted, removed, changed, opened};
+ghost use Rattle.song_queue.specs.State.{QueueState, IsQueue, queue_of, position_of, inserted, removed, swapped, changed, opened};
 ghost use Rattle.song_queue.specs.Laws.{PatchesEarlier};
 
 use crate::entry::{Entry, Slot};
-use crate::slots::{changed_places, new_slots, put_in, take_out, version_after};
+use crate::slots::{changed_places, exchange, new_slots, put_in, take_out, version_after};
 use song_db::SharedSong;
 use std::alloc::{AllocError, Global};
 use std::marker::Model;
@@ -38,7 +38,7 @@ impl From<AllocError> for QueueFault {
     }
 }
 
-/// The queue. Contracts see it as a record: slots with stamp and mark, version, greatest id and limits.
+/// The queue. Contracts see it as a record: slots with stamp and mark, version, greatest id, limits and parity.
 #[derive(Drop)]
 pub struct Queue {
     slots: Vec<Slot>,
@@ -47,6 +47,7 @@ pub struct Queue {
     max_len: usize,
     max_version: u32,
     max_id: u32,
+    parity: bool,
 }
 
 impl Model for Queue {
@@ -54,9 +55,9 @@ impl Model for Queue {
 
     ghost Value = { QueueState };
 
-    ghost view = { λ q. record { slots = q.slots.items; version = q.version; greatest_id = q.greatest_id; max_len = q.max_len; max_version = q.max_version; max_id = q.max_id } };
+    ghost view = { λ q. record { slots = q.slots.items; version = q.version; greatest_id = q.greatest_id; max_len = q.max_len; max_version = q.max_version; max_id = q.max_id; parity = q.parity } };
 
-    ghost invariant = { λ q. IsQueue (record { slots = q.slots.items; version = q.version; greatest_id = q.greatest_id; max_len = q.max_len; max_version = q.max_version; max_id = q.max_id }) };
+    ghost invariant = { λ q. IsQueue (record { slots = q.slots.items; version = q.version; greatest_id = q.greatest_id; max_len = q.max_len; max_version = q.max_version; max_id = q.max_id; parity = q.parity }) };
 }
 
 impl Queue {
@@ -72,6 +73,7 @@ impl Queue {
             max_len,
             max_version,
             max_id,
+            parity: false,
         }
     }
 
@@ -90,6 +92,14 @@ impl Queue {
         ensures { result ≡ self.now.version }
     {
         self.version
+    }
+
+    /// Whether the number of edits that changed something is odd. It flips with each of them, even where the version
+    /// stays as it was.
+    pub fn parity(&self) -> bool
+        ensures { result ≡ self.now.parity }
+    {
+        self.parity
     }
 
     /// The entry at a place.
@@ -149,6 +159,7 @@ impl Queue {
         put_in(&mut self.slots, at, added, version, wraps)?;
         self.greatest_id += count as u32;
         self.version = version;
+        self.parity = !self.parity;
         Ok(())
     }
 
@@ -169,6 +180,28 @@ impl Queue {
         let (version, wraps) = version_after(self.version, self.max_version);
         take_out(&mut self.slots, start, end, version, wraps);
         self.version = version;
+        self.parity = !self.parity;
+        Ok(())
+    }
+
+    /// Lets the entries at two places change places; a place with itself changes nothing. It takes no memory.
+    pub fn swap(&mut self, a: usize, b: usize) -> Result<(), QueueFault>
+        ensures ok { OnOk result (self.new ≡ swapped self.old a b) }
+        ensures bad_index { IsErrOf result QueueFault.BadIndex ↔ ((length (queue_of self.old) ≤ a) ⊎ (length (queue_of self.old) ≤ b)) }
+        ensures faults { IsOkUnless result QueueFault.BadIndex }
+        ensures err { OnErr result (self.new ≡ self.old) }
+    {
+        let len = self.slots.len();
+        if a >= len || b >= len {
+            return Err(QueueFault::BadIndex);
+        }
+        if a == b {
+            return Ok(());
+        }
+        let (version, wraps) = version_after(self.version, self.max_version);
+        exchange(self.slots.as_mut_slice(), a, b, version, wraps);
+        self.version = version;
+        self.parity = !self.parity;
         Ok(())
     }
 }

@@ -1,7 +1,7 @@
 //! Lists of slots: what edits write and keep.
-ghost use Rattle.std.specs.Prelude.{◌≡◌, ◌+◌, ◌<◌, ◌≤◌, ◌++◌, ◌==◌, ◌-◌, ◌^◌, ◌||◌, nat_lt, length, map, take, drop, filter, vec_len, true, IfOk, OnOk, OnErr, if◌then◌else◌};
+ghost use Rattle.std.specs.Prelude.{◌≡◌, ◌+◌, ◌<◌, ◌≤◌, ◌++◌, ◌==◌, ◌-◌, ◌^◌, ◌||◌, nat_lt, length, map, take, drop, swap, filter, vec_len, true, IfOk, OnOk, OnErr, if◌then◌else◌};
 ghost use Rattle.std.specs.List.{enumerate_from};
-ghost use Rattle.song_queue.specs.State.{kept, written, entries_of};
+ghost use Rattle.song_queue.specs.State.{kept, written, write_at, entries_of};
 ghost use Rattle.song_queue.specs.Entries.{entries_for};
 
 use crate::entry::{Entry, Slot};
@@ -94,6 +94,28 @@ pub fn take_out(slots: &mut Vec<Slot>, start: usize, end: usize, version: u32, w
     move_first(slots.as_mut_slice(), start, count);
     slots.truncate(left);
     restamp(slots.as_mut_slice(), start, version, wraps);
+}
+
+/// Lets the entries of two slots change places. Both slots are written, and the others kept.
+pub fn exchange(slots: &mut [Slot], a: usize, b: usize, version: u32, wraps: bool)
+    requires a_within { a < length slots.old }
+    requires b_within { b < length slots.old }
+    ensures { slots.new ≡ write_at version wraps (write_at version wraps (swap (map (kept wraps) slots.old) a b) a) b }
+{
+    keep_all(slots, wraps);
+    slots.swap(a, b);
+    write(slots, a, version, wraps);
+    write(slots, b, version, wraps);
+}
+
+/// Gives one slot a stamp, and a mark where versions begin anew.
+fn write(slots: &mut [Slot], place: usize, version: u32, wraps: bool)
+    requires { place < length slots.old }
+    ensures { slots.new ≡ write_at version wraps slots.old place }
+{
+    let slot = &mut slots[place];
+    slot.stamp = version;
+    slot.marked = wraps;
 }
 
 /// Moves slots from a place to the end.

@@ -1,8 +1,8 @@
 //! Worked rows of the queue.
 
 use crate::{
-    Queue, QueueFault, edits_follow_past, ids_are_distinct, ids_never_return, pasts_keep_queues,
-    patches_give_present, states_follow_pasts,
+    Queue, QueueFault, edits_follow_past, ids_are_distinct, ids_never_return, parity_tells_changes,
+    pasts_keep_queues, patches_give_present, states_follow_pasts,
 };
 use mpd_text::Song;
 use song_db::SharedSong;
@@ -129,11 +129,37 @@ fn songs_are_put_in_the_middle(rt: HostRuntime) -> Result<(), Fail> {
     Ok(())
 }
 
+/// Each row: two places, what the swap answers, the version then, and whether the parity was flipped.
+#[test]
+fn a_swap_back_is_shown(rt: HostRuntime) -> Result<(), Fail> {
+    let mut queue = filled(rt.alloc(), 99, 2)?;
+    for (a, b, answer, version, flips) in [
+        (0, 1, Ok(()), 4, true),
+        (0, 1, Ok(()), 5, true),
+        (0, 0, Ok(()), 5, false),
+        (0, 5, Err(QueueFault::BadIndex), 5, false),
+        (2, 0, Err(QueueFault::BadIndex), 5, false),
+    ] {
+        let before = queue.parity();
+        assert_eq!(rt; queue.swap(a, b), answer);
+        assert_eq!(rt; queue.version(), version);
+        assert_eq!(rt; before != queue.parity(), flips);
+    }
+    for version in [3, 99] {
+        assert_eq!(rt; queue.changed_since(version)?.as_slice(), [0, 1].as_slice());
+    }
+    for (place, id) in [(0, 1), (1, 2)] {
+        assert_eq!(rt; queue.get(place).map(|entry| entry.id), Some(id));
+    }
+    Ok(())
+}
+
 #[test]
 fn the_laws_do_nothing() {
     edits_follow_past();
     ids_are_distinct();
     ids_never_return();
+    parity_tells_changes();
     pasts_keep_queues();
     patches_give_present();
     states_follow_pasts();

@@ -1,5 +1,4 @@
-use Rattle.std.proofs.Common.{◌≡◌, ◌++◌, ◌∷◌, [], List, length, sym, ◌∙◌, ap, arith, rules, length-append, false}
-use Rattle.mpd_text.specs.Songs.{SongData}
+use Rattle.std.proofs.Common.{◌≡◌, ◌++◌, ◌∷◌, [], arith, rules, length-append, false}
 use Rattle.daemon_script.specs.Script.{has_uri}
 use Rattle.daemon_script.proofs.Collected.{once_more}
 use Rattle.daemon_script.proofs.script.Script.collect.Goals as goal

@@ -5,7 +5,7 @@ use Rattle.song_queue.proofs.queue.Queue.insert.Goals as goal
 
 pub returns-then-count-eq0-clause-ok : goal.returns-then-count-eq0-clause-ok
 returns-then-count-eq0-clause-ok c =
-    let q : QueueState = record { slots = c.self.inside.slots.items; version = c.self.inside.version; greatest_id = c.self.inside.greatest_id; max_len = c.self.inside.max_len; max_version = c.self.inside.max_version; max_id = c.self.inside.max_id } in
+    let q : QueueState = record { slots = c.self.inside.slots.items; version = c.self.inside.version; greatest_id = c.self.inside.greatest_id; max_len = c.self.inside.max_len; max_version = c.self.inside.max_version; max_id = c.self.inside.max_id; parity = c.self.inside.parity } in
     let within : c.args.at ≤ length q.slots = omega arith in
     let none : length c.args.songs.items ≡ 0 = omega arith in
     let P : QueueState → Type 0 = λ x. x ≡ inserted x c.args.at c.args.songs.items in
@@ -13,7 +13,7 @@ returns-then-count-eq0-clause-ok c =
 
 pub invariant_of-self-2 : goal.invariant_of-self-2
 invariant_of-self-2 c =
-    let q : QueueState = record { slots = c.self.inside.slots.items; version = c.self.inside.version; greatest_id = c.self.inside.greatest_id; max_len = c.self.inside.max_len; max_version = c.self.inside.max_version; max_id = c.self.inside.max_id } in
+    let q : QueueState = record { slots = c.self.inside.slots.items; version = c.self.inside.version; greatest_id = c.self.inside.greatest_id; max_len = c.self.inside.max_len; max_version = c.self.inside.max_version; max_id = c.self.inside.max_id; parity = c.self.inside.parity } in
     let within : c.args.at ≤ length q.slots = omega arith in
     let count : c.len-count.result ≡ length c.args.songs.items = omega arith in
     subst IsQueue (sym (inserted-is q c.self.invariant c.args.at c.args.songs.items within c.version_after-version.result.0 c.len-count.result c.version_after-version.result.1 c.in_ok-added.added.items c.put_in.new.slots.items
@@ -22,7 +22,7 @@ invariant_of-self-2 c =
 
 pub returns-clause-ok : goal.returns-clause-ok
 returns-clause-ok c =
-    let q : QueueState = record { slots = c.self.inside.slots.items; version = c.self.inside.version; greatest_id = c.self.inside.greatest_id; max_len = c.self.inside.max_len; max_version = c.self.inside.max_version; max_id = c.self.inside.max_id } in
+    let q : QueueState = record { slots = c.self.inside.slots.items; version = c.self.inside.version; greatest_id = c.self.inside.greatest_id; max_len = c.self.inside.max_len; max_version = c.self.inside.max_version; max_id = c.self.inside.max_id; parity = c.self.inside.parity } in
     let within : c.args.at ≤ length q.slots = omega arith in
     let count : c.len-count.result ≡ length c.args.songs.items = omega arith in
     inserted-is q c.self.invariant c.args.at c.args.songs.items within c.version_after-version.result.0 c.len-count.result c.version_after-version.result.1 c.in_ok-added.added.items c.put_in.new.slots.items

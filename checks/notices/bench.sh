@@ -1,0 +1,37 @@
+#!/bin/sh
+# Prints microseconds of a change that is told to clients that wait in `idle`, and of their next `idle`s; best of five.
+# Usage: bench.sh [ROOT]     (ROOT is the repository's top folder; two folders up from here if left out)
+# It builds on a copy in a temporary folder. What the crates have proved is copied along; the rest is proved there first.
+set -eu
+here=$(cd "$(dirname "$0")" && pwd)
+root=$(cd "${1:-$here/../..}" && pwd)
+work=$(mktemp -d)
+trap 'rm -rf "$work"' EXIT
+mkdir "$work/crates"
+for crate in mpd_text song_db song_queue idle_notes partition; do
+    cp -a "$root/crates/$crate" "$work/crates/$crate"
+done
+cp -r "$here/notice_bench" "$work/crates/notice_bench"
+mv "$work/crates/notice_bench/src/main.rt.txt" "$work/crates/notice_bench/src/main.rt"
+cp "$root/HANDLES" "$work/HANDLES"
+grep -E '^(mpd_text|song_db|song_queue|idle_notes|partition):' "$root/crates.txt" > "$work/crates.txt"
+echo 'notice_bench: partition song_db mpd_text' >> "$work/crates.txt"
+(cd "$work/crates/notice_bench" && rt run > "$work/ours.log" 2>&1) || { cat "$work/ours.log"; exit 1; }
+grep -E '^notices [0-9]+ [0-9]+ [0-9]+ [0-9]+ [0-9]+$' "$work/ours.log" | awk '
+    {
+        change = $4 / 1000 / $3
+        idles = $5 / 1000 / $3
+        if (!($2 in best)) { rows[++count] = $2; best[$2] = change; least[$2] = idles; all[$2] = "yes" }
+        if (change < best[$2]) best[$2] = change
+        if (idles < least[$2]) least[$2] = idles
+        if ($6 != $2 * $3) all[$2] = "NO"
+    }
+    END {
+        printf "%-8s %14s %19s %9s %14s %12s  %s\n", "clients", "us a change", "us more a client", "wanted", "us, all idle", "us an idle", "all told"
+        for (i = 1; i <= count; i++) {
+            n = rows[i]
+            if (n == 0) printf "%-8d %14.2f %19s %9s %14s %12s  %s\n", n, best[n], "-", "-", "-", "-", all[n]
+            else printf "%-8d %14.2f %19.3f %9s %14.2f %12.3f  %s\n", n, best[n], (best[n] - best[0]) / n, "2", least[n], least[n] / n, all[n]
+        }
+    }
+'

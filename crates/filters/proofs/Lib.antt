@@ -1,0 +1,11 @@
+pub mod Joins
+pub mod Runs
+pub mod Cuts
+pub mod Truths
+pub mod Reaching
+pub mod GrammarRead
+pub mod GrammarAt
+pub mod Live
+pub mod Keeps
+pub mod Longest
+pub mod Exact

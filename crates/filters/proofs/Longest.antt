@@ -1,0 +1,184 @@
+-- A fault of syntax stands behind the longest front with which some filter begins.
+use Rattle.std.proofs.Common.{◌≡◌, ℕ, ◌+◌, Bool, true, false, ◌==◌, cond, List, [], ◌∷◌, ◌++◌, length, Option, Some, None, Result, Ok, Err, refl, ap, sym, subst, ◌∙◌, append_assoc, arith}
+use Rattle.filters.specs.declared.place.Stop.{Stop}
+use Rattle.filters.specs.declared.place.Stop.TheVariants.{Syntax, UnknownTag, TooDeep, NoMemory}
+use Rattle.filters.specs.declared.reading.FilterFault.{FilterFault}
+use Rattle.filters.specs.declared.reading.FilterFault.TheVariants.{Syntax as Err_Syntax}
+use Rattle.filters.specs.declared.place.Frame.{Frame}
+use Rattle.filters.specs.declared.place.Frame.TheVariants.{Whole, Negated, First, Next}
+use Rattle.filters.specs.declared.place.Named.{Named}
+use Rattle.filters.specs.declared.place.Place.{Place}
+use Rattle.filters.specs.declared.place.Place.TheVariants.{Start, Opened, Bang, Word, BehindAnd, Finished}
+use Rattle.filters.specs.Expressions.{Expression}
+use Rattle.filters.specs.Machine.{run, parsed, step, ending, word_at_end, fault_at, named_of, or_any, opened, alone, behind_word}
+use Rattle.filters.specs.Words.{is_letter}
+use Rattle.filters.specs.Grammar.{Body, Spells, IsLongestFront}
+use Rattle.filters.proofs.Reaching.{goes}
+use Rattle.filters.proofs.GrammarRead.{spelled_is_read, allowed_loose}
+use Rattle.filters.proofs.GrammarAt.{read_is_spelled}
+use Rattle.filters.proofs.Live.{IsLive, IsFilter, live}
+use Rattle.filters.proofs.Keeps.{StaysLive, keeps}
+
+-- without the strict rules a byte is taken where it was, and refused where it was against the grammar
+Agrees : Result (Place × List Frame) Stop → Result (Place × List Frame) Stop → Type 0
+Agrees (Ok next) r = r ≡ Ok next
+Agrees (Err Syntax) r = r ≡ Err Syntax
+Agrees (Err (UnknownTag word)) r = Unit {0}
+Agrees (Err TooDeep) r = Unit {0}
+Agrees (Err NoMemory) r = Unit {0}
+
+same : (r : Result (Place × List Frame) Stop) → Agrees r r
+unfolding Agrees
+same (Ok next) = refl
+same (Err Syntax) = refl
+same (Err (UnknownTag word)) = tt
+same (Err TooDeep) = tt
+same (Err NoMemory) = tt
+
+both : (c : Bool) (x y z w : Result (Place × List Frame) Stop) → Agrees x z → Agrees y w → Agrees (cond c x y) (cond c z w)
+both true x y z w h k = h
+both false x y z w h k = k
+
+at_most : (c : Bool) (next : Place × List Frame) → Agrees (cond c (Err TooDeep) (Ok next)) (Ok next)
+unfolding Agrees
+at_most true next = tt
+at_most false next = refl
+
+opens : (frame : Frame) (frames : List Frame) → Agrees (opened true frame frames) (opened false frame frames)
+opens frame frames = at_most _ (Opened, frame ∷ frames)
+
+names_agree : (name : Option Named) (word : List ℕ) (frames : List Frame) (b : ℕ) → Agrees (alone (behind_word name word b) frames) (alone (behind_word (or_any name) word b) frames)
+unfolding Agrees
+names_agree None word frames b = tt
+names_agree (Some name) word frames b = same (alone (behind_word (Some name) word b) frames)
+
+agrees : (place : Place) (frames : List Frame) (b : ℕ) → Agrees (step true place frames b) (step false place frames b)
+unfolding step
+agrees Start frames b = both (b == 40) _ (Err Syntax) _ (Err Syntax) (opens Whole frames) (same (Err Syntax))
+agrees Opened frames b =
+    both (b == 32) (Ok (Opened, frames)) _ (Ok (Opened, frames)) _ (same (Ok (Opened, frames)))
+    (both (b == 33) (Ok (Bang, frames)) _ (Ok (Bang, frames)) _ (same (Ok (Bang, frames)))
+    (both (is_letter b) (Ok (Word (b ∷ []), frames)) _ (Ok (Word (b ∷ []), frames)) _ (same (Ok (Word (b ∷ []), frames)))
+    (both (b == 40) _ (Err Syntax) _ (Err Syntax) (opens First frames) (same (Err Syntax)))))
+agrees Bang frames b = both (b == 40) _ (Err Syntax) _ (Err Syntax) (opens Negated frames) (same (Err Syntax))
+agrees (Word word) frames b = both (is_letter b) (Ok (Word (word ++ b ∷ []), frames)) _ (Ok (Word (word ++ b ∷ []), frames)) _ (same (Ok (Word (word ++ b ∷ []), frames))) (names_agree (named_of word) word frames b)
+agrees (BehindAnd e) frames b =
+    both (b == 32) (Ok (BehindAnd e, frames)) _ (Ok (BehindAnd e, frames)) _ (same (Ok (BehindAnd e, frames)))
+    (both (b == 40) _ (Err Syntax) _ (Err Syntax) (opens (Next e) frames) (same (Err Syntax)))
+agrees place frames b = same (step false place frames b)
+
+at_word : (n k : ℕ) (name : Option Named) (word : List ℕ) → word_at_end n name word ≡ Err (Err_Syntax k) → k ≡ n
+at_word n k None word e = cc
+at_word n k (Some name) word e = cc
+
+ends_at : (n k : ℕ) (place : Place) → ending n place ≡ Err (Err_Syntax k) → k ≡ n
+ends_at n k (Finished e) h = cc
+ends_at n k (Word word) h = at_word n k (named_of word) word h
+ends_at n k _ h = cc
+
+-- k bytes are the longest front with which some filter begins, where n bytes led to this place, and the text is no filter
+record Longest (n k : ℕ) (place : Place) (frames : List Frame) (text : List ℕ) : Type 0 where
+  front : List ℕ
+  back : List ℕ
+  parts : text ≡ front ++ back
+  at : k ≡ n + length front
+  rest : List ℕ
+  begins : IsFilter (run false n place frames (front ++ rest))
+  ends : (b : ℕ) (more : List ℕ) → back ≡ b ∷ more → (other : List ℕ) → IsFilter (run false n place frames (front ++ b ∷ other)) → ⊥
+  none : IsFilter (run false n place frames text) → ⊥
+
+faulty : (n : ℕ) (place : Place) (frames : List Frame) (b : ℕ) (bs : List ℕ) → step false place frames b ≡ Err Syntax → IsFilter (run false n place frames (b ∷ bs)) → ⊥
+faulty n place frames b bs s is = subst IsFilter (goes false n place frames b bs (Err Syntax) s) is
+
+stuck : (n k : ℕ) (place : Place) (frames : List Frame) (b : ℕ) (bs : List ℕ) → IsLive place frames → step false place frames b ≡ Err Syntax → k ≡ n → Longest n k place frames (b ∷ bs)
+stuck n k place frames b bs is s at =
+    let l = live n place frames is in
+    record {
+      front = [];
+      back = b ∷ bs;
+      parts = refl;
+      at = omega arith;
+      rest = l.0;
+      begins = l.1;
+      ends = λ c more same_byte other h. faulty n place frames b other s (subst (λ (d : ℕ). IsFilter (run false n place frames (d ∷ other))) (cc) h);
+      none = faulty n place frames b bs s;
+    }
+
+further : (n k : ℕ) (place : Place) (frames : List Frame) (b : ℕ) (bs : List ℕ) (next : Place) (more : List Frame) → step false place frames b ≡ Ok (next, more)
+    → Longest (n + 1) k next more bs → Longest n k place frames (b ∷ bs)
+further n k place frames b bs next more s l =
+    record {
+      front = b ∷ l.front;
+      back = l.back;
+      parts = ap (λ (t : List ℕ). b ∷ t) l.parts;
+      at = omega (arith, l.at);
+      rest = l.rest;
+      begins = subst IsFilter (sym (goes false n place frames b (l.front ++ l.rest) (Ok (next, more)) s)) l.begins;
+      ends = λ c after split other h. l.ends c after split other (subst IsFilter (goes false n place frames b (l.front ++ c ∷ other) (Ok (next, more)) s) h);
+      none = λ h. l.none (subst IsFilter (goes false n place frames b bs (Ok (next, more)) s) h);
+    }
+
+stops_at : (n k : ℕ) (stop : Stop) (r : Result Expression FilterFault) → r ≡ Err (fault_at n stop) → r ≡ Err (Err_Syntax k) → (stop ≡ Syntax) × (k ≡ n)
+stops_at n k Syntax r h e = (refl, cc)
+stops_at n k (UnknownTag word) r h e = cc
+stops_at n k TooDeep r h e = cc
+stops_at n k NoMemory r h e = cc
+
+stays : (place : Place) (frames : List Frame) (b : ℕ) (next : Place) (more : List Frame) → IsLive place frames → step false place frames b ≡ Ok (next, more) → IsLive next more
+stays place frames b next more is s = subst StaysLive s (keeps place frames b is)
+
+loose_ok : (place : Place) (frames : List Frame) (b : ℕ) (next : Place × List Frame) → step true place frames b ≡ Ok next → step false place frames b ≡ Ok next
+unfolding Agrees
+loose_ok place frames b next s = subst (λ (r : Result (Place × List Frame) Stop). Agrees r (step false place frames b)) s (agrees place frames b)
+
+loose_err : (place : Place) (frames : List Frame) (b : ℕ) → step true place frames b ≡ Err Syntax → step false place frames b ≡ Err Syntax
+unfolding Agrees
+loose_err place frames b s = subst (λ (r : Result (Place × List Frame) Stop). Agrees r (step false place frames b)) s (agrees place frames b)
+
+nothing_left : (n k : ℕ) (place : Place) (frames : List Frame) → IsLive place frames → run true n place frames [] ≡ Err (Err_Syntax k) → Longest n k place frames []
+unfolding run
+nothing_left n k place frames is e =
+    let l = live n place frames is in
+    let at = ends_at n k place e in
+    record { front = []; back = []; parts = refl; at = omega arith; rest = l.0; begins = l.1; ends = λ b more empty rest h. cc; none = λ h. subst IsFilter e h }
+
+onward : (b : ℕ) (bs : List ℕ) (n k : ℕ) (place : Place) (frames : List Frame) → IsLive place frames → run true n place frames (b ∷ bs) ≡ Err (Err_Syntax k)
+    → ((m : ℕ) (next : Place) (more : List Frame) → IsLive next more → run true m next more bs ≡ Err (Err_Syntax k) → Longest m k next more bs)
+    → (r : Result (Place × List Frame) Stop) → step true place frames b ≡ r → Longest n k place frames (b ∷ bs)
+onward b bs n k place frames is e deeper (Ok next) s =
+    let loose = loose_ok place frames b next s in
+    further n k place frames b bs next.0 next.1 loose
+    (deeper (n + 1) next.0 next.1 (stays place frames b next.0 next.1 is loose) (sym (goes true n place frames b bs (Ok next) s) ∙ e))
+onward b bs n k place frames is e deeper (Err stop) s =
+    let at = stops_at n k stop (run true n place frames (b ∷ bs)) (goes true n place frames b bs (Err stop) s) e in
+    stuck n k place frames b bs is (loose_err place frames b (s ∙ ap Err at.0)) at.1
+
+longest : (text : List ℕ) (n k : ℕ) (place : Place) (frames : List Frame) → IsLive place frames → run true n place frames text ≡ Err (Err_Syntax k) → Longest n k place frames text
+longest [] n k place frames is e = nothing_left n k place frames is e
+longest (b ∷ bs) n k place frames is e = onward b bs n k place frames is e (λ m next more live_there h. longest bs m k next more live_there h) (step true place frames b) refl
+
+is_filter : (r : Result Expression FilterFault) → IsFilter r → (e : Expression) × (r ≡ Ok e)
+is_filter (Ok e) is = (e, refl)
+is_filter (Err fault) is = elim is [ ]
+
+-- some filter begins so, where the rules are not strict
+spelled : (text : List ℕ) → IsFilter (run false 0 Start [] text) → (body : Body) × Spells text body
+spelled text is =
+    let ok = is_filter (run false 0 Start [] text) is in
+    let whole = read_is_spelled false text ok.0 ok.1 in (whole.0, whole.1)
+
+read_so : (text : List ℕ) (body : Body) → Spells text body → IsFilter (run false 0 Start [] text)
+read_so text body is = subst IsFilter (sym (spelled_is_read false text body is (allowed_loose body 1) 0)) tt
+
+pub fault_at_longest : (text : List ℕ) (k : ℕ) → parsed text ≡ Err (Err_Syntax k) → IsLongestFront text k
+fault_at_longest text k e =
+    let l = longest text 0 k Start [] refl e in
+    record {
+      front = l.front;
+      back = l.back;
+      parts = l.parts;
+      at = (let h = l.at in omega (arith, h));
+      begins = (let s = spelled (l.front ++ l.rest) l.begins in (l.rest, s.0, s.1));
+      longest = (λ b more split begins. l.ends b more split begins.0 (subst (λ (t : List ℕ). IsFilter (run false 0 Start [] t)) (append_assoc l.front (b ∷ []) begins.0) (read_so ((l.front ++ b ∷ []) ++ begins.0) begins.1 begins.2)));
+      no_filter = (λ body is. l.none (read_so text body is));
+    }

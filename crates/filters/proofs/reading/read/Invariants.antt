@@ -1,0 +1,11 @@
+use Rattle.std.proofs.Common.{◌≡◌, true, drop}
+use Rattle.filters.specs.Machine.{run, parsed, IsCut}
+use Rattle.filters.proofs.reading.read.Given as goal
+
+-- the rest of the text gives what the whole gives
+abbrev pub invariant-loop-i : goal.invariant-loop-i
+invariant-loop-i l =
+    record {
+      run : run true l.i l.place l.frames (drop l.i l.text) ≡ parsed l.text;
+      cut : IsCut l.place (drop l.i l.text);
+    }

@@ -1,0 +1,9 @@
+pub mod Codes
+pub mod Expressions
+pub mod Views
+pub mod Falls
+pub mod Words
+pub mod Machine
+pub mod Truth
+pub mod Pairs
+pub mod Grammar

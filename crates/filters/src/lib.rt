@@ -1,0 +1,17 @@
+//! Filter expressions over songs: what a text says, and of which songs it holds (MPD protocol reference, Filters).
+#![tactic(auto)]
+
+mod expression;
+mod matching;
+mod pairs;
+mod place;
+mod reading;
+mod stack;
+#[cfg(test)]
+mod tests;
+
+pub use expression::{Field, Filter, Test};
+pub use matching::Case;
+pub use pairs::Pair;
+pub use place::MAX_DEPTH;
+pub use reading::{FilterFault, longest_front};

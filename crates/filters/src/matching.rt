@@ -1,0 +1,223 @@
+//! Whether a song meets a filter (MPD protocol reference, Filters).
+ghost use Rattle.std.specs.Prelude.{◌≡◌, ◌≢◌, ◌↔◌, ◌++◌, ◌∷◌, List, ℕ, IfOk, IsOk, IsTrue, MatchOption};
+ghost use Rattle.filters.specs.Truth.{Holds, HasIt, Compares, IsUnder, SomeTag, IsRelated, folded, tag_text as tag_text_lem};
+ghost use Rattle.std.specs.Str.Iter.{HasSubslice};
+ghost use Rattle.filters.specs.declared.matching.Case.TheVariants.{Heeded};
+
+use crate::expression::{Field, Filter, Node, Test};
+use caseless::default_case_fold_str;
+use mpd_text::{Song, Tag, TagName};
+use std::alloc::{AllocError, Global};
+
+/// Whether the case of letters counts.
+#[derive(Clone, Copy, Debug, PartialEq, Eq)]
+pub enum Case {
+    /// It does, as in `find`.
+    Heeded,
+    /// It does not, as in `search`: texts are compared in their full default case folding (the Unicode Standard,
+    /// section 3.13). Folders are compared as they stand.
+    Ignored,
+}
+
+/// How two texts, folded or not, are compared.
+#[derive(Clone, Copy)]
+enum Relation {
+    Same,
+    Includes,
+}
+
+/// The tags of which `any` wants one.
+const TAGS: [TagName; 6] = [
+    TagName::Title,
+    TagName::Artist,
+    TagName::Album,
+    TagName::Date,
+    TagName::Genre,
+    TagName::Comment,
+];
+
+impl Filter {
+    /// Whether a song meets the filter. Where case is heeded this takes no memory, and always answers.
+    pub fn matches(&self, song: &Song, case: Case) -> Result<bool, AllocError>
+        ensures truth { IfOk result (λ yes. IsTrue yes ↔ Holds case self.now song.now) }
+        ensures answers { case ≡ Heeded → IsOk result }
+    {
+        match &self.node {
+            Node::Compare(field, test, text) => {
+                compares(self.alloc, song, *field, *test, text.as_str(), case)
+            }
+            Node::Under(folder) => Ok(is_under(song.uri(), folder.as_str())),
+            Node::Negation(filter) => Ok(!filter.matches(song, case)?),
+            Node::All(one, two, more) => {
+                if !one.matches(song, case)? {
+                    return Ok(false);
+                }
+                if !two.matches(song, case)? {
+                    return Ok(false);
+                }
+                for filter in more {
+                    if !filter.matches(song, case)? {
+                        return Ok(false);
+                    }
+                }
+                Ok(true)
+            }
+        }
+    }
+}
+
+/// Whether a comparison holds of a song.
+fn compares(
+    alloc: Global,
+    song: &Song,
+    field: Field,
+    test: Test,
+    wanted: &str,
+    case: Case,
+) -> Result<bool, AllocError>
+    ensures truth { IfOk result (λ yes. IsTrue yes ↔ Compares case test wanted.now field song.now) }
+    ensures answers { case ≡ Heeded → IsOk result }
+{
+    match test {
+        Test::Equals => relates(alloc, song, field, Relation::Same, wanted, case),
+        Test::Differs => Ok(!relates(alloc, song, field, Relation::Same, wanted, case)?),
+        Test::Contains => relates(alloc, song, field, Relation::Includes, wanted, case),
+    }
+}
+
+/// Whether what is compared stands so to the wanted text.
+fn relates(
+    alloc: Global,
+    song: &Song,
+    field: Field,
+    relation: Relation,
+    wanted: &str,
+    case: Case,
+) -> Result<bool, AllocError>
+    ensures truth { IfOk result (λ yes. IsTrue yes ↔ HasIt (λ text. IsRelated relation (folded case text) (folded case wanted.now)) field song.now) }
+    ensures answers { case ≡ Heeded → IsOk result }
+{
+    match case {
+        Case::Heeded => has_it(alloc, song, field, relation, wanted, case),
+        Case::Ignored => {
+            let wanted = default_case_fold_str(alloc, wanted)?;
+            has_it(alloc, song, field, relation, wanted.as_str(), case)
+        }
+    }
+}
+
+/// Whether what is compared stands so to a wanted text that is folded already.
+fn has_it(
+    alloc: Global,
+    song: &Song,
+    field: Field,
+    relation: Relation,
+    wanted: &str,
+    case: Case,
+) -> Result<bool, AllocError>
+    ensures truth { IfOk result (λ yes. IsTrue yes ↔ HasIt (λ text. IsRelated relation (folded case text) wanted.now) field song.now) }
+    ensures answers { case ≡ Heeded → IsOk result }
+{
+    match field {
+        Field::Tag(name) => text_has_it(alloc, tag_text(song.tags(), name), relation, wanted, case),
+        Field::File => text_has_it(alloc, song.uri(), relation, wanted, case),
+        Field::Any => some_tag(alloc, song.tags(), &TAGS, relation, wanted, case),
+    }
+}
+
+/// Whether some tag of these names has a text that stands so to the wanted one. An absent tag is the empty text.
+fn some_tag(
+    alloc: Global,
+    tags: &[Tag],
+    names: &[TagName],
+    relation: Relation,
+    wanted: &str,
+    case: Case,
+) -> Result<bool, AllocError>
+    ensures truth { IfOk result (λ yes. IsTrue yes ↔ SomeTag (λ text. IsRelated relation (folded case text) wanted.now) names.now tags.now) }
+    ensures answers { case ≡ Heeded → IsOk result }
+{
+    for name in names {
+        if text_has_it(alloc, tag_text(tags, *name), relation, wanted, case)? {
+            return Ok(true);
+        }
+    }
+    Ok(false)
+}
+
+/// Whether a text, folded where case is ignored, stands so to the wanted one.
+fn text_has_it(
+    alloc: Global,
+    text: &str,
+    relation: Relation,
+    wanted: &str,
+    case: Case,
+) -> Result<bool, AllocError>
+    ensures truth { IfOk result (λ yes. IsTrue yes ↔ IsRelated relation (folded case text.now) wanted.now) }
+    ensures answers { case ≡ Heeded → IsOk result }
+{
+    match case {
+        Case::Heeded => Ok(is_related(relation, text, wanted)),
+        Case::Ignored => {
+            let text = default_case_fold_str(alloc, text)?;
+            Ok(is_related(relation, text.as_str(), wanted))
+        }
+    }
+}
+
+fn is_related(relation: Relation, text: &str, wanted: &str) -> bool
+    ensures { IsTrue result ↔ IsRelated relation text.now wanted.now }
+{
+    match relation {
+        Relation::Same => text == wanted,
+        Relation::Includes => includes(text, wanted),
+    }
+}
+
+/// Whether the wanted text stands somewhere in the text.
+fn includes(text: &str, wanted: &str) -> bool
+    ensures { IsTrue result ↔ HasSubslice text.now wanted.now }
+{
+    text.contains(wanted)
+}
+
+/// The text of the first tag of this name; empty where there is none.
+fn tag_text(tags: &[Tag], name: TagName) -> &str
+    ensures { result.now ≡ tag_text_lem name tags.now }
+{
+    for tag in tags {
+        if tag.name() == name {
+            return tag.text();
+        }
+    }
+    ""
+}
+
+/// Whether a URI lies under a folder; each lies under the empty one.
+fn is_under(uri: &str, folder: &str) -> bool
+    ensures { IsTrue result ↔ IsUnder folder.now uri.now }
+{
+    if folder.is_empty() {
+        return true;
+    }
+    match behind(uri.as_bytes(), folder.as_bytes()) {
+        None => false,
+        Some(rest) => begins_with_slash(rest),
+    }
+}
+
+/// What stands behind a front, if there is that front.
+fn behind<'a>(bytes: &'a [u8], front: &[u8]) -> Option<&'a [u8]>
+    ensures { MatchOption result ((rest : List ℕ) → bytes.now ≢ front.now ++ rest) (λ rest. bytes.now ≡ front.now ++ rest.now) }
+{
+    bytes.strip_prefix(front)
+}
+
+fn begins_with_slash(bytes: &[u8]) -> bool
+    ensures { IsTrue result ↔ ((rest : List ℕ) × (bytes.now ≡ 47 ∷ rest)) }
+{
+    match bytes {
+        [b'/', ..] => true,
+        _ => false,
+    }
+}

@@ -1,0 +1,66 @@
+//! Filters given as pairs of words (MPD protocol reference, Filters, the older form).
+ghost use Rattle.std.specs.Prelude.{◌≡◌};
+ghost use Rattle.filters.specs.Machine.{Reads};
+ghost use Rattle.filters.specs.Pairs.{pair_of as pair_of_lem, pairs_of};
+
+use crate::expression::{Filter, Test};
+use crate::place::{Named, name_of};
+use crate::reading::FilterFault;
+use mpd_text::Text;
+use std::alloc::Global;
+
+/// What is compared, as a word, and the text that it is compared with.
+#[derive(Drop)]
+pub struct Pair {
+    /// A tag, `file`, `any` or `base`; the case of its letters does not count.
+    pub name: Text,
+    /// The wanted text; of `base` the folder.
+    pub text: Text,
+}
+
+impl Filter {
+    /// The filter that all these pairs make together. Each compares as `test` says, save for `base`. No pairs ask
+    /// for nothing, so every song meets them. The fault is the first word from the left that names nothing.
+    #[tactic(auto, unfolding(crate::specs::Pairs::pairs_of, crate::specs::Pairs::joined_with))]
+    pub fn of_pairs(alloc: Global, pairs: &[Pair], test: Test) -> Result<Filter, FilterFault>
+        ensures { Reads result (pairs_of test pairs.now) }
+    {
+        let (first, more) = match pairs {
+            [] => return Ok(Filter::under(alloc, Text::of(String::new(alloc)))),
+            [first, more @ ..] => (first, more),
+        };
+        let mut filter = match pair_of(alloc, first, test) {
+            Ok(filter) => filter,
+            Err(fault) => return Err(fault),
+        };
+        for pair in more {
+            let next = match pair_of(alloc, pair, test) {
+                Ok(next) => next,
+                Err(fault) => return Err(fault),
+            };
+            filter = Filter::both(alloc, filter, next)?;
+        }
+        Ok(filter)
+    }
+}
+
+/// The filter that one pair makes.
+#[tactic(auto, unfolding(crate::specs::Pairs::pair_of))]
+fn pair_of(alloc: Global, pair: &Pair, test: Test) -> Result<Filter, FilterFault>
+    ensures { Reads result (pair_of_lem test pair.now) }
+{
+    match name_of(pair.name.as_str().as_bytes()) {
+        None => {
+            let word = Text::new(alloc, pair.name.as_str())?;
+            Err(FilterFault::UnknownTag(word))
+        }
+        Some(Named::Field(field)) => {
+            let text = Text::new(alloc, pair.text.as_str())?;
+            Ok(Filter::compare(alloc, field, test, text))
+        }
+        Some(Named::Base) => {
+            let folder = Text::new(alloc, pair.text.as_str())?;
+            Ok(Filter::under(alloc, folder))
+        }
+    }
+}

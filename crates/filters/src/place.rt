@@ -1,0 +1,400 @@
+//! What stands in front of each byte of a filter's text.
+ghost use Rattle.std.specs.Prelude.{◌≡◌, Some, None, Ok, Err, true, if◌then◌else◌, ◌==◌, ◌||◌, ◌++◌, ◌∷◌, []};
+ghost use Rattle.std.specs.Str.{IsUtf8};
+ghost use Rattle.filters.specs.Words.{is_letter as is_letter_lem, same_word as same_word_lem, field_named as field_named_lem};
+ghost use Rattle.filters.specs.Machine.{named_of, step as step_lem, opened, closed, behind_word as behind_word_lem, sign as sign_lem, Steps, StepsAlone, contains_letter as contains_letter_lem, and_letter as and_letter_lem, filter_for, CanTake};
+ghost use Rattle.filters.specs.declared.place.Stop.TheVariants.{Syntax, NoMemory};
+
+use crate::expression::{Field, Filter, Test};
+use crate::stack::Stack;
+use mpd_text::{Sequence, TagName, Text};
+use std::alloc::{AllocError, AllocFailed, Global};
+
+/// The most parentheses that may be open at once (this profile's).
+pub const MAX_DEPTH: usize = 32;
+
+/// Why a byte cannot stand where it stands.
+#[derive(Drop)]
+pub enum Stop {
+    /// No filter goes on so.
+    Syntax,
+    /// The word in front of it names no tag.
+    UnknownTag(Text),
+    /// It opens one parenthesis too many.
+    TooDeep,
+    /// Memory ran out.
+    NoMemory,
+}
+
+impl From<AllocError> for Stop {
+    ghost from_gives = { λ _ e. e ≡ NoMemory };
+
+    fn from(_e: AllocError) -> Stop {
+        Stop::NoMemory
+    }
+}
+
+impl<T: Drop> From<AllocFailed<T>> for Stop {
+    ghost from_gives = { λ _ e. e ≡ NoMemory };
+
+    fn from(_e: AllocFailed<T>) -> Stop {
+        Stop::NoMemory
+    }
+}
+
+/// What an open parenthesis is closed for.
+#[derive(Drop)]
+pub enum Frame {
+    /// The whole filter.
+    Whole,
+    /// A negation.
+    Negated,
+    /// The first of those that are to hold together.
+    First,
+    /// The next of them, behind those before it.
+    Next(Filter),
+}
+
+/// What a text in quotes is for.
+#[derive(Clone, Copy)]
+pub enum Goal {
+    /// It is compared.
+    Compared(Field, Test),
+    /// It is a folder.
+    Base,
+}
+
+/// What a word in front of a text names.
+#[derive(Clone, Copy)]
+pub enum Named {
+    /// What is compared.
+    Field(Field),
+    /// The word `base`.
+    Base,
+}
+
+/// What stands in front of the next byte. Numbers are how many letters of a word were read.
+#[derive(Drop)]
+pub enum Place {
+    Start,
+    Opened,
+    Bang,
+    Word(Sequence<u8>),
+    BehindField(Field),
+    Sign(Field, Test),
+    Contains(Field, u8),
+    NeedsSpace(Goal),
+    BeforeText(Goal),
+    InText(Goal, u8, Sequence<u8>),
+    Escaped(Goal, u8, Sequence<u8>),
+    Done(Filter),
+    Joined(Filter),
+    BehindJoined(Filter),
+    And(Filter, u8),
+    BehindAnd(Filter),
+    Finished(Filter),
+}
+
+/// What stands in front of the byte behind this one.
+#[tactic(auto, unfolding(crate::specs::Machine::step))]
+pub fn step(alloc: Global, place: Place, frames: &mut Stack<Frame>, b: u8) -> Result<Place, Stop>
+    requires { CanTake place b }
+    ensures { Steps result frames.new (step_lem true place frames.old b) }
+{
+    match place {
+        Place::Start => open(frames, Frame::Whole, b),
+        Place::Opened => behind_open(alloc, frames, b),
+        Place::Bang => open(frames, Frame::Negated, b),
+        Place::Word(word) => in_word(word, b),
+        Place::BehindField(field) => sign(field, b),
+        Place::Sign(field, test) => only_at(b'=', b, Goal::Compared(field, test)),
+        Place::Contains(field, read) => contains_letter(field, read, b),
+        Place::NeedsSpace(goal) => only_at(b' ', b, goal),
+        Place::BeforeText(goal) => before_text(alloc, goal, b),
+        Place::InText(goal, quote, text) => in_text(alloc, goal, quote, text, b),
+        Place::Escaped(goal, quote, mut text) => {
+            text.push(b)?;
+            Ok(Place::InText(goal, quote, text))
+        }
+        Place::Done(filter) => done(alloc, frames, filter, b),
+        Place::Joined(filter) => joined(alloc, frames, filter, b),
+        Place::BehindJoined(filter) => behind_joined(alloc, frames, filter, b),
+        Place::And(filter, read) => and_letter(filter, read, b),
+        Place::BehindAnd(filter) => behind_and(frames, filter, b),
+        Place::Finished(_) => Err(Stop::Syntax),
+    }
+}
+
+/// Behind an open parenthesis and perhaps spaces.
+#[tactic(auto, unfolding(crate::specs::Machine::step))]
+fn behind_open(alloc: Global, frames: &mut Stack<Frame>, b: u8) -> Result<Place, Stop>
+    ensures { Steps result frames.new (step_lem true Place.Opened frames.old b) }
+{
+    if b == b' ' {
+        Ok(Place::Opened)
+    } else if b == b'!' {
+        Ok(Place::Bang)
+    } else if is_letter(b) {
+        let mut word = Sequence::new(alloc);
+        word.push(b)?;
+        Ok(Place::Word(word))
+    } else {
+        open(frames, Frame::First, b)
+    }
+}
+
+/// An open parenthesis, if it is one and there may be one more.
+fn open(frames: &mut Stack<Frame>, frame: Frame, b: u8) -> Result<Place, Stop>
+    ensures { Steps result frames.new (if b == 40 then opened true frame frames.old else Err Syntax) }
+{
+    if b != b'(' {
+        return Err(Stop::Syntax);
+    }
+    if frames.len() >= MAX_DEPTH {
+        return Err(Stop::TooDeep);
+    }
+    frames.push(frame)?;
+    Ok(Place::Opened)
+}
+
+/// Behind what stands alone in its parenthesis.
+#[tactic(auto, unfolding(crate::specs::Machine::step))]
+fn done(alloc: Global, frames: &mut Stack<Frame>, filter: Filter, b: u8) -> Result<Place, Stop>
+    ensures { Steps result frames.new (step_lem true (Place.Done filter) frames.old b) }
+{
+    if b == b' ' {
+        return Ok(Place::Done(filter));
+    }
+    close(alloc, frames, filter, b)
+}
+
+/// Right behind the last of those that are to hold together.
+#[tactic(auto, unfolding(crate::specs::Machine::step))]
+fn joined(alloc: Global, frames: &mut Stack<Frame>, filter: Filter, b: u8) -> Result<Place, Stop>
+    ensures { Steps result frames.new (step_lem true (Place.Joined filter) frames.old b) }
+{
+    if b == b' ' {
+        return Ok(Place::BehindJoined(filter));
+    }
+    close(alloc, frames, filter, b)
+}
+
+/// Behind them and spaces.
+#[tactic(auto, unfolding(crate::specs::Machine::step))]
+fn behind_joined(
+    alloc: Global,
+    frames: &mut Stack<Frame>,
+    filter: Filter,
+    b: u8,
+) -> Result<Place, Stop>
+    ensures { Steps result frames.new (step_lem true (Place.BehindJoined filter) frames.old b) }
+{
+    if b == b' ' {
+        return Ok(Place::BehindJoined(filter));
+    }
+    if b == b'A' {
+        return Ok(Place::And(filter, 1));
+    }
+    close(alloc, frames, filter, b)
+}
+
+/// Behind AND and spaces.
+#[tactic(auto, unfolding(crate::specs::Machine::step))]
+fn behind_and(frames: &mut Stack<Frame>, filter: Filter, b: u8) -> Result<Place, Stop>
+    ensures { Steps result frames.new (step_lem true (Place.BehindAnd filter) frames.old b) }
+{
+    if b == b' ' {
+        return Ok(Place::BehindAnd(filter));
+    }
+    open(frames, Frame::Next(filter), b)
+}
+
+/// A closed parenthesis, if it is one: what it closes is the innermost that is open.
+fn close(alloc: Global, frames: &mut Stack<Frame>, filter: Filter, b: u8) -> Result<Place, Stop>
+    ensures { Steps result frames.new (if b == 41 then closed filter frames.old else Err Syntax) }
+{
+    if b != b')' {
+        return Err(Stop::Syntax);
+    }
+    match frames.pop() {
+        None => Err(Stop::Syntax),
+        Some(Frame::Whole) => Ok(Place::Finished(filter)),
+        Some(Frame::Negated) => Ok(Place::Done(Filter::negation(alloc, filter)?)),
+        Some(Frame::First) => Ok(Place::Joined(filter)),
+        Some(Frame::Next(first)) => Ok(Place::Joined(Filter::both(alloc, first, filter)?)),
+    }
+}
+
+/// In a word, or behind it.
+fn in_word(mut word: Sequence<u8>, b: u8) -> Result<Place, Stop>
+    requires { IsUtf8 word }
+    ensures { StepsAlone result (if is_letter_lem b then Ok (Place.Word (word ++ b ∷ [])) else behind_word_lem (named_of word) word b) }
+{
+    if is_letter(b) {
+        word.push(b)?;
+        return Ok(Place::Word(word));
+    }
+    match name_of(word.items()) {
+        None => Err(Stop::UnknownTag(text_of(word))),
+        Some(Named::Field(field)) => sign(field, b),
+        Some(Named::Base) => only_at(b' ', b, Goal::Base),
+    }
+}
+
+/// The text of bytes that are UTF-8. Takes no memory.
+pub fn text_of(bytes: Sequence<u8>) -> Text
+    requires { IsUtf8 bytes }
+    ensures { result ≡ bytes }
+{
+    Text::of(String::from_utf8(bytes.into_items()).unwrap())
+}
+
+/// In front of a text in quotes, if the byte is this one.
+fn only_at(wanted: u8, b: u8, goal: Goal) -> Result<Place, Stop>
+    ensures { StepsAlone result (if b == wanted then Ok (Place.BeforeText goal) else Err Syntax) }
+{
+    if b == wanted {
+        Ok(Place::BeforeText(goal))
+    } else {
+        Err(Stop::Syntax)
+    }
+}
+
+/// In front of a text in quotes.
+fn before_text(alloc: Global, goal: Goal, b: u8) -> Result<Place, Stop>
+    ensures { StepsAlone result (if b == 32 then Ok (Place.BeforeText goal) else (if (b == 34) || (b == 39) then Ok (Place.InText goal b []) else Err Syntax)) }
+{
+    if b == b' ' {
+        Ok(Place::BeforeText(goal))
+    } else if b == b'"' || b == b'\'' {
+        Ok(Place::InText(goal, b, Sequence::new(alloc)))
+    } else {
+        Err(Stop::Syntax)
+    }
+}
+
+/// Between quotes.
+fn in_text(
+    alloc: Global,
+    goal: Goal,
+    quote: u8,
+    mut text: Sequence<u8>,
+    b: u8,
+) -> Result<Place, Stop>
+    requires { b ≡ quote → IsUtf8 text }
+    ensures { StepsAlone result (if b == quote then Ok (Place.Done (filter_for goal text)) else (if b == 92 then Ok (Place.Escaped goal quote text) else Ok (Place.InText goal quote (text ++ b ∷ [])))) }
+{
+    if b == quote {
+        Ok(Place::Done(filter_of(alloc, goal, text_of(text))))
+    } else if b == b'\\' {
+        Ok(Place::Escaped(goal, quote, text))
+    } else {
+        text.push(b)?;
+        Ok(Place::InText(goal, quote, text))
+    }
+}
+
+fn filter_of(alloc: Global, goal: Goal, text: Text) -> Filter
+    ensures { result ≡ filter_for goal text }
+{
+    match goal {
+        Goal::Compared(field, test) => Filter::compare(alloc, field, test, text),
+        Goal::Base => Filter::under(alloc, text),
+    }
+}
+
+fn is_letter(b: u8) -> bool
+    ensures { result ≡ is_letter_lem b }
+{
+    (b >= b'A' && b <= b'Z') || (b >= b'a' && b <= b'z')
+}
+
+/// Behind what is compared.
+fn sign(field: Field, b: u8) -> Result<Place, Stop>
+    ensures { StepsAlone result (sign_lem field b) }
+{
+    if b == b' ' {
+        Ok(Place::BehindField(field))
+    } else if b == b'=' {
+        Ok(Place::Sign(field, Test::Equals))
+    } else if b == b'!' {
+        Ok(Place::Sign(field, Test::Differs))
+    } else if b == b'c' {
+        Ok(Place::Contains(field, 1))
+    } else {
+        Err(Stop::Syntax)
+    }
+}
+
+/// The bytes of the word `contains`.
+const CONTAINS: [u8; 8] = *b"contains";
+
+fn contains_letter(field: Field, read: u8, b: u8) -> Result<Place, Stop>
+    ensures { StepsAlone result (contains_letter_lem field read b) }
+{
+    if read < 7 && b == CONTAINS[read as usize] {
+        Ok(Place::Contains(field, read + 1))
+    } else if read == 7 && b == b's' {
+        Ok(Place::NeedsSpace(Goal::Compared(field, Test::Contains)))
+    } else {
+        Err(Stop::Syntax)
+    }
+}
+
+fn and_letter(filter: Filter, read: u8, b: u8) -> Result<Place, Stop>
+    ensures { StepsAlone result (and_letter_lem filter read b) }
+{
+    if read == 1 && b == b'N' {
+        Ok(Place::And(filter, 2))
+    } else if read == 2 && b == b'D' {
+        Ok(Place::And(filter, 3))
+    } else if read == 3 && b == b' ' {
+        Ok(Place::BehindAnd(filter))
+    } else {
+        Err(Stop::Syntax)
+    }
+}
+
+/// What a word in front of a text names.
+#[tactic(auto, unfolding(crate::specs::Machine::named_of))]
+pub fn name_of(word: &[u8]) -> Option<Named>
+    ensures { result ≡ named_of word.now }
+{
+    if same_word(word, b"base") {
+        Some(Named::Base)
+    } else {
+        field_named(word).map(Named::Field)
+    }
+}
+
+/// What of a song a word names.
+#[tactic(auto, unfolding(crate::specs::Words::field_named))]
+fn field_named(word: &[u8]) -> Option<Field>
+    ensures { result ≡ field_named_lem word.now }
+{
+    if same_word(word, b"title") {
+        Some(Field::Tag(TagName::Title))
+    } else if same_word(word, b"artist") {
+        Some(Field::Tag(TagName::Artist))
+    } else if same_word(word, b"album") {
+        Some(Field::Tag(TagName::Album))
+    } else if same_word(word, b"date") {
+        Some(Field::Tag(TagName::Date))
+    } else if same_word(word, b"genre") {
+        Some(Field::Tag(TagName::Genre))
+    } else if same_word(word, b"comment") {
+        Some(Field::Tag(TagName::Comment))
+    } else if same_word(word, b"file") {
+        Some(Field::File)
+    } else if same_word(word, b"any") {
+        Some(Field::Any)
+    } else {
+        None
+    }
+}
+
+fn same_word(word: &[u8], name: &[u8]) -> bool
+    ensures { result ≡ same_word_lem word.now name.now }
+{
+    word.eq_ignore_ascii_case(name)
+}

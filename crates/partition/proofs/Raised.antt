@@ -1,0 +1,64 @@
+-- What the parity of a queue and its controls tell of a turn.
+use Rattle.std.proofs.Common.{◌≡◌, Bool, true, false, not, nat_eq, List, Option, Some, None, refl, ap, sym, ◌∙◌}
+use Rattle.idle_notes.specs.declared.sets.Subsystems.{Subsystems}
+use Rattle.idle_notes.specs.Sets.{none}
+use Rattle.song_queue.specs.Entries.{same_queue}
+use Rattle.song_queue.specs.Laws.{Edit}
+use Rattle.song_queue.specs.State.{QueueState, queue_of, differ}
+use Rattle.song_queue.proofs.Parity.{parity_tells_changes}
+use Rattle.song_queue.proofs.Same.{same_queue-refl}
+use Rattle.partition.specs.declared.state.Part.{Part}
+use Rattle.partition.specs.declared.event.Event.{Event}
+use Rattle.partition.specs.declared.event.Notice.{Notice}
+use Rattle.partition.specs.declared.state.Client.{Client}
+use Rattle.partition.specs.Answers.{Said}
+use Rattle.partition.specs.Clients.{clients_after, notices_after}
+use Rattle.partition.specs.Image.{Image, Turn, state_after, part_after}
+use Rattle.partition.specs.Step.{turn, speaker, raised_by, after_turn, told_by}
+
+differ-self : (b : Bool) → differ b b ≡ false
+differ-self true = refl
+differ-self false = refl
+
+by_edit : (queue : QueueState) (edit : Option Edit) → not (same_queue (queue_of queue) (queue_of (state_after queue edit))) ≡ differ queue.parity (state_after queue edit).parity
+by_edit queue None = ap not (same_queue-refl (queue_of queue)) ∙ sym (differ-self queue.parity)
+by_edit queue (Some edit) = parity_tells_changes queue edit
+
+-- the subsystems that two parts tell of, by the parities of their queues and by their controls
+abbrev pub told_by_parity : Part → Part → Subsystems
+told_by_parity before after = record none {
+  playlist = differ before.queue.parity after.queue.parity;
+  mixer = not (nat_eq before.controls.volume after.controls.volume);
+  options = differ before.controls.modes.repeat after.controls.modes.repeat;
+}
+
+pub by_parity : (part after : Part) (t : Turn) → after ≡ part_after part t → told_by_parity part after ≡ raised_by part t
+by_parity part after t e =
+    ap (told_by_parity part) e
+    ∙ ap (λ (b : Bool). record none {
+      playlist = b;
+      mixer = not (nat_eq part.controls.volume t.controls.volume);
+      options = differ part.controls.modes.repeat t.controls.modes.repeat;
+    }) (sym (by_edit part.queue t.edit))
+
+-- the image after a turn, from what was made of each of its fields
+pub stepped : (i : Image) (event : Event) (part : Part) (clients : List Client) (raised : Subsystems) (said : Said)
+    → part ≡ part_after i.part (turn i event) → said ≡ (turn i event).said → raised ≡ told_by_parity i.part part
+    → clients ≡ clients_after (speaker event) raised said i.clients
+    → record { part = part; shared = i.shared; clients = clients } ≡ after_turn i event (turn i event)
+stepped i event part clients raised said part_is said_is raised_is clients_are =
+    let t : Turn = turn i event in
+    let all : raised ≡ raised_by i.part t = raised_is ∙ by_parity i.part part t part_is in
+    let image : Part → List Client → Image = λ p k. record { part = p; shared = i.shared; clients = k } in
+    ap (λ p. image p clients) part_is
+    ∙ ap (image (part_after i.part t)) (clients_are ∙ ap (λ r. clients_after (speaker event) r said i.clients) all ∙ ap (λ s. clients_after (speaker event) (raised_by i.part t) s i.clients) said_is)
+
+-- the notices of a turn, from what was made of it
+pub noticed : (i : Image) (event : Event) (part : Part) (notices : List Notice) (raised : Subsystems) (said : Said)
+    → part ≡ part_after i.part (turn i event) → said ≡ (turn i event).said → raised ≡ told_by_parity i.part part
+    → notices ≡ notices_after (speaker event) raised said i.clients
+    → notices ≡ (told_by i event (turn i event)).notices
+noticed i event part notices raised said part_is said_is raised_is notices_are =
+    let t : Turn = turn i event in
+    let all : raised ≡ raised_by i.part t = raised_is ∙ by_parity i.part part t part_is in
+    notices_are ∙ ap (λ r. notices_after (speaker event) r said i.clients) all ∙ ap (λ s. notices_after (speaker event) (raised_by i.part t) s i.clients) said_is

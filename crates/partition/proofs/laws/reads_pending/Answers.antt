@@ -1,0 +1,5 @@
+use Rattle.partition.proofs.Pending.{reads_pending}
+use Rattle.partition.proofs.laws.reads_pending.Goals as goal
+
+pub returns : goal.returns
+returns c = λ number subsystem moments. reads_pending number subsystem moments

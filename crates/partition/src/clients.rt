@@ -1,0 +1,199 @@
+//! The clients, what is pending for them, and who is told.
+ghost use Rattle.std.specs.Prelude.{◌≡◌, ◌++◌, ◌+◌, ◌≤◌, ◌<◌, nat_lt, length, map, filter, count_by, is_some, vec_len, vec_capacity};
+ghost use Rattle.std.specs.List.{flat_map, position_or_len};
+ghost use Rattle.idle_notes.specs.Notes.{fresh, waits, cancelled};
+ghost use Rattle.partition.specs.Clients.{at as at_lem, hears, is_other, joined, moved, notice_for};
+ghost use Rattle.partition.specs.Image.{client_of};
+ghost use Rattle.partition.specs.Rooms.{is_waiting, room_for};
+
+use crate::event::{Move, Notice};
+use crate::state::Client;
+use idle_notes::{Pending, Subsystems};
+
+/// The client of a number, if it is there.
+pub(crate) fn find(clients: &[Client], number: u32) -> Option<Client>
+    ensures { result ≡ client_of number clients.now }
+{
+    for client in clients {
+        if client.number == number {
+            return Some(*client);
+        }
+    }
+    None
+}
+
+/// How many clients wait.
+pub(crate) fn waiting(clients: &[Client]) -> usize
+    ensures { result ≡ count_by is_waiting clients.now }
+{
+    clients
+        .iter()
+        .filter(|client| client.pending.is_waiting())
+        .count()
+}
+
+/// A client goes.
+pub(crate) fn leave(clients: &mut Vec<Client>, number: u32)
+    ensures { clients.new.items ≡ filter (is_other number) clients.old.items }
+{
+    clients.retain(|client| client.number != number);
+}
+
+/// Lets what was raised join what is pending for each client; those that are told wait no more.
+pub(crate) fn hear_all(clients: &mut [Client], raised: Subsystems)
+    ensures { clients.new ≡ map (hears raised) clients.old }
+{
+    for client in clients.iter_mut() {
+        *client = heard(*client, raised);
+    }
+}
+
+fn heard(client: Client, raised: Subsystems) -> Client
+    ensures { result ≡ hears raised client }
+{
+    let mut pending = client.pending;
+    pending.note(raised);
+    let _ = pending.notice();
+    Client {
+        number: client.number,
+        pending,
+    }
+}
+
+/// Lists the notices that these clients are sent where this is raised.
+#[tactic(auto, using(crate::proofs::Tells::room_behind))]
+pub(crate) fn list_notices(clients: &[Client], raised: Subsystems, notices: &mut Vec<Notice>)
+    requires { vec_len notices.old + count_by is_waiting clients.now ≤ vec_capacity notices.old }
+    ensures { notices.new.items ≡ notices.old.items ++ flat_map (notice_for raised) clients.now }
+{
+    for client in clients {
+        list_notice(*client, raised, notices);
+    }
+}
+
+fn list_notice(client: Client, raised: Subsystems, notices: &mut Vec<Notice>)
+    requires { vec_len notices.old + room_for client ≤ vec_capacity notices.old }
+    ensures items { notices.new.items ≡ notices.old.items ++ notice_for raised client }
+    ensures room { vec_capacity notices.old ≤ vec_capacity notices.new }
+    ensures len { vec_len notices.new ≤ vec_len notices.old + room_for client }
+{
+    let mut pending = client.pending;
+    pending.note(raised);
+    if let Some(names) = pending.notice() {
+        let _ = notices.push(Notice {
+            client: client.number,
+            names,
+        });
+    }
+}
+
+/// Lets a client do what its event asks for.
+pub(crate) fn make_move(clients: &mut Vec<Client>, number: u32, step: Move)
+    requires { vec_len clients.old < vec_capacity clients.old }
+    ensures { clients.new.items ≡ moved number step clients.old.items }
+{
+    match step {
+        Move::Stay => {}
+        Move::Wait(names) => begin_waiting(clients, number, names),
+        Move::Hear => clear(clients, number),
+        Move::Resume => resume(clients, number),
+        Move::Join => join(clients, number),
+    }
+}
+
+fn begin_waiting(clients: &mut [Client], number: u32, names: Subsystems)
+    ensures { clients.new ≡ map (at_lem number (waits names)) clients.old }
+{
+    for client in clients.iter_mut() {
+        *client = waiting_for(*client, number, names);
+    }
+}
+
+/// The client, waiting where it is the one of the number.
+fn waiting_for(client: Client, number: u32, names: Subsystems) -> Client
+    ensures { result ≡ at_lem number (waits names) client }
+{
+    let mut pending = client.pending;
+    if client.number == number {
+        pending.listen(names);
+    }
+    Client {
+        number: client.number,
+        pending,
+    }
+}
+
+fn clear(clients: &mut [Client], number: u32)
+    ensures { clients.new ≡ map (at_lem number (λ p. fresh)) clients.old }
+{
+    for client in clients.iter_mut() {
+        *client = cleared(*client, number);
+    }
+}
+
+/// The client, with nothing pending where it is the one of the number.
+fn cleared(client: Client, number: u32) -> Client
+    ensures { result ≡ at_lem number (λ p. fresh) client }
+{
+    if client.number == number {
+        Client {
+            number,
+            pending: Pending::new(),
+        }
+    } else {
+        client
+    }
+}
+
+fn resume(clients: &mut [Client], number: u32)
+    ensures { clients.new ≡ map (at_lem number cancelled) clients.old }
+{
+    for client in clients.iter_mut() {
+        *client = resumed(*client, number);
+    }
+}
+
+/// The client, not waiting where it is the one of the number.
+fn resumed(client: Client, number: u32) -> Client
+    ensures { result ≡ at_lem number cancelled client }
+{
+    let mut pending = client.pending;
+    if client.number == number {
+        pending.cancel();
+    }
+    Client {
+        number: client.number,
+        pending,
+    }
+}
+
+/// A client comes, in front of the first with a greater number.
+fn join(clients: &mut Vec<Client>, number: u32)
+    requires { vec_len clients.old < vec_capacity clients.old }
+    ensures { clients.new.items ≡ joined number clients.old.items }
+{
+    if find(clients, number).is_some() {
+        return;
+    }
+    let client = Client {
+        number,
+        pending: Pending::new(),
+    };
+    let place = place_for(clients, number);
+    let _ = clients.insert(place, client);
+}
+
+/// Where the first client with a greater number stands; the number of clients where none has.
+fn place_for(clients: &[Client], number: u32) -> usize
+    ensures place { result ≡ position_or_len (λ client. nat_lt number client.number) clients.now }
+    ensures within { result ≤ length clients.now }
+{
+    let mut place = 0;
+    for client in clients {
+        if client.number > number {
+            return place;
+        }
+        place += 1;
+    }
+    place
+}

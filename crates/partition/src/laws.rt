@@ -1,0 +1,12 @@
+//! Laws of the definitions. A caller that calls one may use it; each does nothing.
+ghost use Rattle.partition.specs.Legal.{ReadsPending, ReplaysWorlds};
+
+/// A replay from a player to which nothing happened is the image of the life with every past queue and every moment.
+pub fn replays_worlds()
+    ensures { ReplaysWorlds }
+{}
+
+/// What is read as pending for a client is everything that was raised since its connect or last notice.
+pub fn reads_pending()
+    ensures { ReadsPending }
+{}

@@ -1,0 +1,36 @@
+-- The parity tells changes.
+use Rattle.std.proofs.Common.{◌≡◌, ◌+◌, Bool, true, false, not, List, ◌++◌, take, drop, refl, ap, sym, ◌∙◌, inl, inr}
+use Rattle.std.specs.Prelude.{swap}
+use Rattle.std.proofs.lemmas.Bool.{cond-true, cond-false, cases_Bool}
+use Rattle.song_queue.specs.declared.entry.Entry.{Entry}
+use Rattle.song_queue.specs.Entries.{same_queue, entries_for}
+use Rattle.song_queue.specs.State.{QueueState, queue_of, edited, wraps, next_version, differ}
+use Rattle.song_queue.specs.Laws.{Insert, Remove, Swap, ParityTellsChanges}
+use Rattle.song_queue.proofs.Same.{same_queue-refl}
+use Rattle.song_queue.proofs.Edits.{stepped, entries_of-restamped}
+
+differ-self : (b : Bool) → differ b b ≡ false
+differ-self true = refl
+differ-self false = refl
+
+differ-not : (b : Bool) → differ b (not b) ≡ true
+differ-not true = refl
+differ-not false = refl
+
+tells : (q : QueueState) (es : List Entry) → not (same_queue (queue_of q) (queue_of (edited q es))) ≡ differ q.parity (edited q es).parity
+tells q es =
+    let changes : QueueState → Bool = λ x. not (same_queue (queue_of q) (queue_of x)) in
+    let flips : QueueState → Bool = λ x. differ q.parity x.parity in
+    elim (cases_Bool (same_queue (queue_of q) es)) [
+      | inl t ↦
+          let stays : edited q es ≡ q = cond-true _ _ _ t in
+          ap changes stays ∙ ap not (same_queue-refl (queue_of q)) ∙ sym (differ-self q.parity) ∙ sym (ap flips stays)
+      | inr t ↦
+          let steps : edited q es ≡ stepped q es = cond-false _ _ _ t in
+          ap changes steps ∙ ap (λ x. not (same_queue (queue_of q) x)) (entries_of-restamped (next_version q) (wraps q) q.slots es) ∙ ap not t ∙ sym (differ-not q.parity) ∙ sym (ap flips steps)
+    ]
+
+pub parity_tells_changes : ParityTellsChanges
+parity_tells_changes q (Insert at songs) = tells q (take at (queue_of q) ++ entries_for (q.greatest_id + 1) songs ++ drop at (queue_of q))
+parity_tells_changes q (Remove start end) = tells q (take start (queue_of q) ++ drop end (queue_of q))
+parity_tells_changes q (Swap a b) = tells q (swap (queue_of q) a b)

@@ -1,0 +1,9 @@
+pub mod ChunkLaws
+pub mod Filling
+pub mod Found
+pub mod FrameLaws
+pub mod Known
+pub mod Meanings
+pub mod Sounds
+pub mod Starts
+pub mod Items

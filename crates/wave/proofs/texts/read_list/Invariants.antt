@@ -1,0 +1,20 @@
+-- The texts so far and those that are left are those of the whole list.
+use Rattle.std.proofs.Common.{◌≡◌, ◌-◌, ◌++◌, List, IfSome}
+use Rattle.mpd_text.specs.Devices.{NoFewer}
+use Rattle.wave.specs.Chunks.{Chunk}
+use Rattle.wave.specs.Devices.{KeepsTo}
+use Rattle.wave.specs.Parts.{chunks_within}
+use Rattle.wave.specs.Found.{joined}
+use Rattle.wave.proofs.texts.read_list.Given as goal
+
+abbrev pub invariant-loop-texts : goal.invariant-loop-texts
+invariant-loop-texts g l = record {
+  goes : IfSome (g.M.Media.all_bytes l.initial.media) (λ bytes. (more : List Chunk) →
+      joined l.texts (chunks_within bytes l.at l.end ++ more) ≡ joined l.initial.texts (chunks_within bytes l.initial.at l.end ++ more));
+  stays : g.M.Media.all_bytes l.media ≡ g.M.Media.all_bytes l.initial.media;
+  keeps : KeepsTo l.limit (g.M.Failing.tally l.initial.media) (g.M.Failing.tally l.media);
+  calm : NoFewer (g.M.Failing.tally l.initial.media) (g.M.Failing.tally l.media);
+}
+
+abbrev pub decreases-loop-texts : goal.decreases-loop-texts
+decreases-loop-texts g l = l.end - l.at

@@ -1,0 +1,19 @@
+-- The texts so far and those that are left are those of the whole file.
+use Rattle.std.proofs.Common.{◌≡◌, ◌-◌, IfSome}
+use Rattle.mpd_text.specs.Devices.{NoFewer}
+use Rattle.wave.specs.Texts.{items}
+use Rattle.wave.specs.Devices.{KeepsTo}
+use Rattle.wave.specs.Parts.{chunks_within}
+use Rattle.wave.specs.Found.{joined, no_texts}
+use Rattle.wave.proofs.texts.read_texts.Given as goal
+
+abbrev pub invariant-loop-texts : goal.invariant-loop-texts
+invariant-loop-texts g l = record {
+  goes : IfSome (g.M.Media.all_bytes l.initial.media) (λ bytes. joined l.texts (items (chunks_within bytes l.at l.end)) ≡ joined no_texts (items (chunks_within bytes 12 l.end)));
+  stays : g.M.Media.all_bytes l.media ≡ g.M.Media.all_bytes l.initial.media;
+  keeps : KeepsTo l.limit (g.M.Failing.tally l.initial.media) (g.M.Failing.tally l.media);
+  calm : NoFewer (g.M.Failing.tally l.initial.media) (g.M.Failing.tally l.media);
+}
+
+abbrev pub decreases-loop-texts : goal.decreases-loop-texts
+decreases-loop-texts g l = l.end - l.at

@@ -1,0 +1,31 @@
+-- What calls ask of a device (this profile's).
+use Rattle.std.specs.Prelude.{◌≡◌, ℕ, ◌+◌, ◌-◌, ◌^◌, ◌≤◌, ◌⊎◌, List, length, take, drop}
+use Rattle.mpd_text.specs.declared.device.Tally.{Tally}
+use Rattle.mpd_text.specs.Devices.{HasFailed}
+use Rattle.wave.specs.declared.fault.WaveFault.{WaveFault}
+use Rattle.wave.specs.declared.fault.WaveFault.TheVariants.{NotRiff, NoFormat, Unsupported, NoData, ReadFault, NoMemory}
+
+-- the front of the buffer holds the bytes from a place on: as many as it has room for, or all there are
+abbrev pub FillsFrom : List ℕ → ℕ → ℕ → List ℕ → Type 0
+FillsFrom bytes at n buf = take n buf ≡ take (length buf) (drop at bytes)
+
+-- the device was called 2 ^ 32 times since, or its count stands at its greatest value
+abbrev pub CalledTooOften : Tally → Tally → Type 0
+CalledTooOften old new = (old.calls + 2 ^ 32 ≤ new.calls) ⊎ (new.calls ≡ 2 ^ 64 - 1)
+
+-- the device failed since, or its count of calls has come to a limit
+abbrev pub Ends : ℕ → Tally → Tally → Type 0
+Ends limit old new = HasFailed old new ⊎ ((limit ≤ new.calls) × (new.calls ≤ 2 ^ 64 - 1))
+
+-- no count of calls passes the limit
+abbrev pub KeepsTo : ℕ → Tally → Tally → Type 0
+KeepsTo limit old new = old.calls ≤ limit → new.calls ≤ limit
+
+-- a fault of the device or of memory, and none of the file
+abbrev pub IsOutside : ℕ → Tally → Tally → WaveFault → Type 0
+IsOutside limit old new NotRiff = ⊥
+IsOutside limit old new NoFormat = ⊥
+IsOutside limit old new Unsupported = ⊥
+IsOutside limit old new NoData = ⊥
+IsOutside limit old new ReadFault = Ends limit old new
+IsOutside limit old new NoMemory = Unit {0}

@@ -1,0 +1,9 @@
+pub mod Chunks
+pub mod Formats
+pub mod Texts
+pub mod Waves
+pub mod Parts
+pub mod Devices
+pub mod Found
+pub mod Heads
+pub mod Meanings

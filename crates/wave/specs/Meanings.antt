@@ -1,0 +1,26 @@
+-- What a head says of the bytes that it was read from.
+use Rattle.std.specs.Prelude.{◌≡◌, ℕ, ◌*◌, List, length, take, drop, Result, Ok, Err, ℤ}
+use Rattle.wave.specs.declared.fault.WaveFault.{WaveFault}
+use Rattle.wave.specs.declared.head.Head.{Head}
+use Rattle.wave.specs.Formats.{block, frames_of}
+use Rattle.wave.specs.Chunks.{Chunk}
+use Rattle.wave.specs.Texts.{items, tags_of}
+use Rattle.wave.specs.Waves.{Wave, with_tags, sound_of}
+use Rattle.wave.specs.Heads.{Refuses}
+
+-- the frames that lie where the head says
+abbrev pub frames_in : List ℕ → Head → List (List ℤ)
+frames_in bytes head = frames_of head.layout (take (head.frames * block head.layout) (drop head.place bytes))
+
+abbrev pub wave_in : List ℕ → Head → Wave
+wave_in bytes head = record { layout = head.layout; tags = head.tags.items; frames = frames_in bytes head }
+
+-- The head, its tags and the frames that lie where it says are what the bytes mean; or they mean this refusal.
+abbrev pub MeansWave : List ℕ → Result Head WaveFault → Result Wave WaveFault → Type 0
+MeansWave bytes (Ok head) meaning = (meaning ≡ Ok (wave_in bytes head)) × (length (frames_in bytes head) ≡ head.frames)
+MeansWave bytes (Err fault) meaning = Refuses fault meaning
+
+-- the same of the chunks behind the first twelve bytes
+abbrev pub MeansBehind : ℕ → List ℕ → List Chunk → Result Head WaveFault → Type 0
+MeansBehind rate bytes parts (Ok head) = MeansWave bytes (Ok head) (with_tags (tags_of (items parts)) (sound_of rate parts))
+MeansBehind rate bytes parts (Err fault) = Refuses fault (sound_of rate parts)

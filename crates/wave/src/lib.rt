@@ -1,0 +1,24 @@
+//! RIFF WAVE files: their head, their tags and their frames, whatever the bytes are.
+#![tactic(auto)]
+
+mod device;
+mod fault;
+mod format;
+mod head;
+mod part;
+mod reader;
+mod reading;
+mod samples;
+mod tag;
+#[cfg(test)]
+mod tests;
+mod texts;
+
+pub use device::MAX_CALLS;
+pub use fault::WaveFault;
+pub use format::Layout;
+pub use head::Head;
+pub use part::chunks_are_those_of_the_bytes;
+pub use reader::Reader;
+pub use reading::read_head;
+pub use tag::MAX_TEXT;

@@ -1,0 +1,82 @@
+//! Frames of a file.
+ghost use Rattle.std.specs.Prelude.{◌≡◌, ◌⊎◌, ◌≤◌, ◌<◌, ◌+◌, ◌*◌, ◌^◌, length, take, drop, IfSome, IfOk, IfErr, IsErrOf};
+ghost use Rattle.mpd_text.specs.Devices.{NoFewer, HasFailed};
+ghost use Rattle.wave.specs.Devices.{CalledTooOften};
+ghost use Rattle.wave.specs.Formats.{frames_of};
+ghost use Rattle.wave.specs.Meanings.{frames_in};
+
+use crate::device::{last_call, read_at};
+use crate::fault::WaveFault;
+use crate::format::Layout;
+use crate::head::Head;
+use mpd_text::Media;
+use pcm_mix::{Frame, from_bytes};
+use std::alloc::Global;
+
+/// A file and its head.
+#[derive(Drop)]
+pub struct Reader<R> {
+    media: R,
+    head: Head,
+}
+
+impl<R> Reader<R> {
+    /// A reader of this file, whose head this is.
+    pub fn new(media: R, head: Head) -> Reader<R>
+        ensures media { result.media ≡ media }
+        ensures head { result.head ≡ head }
+    {
+        Reader { media, head }
+    }
+
+    /// The file's head.
+    pub fn head(&self) -> &Head
+        ensures { result.now ≡ self.now.head }
+    {
+        &self.head
+    }
+
+    /// The file.
+    pub fn media(&self) -> &R
+        ensures { result.now ≡ self.now.media }
+    {
+        &self.media
+    }
+}
+
+impl<R: Media> Reader<R> {
+    /// The frames from a frame on, counted from 0: n of them, or fewer where the file has no more.
+    pub fn frames_at(&mut self, alloc: Global, from: u64, n: usize) -> Result<Vec<Frame>, WaveFault>
+        // They are the frames that the bytes hold where the head says.
+        ensures value { IfSome (R.all_bytes self.old.media) (λ bytes. IfOk result (λ frames. frames.items ≡ take n (drop from (frames_in bytes self.old.head)))) }
+        ensures count { IfOk result (λ frames. length frames.items ≤ n) }
+        ensures fault { IfErr result (λ fault. (fault ≡ WaveFault.ReadFault) ⊎ (fault ≡ WaveFault.NoMemory)) }
+        // A fault of the device comes only where it failed, or was called too often, or its count stands at its greatest value.
+        ensures read_fault { IsErrOf result WaveFault.ReadFault → HasFailed (R.tally self.old.media) (R.tally self.new.media) ⊎ CalledTooOften (R.tally self.old.media) (R.tally self.new.media) }
+        ensures few_calls { (R.tally self.new.media).calls ≤ (R.tally self.old.media).calls + 2 ^ 32 }
+        ensures head { self.new.head ≡ self.old.head }
+        ensures stays { R.all_bytes self.new.media ≡ R.all_bytes self.old.media }
+        ensures calm { NoFewer (R.tally self.old.media) (R.tally self.new.media) }
+    {
+        let limit = last_call(&self.media);
+        let Layout { depth, channels } = self.head.layout;
+        let block = depth.width() * channels.count();
+        let first = from.min(self.head.frames);
+        let wanted = (n as u64).min(self.head.frames - first);
+        let mut bytes = vec![in alloc; 0u8; wanted as usize * block]?;
+        let place = self.head.place + first * block as u64;
+        let got = read_at(&mut self.media, limit, place, &mut bytes)?;
+        decoded(alloc, &bytes.as_slice()[..got], self.head.layout)
+    }
+}
+
+/// The whole frames of bytes.
+fn decoded(alloc: Global, samples: &[u8], layout: Layout) -> Result<Vec<Frame>, WaveFault>
+    ensures value { IfOk result (λ frames. frames.items ≡ frames_of layout samples.now) }
+    ensures fault { IfErr result (λ fault. fault ≡ WaveFault.NoMemory) }
+{
+    let block = layout.block();
+    let mut frames = vec![in alloc; [0i16; 2]; samples.len() / block]?;
+    from_bytes(samples, layout.depth, layout.channels, &mut frames);
+    Ok(frames)
+}

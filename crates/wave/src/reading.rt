@@ -1,0 +1,93 @@
+//! Heads, read from files.
+ghost use Rattle.std.specs.Prelude.{length, ◌≡◌, ◌⊎◌, ◌≤◌, ◌+◌, ◌/◌, ◌^◌, ◌<◌, take, IfSome, IfOk, OnErr, IsErrOf};
+ghost use Rattle.mpd_text.specs.Devices.{NoFewer, HasFailed};
+ghost use Rattle.wave.specs.Devices.{Ends, KeepsTo, CalledTooOften};
+ghost use Rattle.wave.specs.Formats.{block};
+ghost use Rattle.wave.specs.Waves.{is_riff, wave_of};
+ghost use Rattle.wave.specs.Meanings.{MeansWave, MeansBehind};
+ghost use Rattle.wave.specs.Parts.{chunks_within};
+
+use crate::device::{last_call, read_at, size};
+use crate::fault::{Unread, WaveFault};
+use crate::head::Head;
+use crate::samples::{Samples, find_samples};
+use crate::texts::read_texts;
+use mpd_text::{Media, Tag};
+use std::alloc::Global;
+
+/// Reads the head of a file that is to be played at this rate, in frames a second.
+///
+/// The whole file is walked through, chunk by chunk, since tags may stand behind the data. The refusals are those
+/// of the bytes, in the order of [`WaveFault`]; `ReadFault` and `NoMemory` say nothing of them.
+pub fn read_head<M: Media>(alloc: Global, media: &mut M, rate: u32) -> Result<Head, WaveFault>
+    // The head is what the whole bytes mean, and each refusal is the one that they mean.
+    ensures value { IfSome (M.all_bytes media.old) (λ bytes. MeansWave bytes result (wave_of rate bytes)) }
+    // A fault of the device comes only where it failed, or was called too often, or its count stands at its greatest value.
+    ensures read_fault { IsErrOf result WaveFault.ReadFault → HasFailed (M.tally media.old) (M.tally media.new) ⊎ CalledTooOften (M.tally media.old) (M.tally media.new) }
+    ensures few_calls { (M.tally media.new).calls ≤ (M.tally media.old).calls + 2 ^ 32 }
+    ensures stays { M.all_bytes media.new ≡ M.all_bytes media.old }
+    ensures calm { NoFewer (M.tally media.old) (M.tally media.new) }
+{
+    let limit = last_call(media);
+    let end = size(media, limit)?;
+    if !is_riff_at(media, limit)? {
+        return Err(WaveFault::NotRiff);
+    }
+    head_behind(alloc, media, limit, end, rate)
+}
+
+/// Reads the head from the chunks behind the first twelve bytes, of a file of this many bytes.
+fn head_behind<M: Media>(
+    alloc: Global,
+    media: &mut M,
+    limit: u64,
+    end: u64,
+    rate: u32,
+) -> Result<Head, WaveFault>
+    requires { IfSome (M.all_bytes media.old) (λ bytes. end ≤ length bytes) }
+    ensures value { IfSome (M.all_bytes media.old) (λ bytes. MeansBehind rate bytes (chunks_within bytes 12 end) result) }
+    ensures ends { IsErrOf result WaveFault.ReadFault → Ends limit (M.tally media.old) (M.tally media.new) }
+    ensures stays { M.all_bytes media.new ≡ M.all_bytes media.old }
+    ensures keeps { KeepsTo limit (M.tally media.old) (M.tally media.new) }
+    ensures calm { NoFewer (M.tally media.old) (M.tally media.new) }
+{
+    let samples = find_samples(media, limit, end, rate)?;
+    let texts = read_texts(alloc, media, limit, end)?;
+    let tags = texts.into_tags(alloc)?;
+    Ok(head_of(samples, tags))
+}
+
+/// Whether the device begins as a RIFF WAVE file does.
+fn is_riff_at<M: Media>(media: &mut M, limit: u64) -> Result<bool, Unread>
+    ensures value { IfSome (M.all_bytes media.old) (λ bytes. IfOk result (λ found. found ≡ is_riff (take 12 bytes))) }
+    ensures stays { M.all_bytes media.new ≡ M.all_bytes media.old }
+    ensures ends { OnErr result (Ends limit (M.tally media.old) (M.tally media.new)) }
+    ensures keeps { KeepsTo limit (M.tally media.old) (M.tally media.new) }
+    ensures calm { NoFewer (M.tally media.old) (M.tally media.new) }
+{
+    let mut front = [0u8; 12];
+    let n = read_at(media, limit, 0, &mut front)?;
+    Ok(is_riff(&front[..n]))
+}
+
+fn is_riff(bytes: &[u8]) -> bool
+    ensures { result ≡ is_riff bytes.now }
+{
+    bytes.len() >= 12 && bytes[..4] == [82, 73, 70, 70] && bytes[8..12] == [87, 65, 86, 69]
+}
+
+fn head_of(samples: Samples, tags: Vec<Tag>) -> Head
+    requires { samples.place + samples.len < 2 ^ 64 }
+    ensures layout { result.layout ≡ samples.layout }
+    ensures frames { result.frames ≡ samples.len / block samples.layout }
+    ensures tags { result.tags ≡ tags }
+    ensures place { result.place ≡ samples.place }
+{
+    let Samples { layout, place, len } = samples;
+    Head {
+        layout,
+        frames: len / layout.block() as u64,
+        tags,
+        place,
+    }
+}

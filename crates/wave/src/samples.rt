@@ -1,0 +1,133 @@
+//! Where the samples of a file lie.
+ghost use Rattle.std.specs.Prelude.{◌≡◌, ◌==◌, ◌&&◌, ℕ, ◌≤◌, ◌+◌, List, ◌∷◌, length, take, true, false, IfErr, IfSome, IfOk, OnErr, IsErrOf, MatchResult, codes, is_none};
+ghost use Rattle.std.specs.Str.{bytes_eq};
+ghost use Rattle.mpd_text.specs.Devices.{NoFewer};
+ghost use Rattle.wave.specs.Chunks.{Chunk};
+ghost use Rattle.wave.specs.Formats.{layout_of};
+ghost use Rattle.wave.specs.Waves.{sound_of};
+ghost use Rattle.wave.specs.Devices.{Ends, KeepsTo};
+ghost use Rattle.wave.specs.Parts.{content_of, chunk_of, chunks_within};
+ghost use Rattle.wave.specs.Heads.{Refuses, MeansSound, sound_behind, missing};
+
+use crate::device::read_at;
+use crate::fault::{Unread, WaveFault};
+use crate::format::{Layout, layout_of};
+use crate::part::{Part, chunk_at};
+use mpd_text::Media;
+
+/// How samples lie in the data, and where the data lies.
+#[derive(Clone, Copy)]
+pub(crate) struct Samples {
+    pub(crate) layout: Layout,
+    pub(crate) place: u64,
+    pub(crate) len: u64,
+}
+
+/// Finds the samples of a file of this many bytes that is played at this rate.
+pub(crate) fn find_samples<M: Media>(
+    media: &mut M,
+    limit: u64,
+    end: u64,
+    rate: u32,
+) -> Result<Samples, WaveFault>
+    requires { IfSome (M.all_bytes media.old) (λ bytes. end ≤ length bytes) }
+    ensures value { IfSome (M.all_bytes media.old) (λ bytes. MeansSound bytes result (sound_of rate (chunks_within bytes 12 end))) }
+    ensures within { IfOk result (λ found. found.place + found.len ≤ end) }
+    ensures fault { IsErrOf result WaveFault.NoMemory → ⊥ }
+    ensures ends { IsErrOf result WaveFault.ReadFault → Ends limit (M.tally media.old) (M.tally media.new) }
+    ensures stays { M.all_bytes media.new ≡ M.all_bytes media.old }
+    ensures keeps { KeepsTo limit (M.tally media.old) (M.tally media.new) }
+    ensures calm { NoFewer (M.tally media.old) (M.tally media.new) }
+{
+    let mut at = 12;
+    let mut layout: Option<Layout> = None;
+    while let Some(part) = chunk_at(media, limit, at, end)? {
+        if part.name == *b"data" {
+            return samples_in(part, layout);
+        }
+        layout = layout_behind(media, limit, part, layout, rate)?;
+        at = part.behind;
+    }
+    Err(missing(layout))
+}
+
+/// Why there are no samples where no chunk is left.
+fn missing(layout: Option<Layout>) -> WaveFault
+    ensures { result ≡ missing layout }
+{
+    match layout {
+        None => WaveFault::NoFormat,
+        Some(_) => WaveFault::NoData,
+    }
+}
+
+/// The samples of the first data, behind the chunks that gave a layout or none.
+fn samples_in(part: Part, layout: Option<Layout>) -> Result<Samples, WaveFault>
+    requires { bytes_eq part.name (codes "data") ≡ true }
+    ensures value { (bytes : List ℕ) (rate : ℕ) (more : List Chunk) → length (content_of bytes part) ≡ part.len
+        → MeansSound bytes result (sound_behind rate layout (chunk_of bytes part ∷ more)) }
+    ensures place { IfOk result (λ found. (found.place ≡ part.place) × (found.len ≡ part.len)) }
+    ensures fault { IfErr result (λ fault. fault ≡ WaveFault.NoFormat) }
+{
+    match layout {
+        None => Err(WaveFault::NoFormat),
+        Some(layout) => Ok(Samples {
+            layout,
+            place: part.place,
+            len: part.len,
+        }),
+    }
+}
+
+/// Whether a chunk is a whole format, with none in front of it.
+fn is_first_format(part: Part, layout: Option<Layout>) -> bool
+    ensures { result ≡ (is_none layout && (bytes_eq part.name (codes "fmt ") && (part.len == part.size))) }
+{
+    layout.is_none() && part.name == *b"fmt " && part.is_whole()
+}
+
+/// The layout that is known behind a chunk which is no data.
+fn layout_behind<M: Media>(
+    media: &mut M,
+    limit: u64,
+    part: Part,
+    layout: Option<Layout>,
+    rate: u32,
+) -> Result<Option<Layout>, WaveFault>
+    requires chunk { bytes_eq part.name (codes "data") ≡ false }
+    requires known { IfSome (M.all_bytes media.old) (λ bytes. length (content_of bytes part) ≡ part.len) }
+    ensures value { IfSome (M.all_bytes media.old) (λ bytes. (more : List Chunk) → MatchResult result
+        (λ next. sound_behind rate layout (chunk_of bytes part ∷ more) ≡ sound_behind rate next more)
+        (λ fault. Refuses fault (sound_behind rate layout (chunk_of bytes part ∷ more)))) }
+    ensures fault { IsErrOf result WaveFault.NoMemory → ⊥ }
+    ensures ends { IsErrOf result WaveFault.ReadFault → Ends limit (M.tally media.old) (M.tally media.new) }
+    ensures stays { M.all_bytes media.new ≡ M.all_bytes media.old }
+    ensures keeps { KeepsTo limit (M.tally media.old) (M.tally media.new) }
+    ensures calm { NoFewer (M.tally media.old) (M.tally media.new) }
+{
+    if !is_first_format(part, layout) {
+        return Ok(layout);
+    }
+    match layout_at(media, limit, part, rate)? {
+        Some(found) => Ok(Some(found)),
+        None => Err(WaveFault::Unsupported),
+    }
+}
+
+/// The layout that a format's content gives.
+fn layout_at<M: Media>(
+    media: &mut M,
+    limit: u64,
+    part: Part,
+    rate: u32,
+) -> Result<Option<Layout>, Unread>
+    ensures value { IfSome (M.all_bytes media.old) (λ bytes. IfOk result (λ found. found ≡ layout_of rate (take 40 (content_of bytes part)))) }
+    ensures stays { M.all_bytes media.new ≡ M.all_bytes media.old }
+    ensures ends { OnErr result (Ends limit (M.tally media.old) (M.tally media.new)) }
+    ensures keeps { KeepsTo limit (M.tally media.old) (M.tally media.new) }
+    ensures calm { NoFewer (M.tally media.old) (M.tally media.new) }
+{
+    let mut content = [0u8; 40];
+    let n = read_at(media, limit, part.place, &mut content)?;
+    Ok(layout_of(&content[..n.min(part.len as usize)], rate))
+}

@@ -1,0 +1,141 @@
+//! The texts in the lists of a file.
+ghost use Rattle.std.specs.Prelude.{◌≡◌, ◌==◌, ◌&&◌, nat_le, codes, ◌≤◌, ◌<◌, ◌^◌, ◌+◌, List, ◌∷◌, ◌++◌, true, length, IfSome, IfOk, IfErr, OnErr};
+ghost use Rattle.std.specs.Str.{bytes_eq};
+ghost use Rattle.mpd_text.specs.Devices.{NoFewer};
+ghost use Rattle.wave.specs.Chunks.{Chunk};
+ghost use Rattle.wave.specs.Texts.{is_info, items};
+ghost use Rattle.wave.specs.Devices.{Ends, KeepsTo, IsOutside};
+ghost use Rattle.wave.specs.Parts.{content_of, chunk_of, chunks_within};
+ghost use Rattle.wave.specs.Found.{text_in, no_texts, joined};
+
+use crate::device::read_at;
+use crate::fault::{Unread, WaveFault};
+use crate::part::{Part, chunk_at};
+use crate::tag::{MAX_TEXT, Texts, tag_of, text_in};
+use mpd_text::{Media, Text};
+use std::alloc::Global;
+
+/// The first text of each tag, of all lists of a file of this many bytes.
+pub(crate) fn read_texts<M: Media>(
+    alloc: Global,
+    media: &mut M,
+    limit: u64,
+    end: u64,
+) -> Result<Texts, WaveFault>
+    requires { IfSome (M.all_bytes media.old) (λ bytes. end ≤ length bytes) }
+    ensures value { IfSome (M.all_bytes media.old) (λ bytes. IfOk result (λ texts. texts ≡ joined no_texts (items (chunks_within bytes 12 end)))) }
+    ensures fault { IfErr result (IsOutside limit (M.tally media.old) (M.tally media.new)) }
+    ensures stays { M.all_bytes media.new ≡ M.all_bytes media.old }
+    ensures keeps { KeepsTo limit (M.tally media.old) (M.tally media.new) }
+    ensures calm { NoFewer (M.tally media.old) (M.tally media.new) }
+{
+    let mut texts = Texts::none();
+    let mut at = 12;
+    while let Some(part) = chunk_at(media, limit, at, end)? {
+        if is_list(media, limit, part)? {
+            texts = read_list(alloc, media, limit, part, texts)?;
+        }
+        at = part.behind;
+    }
+    Ok(texts)
+}
+
+/// Whether a chunk is a whole list with room for its kind.
+fn may_be_list(part: Part) -> bool
+    ensures { result ≡ (bytes_eq part.name (codes "LIST") && (part.len == part.size) && nat_le 4 part.len) }
+{
+    part.name == *b"LIST" && part.is_whole() && part.len >= 4
+}
+
+/// Whether a chunk is a whole list of texts.
+fn is_list<M: Media>(media: &mut M, limit: u64, part: Part) -> Result<bool, Unread>
+    requires { IfSome (M.all_bytes media.old) (λ bytes. length (content_of bytes part) ≡ part.len) }
+    ensures value { IfSome (M.all_bytes media.old) (λ bytes. IfOk result (λ found. found ≡ is_info (chunk_of bytes part))) }
+    ensures long { IfOk result (λ found. found ≡ true → 4 ≤ part.len) }
+    ensures stays { M.all_bytes media.new ≡ M.all_bytes media.old }
+    ensures ends { OnErr result (Ends limit (M.tally media.old) (M.tally media.new)) }
+    ensures keeps { KeepsTo limit (M.tally media.old) (M.tally media.new) }
+    ensures calm { NoFewer (M.tally media.old) (M.tally media.new) }
+{
+    if !may_be_list(part) {
+        return Ok(false);
+    }
+    let mut kind = [0u8; 4];
+    let n = read_at(media, limit, part.place, &mut kind)?;
+    Ok(kind[..n] == [73, 78, 70, 79])
+}
+
+/// The texts with those of a list.
+fn read_list<M: Media>(
+    alloc: Global,
+    media: &mut M,
+    limit: u64,
+    list: Part,
+    mut texts: Texts,
+) -> Result<Texts, WaveFault>
+    requires long { 4 ≤ list.len }
+    requires within { IfSome (M.all_bytes media.old) (λ bytes. list.place + list.len ≤ length bytes) }
+    requires fits { list.place + list.len < 2 ^ 64 }
+    ensures value { IfSome (M.all_bytes media.old) (λ bytes. IfOk result (λ next. (more : List Chunk) →
+        joined next more ≡ joined texts (chunks_within bytes (list.place + 4) (list.place + list.len) ++ more))) }
+    ensures fault { IfErr result (IsOutside limit (M.tally media.old) (M.tally media.new)) }
+    ensures stays { M.all_bytes media.new ≡ M.all_bytes media.old }
+    ensures keeps { KeepsTo limit (M.tally media.old) (M.tally media.new) }
+    ensures calm { NoFewer (M.tally media.old) (M.tally media.new) }
+{
+    let end = list.place + list.len;
+    let mut at = list.place + 4;
+    while let Some(item) = chunk_at(media, limit, at, end)? {
+        texts = take_item(alloc, media, limit, item, texts)?;
+        at = item.behind;
+    }
+    Ok(texts)
+}
+
+/// The texts with that of an item of a list, if it counts.
+fn take_item<M: Media>(
+    alloc: Global,
+    media: &mut M,
+    limit: u64,
+    item: Part,
+    texts: Texts,
+) -> Result<Texts, WaveFault>
+    requires { IfSome (M.all_bytes media.old) (λ bytes. length (content_of bytes item) ≡ item.len) }
+    ensures value { IfSome (M.all_bytes media.old) (λ bytes. IfOk result (λ next. (more : List Chunk) → joined next more ≡ joined texts (chunk_of bytes item ∷ more))) }
+    ensures fault { IfErr result (IsOutside limit (M.tally media.old) (M.tally media.new)) }
+    ensures stays { M.all_bytes media.new ≡ M.all_bytes media.old }
+    ensures keeps { KeepsTo limit (M.tally media.old) (M.tally media.new) }
+    ensures calm { NoFewer (M.tally media.old) (M.tally media.new) }
+{
+    let Some(tag) = tag_of(item.name) else {
+        return Ok(texts);
+    };
+    if !item.is_whole() {
+        return Ok(texts);
+    }
+    match text_at(alloc, media, limit, item)? {
+        Some(text) => Ok(texts.with(tag, text)),
+        None => Ok(texts),
+    }
+}
+
+/// The text of an item, if it is not skipped.
+fn text_at<M: Media>(
+    alloc: Global,
+    media: &mut M,
+    limit: u64,
+    item: Part,
+) -> Result<Option<Text>, WaveFault>
+    ensures value { IfSome (M.all_bytes media.old) (λ bytes. IfOk result (λ found. found ≡ text_in (content_of bytes item))) }
+    ensures fault { IfErr result (IsOutside limit (M.tally media.old) (M.tally media.new)) }
+    ensures stays { M.all_bytes media.new ≡ M.all_bytes media.old }
+    ensures keeps { KeepsTo limit (M.tally media.old) (M.tally media.new) }
+    ensures calm { NoFewer (M.tally media.old) (M.tally media.new) }
+{
+    let mut content = [0u8; MAX_TEXT + 1];
+    let n = read_at(media, limit, item.place, &mut content)?;
+    match text_in(&content[..n.min(item.len as usize)]) {
+        Some(text) => Ok(Some(Text::new(alloc, text)?)),
+        None => Ok(None),
+    }
+}
