@@ -2,8 +2,8 @@ ghost use Rattle.std.specs.Prelude.{◌≡◌, IfOk};
 
 use crate::{
     Answer, Counting, ErrorNumber, FailAt, Failing, FailurePoint, Line, MAX_LINE, Media, Sequence,
-    SharedText, Sink, Song, Source, SplitFault, Splitter, Tag, TagName, Text, WordsFault, any_cut,
-    lines_make_the_stream, one_reading, pieces_do_not_matter, some_reading, words,
+    SharedText, Sink, Song, Source, SplitFault, Splitter, Tag, TagName, Tally, Text, WordsFault,
+    any_cut, lines_make_the_stream, one_reading, pieces_do_not_matter, some_reading, words,
 };
 use std::alloc::{AllocError, Global};
 use std::io::{Cursor, ErrorKind};
@@ -238,6 +238,18 @@ fn plain_data_of_texts_and_lists(rt: HostRuntime) -> Result<(), Fail> {
     let text = Text::of(String::from_str(alloc, "OK")?);
     assert_eq!(rt; SharedText::of(text.into_string())?.as_str(), "OK");
     Ok(())
+}
+
+#[test]
+fn counts_of_answers(rt: HostRuntime) {
+    let mut tally = Tally::new();
+    tally.count_call();
+    tally.count_error(ErrorKind::WouldBlock);
+    tally.count_error(ErrorKind::Other);
+    tally.count_failure();
+    assert_eq!(rt; tally.failures, 2);
+    assert_eq!(rt; tally.blocked, 1);
+    assert_eq!(rt; tally.calls, 4);
 }
 
 fn first_bytes<R: Source>(source: &mut R, buf: &mut [u8]) -> Result<usize, std::io::Error> {
