@@ -1,0 +1,59 @@
+#!/usr/bin/env python3
+"""Refused memory in the built tests of crates: each allocation of each test is refused in turn. A test has to end by itself,
+with success or with want of memory.
+
+    checks/test_memory.py CRATE...          crates whose tests are built, as `rt test` leaves them in out/
+"""
+import collections
+import os
+import subprocess
+import sys
+import tempfile
+
+HERE = os.path.dirname(os.path.abspath(__file__))
+WANTS = ('AllocError', 'AllocFailed', 'NoMemory', 'OutOfMemory')
+
+
+def names_of(binary):
+    lines = subprocess.run([binary, '--list'], check=True, capture_output=True, text=True).stdout.splitlines()
+    return [line.strip().removesuffix(': test') for line in lines if line.strip().endswith(': test')]
+
+
+def run(binary, name, library, report, allocation):
+    environment = dict(os.environ, LD_PRELOAD=library, FAULTY_REPORT=report, FAULTY_ALLOCATION=str(allocation))
+    return subprocess.run([binary, name], capture_output=True, text=True, env=environment)
+
+
+def allocations_in(report):
+    with open(report, encoding='ascii') as lines:
+        return next(int(line.split()[1]) for line in lines if line.startswith('allocations '))
+
+
+def sort_of(ended):
+    if ended.returncode == 0:
+        return 'passed'
+    return 'want of memory' if any(word in ended.stdout + ended.stderr for word in WANTS) else 'FAILED'
+
+
+def check(crate, library, folder):
+    binary = os.path.join(os.path.dirname(HERE), 'crates', crate, 'out', crate + '_tests')
+    report, failed = os.path.join(folder, 'report'), 0
+    for name in names_of(binary):
+        whole = run(binary, name, library, report, 0)
+        count = allocations_in(report)
+        sorts = collections.Counter(sort_of(run(binary, name, library, report, place)) for place in range(1, count + 1))
+        failed += sorts['FAILED'] + (whole.returncode != 0)
+        print('%-14s %-44s %5d allocations: %s' % (crate, name, count, ', '.join('%s %d' % sort for sort in sorted(sorts.items()))))
+    return failed
+
+
+def main():
+    with tempfile.TemporaryDirectory() as folder:
+        library = os.path.join(folder, 'faulty.so')
+        subprocess.run(['gcc', '-shared', '-fPIC', '-O2', '-o', library, os.path.join(HERE, 'faulty.c'), '-ldl'], check=True)
+        failed = sum(check(crate, library, folder) for crate in sys.argv[1:])
+    print('%d failed' % failed)
+    return 1 if failed else 0
+
+
+sys.exit(main())
