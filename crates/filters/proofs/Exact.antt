@@ -1,14 +1,15 @@
--- What is exact says what a filter and a fault mean.
-use Rattle.std.proofs.Common.{◌≡◌, ℕ, List, true, Result, Ok, Err, subst, arith}
-use Rattle.std.specs.Result.{IfOk, IfErr}
+-- What is read is the one answer of the grammar.
+use Rattle.std.proofs.Common.{◌≡◌, ◌⊎◌, inl, inr, ℕ, ◌<◌, List, [], ◌∷◌, ◌++◌, length, true, Result, Ok, Err, refl, ap, sym, subst, ◌∙◌, append_assoc, arith}
 use Rattle.filters.specs.declared.reading.FilterFault.{FilterFault}
-use Rattle.filters.specs.declared.reading.FilterFault.TheVariants.{Syntax, UnknownTag, TooDeep}
+use Rattle.filters.specs.declared.reading.FilterFault.TheVariants.{Syntax, UnknownTag, TooDeep, NoMemory}
 use Rattle.filters.specs.Expressions.{Expression}
 use Rattle.filters.specs.Machine.{parsed, Reads}
-use Rattle.filters.specs.Grammar.{Says, meaning, IsLongestFront, NamesNothing, GoesTooDeep}
+use Rattle.filters.specs.Grammar.{Says, Spells, IsLongestFront, BeginsFilter}
+use Rattle.filters.specs.Answers.{IsFirstFault, IsAnswer, OrNoMemory, HasOneAnswer}
 use Rattle.filters.proofs.GrammarRead.{spelled_is_read, allowed_from, from_allowed}
 use Rattle.filters.proofs.GrammarAt.{read_is_spelled, refused_for}
 use Rattle.filters.proofs.Longest.{fault_at_longest}
+use Rattle.filters.proofs.FirstFault.{unknown_first, deep_first}
 
 said : (text : List ℕ) (e : Expression) → parsed text ≡ Ok e → Says text e
 said text e ok =
@@ -16,24 +17,73 @@ said text e ok =
     let allowed = from_allowed whole.0 1 (omega arith) whole.3 in
     let fits = allowed.1 in (whole.0, whole.1, allowed.0, omega (arith, fits), whole.2)
 
-pub exact_found : (text : List ℕ) (r : Result Expression FilterFault) → Reads r (parsed text) → IfOk r (λ e. Says text e)
-exact_found text (Ok e) h = said text e h
-exact_found text (Err fault) h = tt
-
-pub exact_only : (text : List ℕ) (r : Result Expression FilterFault) → Reads r (parsed text) → (e : Expression) → Says text e → Reads r (Ok e)
-exact_only text r h e says =
+says_read : (text : List ℕ) (e : Expression) → Says text e → parsed text ≡ Ok e
+says_read text e says =
     let fits = says.3 in
-    let ok : parsed text ≡ Ok (meaning says.0) = spelled_is_read true text says.0 says.1 (allowed_from says.0 1 says.2 (omega (arith, fits))) 0 in
-    subst (λ (f : Expression). Reads r (Ok f)) says.4 (subst (Reads r) ok h)
+    spelled_is_read true text says.0 says.1 (allowed_from says.0 1 says.2 (omega (arith, fits))) 0 ∙ ap Ok says.4
 
-pub exact_syntax : (text : List ℕ) (r : Result Expression FilterFault) → Reads r (parsed text) → IfErr r (λ fault. (k : ℕ) → fault ≡ Syntax k → IsLongestFront text k)
-exact_syntax text (Ok e) h = tt
-exact_syntax text (Err fault) h = λ k is. fault_at_longest text k (subst (λ (f : FilterFault). Reads (Err f) (parsed text)) is h)
+-- what is read is an answer
+is_answer : (text : List ℕ) (r : Result Expression FilterFault) → parsed text ≡ r → IsAnswer text r
+is_answer text (Ok e) h = said text e h
+is_answer text (Err (Syntax k)) h = (fault_at_longest text k h, (λ word named. let other = unknown_first text word named in cc), (λ deep. let other = deep_first text deep in cc))
+is_answer text (Err (UnknownTag word)) h = refused_for text (UnknownTag word) h
+is_answer text (Err TooDeep) h = refused_for text TooDeep h
+is_answer text (Err NoMemory) h = refused_for text NoMemory h
 
-pub exact_unknown : (text : List ℕ) (r : Result Expression FilterFault) → Reads r (parsed text) → IfErr r (λ fault. (word : List ℕ) → fault ≡ UnknownTag word → NamesNothing text word)
-exact_unknown text (Ok e) h = tt
-exact_unknown text (Err fault) h = λ word is. refused_for text (UnknownTag word) (subst (λ (f : FilterFault). Reads (Err f) (parsed text)) is h)
+-- two fronts of one text: the longer goes on with the byte behind the other
+longer : (front back front' back' : List ℕ) → front ++ back ≡ front' ++ back' → length front < length front' → (b : ℕ) × (more : List ℕ) × (front' ≡ front ++ b ∷ more) × (back ≡ b ∷ (more ++ back'))
+longer [] back [] back' same less = absurd (omega (arith, less))
+longer [] back (b ∷ more) back' same less = (b, more, refl, same)
+longer (a ∷ front) back [] back' same less = absurd (omega (arith, less))
+longer (a ∷ front) back (b ∷ front') back' same less =
+    let head : a ≡ b = cc in
+    let tail : front ++ back ≡ front' ++ back' = cc in
+    let rest = longer front back front' back' tail (omega (arith, less)) in
+    (rest.0, rest.1, ap (λ (t : List ℕ). b ∷ t) rest.2 ∙ ap (λ (c : ℕ). c ∷ (front ++ rest.0 ∷ rest.1)) (sym head), rest.3)
 
-pub exact_deep : (text : List ℕ) (r : Result Expression FilterFault) → Reads r (parsed text) → IfErr r (λ fault. fault ≡ TooDeep → GoesTooDeep text)
-exact_deep text (Ok e) h = tt
-exact_deep text (Err fault) h = λ is. refused_for text TooDeep (subst (λ (f : FilterFault). Reads (Err f) (parsed text)) is h)
+begins_shorter : (front front' more : List ℕ) (b : ℕ) → front' ≡ front ++ b ∷ more → BeginsFilter front' → BeginsFilter (front ++ b ∷ [])
+begins_shorter front front' more b is begins =
+    (more ++ begins.0, begins.1, subst (λ (t : List ℕ). Spells t begins.1) (ap (λ (t : List ℕ). t ++ begins.0) is ∙ append_assoc front (b ∷ more) begins.0 ∙ sym (append_assoc front (b ∷ []) (more ++ begins.0))) begins.2)
+
+not_longer : (text : List ℕ) (k n : ℕ) (h : IsLongestFront text k) (h' : IsLongestFront text n) → length h.front < length h'.front → ⊥
+not_longer text k n h h' less =
+    let more = longer h.front h.back h'.front h'.back (sym h.parts ∙ h'.parts) less in
+    h.longest more.0 (more.1 ++ h'.back) more.3 (begins_shorter h.front h'.front more.1 more.0 more.2 h'.begins)
+
+one_place : (text : List ℕ) (k n : ℕ) → IsLongestFront text k → IsLongestFront text n → k ≡ n
+one_place text k n h h' =
+    let not_less = not_longer text k n h h' in
+    let not_more = not_longer text n k h' h in
+    let at = h.at in let at' = h'.at in
+    omega (arith, not_less, not_more, at, at')
+
+-- an answer is what is read
+syntax_read : (text : List ℕ) (k : ℕ) (r : Result Expression FilterFault) → parsed text ≡ r → IsFirstFault text (Syntax k) → Err (Syntax k) ≡ r
+syntax_read text k (Ok e) h is = let says = said text e h in absurd (is.0.no_filter says.0 says.1)
+syntax_read text k (Err (Syntax n)) h is = ap (λ (m : ℕ). Err (Syntax m)) (one_place text k n is.0 (fault_at_longest text n h))
+syntax_read text k (Err (UnknownTag word)) h is = absurd (is.1 word (refused_for text (UnknownTag word) h))
+syntax_read text k (Err TooDeep) h is = absurd (is.2 (refused_for text TooDeep h))
+syntax_read text k (Err NoMemory) h is = absurd (refused_for text NoMemory h)
+
+answer_read : (text : List ℕ) (r : Result Expression FilterFault) → IsAnswer text r → r ≡ parsed text
+answer_read text (Ok e) is = sym (says_read text e is)
+answer_read text (Err (Syntax k)) is = syntax_read text k (parsed text) refl is
+answer_read text (Err (UnknownTag word)) is = sym (unknown_first text word is)
+answer_read text (Err TooDeep) is = sym (deep_first text is)
+answer_read text (Err NoMemory) is = elim is [ ]
+
+reads_or : (r exact : Result Expression FilterFault) → Reads r exact → OrNoMemory r exact
+reads_or (Ok e) exact h = inr (sym h)
+reads_or (Err (Syntax k)) exact h = inr (sym h)
+reads_or (Err (UnknownTag word)) exact h = inr (sym h)
+reads_or (Err TooDeep) exact h = inr (sym h)
+reads_or (Err NoMemory) exact h = inl refl
+
+pub read_answers : (text : List ℕ) (r : Result Expression FilterFault) → Reads r (parsed text) → (r ≡ Err NoMemory) ⊎ IsAnswer text r
+read_answers text r h = elim (reads_or r (parsed text) h) [ inl none ↦ inl none | inr same ↦ inr (is_answer text r (sym same)) ]
+
+pub read_only : (text : List ℕ) (r : Result Expression FilterFault) → Reads r (parsed text) → (exact : Result Expression FilterFault) → IsAnswer text exact → OrNoMemory r exact
+read_only text r h exact is = subst (OrNoMemory r) (sym (answer_read text exact is)) (reads_or r (parsed text) h)
+
+pub has_one_answer : (text : List ℕ) → HasOneAnswer text
+has_one_answer text = record { answer = parsed text; is = is_answer text (parsed text) refl; only = answer_read text }

@@ -511,7 +511,7 @@ CausesNext text (Ok next) = Unit {0}
 CausesNext text (Err Syntax) = Unit {0}
 CausesNext text (Err (UnknownTag word)) = NamesNothing text word
 CausesNext text (Err TooDeep) = GoesTooDeep text
-CausesNext text (Err NoMemory) = Unit {0}
+CausesNext text (Err NoMemory) = ⊥
 
 record Causes (text : List ℕ) (r : Result (Place × List Frame) Stop) : Type 0 where
   is : CausesNext text r
@@ -618,14 +618,14 @@ abbrev pub HasCause : List ℕ → FilterFault → Type 0
 HasCause text (SyntaxFault k) = Unit {0}
 HasCause text (UnknownFault word) = NamesNothing text word
 HasCause text DeepFault = GoesTooDeep text
-HasCause text MemoryFault = Unit {0}
+HasCause text MemoryFault = ⊥
 
 fault_cause : (n : ℕ) (text : List ℕ) (s : Stop) → CausesNext text (Err s) → HasCause text (fault_at n s)
 unfolding CausesNext
 fault_cause n text Syntax h = tt
 fault_cause n text (UnknownTag word) h = h
 fault_cause n text TooDeep h = h
-fault_cause n text NoMemory h = tt
+fault_cause n text NoMemory h = h
 
 word_end_cause : (n : ℕ) (name : Option Named) (word : List ℕ) (frames : List Frame) (text outer : List ℕ) (fault : FilterFault) → named_of word ≡ name → Opens true frames text outer → outer ≡ word ++ [] → AreLetters word → 0 < length word
     → word_at_end n name word ≡ Err fault → HasCause text fault

@@ -1,11 +1,12 @@
 -- What is spelled by the grammar is read as its expression.
-use Rattle.std.proofs.Common.{◌≡◌, ℕ, suc, ◌+◌, ◌<◌, ◌≤◌, nat_le, Bool, true, false, List, [], ◌∷◌, ◌++◌, length, codes, is_some, Ok, refl, sym, subst, ◌∙◌, arith}
+use Rattle.std.proofs.Common.{◌≡◌, ℕ, suc, ◌+◌, ◌<◌, ◌≤◌, nat_le, Bool, true, false, List, [], ◌∷◌, ◌++◌, length, codes, is_some, Result, Ok, refl, sym, subst, ◌∙◌, arith}
 use Rattle.std.proofs.lemmas.Bool.Decides.{nat_tests}
 use Rattle.filters.specs.declared.place.Frame.{Frame}
 use Rattle.filters.specs.declared.place.Frame.TheVariants.{Whole, Negated, First as FirstFrame, Next}
 use Rattle.filters.specs.declared.place.Goal.TheVariants.{Compared, Base as BaseGoal}
 use Rattle.filters.specs.declared.place.Place.{Place}
 use Rattle.filters.specs.declared.place.Place.TheVariants.{Start, Opened, Bang, Done, Joined, BehindJoined, And, BehindAnd, Finished}
+use Rattle.filters.specs.declared.reading.FilterFault.{FilterFault}
 use Rattle.filters.specs.Expressions.{Expression, Negation, Both}
 use Rattle.filters.specs.Words.{field_named}
 use Rattle.filters.specs.Machine.{run, step, opened, closed}
@@ -31,7 +32,7 @@ end_place false e = Done e
 low : (n : ℕ) → n < 32 → nat_le 32 n ≡ false
 low n h = grind (arith, nat_tests)
 
-opens : (strict : Bool) (frame : Frame) (frames : List Frame) → Room strict (length frames) → opened strict frame frames ≡ Ok (Opened, frame ∷ frames)
+pub opens : (strict : Bool) (frame : Frame) (frames : List Frame) → Room strict (length frames) → opened strict frame frames ≡ Ok (Opened, frame ∷ frames)
 opens true frame frames room = rw (low (length frames) (room refl)) refl
 opens false frame frames room = refl
 
@@ -44,7 +45,7 @@ joined_closes : (strict : Bool) (e : Expression) (frames : List Frame) → (step
 unfolding step
 joined_closes strict e frames = (refl, refl)
 
-joined_end : (strict : Bool) (f : Expression) (frames : List Frame) (spaces more rest : List ℕ) (next : Place) (outer : List Frame) (e : Expression) → AreSpaces spaces → more ≡ 41 ∷ rest → closed f frames ≡ Ok (next, outer)
+joined_end : (strict : Bool) (f : Expression) (frames : List Frame) (spaces more rest : List ℕ) (next : Place) (outer : List Frame) (e : Result Expression FilterFault) → AreSpaces spaces → more ≡ 41 ∷ rest → closed f frames ≡ Ok (next, outer)
     → Reaches strict next outer rest e → Reaches strict (Joined f) frames (spaces ++ more) e
 unfolding step
 joined_end strict f frames [] more rest next outer e are ends closes r = rw ends (by_byte strict (Joined f) frames 41 rest next outer e ((joined_closes strict f frames).0 ∙ closes) r)
@@ -52,22 +53,22 @@ joined_end strict f frames (b ∷ bs) more rest next outer e are ends closes r =
     rw are.0 (by_byte strict (Joined f) frames 32 (bs ++ more) (BehindJoined f) frames e refl
     (spaces_reach strict (BehindJoined f) frames (bs ++ more) more e refl (bs, refl, are.1) (rw ends (by_byte strict (BehindJoined f) frames 41 rest next outer e ((joined_closes strict f frames).1 ∙ closes) r))))
 
-ends : (strict joined : Bool) (f : Expression) (frames : List Frame) (text more rest : List ℕ) (next : Place) (outer : List Frame) (e : Expression) → Spaces text more → more ≡ 41 ∷ rest → closed f frames ≡ Ok (next, outer)
+ends : (strict joined : Bool) (f : Expression) (frames : List Frame) (text more rest : List ℕ) (next : Place) (outer : List Frame) (e : Result Expression FilterFault) → Spaces text more → more ≡ 41 ∷ rest → closed f frames ≡ Ok (next, outer)
     → Reaches strict next outer rest e → Reaches strict (end_place joined f) frames text e
 unfolding step
 ends strict true f frames text more rest next outer e spaces last closes r = subst (λ (t : List ℕ). Reaches strict (Joined f) frames t e) (sym spaces.1) (joined_end strict f frames spaces.0 more rest next outer e spaces.2 last closes r)
 ends strict false f frames text more rest next outer e spaces last closes r =
     spaces_reach strict (Done f) frames text more e refl spaces (rw last (by_byte strict (Done f) frames 41 rest next outer e (done_closes strict f frames ∙ closes) r))
 
-bang : (strict : Bool) (frames : List Frame) → (step strict Opened frames 33 ≡ Ok (Bang, frames)) × (step strict Bang frames 40 ≡ opened strict Negated frames)
+pub bang : (strict : Bool) (frames : List Frame) → (step strict Opened frames 33 ≡ Ok (Bang, frames)) × (step strict Bang frames 40 ≡ opened strict Negated frames)
 unfolding step
 bang strict frames = (refl, refl)
 
-first_opens : (strict : Bool) (frames : List Frame) → step strict Opened frames 40 ≡ opened strict FirstFrame frames
+pub first_opens : (strict : Bool) (frames : List Frame) → step strict Opened frames 40 ≡ opened strict FirstFrame frames
 unfolding step
 first_opens strict frames = refl
 
-and_reach : (strict : Bool) (f : Expression) (frames : List Frame) (gap word behind next : List ℕ) (e : Expression) → Gap gap word → word ≡ codes "AND" ++ behind → Gap behind next
+pub and_reach : (strict : Bool) (f : Expression) (frames : List Frame) (gap word behind next : List ℕ) (e : Result Expression FilterFault) → Gap gap word → word ≡ codes "AND" ++ behind → Gap behind next
     → Reaches strict (BehindAnd f) frames next e → Reaches strict (Joined f) frames gap e
 unfolding step
 and_reach strict f frames gap word behind next e before is after r =
@@ -75,27 +76,27 @@ and_reach strict f frames gap word behind next e before is after r =
     (rw is (by_byte strict (BehindJoined f) frames 65 _ (And f 1) frames e refl (by_byte strict (And f 1) frames 78 _ (And f 2) frames e refl (by_byte strict (And f 2) frames 68 behind (And f 3) frames e refl
     (gap_reach strict (And f 3) (BehindAnd f) frames behind next e refl refl after r)))))
 
-next_opens : (strict : Bool) (f : Expression) (frames : List Frame) → step strict (BehindAnd f) frames 40 ≡ opened strict (Next f) frames
+pub next_opens : (strict : Bool) (f : Expression) (frames : List Frame) → step strict (BehindAnd f) frames 40 ≡ opened strict (Next f) frames
 unfolding step
 next_opens strict f frames = refl
 
-whole_opens : (strict : Bool) (frames : List Frame) → step strict Start frames 40 ≡ opened strict Whole frames
+pub whole_opens : (strict : Bool) (frames : List Frame) → step strict Start frames 40 ≡ opened strict Whole frames
 unfolding step
 whole_opens strict frames = refl
 
-at_joined : (b : Body) (strict : Bool) (frames : List Frame) (text : List ℕ) (e : Expression) → is_joined b ≡ true → Reaches strict (Joined (meaning b)) frames text e → Reaches strict (end_place (is_joined b) (meaning b)) frames text e
+pub at_joined : (b : Body) (strict : Bool) (frames : List Frame) (text : List ℕ) (e : Result Expression FilterFault) → is_joined b ≡ true → Reaches strict (Joined (meaning b)) frames text e → Reaches strict (end_place (is_joined b) (meaning b)) frames text e
 at_joined b strict frames text e is r = rw is r
 
-stays_opened : (strict : Bool) (frames : List Frame) → step strict Opened frames 32 ≡ Ok (Opened, frames)
+pub stays_opened : (strict : Bool) (frames : List Frame) → step strict Opened frames 32 ≡ Ok (Opened, frames)
 unfolding step
 stays_opened strict frames = refl
 
 -- a form that is read so in this parenthesis
-abbrev ReadsInside : Body → Bool → List Frame → Expression → Type 0
+abbrev ReadsInside : Body → Bool → List Frame → Result Expression FilterFault → Type 0
 ReadsInside b strict frames e = (text rest : List ℕ) → IsBody b text rest → Reaches strict (end_place (is_joined b) (meaning b)) frames rest e → Reaches strict Opened frames text e
 
 -- a parenthesis of such a form: from the byte that opens it up to what follows it
-parentheses_reach : (b : Body) (strict : Bool) (place : Place) (frame : Frame) (frames : List Frame) (text rest : List ℕ) (next : Place) (e : Expression)
+parentheses_reach : (b : Body) (strict : Bool) (place : Place) (frame : Frame) (frames : List Frame) (text rest : List ℕ) (next : Place) (e : Result Expression FilterFault)
     → step strict place frames 40 ≡ opened strict frame frames → Room strict (length frames) → ReadsInside b strict (frame ∷ frames) e → InParentheses (IsBody b) text rest → closed (meaning b) (frame ∷ frames) ≡ Ok (next, frames)
     → Reaches strict next frames rest e → Reaches strict place frames text e
 parentheses_reach b strict place frame frames text rest next e opening room inside is closes r =
@@ -104,7 +105,7 @@ parentheses_reach b strict place frame frames text rest next e opening room insi
     (spaces_reach strict Opened (frame ∷ frames) is.0 is.1 e (stays_opened strict (frame ∷ frames)) is.5
     (inside is.1 is.2 is.6 (ends strict (is_joined b) (meaning b) (frame ∷ frames) is.2 is.3 rest next frames e is.7 is.8 closes r))))
 
-body_reach : (b : Body) (strict : Bool) (frames : List Frame) (e : Expression) → Allowed strict (length frames) b → ReadsInside b strict frames e
+pub body_reach : (b : Body) (strict : Bool) (frames : List Frame) (e : Result Expression FilterFault) → Allowed strict (length frames) b → ReadsInside b strict frames e
 body_reach (Comparison word test string) strict frames e allowed = λ text rest is r.
     subst (λ (t : List ℕ). Reaches strict Opened frames t e) (sym is.2)
     (word_reach strict false word frames is.0 e is.3 (operator_reach strict word (field_of (field_named word)) test frames is.0 is.1 e (tag_names strict word is.3.2 allowed) is.4
@@ -124,14 +125,14 @@ body_reach (Then j b) strict frames e allowed = λ text rest is r.
     (parentheses_reach b strict (BehindAnd (meaning j)) (Next (meaning j)) frames is.4 rest (Joined (Both (meaning j) (meaning b))) e (next_opens strict (meaning j) frames) allowed.1
     (body_reach b strict (Next (meaning j) ∷ frames) e allowed.2) is.9 refl r)))
 
-finished : (strict : Bool) (e : Expression) → Reaches strict (Finished e) [] [] e
+finished : (strict : Bool) (e : Expression) → Reaches strict (Finished e) [] [] (Ok e)
 unfolding run
 finished strict e = λ n. refl
 
 -- a whole text of such a form
-pub spelled_is_read : (strict : Bool) (text : List ℕ) (b : Body) → Spells text b → Allowed strict 1 b → Reaches strict Start [] text (meaning b)
+pub spelled_is_read : (strict : Bool) (text : List ℕ) (b : Body) → Spells text b → Allowed strict 1 b → Reaches strict Start [] text (Ok (meaning b))
 spelled_is_read strict text b spells allowed =
-    parentheses_reach b strict Start Whole [] text [] (Finished (meaning b)) (meaning b) (whole_opens strict []) (λ _. omega arith) (body_reach b strict (Whole ∷ []) (meaning b) allowed) spells refl (finished strict (meaning b))
+    parentheses_reach b strict Start Whole [] text [] (Finished (meaning b)) (Ok (meaning b)) (whole_opens strict []) (λ _. omega arith) (body_reach b strict (Whole ∷ []) (Ok (meaning b)) allowed) spells refl (finished strict (meaning b))
 
 depth_some : (b : Body) → 0 < depth b
 depth_some (Comparison word test string) = omega arith

@@ -8,4 +8,5 @@ pub mod GrammarAt
 pub mod Live
 pub mod Keeps
 pub mod Longest
+pub mod FirstFault
 pub mod Exact

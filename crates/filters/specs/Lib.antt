@@ -7,3 +7,4 @@ pub mod Machine
 pub mod Truth
 pub mod Pairs
 pub mod Grammar
+pub mod Answers

@@ -14,4 +14,4 @@ pub use expression::{Field, Filter, Test};
 pub use matching::Case;
 pub use pairs::Pair;
 pub use place::MAX_DEPTH;
-pub use reading::{FilterFault, longest_front};
+pub use reading::{FilterFault, one_answer};

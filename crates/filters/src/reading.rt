@@ -1,9 +1,10 @@
 //! Filters as they are written (MPD protocol reference, Filters).
-ghost use Rattle.std.specs.Prelude.{◌≡◌, List, ℕ, Ok, Err, IfOk, IfErr};
+ghost use Rattle.std.specs.Prelude.{◌≡◌, ◌⊎◌, List, ℕ, Result, Err};
 ghost use Rattle.std.specs.Str.{IsUtf8};
 ghost use Rattle.filters.specs.Expressions.{Expression};
-ghost use Rattle.filters.specs.Grammar.{Says, IsLongestFront, NamesNothing, GoesTooDeep};
-ghost use Rattle.filters.specs.declared.reading.FilterFault.TheVariants.{Syntax, UnknownTag, TooDeep};
+ghost use Rattle.filters.specs.Answers.{IsAnswer, OrNoMemory, HasOneAnswer};
+ghost use Rattle.filters.specs.declared.reading.FilterFault.{FilterFault as Fault};
+ghost use Rattle.filters.specs.declared.reading.FilterFault.TheVariants.{NoMemory};
 ghost use Rattle.filters.specs.Machine.{parsed, Reads, fault_at, ending, CanEnd};
 
 use crate::expression::Filter;
@@ -49,27 +50,18 @@ impl<T: Drop> From<AllocFailed<T>> for FilterFault {
 impl Filter {
     /// The filter that a text is, or the first fault from the left.
     pub fn parse(alloc: Global, text: &str) -> Result<Filter, FilterFault>
-        // The expression is one that the text says.
-        ensures found { IfOk result (λ filter. Says text.now filter) }
-        // A text that says an expression is not refused, unless memory runs out, and says no other.
-        ensures only { (e : Expression) → Says text.now e → Reads result (Ok e) }
-        // A fault of syntax stands behind the longest front with which some filter begins.
-        ensures syntax { IfErr result (λ fault. (k : ℕ) → fault ≡ Syntax k → IsLongestFront text.now k) }
-        // An unknown tag is a whole word where a tag is wanted, and nothing in front of it is faulty.
-        ensures unknown { IfErr result (λ fault. (word : List ℕ) → fault ≡ UnknownTag word → NamesNothing text.now word) }
-        // Too deep is where one parenthesis opens inside 32, and nothing in front of it is faulty.
-        ensures deep { IfErr result (λ fault. fault ≡ TooDeep → GoesTooDeep text.now) }
-        // Which answer it is.
-        ensures exact { Reads result (parsed text.now) }
+        // It is the text's expression, or its first fault from the left, by the grammar.
+        ensures answer { (result ≡ Err NoMemory) ⊎ IsAnswer text.now result }
+        // A text is refused for nothing else, and says nothing else.
+        ensures only { (exact : Result Expression Fault) → IsAnswer text.now exact → OrNoMemory result exact }
     {
         read(alloc, text.as_bytes())
     }
 }
 
-/// A law: where reading stops for syntax stands the longest front of the text with which some filter begins, and
-/// the text is no filter. A caller has it by a call.
-pub fn longest_front()
-    ensures { (text : List ℕ) (k : ℕ) → parsed text ≡ Err (Syntax k) → IsLongestFront text k }
+/// A law: by the grammar each text has exactly one answer. A caller has it by a call.
+pub fn one_answer()
+    ensures { (text : List ℕ) → HasOneAnswer text }
 {}
 
 /// The filter that the bytes of a text are.

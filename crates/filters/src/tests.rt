@@ -1,6 +1,6 @@
 ghost use Rattle.std.specs.Prelude.{◌≡◌};
 
-use crate::{Case, Filter, FilterFault, MAX_DEPTH, Pair, Test, longest_front};
+use crate::{Case, Filter, FilterFault, MAX_DEPTH, Pair, Test, one_answer};
 use mpd_text::{Song, Tag, TagName, Text};
 use std::alloc::{AllocError, Global};
 use std::test::Fail;
@@ -116,6 +116,8 @@ fn faults(rt: HostRuntime) -> Result<(), Fail> {
         ("(Artiste == 'x')", "unknown tag Artiste"),
         ("(foo)", "unknown tag foo"),
         ("(foo", "unknown tag foo"),
+        ("(foo = 'x')", "unknown tag foo"),
+        ("(title = (foo == 'x'))", "bad filter at byte 8"),
     ] {
         let told = find(rt.alloc(), text, Case::Heeded)?;
         assert_eq!(rt; told.as_str(), want, "of {text}");
@@ -125,7 +127,7 @@ fn faults(rt: HostRuntime) -> Result<(), Fail> {
 
 #[test]
 fn depths(rt: HostRuntime) -> Result<(), Fail> {
-    longest_front();
+    one_answer();
     for (depth, text, want) in [
         (MAX_DEPTH, "", "bad filter at byte 32"),
         (MAX_DEPTH + 1, "", "filter too deep"),

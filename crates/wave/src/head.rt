@@ -56,7 +56,8 @@ impl Head {
     pub fn into_tags(self) -> Vec<Tag>
         ensures { result ≡ self.tags }
     {
-        self.tags
+        let Head { tags, .. } = self;
+        tags
     }
 
     /// Where the first frame begins, in bytes from the front of the file.
