@@ -71,20 +71,20 @@ refusal_of_set name = if is_sticker_name name then None else Some BadName
 abbrev pub refusal_of_sticker : Maps → List ℕ → List ℕ → Option ShelfFault
 refusal_of_sticker m uri name = if is_some (m.stickers uri name) then None else Some NoSticker
 
--- Success means that nothing refuses, and a named refusal is the one that does; want of memory and the store's own failure may take its place.
+-- Success means that nothing refuses, and a named refusal is the one that does; want of memory, and the store where it answered an error, may take its place.
 abbrev pub Answers : {X : Type 0} → Type 0 → Option ShelfFault → Result X ShelfFault → Type 0
-Answers can_fail refusal (Ok x) = refusal ≡ None
-Answers can_fail refusal (Err NoMemory) = Unit {0}
-Answers can_fail refusal (Err StoreFault) = can_fail
-Answers can_fail refusal (Err e) = refusal ≡ Some e
+Answers failed refusal (Ok x) = refusal ≡ None
+Answers failed refusal (Err NoMemory) = Unit {0}
+Answers failed refusal (Err StoreFault) = failed
+Answers failed refusal (Err e) = refusal ≡ Some e
 
 -- the same for the call that takes all stickers of a URI: one must be there
 abbrev pub AnswersAll : {X : Type 0} → Type 0 → (List ℕ → Option (List ℕ)) → Result X ShelfFault → Type 0
-AnswersAll can_fail named (Ok x) = (name : List ℕ) × IsSome (named name)
-AnswersAll can_fail named (Err NoMemory) = Unit {0}
-AnswersAll can_fail named (Err StoreFault) = can_fail
-AnswersAll can_fail named (Err NoSticker) = (name : List ℕ) → named name ≡ None
-AnswersAll can_fail named (Err e) = ⊥
+AnswersAll failed named (Ok x) = (name : List ℕ) × IsSome (named name)
+AnswersAll failed named (Err NoMemory) = Unit {0}
+AnswersAll failed named (Err StoreFault) = failed
+AnswersAll failed named (Err NoSticker) = (name : List ℕ) → named name ≡ None
+AnswersAll failed named (Err e) = ⊥
 
 -- the keys of a map, each once, by rising bytes
 pub record AreKeys {X : Type 0} (f : List ℕ → Option X) (keys : List (List ℕ)) : Type 0 where

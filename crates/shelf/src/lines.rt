@@ -7,7 +7,7 @@ ghost use Rattle.shelf.specs.Lines.{text_of, lines_of, are_single_lines as singl
 use std::alloc::{AllocError, AllocFailed, Global};
 
 /// The URIs, each followed by a newline.
-pub(crate) fn text_of_lines(alloc: Global, uris: &[String]) -> Result<String, AllocError>
+pub fn text_of_lines(alloc: Global, uris: &[String]) -> Result<String, AllocError>
     ensures { IfOk result (λ text. string_bytes text ≡ text_of (map string_bytes uris.now)) }
 {
     let mut text = String::new(alloc);
@@ -19,7 +19,7 @@ pub(crate) fn text_of_lines(alloc: Global, uris: &[String]) -> Result<String, Al
 }
 
 /// The lines of a text, without their newlines. What stands after the last newline is no line.
-pub(crate) fn lines_of_text(alloc: Global, text: &str) -> Result<Vec<String>, AllocError>
+pub fn lines_of_text(alloc: Global, text: &str) -> Result<Vec<String>, AllocError>
     ensures { IfOk result (λ lines. map string_bytes lines.items ≡ lines_of text.now) }
 {
     let mut lines = Vec::new(alloc);

@@ -38,7 +38,7 @@ impl MemShelf {
 impl Shelf for MemShelf {
     ghost standing = { λ s. memory_standing s.lists s.stickers };
 
-    ghost can_fail = { ⊥ };
+    ghost failed = { λ old new. ⊥ };
 
     ghost settled = { λ s m clean ours opened left. absurd left };
 

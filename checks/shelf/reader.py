@@ -1,0 +1,68 @@
+"""Reads with sqlite3 the files that a shelf wrote, once closed and once left open, with its log beside it.
+
+Usage: reader.py PROGRAM     (shelf_bench, which reader.sh builds)
+Right are: the lists and stickers below, by their bytes, number 1 in the profile, and `PRAGMA integrity_check` with `ok`.
+The exit status is 1 where one differs.
+"""
+import os
+import subprocess
+import sys
+import tempfile
+
+SOME = ['folder/%d.wav' % number for number in range(3)]
+LISTS = {
+    'b': [],
+    'B': SOME,
+    'it\'s "so"': SOME,
+    'é 音楽': SOME,
+    'new': SOME,
+    'long': ['folder/%d.wav' % number for number in range(16384)],
+}
+STICKERS = {
+    ('a.wav', 'rating'): '6',
+    ('a\0b.wav', '\0n'): 'v\0w\0',
+    ("'; DROP TABLE list; --", '"n"'): "it''s",
+    ('é.wav', 'Ω'): '🎵\n',
+    ('empty.wav', 'n'): '',
+}
+
+
+def coded(*texts):
+    return '|'.join(text.encode().hex().upper() for text in texts)
+
+
+def rows(path, query):
+    asked = subprocess.run(['sqlite3', '-batch', path, query], capture_output=True, text=True, timeout=60)
+    return asked.stdout.splitlines() + asked.stderr.splitlines()
+
+
+def check(path):
+    """The name of each check, and whether it holds."""
+    lists = [coded(name, ''.join(uri + '\n' for uri in uris)) for name, uris in LISTS.items()]
+    stickers = [coded(uri, name, value) for (uri, name), value in STICKERS.items()]
+    # the text's bytes in order, as sqlite3's own index gives them
+    yield 'lists', rows(path, 'SELECT hex(name), hex(uris) FROM list ORDER BY name') == sorted(lists)
+    by_uri = 'SELECT hex(uri), hex(name), hex(value) FROM sticker ORDER BY uri, name'
+    yield 'stickers', rows(path, by_uri) == sorted(stickers)
+    yield 'types', rows(path, "SELECT DISTINCT typeof(uri), typeof(name), typeof(value) FROM sticker") == ['text|text|text']
+    yield 'profile', rows(path, 'SELECT one, number FROM profile') == ['1|1']
+    yield 'tables', rows(path, "SELECT name FROM sqlite_schema WHERE type = 'table' ORDER BY name") == ['list', 'profile', 'sticker']
+    yield 'integrity_check', rows(path, 'PRAGMA integrity_check') == ['ok']
+
+
+def main():
+    program, failed = sys.argv[1], 0
+    print(subprocess.run(['sqlite3', '--version'], capture_output=True, text=True).stdout.split()[0] + ' of sqlite3')
+    for word, count in (('closed', '1'), ('left open', '0')):
+        with tempfile.TemporaryDirectory() as folder:
+            path = os.path.join(folder, 'shelf.db')
+            subprocess.run([program, 'fill', path, count], check=True, capture_output=True, timeout=120)
+            log = sum(os.path.getsize(os.path.join(folder, name)) for name in os.listdir(folder) if name != 'shelf.db')
+            for name, holds in check(path):
+                failed += not holds
+                print('%-12s %8d bytes of log   %-16s %s' % (word, log, name, 'as written' if holds else 'FAILED'))
+    print('%d failed' % failed)
+    return 1 if failed else 0
+
+
+sys.exit(main())

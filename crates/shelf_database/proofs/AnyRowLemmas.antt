@@ -1,0 +1,79 @@
+-- Where a query shows a row, one passes, and where it shows none, none passes.
+use Rattle.std.proofs.Common.{◌≡◌, inl, inr, ℕ, List, [], ◌∷◌, filter, find, length, slice_get, Bool, true, ◌&&◌, Some, None, option_map, is_some, IsSome, refl, sym, ap, subst, ◌∙◌, arith}
+use Rattle.std.proofs.lemmas.List.{length-map}
+use Rattle.std.specs.List.{list_all}
+use Rattle.std.proofs.lemmas.Bool.{cases_Bool, and_parts, and_from, true≢false}
+use Rattle.std.proofs.lemmas.Slice.Eq.{bytes_eq-Decides}
+use Rattle.std.proofs.lemmas.List.Sorted.{length_permutation}
+use Rattle.sqlite.specs.declared.types.Value.TheVariants.{Text}
+use Rattle.sqlite.specs.Order.{Row, column, bytes}
+use Rattle.sqlite.specs.Term.{Term, col, holds}
+use Rattle.sqlite.specs.Query.{IsAnswer, Output}
+use Rattle.sqlite.specs.Program.{overlay}
+use Rattle.sqlite.specs.Effect.{Database}
+use Rattle.sqlite_value.specs.declared.keys.Key.{Key}
+use Rattle.sqlite_rules.specs.Lists.{Has}
+use Rattle.sqlite_rules.proofs.ListLemmas.{has_filtered, has_got}
+use Rattle.shelf_database.specs.Tables.{has_text, maps_in}
+use Rattle.shelf_database.proofs.Statements.{over, equals, rising}
+use Rattle.shelf_database.proofs.ReadLemmas.{IsRead, answer_is, shows}
+use Rattle.shelf_database.proofs.DeleteLemmas.{map_has, has_permuted, filtered_has}
+use Rattle.shelf_database.proofs.FindLemmas.{find_none}
+use Rattle.shelf_database.proofs.FoundLemmas.{mapped_some}
+use Rattle.shelf_database.proofs.TextLemmas.{one_test, same_bytes}
+
+no_items : {X : Type 0} (xs : List X) → length xs ≡ 0 → xs ≡ []
+no_items [] none = refl
+no_items (x ∷ xs) none = absurd (omega (arith, none))
+
+none_first : {X : Type 0} (xs : List X) → slice_get xs 0 ≡ None → length xs ≡ 0
+none_first [] none = refl
+none_first (x ∷ xs) none = absurd (cc)
+
+module _ (params : Row) (tree : ℕ) (terms project : List Term) (order : List (Term × Key)) (test : Row → Bool) (tests : (row : Row) → list_all (holds (params ∷ row ∷ [])) terms ≡ test row)
+    (found rows : List Row) (read : IsRead params tree terms project order test tests found rows) where
+  pub shown_from : (row : Row) → Has rows row → (r : Row) × Has found r × (row ≡ (shows params tree terms project order test tests r).1)
+  shown_from row h =
+      let out = map_has (λ (o : Output). o.1) read.sorted row (subst (λ xs. Has xs row) read.shown h) in
+      let from = map_has (shows params tree terms project order test tests) found out.0 (has_permuted _ read.sorted out.0 read.same out.1) in
+      (from.0, from.1, out.2 ∙ ap (λ (o : Output). o.1) from.2)
+
+  pub none_shown : slice_get rows 0 ≡ None → found ≡ []
+  none_shown none =
+      let shown : length rows ≡ length read.sorted = ap length read.shown ∙ length-map read.sorted (λ (o : Output). o.1) in
+      let same : length read.sorted ≡ length found = length_permutation _ _ read.same ∙ length-map found (shows params tree terms project order test tests) in
+      no_items found (omega (arith, shown, same, none_first rows none))
+
+some_passes : (p : Row → Bool) (rows : List Row) (row : Row) → Has rows row → p row ≡ true → is_some (find p rows) ≡ true
+some_passes p [] row h is = absurd h
+some_passes p (r ∷ rows) row h is = elim (cases_Bool (p r)) [
+  | inl here ↦ rw here refl
+  | inr other ↦ elim h [
+    | inl same ↦ absurd (true≢false (sym is ∙ ap p same ∙ other))
+    | inr later ↦ rw other (some_passes p rows row later is)
+  ]
+]
+
+none_passes : (p q : Row → Bool) (rows : List Row) → filter q rows ≡ [] → ((r : Row) → p r ≡ true → q r ≡ true) → find p rows ≡ None
+none_passes p q rows none within = find_none p rows (λ r h. elim (cases_Bool (p r)) [
+  | inl is ↦ absurd (subst (λ xs. Has xs r) none (filtered_has q rows r h (within r is)))
+  | inr other ↦ other
+])
+
+module _ (uri : List ℕ) (db : Database) (rows : List Row) (answer : IsAnswer (over 3 (equals 1 0 ∷ []) (col 1 2 ∷ col 1 3 ∷ []) (rising 2)) (overlay db.trees []) (Text uri ∷ []) rows) where
+  abbrev of_uri : IsRead (Text uri ∷ []) 3 (equals 1 0 ∷ []) (col 1 2 ∷ col 1 3 ∷ []) (rising 2) (has_text 1 uri) (one_test 1 uri) (filter (has_text 1 uri) (db.trees 3)) rows
+  of_uri = answer_is (Text uri ∷ []) 3 (equals 1 0 ∷ []) (col 1 2 ∷ col 1 3 ∷ []) (rising 2) (has_text 1 uri) (one_test 1 uri) (overlay db.trees []) rows answer
+
+  pub sticker_there : (row : Row) (name : List ℕ) → slice_get rows 0 ≡ Some row → column row 0 ≡ Text name → IsSome ((maps_in db.trees).stickers uri name)
+  sticker_there row name first read =
+      let from = shown_from (Text uri ∷ []) 3 (equals 1 0 ∷ []) (col 1 2 ∷ col 1 3 ∷ []) (rising 2) (has_text 1 uri) (one_test 1 uri) (filter (has_text 1 uri) (db.trees 3)) rows of_uri row (has_got rows 0 row first) in
+      let was = has_filtered (has_text 1 uri) (db.trees 3) from.0 from.1 in
+      let name_is : column from.0 2 ≡ Text name = sym (ap (λ r. column r 0) from.2) ∙ read in
+      let named : has_text 2 name from.0 ≡ true = rw name_is (same_bytes name name ∙ (bytes_eq-Decides name name).1 refl) in
+      mapped_some (λ r. bytes (column r 3)) (find (λ r. has_text 1 uri r && has_text 2 name r) (db.trees 3))
+      ∙ some_passes (λ r. has_text 1 uri r && has_text 2 name r) (db.trees 3) from.0 was.0 (and_from _ _ was.1 named)
+
+  pub no_sticker_there : slice_get rows 0 ≡ None → (name : List ℕ) → (maps_in db.trees).stickers uri name ≡ None
+  no_sticker_there first name =
+      let none = none_shown (Text uri ∷ []) 3 (equals 1 0 ∷ []) (col 1 2 ∷ col 1 3 ∷ []) (rising 2) (has_text 1 uri) (one_test 1 uri) (filter (has_text 1 uri) (db.trees 3)) rows of_uri first in
+      ap (option_map (λ r. bytes (column r 3))) (none_passes (λ r. has_text 1 uri r && has_text 2 name r) (has_text 1 uri) (db.trees 3) none (λ r is. (and_parts _ _ is).0))

@@ -1,0 +1,72 @@
+-- What a query by a whole key shows: the one row with the key, if there is one.
+use Rattle.std.proofs.Common.{◌≡◌, ℕ, List, [], ◌∷◌, map, find, length, slice_get, Bool, true, false, ◌&&◌, Some, None, Option, option_map, is_some, refl, ap, subst, ◌∙◌, arith}
+use Rattle.std.specs.Option.{option_to_list}
+use Rattle.std.specs.List.{list_all}
+use Rattle.std.proofs.lemmas.List.Sorted.{length_permutation}
+use Rattle.sqlite.specs.declared.types.Value.TheVariants.{Text}
+use Rattle.sqlite.specs.Order.{Row, column, bytes}
+use Rattle.sqlite.specs.Term.{Term, col, holds}
+use Rattle.sqlite.specs.Query.{IsAnswer, Output}
+use Rattle.sqlite.specs.Program.{overlay}
+use Rattle.sqlite.specs.Effect.{Database}
+use Rattle.sqlite.proofs.Callers.{one_permutation}
+use Rattle.shelf_database.specs.Tables.{has_text, IsShelf}
+use Rattle.shelf_database.proofs.Statements.{over, equals}
+use Rattle.shelf_database.proofs.ReadLemmas.{IsRead, answer_is, shows}
+use Rattle.shelf_database.proofs.TextLemmas.{one_test, two_tests}
+use Rattle.shelf_database.proofs.OnceLemmas.{found_once, once_list, once_sticker}
+
+abbrev pub shown_of : ℕ → Option Row → List Row
+shown_of at o = option_to_list (option_map (λ r. column r at ∷ []) o)
+
+module _ (params : Row) (tree at : ℕ) (terms : List Term) (test : Row → Bool) (tests : (row : Row) → list_all (holds (params ∷ row ∷ [])) terms ≡ test row) where
+  one_shown : (o : Option Row) (rows : List Row) → IsRead params tree terms (col 1 at ∷ []) [] test tests (option_to_list o) rows → rows ≡ shown_of at o
+  one_shown None rows read = at_none read.sorted read.shown (length_permutation _ _ read.same)
+    where
+      at_none : (sorted : List Output) → rows ≡ map (λ (o : Output). o.1) sorted → length sorted ≡ 0 → rows ≡ []
+      at_none [] shown none = shown
+      at_none (o ∷ more) shown none = absurd (omega (arith, none))
+  one_shown (Some r) rows read = read.shown ∙ ap (map (λ (o : Output). o.1)) (one_permutation (shows params tree terms (col 1 at ∷ []) [] test tests r) read.sorted read.same)
+
+pub list_shown : (name : List ℕ) (db : Database) (rows : List Row) → IsShelf db → IsAnswer (over 1 (equals 1 0 ∷ []) (col 1 2 ∷ []) []) (overlay db.trees []) (Text name ∷ []) rows
+    → rows ≡ shown_of 2 (find (has_text 1 name) (db.trees 1))
+list_shown name db rows is answer =
+    let read = answer_is (Text name ∷ []) 1 (equals 1 0 ∷ []) (col 1 2 ∷ []) [] (has_text 1 name) (one_test 1 name) (overlay db.trees []) rows answer in
+    let once = found_once (has_text 1 name) (db.trees 1) is.lists.rise (once_list name db is) in
+    one_shown (Text name ∷ []) 1 2 (equals 1 0 ∷ []) (has_text 1 name) (one_test 1 name) (find (has_text 1 name) (db.trees 1)) rows
+    (subst (λ found. IsRead (Text name ∷ []) 1 (equals 1 0 ∷ []) (col 1 2 ∷ []) [] (has_text 1 name) (one_test 1 name) found rows) once read)
+
+pub sticker_shown : (uri name : List ℕ) (db : Database) (rows : List Row) → IsShelf db → IsAnswer (over 3 (equals 1 0 ∷ equals 2 1 ∷ []) (col 1 3 ∷ []) []) (overlay db.trees []) (Text uri ∷ Text name ∷ []) rows
+    → rows ≡ shown_of 3 (find (λ row. has_text 1 uri row && has_text 2 name row) (db.trees 3))
+sticker_shown uri name db rows is answer =
+    let test : Row → Bool = λ row. has_text 1 uri row && has_text 2 name row in
+    let read = answer_is (Text uri ∷ Text name ∷ []) 3 (equals 1 0 ∷ equals 2 1 ∷ []) (col 1 3 ∷ []) [] test (two_tests uri name) (overlay db.trees []) rows answer in
+    let once = found_once test (db.trees 3) is.stickers.rise (once_sticker uri name db is) in
+    one_shown (Text uri ∷ Text name ∷ []) 3 3 (equals 1 0 ∷ equals 2 1 ∷ []) test (two_tests uri name) (find test (db.trees 3)) rows
+    (subst (λ found. IsRead (Text uri ∷ Text name ∷ []) 3 (equals 1 0 ∷ equals 2 1 ∷ []) (col 1 3 ∷ []) [] test (two_tests uri name) found rows) once read)
+
+-- the text of the first row is what was found
+pub first_text : (at : ℕ) (o : Option Row) (rows : List Row) (row : Row) (text : List ℕ) → rows ≡ shown_of at o → slice_get rows 0 ≡ Some row → column row 0 ≡ Text text → option_map (λ r. bytes (column r at)) o ≡ Some text
+first_text at None rows row text is first read = absurd (let f = rw is at first in cc)
+first_text at (Some r) rows row text is first read =
+    let f : Some (column r at ∷ []) ≡ Some row = rw is at first in
+    let same : (column r at ∷ []) ≡ row = cc in
+    let text_is : column r at ≡ Text text = ap (λ x. column x 0) same ∙ read in
+    ap Some (ap bytes text_is)
+
+pub none_found : (at : ℕ) (o : Option Row) (rows : List Row) → rows ≡ shown_of at o → slice_get rows 0 ≡ None → is_some o ≡ false
+none_found at None rows is first = refl
+none_found at (Some r) rows is first = absurd (let f = rw is at first in cc)
+
+pub some_found : (at : ℕ) (o : Option Row) (rows : List Row) (row : Row) → rows ≡ shown_of at o → slice_get rows 0 ≡ Some row → is_some o ≡ true
+some_found at None rows row is first = absurd (let f = rw is at first in cc)
+some_found at (Some r) rows row is first = refl
+
+pub mapped_some : {X Y : Type 0} (f : X → Y) (o : Option X) → is_some (option_map f o) ≡ is_some o
+mapped_some f None = refl
+mapped_some f (Some x) = refl
+
+-- there is a first row where something was found
+pub first_found : (at : ℕ) (o : Option Row) (rows : List Row) → rows ≡ shown_of at o → is_some (slice_get rows 0) ≡ is_some o
+first_found at None rows is = rw is refl
+first_found at (Some r) rows is = rw is refl

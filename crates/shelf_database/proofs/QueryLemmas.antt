@@ -1,0 +1,129 @@
+-- What a connection shows after a query, and a write behind it.
+use Rattle.std.proofs.Common.{◌≡◌, inl, inr, ℕ, List, [], Bool, false, sym, ap, subst, ◌∙◌, IsTrue, arith}
+use Rattle.sqlite.specs.declared.error.Error.{Error}
+use Rattle.sqlite.specs.declared.types.Value.TheVariants.{Null}
+use Rattle.sqlite.specs.Order.{Row}
+use Rattle.sqlite.specs.Tree.{Trees}
+use Rattle.sqlite.specs.Query.{Query, IsAnswer}
+use Rattle.sqlite.specs.Program.{overlay}
+use Rattle.sqlite.specs.Effect.{Database}
+use Rattle.sqlite.specs.Listing.{understood}
+use Rattle.sqlite.specs.State.{State, HasCleanDisk, Survives, Shown, FailsToQuery, CommitsShowing, IsUnchanged}
+use Rattle.sqlite.proofs.Callers.{IsPlain, reads_as, never_commits}
+use Rattle.shelf.specs.Maps.{Maps, Same, Turns, Trusted}
+use Rattle.shelf_database.specs.Tables.{shelf_schema, maps_in, IsShelf, IsReady, Reads, database_standing}
+use Rattle.shelf_database.specs.Settled.{same_maps}
+use Rattle.shelf_database.proofs.Statements.{Reading}
+use Rattle.shelf_database.proofs.WriteLemmas.{IsAsBefore, unchanged_is, not_run}
+
+pub ready_same : (old new : State) → IsReady old → IsUnchanged old new → IsReady new
+ready_same old new ready same = record {
+  shelf = subst IsShelf (sym same.0.now_is) ready.shelf;
+  settled = same.0.now_is ∙ ready.settled ∙ sym same.0.committed_is;
+  autocommit = same.0.mode ∙ ready.autocommit;
+}
+
+module _ (text : List ℕ) (query : Query) (names : List (List ℕ)) (reading : Reading text query names) (params : Row) (old new : State) where
+  pub answer_of : IsReady old → (rows : List Row) → Shown text params old new rows → IsAnswer query (overlay old.now.trees []) params rows
+  answer_of ready rows h = (reads_as text params old new shelf_schema ready.shelf.schema _ reading.0 reading.2 reading.1 rows h).answer Null
+
+  shown_same : IsReady old → (rows : List Row) → Shown text params old new rows → IsUnchanged old new
+  unfolding Shown
+  shown_same ready rows h =
+      let known = sym h.1.is ∙ ap (λ s. understood s text) ready.shelf.schema in
+      let bare = subst IsPlain (sym known) reading.2 in
+      (rw bare.0 at h.2).3
+
+  plain_now : IsReady old → IsPlain (understood old.now.schema text)
+  plain_now ready = subst (λ s. IsPlain (understood s text)) (sym ready.shelf.schema) reading.2
+
+  pub leaves_same : Survives old new (CommitsShowing text params old) → HasCleanDisk new → IsReady old → (db : Trees) → new.may_leave db → old.may_leave db
+  leaves_same survives clean ready db left = elim (survives.crash clean db left) [
+    | inl before ↦ before
+    | inr commits ↦ absurd (never_commits text params old db (plain_now ready) commits)
+  ]
+
+  pub reads : (rows : List Row) → (HasCleanDisk new → Shown text params old new rows) → Survives old new (CommitsShowing text params old) → Reads old new
+  reads rows shown survives = record {
+    clean = λ h. omega (arith, survives.clean);
+    same = λ h ready. shown_same ready rows (shown h);
+    leaves = leaves_same survives;
+  }
+
+  pub failed_before : IsReady old → (e : Error) → FailsToQuery text params old new e → IsAsBefore old new
+  unfolding FailsToQuery
+  failed_before ready e (inl h) = not_run old new text params e h
+  failed_before ready e (inr h) =
+      let known = sym h.1.is ∙ ap (λ s. understood s text) ready.shelf.schema in
+      let bare = subst IsPlain (sym known) reading.2 in
+      unchanged_is old new (rw bare.0 at h.2).3
+
+  pub query_failed : (e : Error) (after : Maps) → (HasCleanDisk new → FailsToQuery text params old new e) → Survives old new (CommitsShowing text params old) → Turns (database_standing old) (database_standing new) false after
+  query_failed e after fails survives = record {
+    clean = λ h. omega (arith, survives.clean);
+    ours = λ trusted opened. (opened, (before trusted opened).0);
+    done = λ trusted is. absurd (cc);
+    kept = λ trusted is opened. same_maps _ _ (ap (λ (d : Database). maps_in d.trees) (sym (before trusted opened).1));
+    stop = λ trusted m left. inl (left.0, leaves_same survives trusted.0 trusted.1.1 left.0 left.1, left.2);
+  }
+    where
+      before : Trusted (database_standing old) (database_standing new) → IsTrue new.is_open → IsReady new × (new.now ≡ old.now)
+      before trusted opened =
+          let ready = trusted.1.1 in
+          let was = failed_before ready e (fails trusted.0) in
+          let now : new.now ≡ old.now = elim (was.now opened) [ inl same ↦ same | inr undone ↦ undone ∙ sym ready.settled ] in
+          let mode : new.in_transaction ≡ false = elim was.mode [ inl same ↦ same ∙ ready.autocommit | inr ended ↦ ended ] in
+          (record { shelf = subst IsShelf (sym now) ready.shelf; settled = now ∙ ready.settled ∙ sym (was.committed opened); autocommit = mode }, now)
+
+pub read_turns : (old new : State) (is_done : Bool) → Reads old new → Turns (database_standing old) (database_standing new) is_done (maps_in old.now.trees)
+read_turns old new is_done reads = record {
+  clean = reads.clean;
+  ours = λ trusted opened. (opened, ready_same old new trusted.1.1 (reads.same trusted.0 trusted.1.1));
+  done = λ trusted is. let same = reads.same trusted.0 trusted.1.1 in (same.0.is_open, same_maps _ _ (ap (λ (d : Database). maps_in d.trees) (sym same.0.now_is)));
+  kept = λ trusted is opened. let same = reads.same trusted.0 trusted.1.1 in same_maps _ _ (ap (λ (d : Database). maps_in d.trees) (sym same.0.now_is));
+  stop = λ trusted m left. inl (left.0, reads.leaves trusted.0 trusted.1.1 left.0 left.1, left.2);
+}
+
+-- refused after a query, whatever the call was to do
+pub refused_turns : (old new : State) (after : Maps) → Reads old new → Turns (database_standing old) (database_standing new) false after
+refused_turns old new after reads = let it = read_turns old new false reads in record {
+  clean = it.clean;
+  ours = it.ours;
+  done = λ trusted is. absurd (cc);
+  kept = it.kept;
+  stop = λ trusted m left. inl (left.0, reads.leaves trusted.0 trusted.1.1 left.0 left.1, left.2);
+}
+
+pub read_then : (old mid new : State) (is_done : Bool) (after : Maps) → Reads old mid → Turns (database_standing mid) (database_standing new) is_done after → Turns (database_standing old) (database_standing new) is_done after
+read_then old mid new is_done after reads turns = record {
+  clean = λ h. reads.clean (turns.clean h);
+  ours = λ trusted. turns.ours (trust trusted);
+  done = λ trusted. turns.done (trust trusted);
+  kept = λ trusted is opened. subst (λ (d : Database). Same (maps_in d.trees) (maps_in new.now.trees)) (same trusted).0.now_is (turns.kept (trust trusted) is opened);
+  stop = λ trusted m left. elim (turns.stop (trust trusted) m left) [
+    | inl before ↦ inl (before.0, reads.leaves (turns.clean trusted.0) trusted.1.1 before.0 before.1, before.2)
+    | inr done ↦ inr done
+  ];
+}
+  where
+    same : Trusted (database_standing old) (database_standing new) → IsUnchanged old mid
+    same trusted = reads.same (turns.clean trusted.0) trusted.1.1
+
+    trust : Trusted (database_standing old) (database_standing new) → Trusted (database_standing mid) (database_standing new)
+    trust trusted = (trusted.0, ((same trusted).0.is_open, ready_same old mid trusted.1.1 (same trusted)))
+
+-- the same where what the write makes is told of the maps that it found
+pub read_then_by : (old mid new : State) (is_done : Bool) (f : Maps → Maps) → Reads old mid → Turns (database_standing mid) (database_standing new) is_done (f (maps_in mid.now.trees)) → Turns (database_standing old) (database_standing new) is_done (f (maps_in old.now.trees))
+read_then_by old mid new is_done f reads turns = let it = read_then old mid new is_done (f (maps_in mid.now.trees)) reads turns in record {
+  clean = it.clean;
+  ours = it.ours;
+  done = λ trusted is. let made = it.done trusted is in (made.0, subst (λ (d : Database). Same (f (maps_in d.trees)) (maps_in new.now.trees)) (same trusted).0.now_is made.1);
+  kept = it.kept;
+  stop = λ trusted m left. elim (it.stop trusted m left) [
+    | inl before ↦ inl before
+    | inr made ↦ inr (subst (λ (d : Database). Same (f (maps_in d.trees)) m) (same trusted).0.now_is made)
+  ];
+}
+  where
+    same : Trusted (database_standing old) (database_standing new) → IsUnchanged old mid
+    same trusted = reads.same (turns.clean trusted.0) trusted.1.1

@@ -1,0 +1,15 @@
+use Rattle.std.proofs.Common.{Ok}
+use Rattle.sqlite.specs.Source.TheVariants.{Values}
+use Rattle.sqlite.specs.Command.TheVariants.{Insert}
+use Rattle.sqlite.specs.Held.{state}
+use Rattle.shelf_database.specs.Opens.{profile_schema, HasProfile, HasNumber}
+use Rattle.shelf_database.proofs.MakingLemmas.{leads, kept_at}
+use Rattle.shelf_database.proofs.TablesLemmas.{number_text, one_row, number_means, notes_number}
+use Rattle.shelf_database.proofs.profile.note_number.Goals as goal
+
+pub returns-clause-leads : goal.returns-clause-leads
+returns-clause-leads g c =
+    let old = c.args.transaction.now.conn.now in
+    let new = c.execute.new.self.conn.now in
+    leads HasProfile HasNumber profile_schema (λ db has. has.0) number_text (Insert 0 (Values one_row 3)) number_means (λ old new text count ran. ran) notes_number (state g.S.Store old) (state g.S.Store new)
+    (Ok c.in_ok-execute.field-0) c.in_ok-execute.ensures.runs (λ outside. kept_at g.S.Store old new (c.in_ok-execute.ensures.ended outside).1) c.execute.ensures.survives

@@ -1,0 +1,4 @@
+pub mod Faults
+pub mod Opens
+pub mod Settled
+pub mod Tables

@@ -1,0 +1,91 @@
+-- What an open of a shelf makes of a connection.
+use Rattle.std.specs.Prelude.{◌≡◌, ◌⊎◌, ℕ, ℤ, pos, Bool, false, List, [], ◌∷◌, Option, Some, None, IsSome, IsTrue}
+use Rattle.sqlite.specs.declared.types.Value.{Value}
+use Rattle.sqlite.specs.declared.types.Value.TheVariants.{Int}
+use Rattle.sqlite.specs.Order.{Row, column}
+use Rattle.sqlite.specs.Tree.{Trees}
+use Rattle.sqlite.specs.Schema.{Schema}
+use Rattle.sqlite.specs.Change.{created}
+use Rattle.sqlite.specs.Effect.{Database, IsDatabase}
+use Rattle.sqlite.specs.State.{State, HasCleanDisk, KeepsCommit, Survives}
+use Rattle.sqlite.specs.Disk.{MoreFaults}
+use Rattle.shelf.specs.declared.faults.ShelfFault.{ShelfFault}
+use Rattle.shelf.specs.declared.faults.ShelfFault.TheVariants.{StoreFault}
+use Rattle.shelf.specs.Maps.{Maps, Same, no_maps}
+use Rattle.shelf_database.specs.Tables.{no_schema, shelf_schema, profile_table, list_table, maps_in, IsReady, database_standing}
+
+-- a connection outside a transaction, over a database without tables
+pub record IsBlank (s : State) : Type 0 where
+  pub schema : s.now.schema ≡ no_schema
+  pub sound : IsDatabase s.now
+  pub settled : s.now ≡ s.committed
+  pub autocommit : s.in_transaction ≡ false
+
+-- what a shelf finds there: nothing, or the maps of its tables
+abbrev pub Holds : State → Maps → Type 0
+Holds s maps = (IsBlank s × (maps ≡ no_maps)) ⊎ (IsReady s × (maps ≡ maps_in s.now.trees))
+
+abbrev pub int_in : Value → Option ℤ
+int_in (Int n) = Some n
+int_in _ = None
+
+-- the integer at this place of the one row
+abbrev pub number_of : ℕ → List Row → Option ℤ
+number_of at [] = None
+number_of at (row ∷ []) = int_in (column row at)
+number_of at (row ∷ other ∷ more) = None
+
+-- the number of the profile
+abbrev pub profile_number : Trees → Option ℤ
+profile_number trees = number_of 2 (trees 0)
+
+-- The open shows the maps that were there, or changes nothing while the store is open; a stop during it leaves them too. Tables that are there are only read.
+pub record Opens (old new : State) (is_done : Bool) : Type 0 where
+  pub clean : HasCleanDisk new → HasCleanDisk old
+  pub done : HasCleanDisk new → (maps : Maps) → Holds old maps → IsTrue is_done → (database_standing new).IsOurs × Same maps (maps_in new.now.trees)
+  pub number : HasCleanDisk new → (maps : Maps) → Holds old maps → IsTrue is_done → profile_number new.now.trees ≡ Some (pos 1)
+  pub kept : HasCleanDisk new → (maps : Maps) → Holds old maps → is_done ≡ false → IsTrue new.is_open → new.now ≡ old.now
+  pub spared : HasCleanDisk new → IsReady old → IsTrue new.is_open → new.now ≡ old.now
+  pub stop : HasCleanDisk new → (maps : Maps) → Holds old maps → (m : Maps) → (database_standing new).MayLeave m → (database_standing old).MayLeave m ⊎ Same maps m
+
+-- the store failed, or it was shut, or the steps of a statement are bounded
+abbrev pub HasFailed : State → State → Type 0
+HasFailed old new = MoreFaults old.faults new.faults ⊎ ((old.is_open ≡ false) ⊎ IsSome old.step_limit)
+
+-- Tables whose number is 1 are refused for that alone, or for want of memory.
+abbrev pub IsBlamed : State → State → ShelfFault → Type 0
+IsBlamed old new fault = HasCleanDisk new → IsReady old → profile_number old.now.trees ≡ Some (pos 1) → fault ≡ StoreFault → HasFailed old new
+
+-- ---- the tables, made one after another
+
+-- A step inside a transaction leads from such a database to such a one, if it is done. It commits nothing.
+pub record Leads (Before After : Database → Type 0) (old new : State) (is_done : Bool) : Type 0 where
+  pub done : HasCleanDisk new → IsTrue is_done → IsTrue old.in_transaction → Before old.now → IsTrue new.in_transaction × After new.now
+  pub kept : HasCleanDisk new → KeepsCommit old new
+  pub survives : Survives old new (λ _. ⊥)
+
+abbrev pub profile_schema : Schema
+profile_schema = created no_schema profile_table
+
+abbrev pub list_schema : Schema
+list_schema = created profile_schema list_table
+
+abbrev pub HasNothing : Database → Type 0
+HasNothing db = db.schema ≡ no_schema
+
+abbrev pub HasProfile : Database → Type 0
+HasProfile db = (db.schema ≡ profile_schema) × (db.trees 0 ≡ [])
+
+abbrev pub HasNumber : Database → Type 0
+HasNumber db = (db.schema ≡ profile_schema) × (profile_number db.trees ≡ Some (pos 1))
+
+abbrev pub HasLists : Database → Type 0
+HasLists db = (db.schema ≡ list_schema) × (profile_number db.trees ≡ Some (pos 1)) × (db.trees 1 ≡ [])
+
+-- the tables of a shelf, with no list and no sticker
+pub record HasTables (db : Database) : Type 0 where
+  pub schema : db.schema ≡ shelf_schema
+  pub sound : IsDatabase db
+  pub number : profile_number db.trees ≡ Some (pos 1)
+  pub lists : db.trees 1 ≡ []
+  pub stickers : db.trees 3 ≡ []

@@ -1,0 +1,135 @@
+-- The tables of a shelf in a database, and the two maps that they hold (this profile's tables of stored playlists and stickers).
+use Rattle.std.specs.Prelude.{true, false, Bool, ◌&&◌, [], ◌∷◌, Some, None, Option, option_map, find, codes, List, ℕ, pos, IsTrue, ◌≡◌}
+use Rattle.std.specs.List.{AllByRecursion}
+use Rattle.std.specs.Ordering.{is_eq}
+use Rattle.sqlite.specs.Collation.TheVariants.{Binary}
+use Rattle.sqlite.specs.declared.types.Value.TheVariants.{Null, Int, Text as Words}
+use Rattle.sqlite.specs.Order.{Row, column, bytes, value_cmp}
+use Rattle.sqlite.specs.Tree.{Trees, IsTable, rowid}
+use Rattle.sqlite.specs.View.{is_int}
+use Rattle.sqlite.specs.Table.{Table}
+use Rattle.sqlite.specs.Term.{lit, col, op2}
+use Rattle.sqlite_sql.specs.declared.ops.BinaryOp.TheVariants.{Compare}
+use Rattle.sqlite_sql.specs.declared.ops.CompareOp.TheVariants.{Eq}
+use Rattle.sqlite_schema.specs.declared.schema.Column.{Column}
+use Rattle.sqlite.specs.Schema.{Schema}
+use Rattle.sqlite.specs.Change.{created}
+use Rattle.sqlite.specs.Effect.{Database, IsDatabase}
+use Rattle.sqlite.specs.Kind.TheVariants.{Integer, Text}
+use Rattle.sqlite.specs.State.{State, HasCleanDisk, IsUnchanged}
+use Rattle.shelf.specs.Lines.{lines_of}
+use Rattle.shelf.specs.Maps.{Maps, Standing}
+
+abbrev text_column : List ℕ → Column
+text_column name = record { name = name; kind = Text; is_strict = false; not_null = true; default = Null; collation = Binary }
+
+abbrev pub profile_table : Table
+profile_table = record {
+  name = codes "profile";
+  tree = 0;
+  columns = record { name = codes "one"; kind = Integer; is_strict = false; not_null = false; default = Null; collation = Binary }
+      ∷ record { name = codes "number"; kind = Integer; is_strict = false; not_null = true; default = Null; collation = Binary } ∷ [];
+  key = Some 0;
+  primary = 0 ∷ [];
+  uniques = [];
+  orders = [];
+  checks = op2 (Compare Eq Binary) (col 1 0) (lit (Int (pos 1))) ∷ [];
+  references = [];
+  computed = [];
+  stamps = record { places = []; terms = []; formats = [] };
+  is_counted = false;
+}
+
+abbrev pub list_table : Table
+list_table = record {
+  name = codes "list";
+  tree = 0;
+  columns = text_column (codes "name") ∷ text_column (codes "uris") ∷ [];
+  key = None;
+  primary = 1 ∷ [];
+  uniques = (1 ∷ []) ∷ [];
+  orders = record { digits = 0 } ∷ [];
+  checks = [];
+  references = [];
+  computed = [];
+  stamps = record { places = []; terms = []; formats = [] };
+  is_counted = false;
+}
+
+abbrev pub sticker_table : Table
+sticker_table = record {
+  name = codes "sticker";
+  tree = 0;
+  columns = text_column (codes "uri") ∷ text_column (codes "name") ∷ text_column (codes "value") ∷ [];
+  key = None;
+  primary = 1 ∷ 2 ∷ [];
+  uniques = (1 ∷ 2 ∷ []) ∷ [];
+  orders = record { digits = 0 } ∷ [];
+  checks = [];
+  references = [];
+  computed = [];
+  stamps = record { places = []; terms = []; formats = [] };
+  is_counted = false;
+}
+
+abbrev pub no_schema : Schema
+no_schema = record { tables = []; indexes = []; views = [] }
+
+-- the tables as they are made one after another: profile has tree 0, list 1, sticker 3
+abbrev pub shelf_schema : Schema
+shelf_schema = created (created (created no_schema profile_table) list_table) sticker_table
+
+-- the two tables with their trees
+abbrev pub placed_list : Table
+placed_list = record list_table { tree = 1 }
+
+abbrev pub placed_sticker : Table
+placed_sticker = record sticker_table { tree = 3 }
+
+-- a row whose column has the text
+abbrev pub has_text : ℕ → List ℕ → Row → Bool
+has_text at text row = is_eq (value_cmp (column row at) (Words text))
+
+-- the text of a column in the row that passes the test
+abbrev pub text_where : ℕ → (Row → Bool) → List Row → Option (List ℕ)
+text_where at test rows = option_map (λ row. bytes (column row at)) (find test rows)
+
+abbrev pub maps_in : Trees → Maps
+maps_in trees = record {
+  lists = λ name. option_map lines_of (text_where 2 (has_text 1 name) (trees 1));
+  stickers = λ uri name. text_where 3 (λ row. has_text 1 uri row && has_text 2 name row) (trees 3);
+}
+
+-- the rows of a table, in the order of their rowids
+pub record AreRows (rows : List Row) : Type 0 where
+  pub rise : IsTable rows
+  pub keyed : AllByRecursion (λ row. IsTrue (is_int (rowid row))) rows
+
+-- a database with the tables of a shelf and no others
+pub record IsShelf (db : Database) : Type 0 where
+  pub schema : db.schema ≡ shelf_schema
+  pub sound : IsDatabase db
+  pub lists : AreRows (db.trees 1)
+  pub stickers : AreRows (db.trees 3)
+
+-- a connection outside a transaction, over such a database
+pub record IsReady (s : State) : Type 0 where
+  pub shelf : IsShelf s.now
+  pub settled : s.now ≡ s.committed
+  pub autocommit : s.in_transaction ≡ false
+
+-- a query that showed its rows
+pub record Reads (old new : State) : Type 0 where
+  pub clean : HasCleanDisk new → HasCleanDisk old
+  pub same : HasCleanDisk new → IsReady old → IsUnchanged old new
+  pub leaves : HasCleanDisk new → IsReady old → (db : Trees) → new.may_leave db → old.may_leave db
+
+-- what a shelf over a connection shows
+abbrev pub database_standing : State → Standing
+database_standing s = record {
+  maps = maps_in s.now.trees;
+  IsClean = HasCleanDisk s;
+  IsOurs = IsTrue s.is_open × IsReady s;
+  is_open = s.is_open;
+  MayLeave = λ m. (trees : Trees) × s.may_leave trees × (m ≡ maps_in trees);
+}

@@ -1,0 +1,282 @@
+//! A shelf over a database.
+
+ghost use Rattle.std.specs.Prelude.{◌≡◌, ◌⊎◌, List, ℕ, None, OnOk, OnErr, IfOk, IfErr, IsSome, is_some, true, false};
+ghost use Rattle.sqlite.specs.State.{HasCleanDisk};
+ghost use Rattle.shelf.specs.Maps.{Maps, Turns};
+ghost use Rattle.sqlite.specs.Held.{state};
+ghost use Rattle.shelf.specs.declared.faults.ShelfFault.{ShelfFault};
+ghost use Rattle.shelf_database.specs.Tables.{database_standing, maps_in, IsReady, Reads};
+ghost use Rattle.shelf_database.specs.Opens.{Opens, IsBlamed};
+ghost use Rattle.shelf_database.specs.Settled.{settled_maps};
+ghost use Rattle.shelf_database.specs.Faults.{Refuses, StatementFails, StoreFailed};
+
+use crate::profile::make_ready;
+use crate::rows::{entries_of, texts_of};
+use shelf::{
+    Entry, Shelf, ShelfFault, is_list_name, is_sticker_name, lines_of_text, text_of_lines,
+};
+use sqlite::{Alter, Connection, Error, ErrorCode, params};
+use std::alloc::Global;
+
+/// A shelf that keeps its maps in the tables of a database.
+#[derive(Drop)]
+pub struct SqlShelf<S: Alter + Drop> {
+    alloc: Global,
+    connection: Connection<S>,
+}
+
+pub(crate) fn fault(error: Error) -> ShelfFault
+    ensures named { (result ≡ ShelfFault.NoMemory) ⊎ (result ≡ ShelfFault.StoreFault) }
+    ensures memory { error ≡ Error.SqliteFailure ErrorCode.OutOfMemory → result ≡ ShelfFault.NoMemory }
+{
+    match error {
+        Error::SqliteFailure(ErrorCode::OutOfMemory) => ShelfFault::NoMemory,
+        _ => ShelfFault::StoreFault,
+    }
+}
+
+impl<S: Alter + Drop> SqlShelf<S> {
+    /// A shelf over the database of a connection outside a transaction. A database without tables gets those of the profile.
+    /// The connection comes back with `StoreFault` where making them or reading the profile's number is refused, or it is
+    /// another number.
+    pub fn over(
+        alloc: Global,
+        mut connection: Connection<S>,
+    ) -> Result<SqlShelf<S>, (ShelfFault, Connection<S>)>
+        ensures opened { IfOk result (λ shelf. Opens (state S.Store connection) (state S.Store shelf.connection) true) }
+        ensures refused { IfErr result (λ left. Opens (state S.Store connection) (state S.Store left.1) false) }
+        ensures named { IfErr result (λ left. (left.0 ≡ ShelfFault.NoMemory) ⊎ (left.0 ≡ ShelfFault.StoreFault)) }
+        ensures blamed { IfErr result (λ left. IsBlamed (state S.Store connection) (state S.Store left.1) left.0) }
+        ensures outside { OnOk result ((state S.Store connection).in_transaction ≡ false) }
+    {
+        match make_ready(&mut connection) {
+            Ok(()) => Ok(SqlShelf { alloc, connection }),
+            Err(fault) => Err((fault, connection)),
+        }
+    }
+
+    /// The connection, with all that was kept committed.
+    pub fn into_connection(self) -> Connection<S>
+        ensures { result ≡ self.connection }
+    {
+        let SqlShelf {
+            alloc: _,
+            connection,
+        } = self;
+        connection
+    }
+}
+
+/// Whether a list has the name. A query that fails leaves the maps, whatever the call was to do.
+fn has_list<S: Alter>(connection: &mut Connection<S>, name: &str) -> Result<bool, ShelfFault>
+    ensures reads { OnOk result (Reads (state S.Store connection.old) (state S.Store connection.new)) }
+    ensures found { HasCleanDisk (state S.Store connection.new) → IsReady (state S.Store connection.old) → IfOk result (λ is_there. is_there ≡ is_some ((maps_in (state S.Store connection.old).now.trees).lists name.now)) }
+    ensures failed { (after : Maps) → OnErr result (Turns (database_standing (state S.Store connection.old)) (database_standing (state S.Store connection.new)) false after) }
+    ensures named { IfErr result (λ fault. (fault ≡ ShelfFault.NoMemory) ⊎ (fault ≡ ShelfFault.StoreFault)) }
+    ensures fault { HasCleanDisk (state S.Store connection.new) → IfErr result (λ fault. fault ≡ ShelfFault.StoreFault → StatementFails (state S.Store connection.old) (state S.Store connection.new)) }
+{
+    match connection.query_all("SELECT uris FROM list WHERE name = ?1", params![name]) {
+        Ok(rows) => Ok(rows.first().is_some()),
+        Err(error) => Err(fault(error)),
+    }
+}
+
+/// Whether the URI has a sticker of the name. A query that fails leaves the maps, whatever the call was to do.
+fn has_sticker<S: Alter>(
+    connection: &mut Connection<S>,
+    uri: &str,
+    name: &str,
+) -> Result<bool, ShelfFault>
+    ensures reads { OnOk result (Reads (state S.Store connection.old) (state S.Store connection.new)) }
+    ensures found { HasCleanDisk (state S.Store connection.new) → IsReady (state S.Store connection.old) → IfOk result (λ is_there. is_there ≡ is_some ((maps_in (state S.Store connection.old).now.trees).stickers uri.now name.now)) }
+    ensures failed { (after : Maps) → OnErr result (Turns (database_standing (state S.Store connection.old)) (database_standing (state S.Store connection.new)) false after) }
+    ensures named { IfErr result (λ fault. (fault ≡ ShelfFault.NoMemory) ⊎ (fault ≡ ShelfFault.StoreFault)) }
+    ensures fault { HasCleanDisk (state S.Store connection.new) → IfErr result (λ fault. fault ≡ ShelfFault.StoreFault → StatementFails (state S.Store connection.old) (state S.Store connection.new)) }
+{
+    match connection.query_all(
+        "SELECT value FROM sticker WHERE uri = ?1 AND name = ?2",
+        params![uri, name],
+    ) {
+        Ok(rows) => Ok(rows.first().is_some()),
+        Err(error) => Err(fault(error)),
+    }
+}
+
+/// Whether the URI has a sticker. A query that fails, or a name that is no text, leaves the maps, whatever the call was to do.
+fn has_stickers<S: Alter>(connection: &mut Connection<S>, uri: &str) -> Result<bool, ShelfFault>
+    ensures reads { OnOk result (Reads (state S.Store connection.old) (state S.Store connection.new)) }
+    ensures found { HasCleanDisk (state S.Store connection.new) → IsReady (state S.Store connection.old) → IfOk result (λ is_there. is_there ≡ true → (name : List ℕ) × IsSome ((maps_in (state S.Store connection.old).now.trees).stickers uri.now name)) }
+    ensures missing { HasCleanDisk (state S.Store connection.new) → IsReady (state S.Store connection.old) → IfOk result (λ is_there. is_there ≡ false → (name : List ℕ) → (maps_in (state S.Store connection.old).now.trees).stickers uri.now name ≡ None) }
+    ensures failed { (after : Maps) → OnErr result (Turns (database_standing (state S.Store connection.old)) (database_standing (state S.Store connection.new)) false after) }
+    ensures named { IfErr result (λ fault. (fault ≡ ShelfFault.NoMemory) ⊎ (fault ≡ ShelfFault.StoreFault)) }
+    ensures fault { HasCleanDisk (state S.Store connection.new) → IfErr result (λ fault. fault ≡ ShelfFault.StoreFault → Refuses (state S.Store connection.old) (state S.Store connection.new)) }
+{
+    let find = "SELECT name, value FROM sticker WHERE uri = ?1 ORDER BY name";
+    let rows = match connection.query_all(find, params![uri]) {
+        Ok(rows) => rows,
+        Err(error) => return Err(fault(error)),
+    };
+    let Some(row) = rows.first() else {
+        return Ok(false);
+    };
+    match row.get::<String>(0) {
+        Ok(_) => Ok(true),
+        Err(error) => Err(fault(error)),
+    }
+}
+
+impl<S: Alter + Drop> Shelf for SqlShelf<S> {
+    ghost standing = { λ s. database_standing (state S.Store s.connection) };
+
+    ghost failed = { λ old new. StoreFailed S.Store old.connection new.connection };
+
+    ghost settled = { λ s m clean ours opened left. settled_maps _ m (λ is_open trees left. S.Store.settled s.connection.store trees is_open left) ours.1 opened left };
+
+    fn lists(&mut self) -> Result<Vec<String>, ShelfFault> {
+        match self
+            .connection
+            .query_all("SELECT name FROM list ORDER BY name", &[])
+        {
+            Ok(rows) => texts_of(self.alloc, &rows),
+            Err(error) => Err(fault(error)),
+        }
+    }
+
+    fn list(&mut self, name: &str) -> Result<Vec<String>, ShelfFault> {
+        let rows = match self
+            .connection
+            .query_all("SELECT uris FROM list WHERE name = ?1", params![name])
+        {
+            Ok(rows) => rows,
+            Err(error) => return Err(fault(error)),
+        };
+        let Some(row) = rows.first() else {
+            return Err(ShelfFault::NoSuchList);
+        };
+        match row.get::<String>(0) {
+            Ok(text) => Ok(lines_of_text(self.alloc, text.as_str())?),
+            Err(error) => Err(fault(error)),
+        }
+    }
+
+    fn put(&mut self, name: &str, uris: &[String]) -> Result<(), ShelfFault> {
+        if !is_list_name(name) {
+            return Err(ShelfFault::BadName);
+        }
+        let text = text_of_lines(self.alloc, uris)?;
+        let put = "INSERT OR REPLACE INTO list (name, uris) VALUES (?1, ?2)";
+        match self.connection.execute(put, params![name, text.as_str()]) {
+            Ok(_) => Ok(()),
+            Err(error) => Err(fault(error)),
+        }
+    }
+
+    fn create(&mut self, name: &str, uris: &[String]) -> Result<(), ShelfFault> {
+        if has_list(&mut self.connection, name)? {
+            return Err(ShelfFault::Exists);
+        }
+        self.put(name, uris)
+    }
+
+    fn rename(&mut self, name: &str, new_name: &str) -> Result<(), ShelfFault> {
+        if !has_list(&mut self.connection, name)? {
+            return Err(ShelfFault::NoSuchList);
+        }
+        if has_list(&mut self.connection, new_name)? {
+            return Err(ShelfFault::Exists);
+        }
+        if !is_list_name(new_name) {
+            return Err(ShelfFault::BadName);
+        }
+        match self.connection.execute(
+            "UPDATE list SET name = ?2 WHERE name = ?1",
+            params![name, new_name],
+        ) {
+            Ok(_) => Ok(()),
+            Err(error) => Err(fault(error)),
+        }
+    }
+
+    fn remove(&mut self, name: &str) -> Result<(), ShelfFault> {
+        if !has_list(&mut self.connection, name)? {
+            return Err(ShelfFault::NoSuchList);
+        }
+        match self
+            .connection
+            .execute("DELETE FROM list WHERE name = ?1", params![name])
+        {
+            Ok(_) => Ok(()),
+            Err(error) => Err(fault(error)),
+        }
+    }
+
+    fn sticker(&mut self, uri: &str, name: &str) -> Result<String, ShelfFault> {
+        let find = "SELECT value FROM sticker WHERE uri = ?1 AND name = ?2";
+        let rows = match self.connection.query_all(find, params![uri, name]) {
+            Ok(rows) => rows,
+            Err(error) => return Err(fault(error)),
+        };
+        let Some(row) = rows.first() else {
+            return Err(ShelfFault::NoSticker);
+        };
+        match row.get::<String>(0) {
+            Ok(value) => Ok(value),
+            Err(error) => Err(fault(error)),
+        }
+    }
+
+    fn set_sticker(&mut self, uri: &str, name: &str, value: &str) -> Result<(), ShelfFault> {
+        if !is_sticker_name(name) {
+            return Err(ShelfFault::BadName);
+        }
+        let set = "INSERT OR REPLACE INTO sticker (uri, name, value) VALUES (?1, ?2, ?3)";
+        match self.connection.execute(set, params![uri, name, value]) {
+            Ok(_) => Ok(()),
+            Err(error) => Err(fault(error)),
+        }
+    }
+
+    fn delete_sticker(&mut self, uri: &str, name: &str) -> Result<(), ShelfFault> {
+        if !has_sticker(&mut self.connection, uri, name)? {
+            return Err(ShelfFault::NoSticker);
+        }
+        let delete = "DELETE FROM sticker WHERE uri = ?1 AND name = ?2";
+        match self.connection.execute(delete, params![uri, name]) {
+            Ok(_) => Ok(()),
+            Err(error) => Err(fault(error)),
+        }
+    }
+
+    fn delete_stickers(&mut self, uri: &str) -> Result<(), ShelfFault> {
+        if !has_stickers(&mut self.connection, uri)? {
+            return Err(ShelfFault::NoSticker);
+        }
+        match self
+            .connection
+            .execute("DELETE FROM sticker WHERE uri = ?1", params![uri])
+        {
+            Ok(_) => Ok(()),
+            Err(error) => Err(fault(error)),
+        }
+    }
+
+    fn stickers_of(&mut self, uri: &str) -> Result<Vec<Entry>, ShelfFault> {
+        match self.connection.query_all(
+            "SELECT name, value FROM sticker WHERE uri = ?1 ORDER BY name",
+            params![uri],
+        ) {
+            Ok(rows) => entries_of(self.alloc, &rows),
+            Err(error) => Err(fault(error)),
+        }
+    }
+
+    fn find_stickers(&mut self, name: &str) -> Result<Vec<Entry>, ShelfFault> {
+        match self.connection.query_all(
+            "SELECT uri, value FROM sticker WHERE name = ?1 ORDER BY uri",
+            params![name],
+        ) {
+            Ok(rows) => entries_of(self.alloc, &rows),
+            Err(error) => Err(fault(error)),
+        }
+    }
+}

@@ -1,0 +1,146 @@
+//! The tables of a shelf in a database: read where they are, made where there are none.
+
+ghost use Rattle.std.specs.Prelude.{◌≡◌, ◌≢◌, ◌⊎◌, ◌↔◌, pos, Some, IsTrue, IfOk, IfErr, OnOk, OnErr, is_ok, false};
+ghost use Rattle.sqlite.specs.Held.{state};
+ghost use Rattle.sqlite.specs.State.{HasCleanDisk};
+ghost use Rattle.shelf.specs.declared.faults.ShelfFault.{ShelfFault};
+ghost use Rattle.shelf_database.specs.Tables.{no_schema, IsReady, Reads};
+ghost use Rattle.shelf_database.specs.Opens.{Opens, IsBlamed, Leads, HasNothing, HasProfile, HasNumber, HasLists, HasTables, number_of, profile_number};
+
+use crate::database::fault;
+use shelf::ShelfFault;
+use sqlite::{Alter, Connection, Error, Row, Transaction};
+
+/// Makes the tables where there are none, or reads the number of the profile.
+pub(crate) fn make_ready<S: Alter>(connection: &mut Connection<S>) -> Result<(), ShelfFault>
+    ensures opens { Opens (state S.Store connection.old) (state S.Store connection.new) (is_ok result) }
+    ensures named { IfErr result (λ fault. (fault ≡ ShelfFault.NoMemory) ⊎ (fault ≡ ShelfFault.StoreFault)) }
+    ensures blamed { IfErr result (IsBlamed (state S.Store connection.old) (state S.Store connection.new)) }
+    ensures outside { OnOk result ((state S.Store connection.old).in_transaction ≡ false) }
+{
+    if !connection.is_autocommit() {
+        return Err(ShelfFault::StoreFault);
+    }
+    if !is_blank(connection) {
+        return read_number(connection);
+    }
+    match make_tables(connection) {
+        Ok(()) => Ok(()),
+        Err(error) => Err(fault(error)),
+    }
+}
+
+/// Whether the database has no table, nor anything else.
+fn is_blank<S: Alter>(connection: &Connection<S>) -> bool
+    ensures { IsTrue result ↔ ((state S.Store connection.now).now.schema ≡ no_schema) }
+{
+    let schema = connection.schema();
+    schema.tables.is_empty() && schema.indexes.is_empty() && schema.views.is_empty()
+}
+
+/// Reads the number of the profile, which has to be 1.
+fn read_number<S: Alter>(connection: &mut Connection<S>) -> Result<(), ShelfFault>
+    ensures opens { (state S.Store connection.old).now.schema ≢ no_schema → Opens (state S.Store connection.old) (state S.Store connection.new) (is_ok result) }
+    ensures named { IfErr result (λ fault. (fault ≡ ShelfFault.NoMemory) ⊎ (fault ≡ ShelfFault.StoreFault)) }
+    ensures blamed { IfErr result (IsBlamed (state S.Store connection.old) (state S.Store connection.new)) }
+{
+    let rows = numbers(connection)?;
+    is_one(&rows)
+}
+
+/// What the rows of the profile show.
+fn numbers<S: Alter>(connection: &mut Connection<S>) -> Result<Vec<Row>, ShelfFault>
+    ensures reads { OnOk result (Reads (state S.Store connection.old) (state S.Store connection.new)) }
+    ensures shown { HasCleanDisk (state S.Store connection.new) → IsReady (state S.Store connection.old) → IfOk result (λ rows. number_of 0 rows.items ≡ profile_number (state S.Store connection.old).now.trees) }
+    ensures failed { (state S.Store connection.old).now.schema ≢ no_schema → OnErr result (Opens (state S.Store connection.old) (state S.Store connection.new) false) }
+    ensures named { IfErr result (λ fault. (fault ≡ ShelfFault.NoMemory) ⊎ (fault ≡ ShelfFault.StoreFault)) }
+    ensures blamed { IfErr result (IsBlamed (state S.Store connection.old) (state S.Store connection.new)) }
+{
+    match connection.query_all("SELECT number FROM profile", &[]) {
+        Ok(rows) => Ok(rows),
+        Err(error) => Err(fault(error)),
+    }
+}
+
+/// Whether the one row shows the number 1.
+fn is_one(rows: &[Row]) -> Result<(), ShelfFault>
+    ensures refused { number_of 0 rows.now ≡ Some (pos 1) → IfErr result (λ fault. fault ≡ ShelfFault.NoMemory) }
+    ensures accepted { OnOk result (number_of 0 rows.now ≡ Some (pos 1)) }
+    ensures named { IfErr result (λ fault. (fault ≡ ShelfFault.NoMemory) ⊎ (fault ≡ ShelfFault.StoreFault)) }
+{
+    if rows.len() != 1 {
+        return Err(ShelfFault::StoreFault);
+    }
+    let Some(row) = rows.first() else {
+        return Err(ShelfFault::StoreFault);
+    };
+    match row.get::<i64>(0) {
+        Ok(1) => Ok(()),
+        Ok(_) => Err(ShelfFault::StoreFault),
+        Err(error) => Err(fault(error)),
+    }
+}
+
+/// Makes the tables, in one transaction.
+fn make_tables<S: Alter>(connection: &mut Connection<S>) -> Result<(), Error>
+    ensures opens { (state S.Store connection.old).now.schema ≡ no_schema → Opens (state S.Store connection.old) (state S.Store connection.new) (is_ok result) }
+{
+    if !connection.is_autocommit() {
+        return Err(Error::InvalidQuery);
+    }
+    let mut transaction = connection.transaction();
+    fill(&mut transaction)?;
+    transaction.commit()
+}
+
+/// The number stands before the other tables, which leave it as it is.
+fn fill<S: Alter>(transaction: &mut Transaction<'_, S>) -> Result<(), Error>
+    ensures same_reference { transaction.new.conn.ghost_name ≡ transaction.old.conn.ghost_name }
+    ensures leads { Leads HasNothing HasTables (state S.Store transaction.old.conn.now) (state S.Store transaction.new.conn.now) (is_ok result) }
+{
+    make_profile(transaction)?;
+    note_number(transaction)?;
+    make_lists(transaction)?;
+    make_stickers(transaction)
+}
+
+fn make_profile<S: Alter>(transaction: &mut Transaction<'_, S>) -> Result<(), Error>
+    ensures same_reference { transaction.new.conn.ghost_name ≡ transaction.old.conn.ghost_name }
+    ensures leads { Leads HasNothing HasProfile (state S.Store transaction.old.conn.now) (state S.Store transaction.new.conn.now) (is_ok result) }
+{
+    transaction.execute(
+        "CREATE TABLE profile (one INTEGER PRIMARY KEY CHECK (one = 1), number INTEGER NOT NULL)",
+        &[],
+    )?;
+    Ok(())
+}
+
+fn note_number<S: Alter>(transaction: &mut Transaction<'_, S>) -> Result<(), Error>
+    ensures same_reference { transaction.new.conn.ghost_name ≡ transaction.old.conn.ghost_name }
+    ensures leads { Leads HasProfile HasNumber (state S.Store transaction.old.conn.now) (state S.Store transaction.new.conn.now) (is_ok result) }
+{
+    transaction.execute("INSERT INTO profile (one, number) VALUES (1, 1)", &[])?;
+    Ok(())
+}
+
+fn make_lists<S: Alter>(transaction: &mut Transaction<'_, S>) -> Result<(), Error>
+    ensures same_reference { transaction.new.conn.ghost_name ≡ transaction.old.conn.ghost_name }
+    ensures leads { Leads HasNumber HasLists (state S.Store transaction.old.conn.now) (state S.Store transaction.new.conn.now) (is_ok result) }
+{
+    transaction.execute(
+        "CREATE TABLE list (name TEXT NOT NULL PRIMARY KEY, uris TEXT NOT NULL)",
+        &[],
+    )?;
+    Ok(())
+}
+
+fn make_stickers<S: Alter>(transaction: &mut Transaction<'_, S>) -> Result<(), Error>
+    ensures same_reference { transaction.new.conn.ghost_name ≡ transaction.old.conn.ghost_name }
+    ensures leads { Leads HasLists HasTables (state S.Store transaction.old.conn.now) (state S.Store transaction.new.conn.now) (is_ok result) }
+{
+    transaction.execute(
+        "CREATE TABLE sticker (uri TEXT NOT NULL, name TEXT NOT NULL, value TEXT NOT NULL, PRIMARY KEY (uri, name))",
+        &[],
+    )?;
+    Ok(())
+}
