@@ -58,7 +58,10 @@ fn names_are_looked_at(rt: HostRuntime) {
 fn lines_come_back(rt: HostRuntime) -> Result<(), Fail> {
     let uris = texts(rt.alloc(), &["a.wav", "", "é b.wav"])?;
     let text = text_of_lines(rt.alloc(), &uris)?;
-    wants(text.as_str() == "a.wav\n\né b.wav\n", "each URI and a newline")?;
+    wants(
+        text.as_str() == "a.wav\n\né b.wav\n",
+        "each URI and a newline",
+    )?;
     let lines = lines_of_text(rt.alloc(), "a.wav\n\né b.wav\nno line")?;
     are(&lines, &["a.wav", "", "é b.wav"], "the lines")
 }
