@@ -1,3 +1,4 @@
+pub mod Calls
 pub mod Entries
 pub mod Lines
 pub mod Maps

@@ -38,7 +38,7 @@ impl MemShelf {
 impl Shelf for MemShelf {
     ghost standing = { λ s. memory_standing s.lists s.stickers };
 
-    ghost failed = { λ old new. ⊥ };
+    ghost failed = { λ old new call. ⊥ };
 
     ghost settled = { λ s m clean ours opened left. absurd left };
 

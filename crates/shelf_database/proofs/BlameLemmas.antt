@@ -1,14 +1,18 @@
--- Why the number of a profile that is there may not be read.
-use Rattle.std.proofs.Common.{◌≡◌, ◌≢◌, inl, inr, ℕ, [], ◌∷◌, length, true, Ok, Err, Result, refl, sym, ap, subst, subst₂, ◌∙◌, arith}
+-- Why a query of the tables may be answered with an error.
+use Rattle.std.proofs.Common.{◌≡◌, ◌≢◌, ◌⊎◌, inl, inr, ℕ, List, [], ◌∷◌, length, true, Ok, Err, Result, refl, sym, ap, subst, subst₂, ◌∙◌, arith, append-nil}
+use Rattle.std.proofs.lemmas.Bool.{true≢false}
 use Rattle.sqlite.specs.declared.error.Error.{Error}
 use Rattle.sqlite.specs.declared.error.Error.TheVariants.{SqliteFailure}
 use Rattle.sqlite.specs.declared.error.ErrorCode.TheVariants as code
+use Rattle.sqlite.specs.declared.types.Value.TheVariants.{Text}
 use Rattle.sqlite_trees.specs.declared.error.StoreError.{StoreError}
 use Rattle.sqlite_trees.specs.declared.error.StoreError.TheVariants.{OutOfMemory, Io, Corrupt, Full, Broken, Unstorable}
-use Rattle.std.proofs.lemmas.Bool.{true≢false}
+use Rattle.sqlite.specs.Order.{Row}
 use Rattle.sqlite.specs.Tree.{Trees}
-use Rattle.sqlite.specs.Term.{col}
+use Rattle.sqlite.specs.Term.{Term, col}
+use Rattle.sqlite_value.specs.declared.keys.Key.{Key}
 use Rattle.sqlite.specs.Query.{Query}
+use Rattle.sqlite.specs.Schema.{Schema}
 use Rattle.sqlite.specs.Program.{ProgramOverflows}
 use Rattle.sqlite.specs.Effect.{Database, RefusesToRead}
 use Rattle.sqlite.specs.Listing.{understood, reads_listing, IsSourceOf}
@@ -19,72 +23,133 @@ use Rattle.sqlite_resolve.specs.declared.compiled.Compiled.{Compiled}
 use Rattle.sqlite_resolve.specs.declared.error.CompileError.{CompileError}
 use Rattle.sqlite_typing.specs.Types.{accepts_program}
 use Rattle.shelf_database.specs.Tables.{shelf_schema, IsReady}
-use Rattle.shelf_database.specs.Opens.{HasFailed}
-use Rattle.shelf_database.proofs.Statements.{over}
+use Rattle.shelf_database.specs.Faults.{HasFailed}
+use Rattle.shelf_database.proofs.Statements.{Reading, over, equals, rising, uris_text, uris_is, names_text, names_are, value_text, value_is, of_uri_text, of_uri_is, of_name_text, of_name_is}
 use Rattle.shelf_database.proofs.TablesLemmas.{asked_text, asked_is}
 
-abbrev asked : Query
-asked = over 0 [] (col 1 2 ∷ []) []
-
-abbrev tail_of : Result Compiled CompileError → ℕ
+abbrev pub tail_of : Result Compiled CompileError → ℕ
 tail_of (Ok c) = c.tail
 tail_of (Err e) = 0
 
-abbrev names_in : Result Compiled CompileError → ℕ
+abbrev pub names_in : Result Compiled CompileError → ℕ
 names_in (Ok c) = length c.names
 names_in (Err e) = 0
 
-asked_whole : (tail_of (understood shelf_schema asked_text) ≡ length asked_text) × (names_in (understood shelf_schema asked_text) ≡ 0)
+-- under the schema the text is one statement, which takes as many values as these
+abbrev pub IsWholeIn : Schema → List ℕ → Row → Type 0
+IsWholeIn schema text params = (tail_of (understood schema text) ≡ length text) × (names_in (understood schema text) ≡ length params)
+
+abbrev pub IsWhole : List ℕ → Row → Type 0
+IsWhole = IsWholeIn shelf_schema
+
+-- no sum is made over one table that is not grouped
+no_sum : (params : Row) (tree : ℕ) (filter project : List Term) (order : List (Term × Key)) (db : Trees) → ProgramOverflows db params [] [] (over tree filter project order) → ⊥
+no_sum params tree filter project order db (inl never) = never
+no_sum params tree filter project order db (inr some) = some.4
+
+-- why the store failed, or that the row is not stored
+pub cause_blamed : (old new : State) (big : Type 0) (cause : StoreError) (e : Error) → e ≡ store_error cause → e ≢ SqliteFailure code.OutOfMemory → HasCause old new big cause → HasFailed old new ⊎ big
+cause_blamed old new big OutOfMemory e is other h = absurd (other is)
+cause_blamed old new big Io e is other h = inl (inl h)
+cause_blamed old new big Corrupt e is other h = inl (inl h)
+cause_blamed old new big Full e is other h = inl (inl h)
+cause_blamed old new big Broken e is other h = inl (inr (inl h))
+cause_blamed old new big Unstorable e is other h = inr h
+
+pub failed_alone : (old new : State) → HasFailed old new ⊎ ⊥ → HasFailed old new
+failed_alone old new (inl failed) = failed
+failed_alone old new (inr never) = absurd never
+
+-- an error of the query means that the store failed; for a want of memory there is an answer of its own
+abbrev pub BlamesStore : List ℕ → Row → Type 1
+BlamesStore text params = (old new : State) (e : Error) → IsReady old → e ≢ SqliteFailure code.OutOfMemory → FailsToQuery text params old new e → HasFailed old new
+
+-- a statement that is understood, and is given its values, is run unless the store fails
+module _ (schema : Schema) (text : List ℕ) (params : Row) (plain : IsPlain (understood schema text)) (whole : IsWholeIn schema text params) (old new : State) (e : Error) (has : old.now.schema ≡ schema) where
+  pub known_now : understood old.now.schema text ≡ understood schema text
+  known_now = ap (λ schema. understood schema text) has
+
+  never_none : IsNoStatement old text params e → ⊥
+  never_none (inl h) = subst IsPlain (sym known_now ∙ h.1) plain
+  never_none (inr h) =
+      let it : Ok h.0 ≡ understood schema text = sym h.1 ∙ known_now in
+      let tail : h.0.tail ≡ length text = ap tail_of it ∙ whole.0 in
+      let taken : length h.0.names ≡ length params = ap names_in it ∙ whole.1 in
+      let bare = subst IsPlain (sym it) plain in
+      elim h.2 [
+        | inl cut ↦ cut.0 (omega (arith, tail))
+        | inr (inl given) ↦ given.0 (sym taken)
+        | inr (inr timed) ↦ timed.0 bare.1
+      ]
+
+  pub not_run_failed : e ≢ SqliteFailure code.OutOfMemory → IsNotRun old new text params e → HasFailed old new
+  unfolding IsNotRun
+  not_run_failed other (inl h) = absurd (never_none h.0)
+  not_run_failed other (inr h) = failed_alone old new (cause_blamed old new ⊥ h.0 e h.1 other h.2)
+
+-- such a query that sums nothing
+module _ (text : List ℕ) (query : Query) (names : List (List ℕ)) (reading : Reading text query names) (params : Row) (whole : IsWhole text params)
+    (typed : accepts_program shelf_schema [] query params ≡ true) (sums : (db : Trees) → ProgramOverflows db params [] [] query → ⊥) where
+  pub read_blamed : BlamesStore text params
+  unfolding FailsToQuery
+  read_blamed old new e ready other (inl h) = not_run_failed shelf_schema text params reading.2 whole old new e ready.shelf.schema other h
+  read_blamed old new e ready other (inr h) =
+      let it : Ok h.0 ≡ understood shelf_schema text = sym h.1.is ∙ known_now shelf_schema text params reading.2 whole old new e ready.shelf.schema in
+      let plain = subst IsPlain (sym it) reading.2 in
+      let shows = rw (plain.0, plain.1, append-nil params) at h.2 in
+      let db : shows.0 ≡ old.now = subst (λ b. IsSourceOf b old.now shows.0) (ap (λ s. reads_listing s text) ready.shelf.schema ∙ reading.1) shows.1 in
+      elim (subst₂ (λ k (d : Database). RefusesToRead old.step_limit k d params e) (ap command_of it ∙ reading.0) db shows.2) [
+        | inl mistyped ↦ absurd (true≢false (sym (ap (λ s. accepts_program s [] query params) ready.shelf.schema ∙ typed) ∙ mistyped.1))
+        | inr (inl sum) ↦ absurd (sums old.now.trees sum.1)
+        | inr (inr limited) ↦ inr (inr limited.1)
+      ]
+
+-- ---- the queries
+
+asked_whole : IsWhole asked_text []
 unfolding understood everything
 asked_whole = (refl, refl)
 
-asked_typed : accepts_program shelf_schema [] asked [] ≡ true
-asked_typed = refl
+pub query_blamed : BlamesStore asked_text []
+query_blamed = read_blamed asked_text (over 0 [] (col 1 2 ∷ []) []) _ asked_is [] asked_whole refl (no_sum [] 0 [] (col 1 2 ∷ []) [])
 
-no_sum : (db : Trees) → ProgramOverflows db [] [] [] asked → ⊥
-no_sum db (inl never) = never
-no_sum db (inr some) = some.4
+uris_whole : (name : List ℕ) → IsWhole uris_text (Text name ∷ [])
+unfolding understood everything
+uris_whole name = (refl, refl)
 
-cause_failed : (old new : State) (cause : StoreError) (e : Error) → e ≡ store_error cause → e ≢ SqliteFailure code.OutOfMemory → HasCause old new ⊥ cause → HasFailed old new
-cause_failed old new OutOfMemory e is other h = absurd (other is)
-cause_failed old new Io e is other h = inl h
-cause_failed old new Corrupt e is other h = inl h
-cause_failed old new Full e is other h = inl h
-cause_failed old new Broken e is other h = inr (inl h)
-cause_failed old new Unstorable e is other h = absurd h
+pub uris_blamed : (name : List ℕ) → BlamesStore uris_text (Text name ∷ [])
+uris_blamed name = read_blamed uris_text (over 1 (equals 1 0 ∷ []) (col 1 2 ∷ []) []) _ uris_is (Text name ∷ []) (uris_whole name) refl (no_sum (Text name ∷ []) 1 (equals 1 0 ∷ []) (col 1 2 ∷ []) [])
 
-module _ (old new : State) (e : Error) (ready : IsReady old) (other : e ≢ SqliteFailure code.OutOfMemory) where
-  known : understood old.now.schema asked_text ≡ understood shelf_schema asked_text
-  known = ap (λ schema. understood schema asked_text) ready.shelf.schema
+names_whole : IsWhole names_text []
+unfolding understood everything
+names_whole = (refl, refl)
 
-  never_none : IsNoStatement old asked_text [] e → ⊥
-  never_none (inl h) = subst IsPlain (sym known ∙ h.1) asked_is.2
-  never_none (inr h) =
-      let it : Ok h.0 ≡ understood shelf_schema asked_text = sym h.1 ∙ known in
-      let tail : h.0.tail ≡ length asked_text = ap tail_of it ∙ asked_whole.0 in
-      let names : length h.0.names ≡ 0 = ap names_in it ∙ asked_whole.1 in
-      let plain = subst IsPlain (sym it) asked_is.2 in
-      elim h.2 [
-        | inl cut ↦ cut.0 (omega (arith, tail))
-        | inr (inl given) ↦ given.0 (sym names)
-        | inr (inr timed) ↦ timed.0 plain.1
-      ]
+pub names_blamed : BlamesStore names_text []
+names_blamed = read_blamed names_text (over 1 [] (col 1 1 ∷ []) (rising 1)) _ names_are [] names_whole refl (no_sum [] 1 [] (col 1 1 ∷ []) (rising 1))
 
-  not_run_failed : IsNotRun old new asked_text [] e → HasFailed old new
-  unfolding IsNotRun
-  not_run_failed (inl h) = absurd (never_none h.0)
-  not_run_failed (inr h) = cause_failed old new h.0 e h.1 other h.2
+value_whole : (uri name : List ℕ) → IsWhole value_text (Text uri ∷ Text name ∷ [])
+unfolding understood everything
+value_whole uri name = (refl, refl)
 
-  pub query_blamed : FailsToQuery asked_text [] old new e → HasFailed old new
-  unfolding FailsToQuery
-  query_blamed (inl h) = not_run_failed h
-  query_blamed (inr h) =
-      let it : Ok h.0 ≡ understood shelf_schema asked_text = sym h.1.is ∙ known in
-      let plain = subst IsPlain (sym it) asked_is.2 in
-      let shows = rw (plain.0, plain.1) at h.2 in
-      let db : shows.0 ≡ old.now = subst (λ b. IsSourceOf b old.now shows.0) (ap (λ s. reads_listing s asked_text) ready.shelf.schema ∙ asked_is.1) shows.1 in
-      elim (subst₂ (λ k (d : Database). RefusesToRead old.step_limit k d [] e) (ap command_of it ∙ asked_is.0) db shows.2) [
-        | inl mistyped ↦ absurd (true≢false (sym (ap (λ s. accepts_program s [] asked []) ready.shelf.schema ∙ asked_typed) ∙ mistyped.1))
-        | inr (inl sum) ↦ absurd (no_sum old.now.trees sum.1)
-        | inr (inr limited) ↦ inr (inr limited.1)
-      ]
+pub value_blamed : (uri name : List ℕ) → BlamesStore value_text (Text uri ∷ Text name ∷ [])
+value_blamed uri name =
+    read_blamed value_text (over 3 (equals 1 0 ∷ equals 2 1 ∷ []) (col 1 3 ∷ []) []) _ value_is (Text uri ∷ Text name ∷ []) (value_whole uri name) refl
+    (no_sum (Text uri ∷ Text name ∷ []) 3 (equals 1 0 ∷ equals 2 1 ∷ []) (col 1 3 ∷ []) [])
+
+of_uri_whole : (uri : List ℕ) → IsWhole of_uri_text (Text uri ∷ [])
+unfolding understood everything
+of_uri_whole uri = (refl, refl)
+
+pub of_uri_blamed : (uri : List ℕ) → BlamesStore of_uri_text (Text uri ∷ [])
+of_uri_blamed uri =
+    read_blamed of_uri_text (over 3 (equals 1 0 ∷ []) (col 1 2 ∷ col 1 3 ∷ []) (rising 2)) _ of_uri_is (Text uri ∷ []) (of_uri_whole uri) refl
+    (no_sum (Text uri ∷ []) 3 (equals 1 0 ∷ []) (col 1 2 ∷ col 1 3 ∷ []) (rising 2))
+
+of_name_whole : (name : List ℕ) → IsWhole of_name_text (Text name ∷ [])
+unfolding understood everything
+of_name_whole name = (refl, refl)
+
+pub of_name_blamed : (name : List ℕ) → BlamesStore of_name_text (Text name ∷ [])
+of_name_blamed name =
+    read_blamed of_name_text (over 3 (equals 2 0 ∷ []) (col 1 1 ∷ col 1 3 ∷ []) (rising 1)) _ of_name_is (Text name ∷ []) (of_name_whole name) refl
+    (no_sum (Text name ∷ []) 3 (equals 2 0 ∷ []) (col 1 1 ∷ col 1 3 ∷ []) (rising 1))

@@ -26,7 +26,6 @@ pub opens_unread : (text : List ℕ) (query : Query) (names : List (List ℕ)) (
 opens_unread text query names reading params old new e some fails survives = record {
   clean = λ h. omega (arith, survives.clean);
   done = λ clean maps holds is. absurd (cc);
-  number = λ clean maps holds is. absurd (cc);
   kept = λ clean maps holds is opened. spared clean (ready_holds old maps some holds).0 opened;
   spared = spared;
   stop = λ clean maps holds m left. inl (left.0, leaves_same text query names reading params old new survives clean (ready_holds old maps some holds).0 left.0 left.1, left.2);

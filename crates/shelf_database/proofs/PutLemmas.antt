@@ -29,7 +29,7 @@ use Rattle.sqlite.proofs.Callers.{one_step}
 use Rattle.shelf_database.specs.Tables.{shelf_schema, AreRows}
 use Rattle.shelf_database.proofs.DeleteLemmas.{went, same_value, left_are, filtered_has, has_map, map_has}
 
-left_rows : (rows : List Row) (gone : List ℤ) → AreRows rows → AreRows (without_all rows gone)
+pub left_rows : (rows : List Row) (gone : List ℤ) → AreRows rows → AreRows (without_all rows gone)
 left_rows rows [] are = are
 left_rows rows (id ∷ gone) are =
     let shaped = IsShaped-filter shape.Table (λ r. not (has_rowid id r)) rows (are.rise, are.keyed) in left_rows (without_rowid id rows) gone (record { rise = shaped.0; keyed = shaped.1 })

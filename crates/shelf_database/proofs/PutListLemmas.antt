@@ -89,4 +89,5 @@ puts_list s name text ready tally after h sound =
     let lists : after.trees 1 ≡ one.0.trees 1 = ap (λ (t : Trees). t 1) trees in (
       record { schema = ap (λ (d : Database). d.schema) now; sound = sound; lists = subst AreRows (sym lists) put.are; stickers = subst AreRows (sym others) ready.shelf.stickers },
       list_put name text (Int id) db after.trees put.fresh (lists ∙ put.rows) others,
+      ap (λ (t : Trees). t 0) trees ∙ put.others.0 (λ e. omega (arith, e)),
     )

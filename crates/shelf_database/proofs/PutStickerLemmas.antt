@@ -75,4 +75,5 @@ puts_sticker s uri name text ready tally after h sound =
     let stickers : after.trees 3 ≡ one.0.trees 3 = ap (λ (t : Trees). t 3) trees in (
       record { schema = ap (λ (d : Database). d.schema) now; sound = sound; lists = subst AreRows (sym others) ready.shelf.lists; stickers = subst AreRows (sym stickers) put.are },
       sticker_put uri name text (Int id) db after.trees put.fresh (stickers ∙ put.rows) others,
+      ap (λ (t : Trees). t 0) trees ∙ put.others.0 (λ e. omega (arith, e)),
     )

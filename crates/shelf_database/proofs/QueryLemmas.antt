@@ -11,7 +11,7 @@ use Rattle.sqlite.specs.Listing.{understood}
 use Rattle.sqlite.specs.State.{State, HasCleanDisk, Survives, Shown, FailsToQuery, CommitsShowing, IsUnchanged}
 use Rattle.sqlite.proofs.Callers.{IsPlain, reads_as, never_commits}
 use Rattle.shelf.specs.Maps.{Maps, Same, Turns, Trusted}
-use Rattle.shelf_database.specs.Tables.{shelf_schema, maps_in, IsShelf, IsReady, Reads, database_standing}
+use Rattle.shelf_database.specs.Tables.{shelf_schema, maps_in, profile_number, IsShelf, IsReady, IsOwn, Reads, database_standing}
 use Rattle.shelf_database.specs.Settled.{same_maps}
 use Rattle.shelf_database.proofs.Statements.{Reading}
 use Rattle.shelf_database.proofs.WriteLemmas.{IsAsBefore, unchanged_is, not_run}
@@ -22,6 +22,9 @@ ready_same old new ready same = record {
   settled = same.0.now_is ∙ ready.settled ∙ sym same.0.committed_is;
   autocommit = same.0.mode ∙ ready.autocommit;
 }
+
+pub own_same : (old new : State) → IsOwn old → IsUnchanged old new → IsOwn new
+own_same old new own same = record { is_open = same.0.is_open; ready = ready_same old new own.ready same; number = ap (λ (d : Database). profile_number d.trees) same.0.now_is ∙ own.number }
 
 module _ (text : List ℕ) (query : Query) (names : List (List ℕ)) (reading : Reading text query names) (params : Row) (old new : State) where
   pub answer_of : IsReady old → (rows : List Row) → Shown text params old new rows → IsAnswer query (overlay old.now.trees []) params rows
@@ -46,6 +49,8 @@ module _ (text : List ℕ) (query : Query) (names : List (List ℕ)) (reading : 
   pub reads : (rows : List Row) → (HasCleanDisk new → Shown text params old new rows) → Survives old new (CommitsShowing text params old) → Reads old new
   reads rows shown survives = record {
     clean = λ h. omega (arith, survives.clean);
+    counts = survives.counts;
+    limit = survives.limit;
     same = λ h ready. shown_same ready rows (shown h);
     leaves = leaves_same survives;
   }
@@ -61,15 +66,15 @@ module _ (text : List ℕ) (query : Query) (names : List (List ℕ)) (reading : 
   pub query_failed : (e : Error) (after : Maps) → (HasCleanDisk new → FailsToQuery text params old new e) → Survives old new (CommitsShowing text params old) → Turns (database_standing old) (database_standing new) false after
   query_failed e after fails survives = record {
     clean = λ h. omega (arith, survives.clean);
-    ours = λ trusted opened. (opened, (before trusted opened).0);
+    ours = λ trusted opened. let was = before trusted opened in record { is_open = opened; ready = was.0; number = ap (λ (d : Database). profile_number d.trees) was.1 ∙ trusted.1.number };
     done = λ trusted is. absurd (cc);
     kept = λ trusted is opened. same_maps _ _ (ap (λ (d : Database). maps_in d.trees) (sym (before trusted opened).1));
-    stop = λ trusted m left. inl (left.0, leaves_same survives trusted.0 trusted.1.1 left.0 left.1, left.2);
+    stop = λ trusted m left. inl (left.0, leaves_same survives trusted.0 trusted.1.ready left.0 left.1, left.2);
   }
     where
       before : Trusted (database_standing old) (database_standing new) → IsTrue new.is_open → IsReady new × (new.now ≡ old.now)
       before trusted opened =
-          let ready = trusted.1.1 in
+          let ready = trusted.1.ready in
           let was = failed_before ready e (fails trusted.0) in
           let now : new.now ≡ old.now = elim (was.now opened) [ inl same ↦ same | inr undone ↦ undone ∙ sym ready.settled ] in
           let mode : new.in_transaction ≡ false = elim was.mode [ inl same ↦ same ∙ ready.autocommit | inr ended ↦ ended ] in
@@ -78,10 +83,10 @@ module _ (text : List ℕ) (query : Query) (names : List (List ℕ)) (reading : 
 pub read_turns : (old new : State) (is_done : Bool) → Reads old new → Turns (database_standing old) (database_standing new) is_done (maps_in old.now.trees)
 read_turns old new is_done reads = record {
   clean = reads.clean;
-  ours = λ trusted opened. (opened, ready_same old new trusted.1.1 (reads.same trusted.0 trusted.1.1));
-  done = λ trusted is. let same = reads.same trusted.0 trusted.1.1 in (same.0.is_open, same_maps _ _ (ap (λ (d : Database). maps_in d.trees) (sym same.0.now_is)));
-  kept = λ trusted is opened. let same = reads.same trusted.0 trusted.1.1 in same_maps _ _ (ap (λ (d : Database). maps_in d.trees) (sym same.0.now_is));
-  stop = λ trusted m left. inl (left.0, reads.leaves trusted.0 trusted.1.1 left.0 left.1, left.2);
+  ours = λ trusted opened. own_same old new trusted.1 (reads.same trusted.0 trusted.1.ready);
+  done = λ trusted is. let same = reads.same trusted.0 trusted.1.ready in (same.0.is_open, same_maps _ _ (ap (λ (d : Database). maps_in d.trees) (sym same.0.now_is)));
+  kept = λ trusted is opened. let same = reads.same trusted.0 trusted.1.ready in same_maps _ _ (ap (λ (d : Database). maps_in d.trees) (sym same.0.now_is));
+  stop = λ trusted m left. inl (left.0, reads.leaves trusted.0 trusted.1.ready left.0 left.1, left.2);
 }
 
 -- refused after a query, whatever the call was to do
@@ -91,7 +96,7 @@ refused_turns old new after reads = let it = read_turns old new false reads in r
   ours = it.ours;
   done = λ trusted is. absurd (cc);
   kept = it.kept;
-  stop = λ trusted m left. inl (left.0, reads.leaves trusted.0 trusted.1.1 left.0 left.1, left.2);
+  stop = λ trusted m left. inl (left.0, reads.leaves trusted.0 trusted.1.ready left.0 left.1, left.2);
 }
 
 pub read_then : (old mid new : State) (is_done : Bool) (after : Maps) → Reads old mid → Turns (database_standing mid) (database_standing new) is_done after → Turns (database_standing old) (database_standing new) is_done after
@@ -101,16 +106,16 @@ read_then old mid new is_done after reads turns = record {
   done = λ trusted. turns.done (trust trusted);
   kept = λ trusted is opened. subst (λ (d : Database). Same (maps_in d.trees) (maps_in new.now.trees)) (same trusted).0.now_is (turns.kept (trust trusted) is opened);
   stop = λ trusted m left. elim (turns.stop (trust trusted) m left) [
-    | inl before ↦ inl (before.0, reads.leaves (turns.clean trusted.0) trusted.1.1 before.0 before.1, before.2)
+    | inl before ↦ inl (before.0, reads.leaves (turns.clean trusted.0) trusted.1.ready before.0 before.1, before.2)
     | inr done ↦ inr done
   ];
 }
   where
     same : Trusted (database_standing old) (database_standing new) → IsUnchanged old mid
-    same trusted = reads.same (turns.clean trusted.0) trusted.1.1
+    same trusted = reads.same (turns.clean trusted.0) trusted.1.ready
 
     trust : Trusted (database_standing old) (database_standing new) → Trusted (database_standing mid) (database_standing new)
-    trust trusted = (trusted.0, ((same trusted).0.is_open, ready_same old mid trusted.1.1 (same trusted)))
+    trust trusted = (trusted.0, own_same old mid trusted.1 (same trusted))
 
 -- the same where what the write makes is told of the maps that it found
 pub read_then_by : (old mid new : State) (is_done : Bool) (f : Maps → Maps) → Reads old mid → Turns (database_standing mid) (database_standing new) is_done (f (maps_in mid.now.trees)) → Turns (database_standing old) (database_standing new) is_done (f (maps_in old.now.trees))
@@ -126,4 +131,4 @@ read_then_by old mid new is_done f reads turns = let it = read_then old mid new 
 }
   where
     same : Trusted (database_standing old) (database_standing new) → IsUnchanged old mid
-    same trusted = reads.same (turns.clean trusted.0) trusted.1.1
+    same trusted = reads.same (turns.clean trusted.0) trusted.1.ready

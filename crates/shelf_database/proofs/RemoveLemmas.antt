@@ -25,6 +25,7 @@ removes_list s name ready tally after h sound =
     let others : after.trees 3 ≡ s.now.trees 3 = out.others.1.1.0 (λ e. omega (arith, e)) in (
       record { schema = out.schema; sound = sound; lists = subst AreRows (sym out.rows) (filtered_rows _ _ ready.shelf.lists); stickers = subst AreRows (sym others) ready.shelf.stickers },
       list_removed name s.now.trees after.trees out.rows others,
+      out.others.0 (λ e. omega (arith, e)),
     )
 
 module _ (s : State) (uri name : List ℕ) (ready : IsReady s) where
@@ -38,6 +39,7 @@ module _ (s : State) (uri name : List ℕ) (ready : IsReady s) where
       let others : after.trees 1 ≡ s.now.trees 1 = out.others.1.0 (λ e. omega (arith, e)) in (
         record { schema = out.schema; sound = sound; lists = subst AreRows (sym others) ready.shelf.lists; stickers = subst AreRows (sym out.rows) (filtered_rows _ _ ready.shelf.stickers) },
         sticker_deleted uri name s.now.trees after.trees out.rows others,
+        out.others.0 (λ e. omega (arith, e)),
       )
 
 pub deletes_all : (s : State) (uri : List ℕ) → IsReady s
@@ -48,4 +50,5 @@ deletes_all s uri ready tally after h sound =
     let others : after.trees 1 ≡ s.now.trees 1 = out.others.1.0 (λ e. omega (arith, e)) in (
       record { schema = out.schema; sound = sound; lists = subst AreRows (sym others) ready.shelf.lists; stickers = subst AreRows (sym out.rows) (filtered_rows _ _ ready.shelf.stickers) },
       all_deleted uri s.now.trees after.trees out.rows others,
+      out.others.0 (λ e. omega (arith, e)),
     )

@@ -108,23 +108,23 @@ uris_kept db row is h =
     let passed : (are_typed None 0 placed_list.columns (drop 1 row) && true) ≡ true = all_has _ (db.trees 1) row rules.1.0 h in
     kept_uris row (and_parts _ _ passed).0
 
-abbrev wide : List ℕ → Row → Row
+abbrev pub wide : List ℕ → Row → Row
 wide new row = rowid row ∷ renamed new row
 
-cast_wide : (new : List ℕ) (db : Database) (row : Row) → IsShelf db → Has (db.trees 1) row → cast_row placed_list (drop 1 (wide new row)) ≡ renamed new row
+pub cast_wide : (new : List ℕ) (db : Database) (row : Row) → IsShelf db → Has (db.trees 1) row → cast_row placed_list (drop 1 (wide new row)) ≡ renamed new row
 cast_wide new db row is h =
     let key = int_is (rowid row) (all_has _ (db.trees 1) row is.lists.keyed h) in
     rw (key, cast_int (id_in (rowid row)), uris_kept db row is h) refl
 
 -- ---- the statement
 
-abbrev wide_terms : List Term
+abbrev pub wide_terms : List Term
 wide_terms = col 1 0 ∷ col 1 0 ∷ col 0 1 ∷ col 1 2 ∷ []
 
 abbrev pub renaming : Command
 renaming = Update 1 (record { lets = []; body = over 1 (equals 1 0 ∷ []) wide_terms [] })
 
-first_test : (name new : List ℕ) (row : Row) → list_all (holds ((Text name ∷ Text new ∷ []) ∷ row ∷ [])) (equals 1 0 ∷ []) ≡ has_text 1 name row
+pub first_test : (name new : List ℕ) (row : Row) → list_all (holds ((Text name ∷ Text new ∷ []) ∷ row ∷ [])) (equals 1 0 ∷ []) ≡ has_text 1 name row
 first_test name new row = rw (equal_text (column row 1) name) (and-true (has_text 1 name row))
 
 module _ (s : State) (name new : List ℕ) (row : Row) (ready : IsReady s) (found : find (has_text 1 name) (s.now.trees 1) ≡ Some row) where
@@ -137,12 +137,12 @@ module _ (s : State) (name new : List ℕ) (row : Row) (ready : IsReady s) (foun
   alone : filter (has_text 1 name) (db 1) ≡ row ∷ []
   alone = rw found at (found_once (has_text 1 name) (db 1) ready.shelf.lists.rise (once_list name s.now ready.shelf))
 
-  one_wide : (rows : List Row) → IsRead params 1 (equals 1 0 ∷ []) wide_terms [] (has_text 1 name) (first_test name new) (filter (has_text 1 name) (db 1)) rows → rows ≡ wide new row ∷ []
+  pub one_wide : (rows : List Row) → IsRead params 1 (equals 1 0 ∷ []) wide_terms [] (has_text 1 name) (first_test name new) (filter (has_text 1 name) (db 1)) rows → rows ≡ wide new row ∷ []
   one_wide rows read =
       let one = subst (λ found. IsRead params 1 (equals 1 0 ∷ []) wide_terms [] (has_text 1 name) (first_test name new) found rows) alone read in
       one.shown ∙ ap (map (λ (o : Output). o.1)) (one_permutation (shows params 1 (equals 1 0 ∷ []) wide_terms [] (has_text 1 name) (first_test name new) row) one.sorted one.same)
 
-  left_by_name : without_all (db 1) (id_in (rowid row) ∷ []) ≡ filter (λ r. not (has_text 1 name r)) (db 1)
+  pub left_by_name : without_all (db 1) (id_in (rowid row) ∷ []) ≡ filter (λ r. not (has_text 1 name r)) (db 1)
   left_by_name = left_are (db 1) ready.shelf.lists (has_text 1 name) (id_in (rowid row) ∷ [])
       (λ id h. elim h [ inl same ↦ (row, subst (λ xs. Has xs row) (sym alone) (inl refl), same) | inr none ↦ absurd none ])
       (λ r h. elim (subst (λ xs. Has xs r) alone h) [ inl same ↦ inl (ap (λ x. id_in (rowid x)) same) | inr none ↦ absurd none ])
@@ -152,6 +152,7 @@ module _ (s : State) (name new : List ℕ) (row : Row) (ready : IsReady s) (foun
     pub fresh : is_taken (filter (λ r. not (has_text 1 name r)) (db 1)) (renamed new row) ≡ false
     pub rows : now 1 ≡ put_row (renamed new row) (filter (λ r. not (has_text 1 name r)) (db 1))
     pub others : now 3 ≡ db 3
+    pub number : now 0 ≡ db 0
 
   edits : (now : Trees) → Edited shelf_schema Enforced db (edit_of db placed_list (ids_of (wide new row ∷ [])) Given 1 (wide new row ∷ [])) (Ok now) → Renames now
   edits now h =
@@ -172,6 +173,7 @@ module _ (s : State) (name new : List ℕ) (row : Row) (ready : IsReady s) (foun
         fresh = subst (λ xs. is_taken xs (renamed new row) ≡ false) left_by_name (subst (λ r. is_taken (without_all (db 1) (id_in (rowid row) ∷ [])) r ≡ false) cast free);
         rows = rows;
         others = applies.tables.1.1.0 (λ e. omega (arith, e));
+        number = applies.tables.0 (λ e. omega (arith, e));
       }
 
   pub renames_row : find (has_text 1 new) (db 1) ≡ None → DoesSo s rename_text params renaming (with_renamed (maps_in db) name new)
@@ -189,13 +191,14 @@ module _ (s : State) (name new : List ℕ) (row : Row) (ready : IsReady s) (foun
       let others : after.trees 3 ≡ db 3 = ap (λ (t : Trees). t 3) trees ∙ made.others in (
         record { schema = ap (λ (d : Database). d.schema) now; sound = sound; lists = subst AreRows (sym lists) made.are; stickers = subst AreRows (sym others) ready.shelf.stickers },
         list_renamed name new db after.trees row found free made.fresh (lists ∙ made.rows) others,
+        ap (λ (t : Trees). t 0) trees ∙ made.number,
       )
 
-row_there : (o : Option Row) → is_some (option_map lines_of (option_map (λ r. bytes (column r 2)) o)) ≡ true → (row : Row) × (o ≡ Some row)
+pub row_there : (o : Option Row) → is_some (option_map lines_of (option_map (λ r. bytes (column r 2)) o)) ≡ true → (row : Row) × (o ≡ Some row)
 row_there None is = absurd (true≢false (sym is))
 row_there (Some row) is = (row, refl)
 
-row_missing : (o : Option Row) → is_some (option_map lines_of (option_map (λ r. bytes (column r 2)) o)) ≡ false → o ≡ None
+pub row_missing : (o : Option Row) → is_some (option_map lines_of (option_map (λ r. bytes (column r 2)) o)) ≡ false → o ≡ None
 row_missing None is = refl
 row_missing (Some row) is = absurd (true≢false is)
 

@@ -31,7 +31,7 @@ module _ (old mid late new : State) (name other : List ℕ) (first : Reads old m
       let before : HasCleanDisk new → HasCleanDisk late = λ clean. omega (arith, survives.clean) in
       turns_given (database_standing old) (database_standing new) (is_ok r) (made (maps_in old.now.trees)) (λ clean. first.clean (second.clean (before clean))) (λ trusted.
       let clean = before trusted.0 in
-      let ready = trusted.1.1 in
+      let ready = trusted.1.ready in
       let same = first.same (second.clean clean) ready in
       let then_ready = ready_same old mid ready same in
       let again = second.same clean then_ready in

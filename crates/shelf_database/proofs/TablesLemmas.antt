@@ -21,8 +21,8 @@ use Rattle.sqlite.specs.Compile.{table_defined_by}
 use Rattle.sqlite.specs.Listing.{understood}
 use Rattle.sqlite.proofs.Callers.{statement_of, one_step, one_permutation}
 use Rattle.sqlite_tied.specs.Compute.{everything}
-use Rattle.shelf_database.specs.Tables.{no_schema, profile_table, list_table, sticker_table}
-use Rattle.shelf_database.specs.Opens.{profile_schema, list_schema, HasNothing, HasProfile, HasNumber, HasLists, HasTables, number_of, profile_number}
+use Rattle.shelf_database.specs.Tables.{no_schema, profile_table, list_table, sticker_table, number_of, profile_number}
+use Rattle.shelf_database.specs.Opens.{number_query, profile_schema, list_schema, HasNothing, HasProfile, HasNumber, HasLists, HasTables}
 use Rattle.shelf_database.proofs.DeleteLemmas.{went, same_value}
 use Rattle.shelf_database.proofs.MakingLemmas.{Means, Does-so, creates}
 use Rattle.shelf_database.proofs.ReadLemmas.{IsRead, answer_is, shows}
@@ -45,7 +45,7 @@ pub profile_means : Means no_schema profile_text CreateTable
 unfolding understood everything
 profile_means = (refl, (refl, refl))
 
-profile_said : statement_of profile_text (understood no_schema profile_text) ≡ profile_text
+pub profile_said : statement_of profile_text (understood no_schema profile_text) ≡ profile_text
 unfolding understood everything
 profile_said = refl
 
@@ -60,7 +60,7 @@ pub list_means : Means profile_schema list_text CreateTable
 unfolding understood everything
 list_means = (refl, (refl, refl))
 
-list_said : statement_of list_text (understood profile_schema list_text) ≡ list_text
+pub list_said : statement_of list_text (understood profile_schema list_text) ≡ list_text
 unfolding understood everything
 list_said = refl
 
@@ -68,7 +68,7 @@ pub sticker_means : Means list_schema sticker_text CreateTable
 unfolding understood everything
 sticker_means = (refl, (refl, refl))
 
-sticker_said : statement_of sticker_text (understood list_schema sticker_text) ≡ sticker_text
+pub sticker_said : statement_of sticker_text (understood list_schema sticker_text) ≡ sticker_text
 unfolding understood everything
 sticker_said = refl
 
@@ -89,10 +89,10 @@ makes_stickers limit mode tally before after has h sound =
     let others = rw (has.0) at made.others in
     record { schema = made.schema ∙ rw (has.0) refl; sound = sound; number = ap (number_of 2) others.0 ∙ has.1; lists = others.1.0 ∙ has.2; stickers = rw (has.0) at made.empty }
 
-abbrev first_row : Row
+abbrev pub first_row : Row
 first_row = Int (pos 1) ∷ Null ∷ Int (pos 1) ∷ []
 
-cast_first : cast_row profile_table first_row ≡ first_row
+pub cast_first : cast_row profile_table first_row ≡ first_row
 cast_first = rw (cast_int (pos 1), cast_null) refl
 
 numbered_first : (c : Row) → c ≡ first_row → put_all [] (numbered Chosen [] (c ∷ [])) ≡ first_row ∷ []
@@ -101,7 +101,7 @@ numbered_first c is = rw is refl
 first_rows : (old rows : List Row) → old ≡ [] → rows ≡ first_row ∷ [] → put_all (without_all old []) (numbered Chosen (without_all old []) (map (λ s. cast_row profile_table (drop 0 s)) rows)) ≡ first_row ∷ []
 first_rows old rows empty is = rw (empty, is) (numbered_first (cast_row profile_table first_row) cast_first)
 
-abbrev placed_profile : Table
+abbrev pub placed_profile : Table
 placed_profile = record profile_table { tree = 0 }
 
 pub notes_number : Does-so HasProfile HasNumber (statement_of number_text (understood profile_schema number_text)) (Insert 0 (Values one_row 3))
@@ -123,7 +123,7 @@ notes_number limit mode tally before after has h sound =
 -- ---- the number of the profile
 
 abbrev pub asked_text : List ℕ
-asked_text = codes "SELECT number FROM profile"
+asked_text = number_query
 
 pub asked_is : Reading asked_text (over 0 [] (col 1 2 ∷ []) []) (codes "number" ∷ [])
 unfolding understood everything

@@ -12,7 +12,7 @@ use Rattle.sqlite.specs.State.{State, HasCleanDisk, Survives, Executes, Executes
 use Rattle.sqlite.specs.Does.{Tally, Does}
 use Rattle.sqlite.proofs.Callers.{IsPlain, command_of, statement_of, runs_as}
 use Rattle.shelf.specs.Maps.{Maps, Same, Turns}
-use Rattle.shelf_database.specs.Tables.{shelf_schema, maps_in, IsShelf, IsReady, database_standing}
+use Rattle.shelf_database.specs.Tables.{shelf_schema, maps_in, number_of, profile_number, IsShelf, IsReady, database_standing}
 use Rattle.shelf_database.specs.Settled.{same_maps}
 use Rattle.shelf_database.proofs.Statements.{Writing}
 
@@ -42,10 +42,10 @@ refused_is old new sql params e (inr h) = elim (cases_Bool (shows_rows false h.0
   | inr runs ↦ elim (rw runs at h.2) [ inl refused ↦ unchanged_is old new refused.1 | inr failed ↦ failed_is old new _ e failed ]
 ]
 
--- what the statement does of the database of a shelf: it stays one, and its maps are `after`
+-- what the statement does of the database of a shelf: it stays one with its number, and its maps are `after`
 abbrev pub DoesSo : State → List ℕ → Row → Command → Maps → Type 0
 DoesSo s text params command after = (tally : Tally) (db : Database)
-    → Does s.step_limit (mode_of s) params s.now (statement_of text (understood shelf_schema text)) None command (Ok (tally, db)) → IsDatabase db → IsShelf db × Same after (maps_in db.trees)
+    → Does s.step_limit (mode_of s) params s.now (statement_of text (understood shelf_schema text)) None command (Ok (tally, db)) → IsDatabase db → IsShelf db × Same after (maps_in db.trees) × (db.trees 0 ≡ s.now.trees 0)
 
 -- a statement that changes rows
 abbrev pub IsChange : Command → Type 0
@@ -73,12 +73,12 @@ module _ (old new : State) (text : List ℕ) (params : Row) (command : Command) 
   wrote : (count : ℕ) → IsReady old → Executes text params old new (Ok count) → Writes old new None command (statement_of text (understood shelf_schema text)) params count
   wrote count ready h = is_write old new command (statement_of text (understood shelf_schema text)) params count change (runs_as text params old new shelf_schema ready.shelf.schema command writing.0 writing.1 count h)
 
-  ready_after : (count : ℕ) → IsReady old → Executes text params old new (Ok count) → IsReady new × IsTrue new.is_open × Same after (maps_in new.now.trees)
+  ready_after : (count : ℕ) → IsReady old → Executes text params old new (Ok count) → IsReady new × IsTrue new.is_open × Same after (maps_in new.now.trees) × (new.now.trees 0 ≡ old.now.trees 0)
   ready_after count ready h =
       let w = wrote count ready h in
       let done = does ready w.tally new.now w.changed w.sound in
       let settled : new.now ≡ new.committed = sym (w.shown.committed_is ∙ rw ready.autocommit refl) in
-      (record { shelf = done.0; settled = settled; autocommit = w.shown.mode ∙ ready.autocommit }, w.shown.is_open, done.1)
+      (record { shelf = done.0; settled = settled; autocommit = w.shown.mode ∙ ready.autocommit }, w.shown.is_open, done.1, done.2)
 
   ready_before : (e : Error) → IsReady old → Executes text params old new (Err e) → IsTrue new.is_open → IsReady new × (new.now ≡ old.now)
   ready_before e ready h opened =
@@ -102,21 +102,21 @@ module _ (old new : State) (text : List ℕ) (params : Row) (command : Command) 
   pub write_turns : (r : Result ℕ Error) → (HasCleanDisk new → Executes text params old new r) → Survives old new (CommitsBy text params old) → Turns (database_standing old) (database_standing new) (is_ok r) after
   write_turns (Ok count) ran survives = record {
     clean = λ clean. omega (arith, survives.clean);
-    ours = λ trusted opened. (opened, (ready_after count trusted.1.1 (ran trusted.0)).0);
-    done = λ trusted is. let it = ready_after count trusted.1.1 (ran trusted.0) in (it.1, it.2);
+    ours = λ trusted opened. let it = ready_after count trusted.1.ready (ran trusted.0) in record { is_open = opened; ready = it.0; number = ap (number_of 2) it.3 ∙ trusted.1.number };
+    done = λ trusted is. let it = ready_after count trusted.1.ready (ran trusted.0) in (it.1, it.2);
     kept = λ trusted never opened. absurd (cc);
     stop = λ trusted m left. elim (survives.crash trusted.0 left.0 left.1) [
       | inl before ↦ inl (left.0, before, left.2)
-      | inr commits ↦ inr (subst (Same after) (sym left.2) (left_after left.0 trusted.1.1 commits))
+      | inr commits ↦ inr (subst (Same after) (sym left.2) (left_after left.0 trusted.1.ready commits))
     ];
   }
   write_turns (Err e) ran survives = record {
     clean = λ clean. omega (arith, survives.clean);
-    ours = λ trusted opened. (opened, (ready_before e trusted.1.1 (ran trusted.0) opened).0);
+    ours = λ trusted opened. let it = ready_before e trusted.1.ready (ran trusted.0) opened in record { is_open = opened; ready = it.0; number = ap (λ (d : Database). profile_number d.trees) it.1 ∙ trusted.1.number };
     done = λ trusted is. absurd (cc);
-    kept = λ trusted is opened. let same = (ready_before e trusted.1.1 (ran trusted.0) opened).1 in same_maps _ _ (ap (λ (d : Database). maps_in d.trees) (sym same));
+    kept = λ trusted is opened. let same = (ready_before e trusted.1.ready (ran trusted.0) opened).1 in same_maps _ _ (ap (λ (d : Database). maps_in d.trees) (sym same));
     stop = λ trusted m left. elim (survives.crash trusted.0 left.0 left.1) [
       | inl before ↦ inl (left.0, before, left.2)
-      | inr commits ↦ inr (subst (Same after) (sym left.2) (left_after left.0 trusted.1.1 commits))
+      | inr commits ↦ inr (subst (Same after) (sym left.2) (left_after left.0 trusted.1.ready commits))
     ];
   }

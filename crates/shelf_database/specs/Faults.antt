@@ -1,61 +1,50 @@
--- Where a database answered an error to a shelf. Which errors a statement may be answered with is said by the port.
-use Rattle.std.specs.Prelude.{◌≡◌, ◌⊎◌, ℕ, nat_eq, true, ◌&&◌, List, [], ◌∷◌, length, codes, slice_get, Some, Err, bytes_eq}
-use Rattle.std.specs.List.{list_any}
+-- Why a shelf over a database answers `StoreFault`.
+use Rattle.std.specs.Prelude.{◌≡◌, ◌⊎◌, ℕ, ◌+◌, ◌^◌, ◌<◌, Bool, true, false, ◌&&◌, List, [], ◌∷◌, find, length, sum_by, Some, IsSome, IsTrue}
 use Rattle.std.specs.Str.{IsUtf8}
-use Rattle.sqlite_trees.specs.declared.store.Store as store
-use Rattle.sqlite.specs.declared.error.Error.{Error}
-use Rattle.sqlite.specs.declared.types.Value.TheVariants.{Text}
-use Rattle.sqlite.specs.Order.{Row, column}
-use Rattle.sqlite.specs.Held.{Held, state}
-use Rattle.sqlite.specs.State.{State, FailsToQuery, Executes, Shown, IsUnchanged}
+use Rattle.sqlite.specs.declared.types.Value.{Value}
+use Rattle.sqlite.specs.declared.types.Value.TheVariants.{Int, Text}
+use Rattle.sqlite.specs.Order.{Row, column, bytes}
+use Rattle.sqlite.specs.Tree.{Trees, rowid}
+use Rattle.sqlite.specs.Ops.{fits_i64}
+use Rattle.sqlite.specs.Edit.{id_in, next_rowid}
+use Rattle.sqlite.specs.Disk.{MoreFaults}
+use Rattle.sqlite.specs.State.{State}
+use Rattle.sqlite_rules.specs.Lists.{Has}
+use Rattle.shelf.specs.Lines.{text_of}
+use Rattle.shelf.specs.Calls.{Call, Lists, ListOf, Put, Create, Rename, Remove, StickerOf, SetSticker, DeleteSticker, DeleteStickers, StickersOf, FindStickers}
+use Rattle.shelf_database.specs.Tables.{has_text}
 
--- the statements of a shelf, with how many values each takes
-abbrev pub statements : List (List ℕ × ℕ)
-statements =
-    (codes "SELECT name FROM list ORDER BY name", 0)
-    ∷ (codes "SELECT uris FROM list WHERE name = ?1", 1)
-    ∷ (codes "INSERT OR REPLACE INTO list (name, uris) VALUES (?1, ?2)", 2)
-    ∷ (codes "UPDATE list SET name = ?2 WHERE name = ?1", 2)
-    ∷ (codes "DELETE FROM list WHERE name = ?1", 1)
-    ∷ (codes "SELECT value FROM sticker WHERE uri = ?1 AND name = ?2", 2)
-    ∷ (codes "INSERT OR REPLACE INTO sticker (uri, name, value) VALUES (?1, ?2, ?3)", 3)
-    ∷ (codes "DELETE FROM sticker WHERE uri = ?1 AND name = ?2", 2)
-    ∷ (codes "DELETE FROM sticker WHERE uri = ?1", 1)
-    ∷ (codes "SELECT name, value FROM sticker WHERE uri = ?1 ORDER BY name", 1)
-    ∷ (codes "SELECT uri, value FROM sticker WHERE name = ?1 ORDER BY uri", 1)
-    ∷ []
+-- the disk failed or refused, or the store was shut, or the steps of a statement are bounded
+abbrev pub HasFailed : State → State → Type 0
+HasFailed old new = MoreFaults old.faults new.faults ⊎ ((old.is_open ≡ false) ⊎ IsSome old.step_limit)
 
-abbrev pub IsOurs : List ℕ → Row → Type 0
-IsOurs text params = list_any (λ s. bytes_eq s.0 text && nat_eq s.1 (length params)) statements ≡ true
+-- a row that is not stored: its number does not fit 64 bits, or it has more than a billion bytes, with 18 for each value
+abbrev pub IsUnstorable : Row → Type 0
+IsUnstorable row = (fits_i64 (id_in (rowid row)) ≡ false) ⊎ (10 ^ 9 < sum_by (λ v. 18 + length (bytes v)) row)
 
--- one of them was answered with an error
-pub record StatementFails (old new : State) : Type 0 where
-  pub text : List ℕ
-  pub params : Row
-  pub error : Error
-  pub ours : IsOurs text params
-  pub fails : FailsToQuery text params old new error ⊎ Executes text params old new (Err error)
+-- a text column may hold bytes that are no text, where something else than a shelf wrote it
+abbrev pub IsNoText : Value → Type 0
+IsNoText v = (text : List ℕ) → v ≡ Text text → IsUtf8 text → ⊥
 
--- a row has no text of UTF-8 where one is read
-pub record LacksText (rows : List Row) : Type 0 where
-  pub at : ℕ
-  pub row : Row
-  pub is : slice_get rows at ≡ Some row
-  pub place : ℕ
-  pub no_text : (value : List ℕ) → column row place ≡ Text value → IsUtf8 value → ⊥
+-- a row that is asked for has no text in one of these columns
+abbrev pub LacksText : List ℕ → (Row → Bool) → List Row → Type 0
+LacksText columns is_asked rows = (row : Row) × Has rows row × IsTrue (is_asked row) × (at : ℕ) × Has columns at × IsNoText (column row at)
 
--- one of them showed such a row
-pub record ShowsNoText (old new : State) : Type 0 where
-  pub text : List ℕ
-  pub params : Row
-  pub ours : IsOurs text params
-  pub rows : List Row
-  pub shown : Shown text params old new rows
-  pub lacks : LacksText rows
+-- The row that a call would write is not stored, or a row that it asks for has no text.
+abbrev pub CannotDo : Trees → Call → Type 0
+CannotDo trees Lists = LacksText (1 ∷ []) (λ _. true) (trees 1)
+CannotDo trees (ListOf name) = LacksText (2 ∷ []) (has_text 1 name) (trees 1)
+CannotDo trees (Put name uris) = IsUnstorable (Int (next_rowid (trees 1)) ∷ Text name ∷ Text (text_of uris) ∷ [])
+CannotDo trees (Create name uris) = IsUnstorable (Int (next_rowid (trees 1)) ∷ Text name ∷ Text (text_of uris) ∷ [])
+CannotDo trees (Rename name new) = (row : Row) × (find (has_text 1 name) (trees 1) ≡ Some row) × IsUnstorable (rowid row ∷ Text new ∷ column row 2 ∷ [])
+CannotDo trees (Remove name) = ⊥
+CannotDo trees (StickerOf uri name) = LacksText (3 ∷ []) (λ row. has_text 1 uri row && has_text 2 name row) (trees 3)
+CannotDo trees (SetSticker uri name value) = IsUnstorable (Int (next_rowid (trees 3)) ∷ Text uri ∷ Text name ∷ Text value ∷ [])
+CannotDo trees (DeleteSticker uri name) = ⊥
+CannotDo trees (DeleteStickers uri) = LacksText (2 ∷ []) (has_text 1 uri) (trees 3)
+CannotDo trees (StickersOf uri) = LacksText (2 ∷ 3 ∷ []) (has_text 1 uri) (trees 3)
+CannotDo trees (FindStickers name) = LacksText (1 ∷ 3 ∷ []) (has_text 2 name) (trees 3)
 
-abbrev pub Refuses : State → State → Type 0
-Refuses old new = StatementFails old new ⊎ ShowsNoText old new
-
--- the database answered an error, perhaps behind queries that changed nothing
-abbrev pub StoreFailed : {S : Type 0} → store.Ghosts S → Held S → Held S → Type 0
-StoreFailed g old new = (mid : Held _) × IsUnchanged (state g old) (state g mid) × Refuses (state g mid) (state g new)
+-- the store failed during the call, or it cannot do what the call asks
+abbrev pub StoreFailed : State → State → Call → Type 0
+StoreFailed old new call = HasFailed old new ⊎ CannotDo old.now.trees call

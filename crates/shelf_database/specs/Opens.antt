@@ -1,18 +1,18 @@
 -- What an open of a shelf makes of a connection.
-use Rattle.std.specs.Prelude.{◌≡◌, ◌⊎◌, ℕ, ℤ, pos, Bool, false, List, [], ◌∷◌, Option, Some, None, IsSome, IsTrue}
-use Rattle.sqlite.specs.declared.types.Value.{Value}
-use Rattle.sqlite.specs.declared.types.Value.TheVariants.{Int}
-use Rattle.sqlite.specs.Order.{Row, column}
-use Rattle.sqlite.specs.Tree.{Trees}
+use Rattle.std.specs.Prelude.{◌≡◌, ◌≢◌, ◌⊎◌, ℕ, pos, Bool, false, List, [], codes, Some, IsTrue}
+use Rattle.sqlite.specs.Order.{Row}
 use Rattle.sqlite.specs.Schema.{Schema}
 use Rattle.sqlite.specs.Change.{created}
 use Rattle.sqlite.specs.Effect.{Database, IsDatabase}
-use Rattle.sqlite.specs.State.{State, HasCleanDisk, KeepsCommit, Survives}
-use Rattle.sqlite.specs.Disk.{MoreFaults}
+use Rattle.sqlite.specs.State.{State, HasCleanDisk, KeepsCommit, Survives, FailsToQuery, Shown}
+use Rattle.sqlite.specs.declared.error.Error.{Error}
+use Rattle.sqlite.specs.declared.error.Error.TheVariants.{SqliteFailure}
+use Rattle.sqlite.specs.declared.error.ErrorCode.TheVariants as code
 use Rattle.shelf.specs.declared.faults.ShelfFault.{ShelfFault}
 use Rattle.shelf.specs.declared.faults.ShelfFault.TheVariants.{StoreFault}
 use Rattle.shelf.specs.Maps.{Maps, Same, no_maps}
-use Rattle.shelf_database.specs.Tables.{no_schema, shelf_schema, profile_table, list_table, maps_in, IsReady, database_standing}
+use Rattle.shelf_database.specs.Faults.{HasFailed}
+use Rattle.shelf_database.specs.Tables.{no_schema, shelf_schema, profile_table, list_table, maps_in, number_of, profile_number, IsReady, database_standing}
 
 -- a connection outside a transaction, over a database without tables
 pub record IsBlank (s : State) : Type 0 where
@@ -25,36 +25,31 @@ pub record IsBlank (s : State) : Type 0 where
 abbrev pub Holds : State → Maps → Type 0
 Holds s maps = (IsBlank s × (maps ≡ no_maps)) ⊎ (IsReady s × (maps ≡ maps_in s.now.trees))
 
-abbrev pub int_in : Value → Option ℤ
-int_in (Int n) = Some n
-int_in _ = None
-
--- the integer at this place of the one row
-abbrev pub number_of : ℕ → List Row → Option ℤ
-number_of at [] = None
-number_of at (row ∷ []) = int_in (column row at)
-number_of at (row ∷ other ∷ more) = None
-
--- the number of the profile
-abbrev pub profile_number : Trees → Option ℤ
-profile_number trees = number_of 2 (trees 0)
-
 -- The open shows the maps that were there, or changes nothing while the store is open; a stop during it leaves them too. Tables that are there are only read.
 pub record Opens (old new : State) (is_done : Bool) : Type 0 where
   pub clean : HasCleanDisk new → HasCleanDisk old
   pub done : HasCleanDisk new → (maps : Maps) → Holds old maps → IsTrue is_done → (database_standing new).IsOurs × Same maps (maps_in new.now.trees)
-  pub number : HasCleanDisk new → (maps : Maps) → Holds old maps → IsTrue is_done → profile_number new.now.trees ≡ Some (pos 1)
   pub kept : HasCleanDisk new → (maps : Maps) → Holds old maps → is_done ≡ false → IsTrue new.is_open → new.now ≡ old.now
   pub spared : HasCleanDisk new → IsReady old → IsTrue new.is_open → new.now ≡ old.now
   pub stop : HasCleanDisk new → (maps : Maps) → Holds old maps → (m : Maps) → (database_standing new).MayLeave m → (database_standing old).MayLeave m ⊎ Same maps m
 
--- the store failed, or it was shut, or the steps of a statement are bounded
-abbrev pub HasFailed : State → State → Type 0
-HasFailed old new = MoreFaults old.faults new.faults ⊎ ((old.is_open ≡ false) ⊎ IsSome old.step_limit)
+-- Tables whose number is 1 are refused since the store failed, or for want of memory.
+abbrev pub IsUnread : State → State → ShelfFault → Type 0
+IsUnread old new fault = HasCleanDisk new → IsReady old → profile_number old.now.trees ≡ Some (pos 1) → fault ≡ StoreFault → HasFailed old new
 
--- Tables whose number is 1 are refused for that alone, or for want of memory.
-abbrev pub IsBlamed : State → State → ShelfFault → Type 0
-IsBlamed old new fault = HasCleanDisk new → IsReady old → profile_number old.now.trees ≡ Some (pos 1) → fault ≡ StoreFault → HasFailed old new
+abbrev pub number_query : List ℕ
+number_query = codes "SELECT number FROM profile"
+
+-- A store that is asked for its number answers an error, or shows another.
+abbrev pub IsOther : State → State → Type 0
+IsOther old new =
+    ((e : Error) × (e ≢ SqliteFailure code.OutOfMemory) × FailsToQuery number_query [] old new e) ⊎ ((rows : List Row) × Shown number_query [] old new rows × (number_of 0 rows ≢ Some (pos 1)))
+
+-- Why a shelf is refused with `StoreFault`: since the store failed, where it has no tables, or tables whose number is 1; for what it answers, where it has any.
+pub record IsBlamed (old new : State) (fault : ShelfFault) : Type 0 where
+  pub made : HasCleanDisk new → IsBlank old → fault ≡ StoreFault → HasFailed old new
+  pub read : IsUnread old new fault
+  pub other : HasCleanDisk new → old.now.schema ≢ no_schema → old.in_transaction ≡ false → fault ≡ StoreFault → IsOther old new
 
 -- ---- the tables, made one after another
 
@@ -63,6 +58,10 @@ pub record Leads (Before After : Database → Type 0) (old new : State) (is_done
   pub done : HasCleanDisk new → IsTrue is_done → IsTrue old.in_transaction → Before old.now → IsTrue new.in_transaction × After new.now
   pub kept : HasCleanDisk new → KeepsCommit old new
   pub survives : Survives old new (λ _. ⊥)
+
+-- A step inside a transaction, over such a database, is answered with an error since the store failed, or for want of memory.
+abbrev pub IsStopped : (Database → Type 0) → State → State → Error → Type 0
+IsStopped Before old new error = HasCleanDisk new → IsTrue old.in_transaction → Before old.now → error ≢ SqliteFailure code.OutOfMemory → HasFailed old new
 
 abbrev pub profile_schema : Schema
 profile_schema = created no_schema profile_table

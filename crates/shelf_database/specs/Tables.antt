@@ -1,8 +1,9 @@
 -- The tables of a shelf in a database, and the two maps that they hold (this profile's tables of stored playlists and stickers).
-use Rattle.std.specs.Prelude.{true, false, Bool, ◌&&◌, [], ◌∷◌, Some, None, Option, option_map, find, codes, List, ℕ, pos, IsTrue, ◌≡◌}
+use Rattle.std.specs.Prelude.{true, false, Bool, ◌&&◌, [], ◌∷◌, Some, None, Option, option_map, find, codes, List, ℕ, ℤ, pos, IsTrue, ◌≡◌, ◌≤◌}
 use Rattle.std.specs.List.{AllByRecursion}
 use Rattle.std.specs.Ordering.{is_eq}
 use Rattle.sqlite.specs.Collation.TheVariants.{Binary}
+use Rattle.sqlite.specs.declared.types.Value.{Value}
 use Rattle.sqlite.specs.declared.types.Value.TheVariants.{Null, Int, Text as Words}
 use Rattle.sqlite.specs.Order.{Row, column, bytes, value_cmp}
 use Rattle.sqlite.specs.Tree.{Trees, IsTable, rowid}
@@ -118,9 +119,31 @@ pub record IsReady (s : State) : Type 0 where
   pub settled : s.now ≡ s.committed
   pub autocommit : s.in_transaction ≡ false
 
+abbrev pub int_in : Value → Option ℤ
+int_in (Int n) = Some n
+int_in _ = None
+
+-- the integer at this place of the one row
+abbrev pub number_of : ℕ → List Row → Option ℤ
+number_of at [] = None
+number_of at (row ∷ []) = int_in (column row at)
+number_of at (row ∷ other ∷ more) = None
+
+-- the number of the profile
+abbrev pub profile_number : Trees → Option ℤ
+profile_number trees = number_of 2 (trees 0)
+
+-- a shelf's own store: open, with its tables, and the number 1
+pub record IsOwn (s : State) : Type 0 where
+  pub is_open : IsTrue s.is_open
+  pub ready : IsReady s
+  pub number : profile_number s.now.trees ≡ Some (pos 1)
+
 -- a query that showed its rows
 pub record Reads (old new : State) : Type 0 where
   pub clean : HasCleanDisk new → HasCleanDisk old
+  pub counts : old.faults ≤ new.faults
+  pub limit : new.step_limit ≡ old.step_limit
   pub same : HasCleanDisk new → IsReady old → IsUnchanged old new
   pub leaves : HasCleanDisk new → IsReady old → (db : Trees) → new.may_leave db → old.may_leave db
 
@@ -129,7 +152,7 @@ abbrev pub database_standing : State → Standing
 database_standing s = record {
   maps = maps_in s.now.trees;
   IsClean = HasCleanDisk s;
-  IsOurs = IsTrue s.is_open × IsReady s;
+  IsOurs = IsOwn s;
   is_open = s.is_open;
   MayLeave = λ m. (trees : Trees) × s.may_leave trees × (m ≡ maps_in trees);
 }

@@ -3,12 +3,13 @@
 ghost use Rattle.std.specs.Prelude.{◌≡◌, ◌⊎◌, List, ℕ, None, OnOk, OnErr, IfOk, IfErr, IsSome, is_some, true, false};
 ghost use Rattle.sqlite.specs.State.{HasCleanDisk};
 ghost use Rattle.shelf.specs.Maps.{Maps, Turns};
+ghost use Rattle.shelf.specs.Calls.{DeleteStickers};
 ghost use Rattle.sqlite.specs.Held.{state};
 ghost use Rattle.shelf.specs.declared.faults.ShelfFault.{ShelfFault};
 ghost use Rattle.shelf_database.specs.Tables.{database_standing, maps_in, IsReady, Reads};
 ghost use Rattle.shelf_database.specs.Opens.{Opens, IsBlamed};
 ghost use Rattle.shelf_database.specs.Settled.{settled_maps};
-ghost use Rattle.shelf_database.specs.Faults.{Refuses, StatementFails, StoreFailed};
+ghost use Rattle.shelf_database.specs.Faults.{HasFailed, StoreFailed};
 
 use crate::profile::make_ready;
 use crate::rows::{entries_of, texts_of};
@@ -73,7 +74,7 @@ fn has_list<S: Alter>(connection: &mut Connection<S>, name: &str) -> Result<bool
     ensures found { HasCleanDisk (state S.Store connection.new) → IsReady (state S.Store connection.old) → IfOk result (λ is_there. is_there ≡ is_some ((maps_in (state S.Store connection.old).now.trees).lists name.now)) }
     ensures failed { (after : Maps) → OnErr result (Turns (database_standing (state S.Store connection.old)) (database_standing (state S.Store connection.new)) false after) }
     ensures named { IfErr result (λ fault. (fault ≡ ShelfFault.NoMemory) ⊎ (fault ≡ ShelfFault.StoreFault)) }
-    ensures fault { HasCleanDisk (state S.Store connection.new) → IfErr result (λ fault. fault ≡ ShelfFault.StoreFault → StatementFails (state S.Store connection.old) (state S.Store connection.new)) }
+    ensures fault { HasCleanDisk (state S.Store connection.new) → IsReady (state S.Store connection.old) → IfErr result (λ fault. fault ≡ ShelfFault.StoreFault → HasFailed (state S.Store connection.old) (state S.Store connection.new)) }
 {
     match connection.query_all("SELECT uris FROM list WHERE name = ?1", params![name]) {
         Ok(rows) => Ok(rows.first().is_some()),
@@ -91,7 +92,7 @@ fn has_sticker<S: Alter>(
     ensures found { HasCleanDisk (state S.Store connection.new) → IsReady (state S.Store connection.old) → IfOk result (λ is_there. is_there ≡ is_some ((maps_in (state S.Store connection.old).now.trees).stickers uri.now name.now)) }
     ensures failed { (after : Maps) → OnErr result (Turns (database_standing (state S.Store connection.old)) (database_standing (state S.Store connection.new)) false after) }
     ensures named { IfErr result (λ fault. (fault ≡ ShelfFault.NoMemory) ⊎ (fault ≡ ShelfFault.StoreFault)) }
-    ensures fault { HasCleanDisk (state S.Store connection.new) → IfErr result (λ fault. fault ≡ ShelfFault.StoreFault → StatementFails (state S.Store connection.old) (state S.Store connection.new)) }
+    ensures fault { HasCleanDisk (state S.Store connection.new) → IsReady (state S.Store connection.old) → IfErr result (λ fault. fault ≡ ShelfFault.StoreFault → HasFailed (state S.Store connection.old) (state S.Store connection.new)) }
 {
     match connection.query_all(
         "SELECT value FROM sticker WHERE uri = ?1 AND name = ?2",
@@ -109,7 +110,7 @@ fn has_stickers<S: Alter>(connection: &mut Connection<S>, uri: &str) -> Result<b
     ensures missing { HasCleanDisk (state S.Store connection.new) → IsReady (state S.Store connection.old) → IfOk result (λ is_there. is_there ≡ false → (name : List ℕ) → (maps_in (state S.Store connection.old).now.trees).stickers uri.now name ≡ None) }
     ensures failed { (after : Maps) → OnErr result (Turns (database_standing (state S.Store connection.old)) (database_standing (state S.Store connection.new)) false after) }
     ensures named { IfErr result (λ fault. (fault ≡ ShelfFault.NoMemory) ⊎ (fault ≡ ShelfFault.StoreFault)) }
-    ensures fault { HasCleanDisk (state S.Store connection.new) → IfErr result (λ fault. fault ≡ ShelfFault.StoreFault → Refuses (state S.Store connection.old) (state S.Store connection.new)) }
+    ensures fault { HasCleanDisk (state S.Store connection.new) → IsReady (state S.Store connection.old) → IfErr result (λ fault. fault ≡ ShelfFault.StoreFault → StoreFailed (state S.Store connection.old) (state S.Store connection.new) (DeleteStickers uri.now)) }
 {
     let find = "SELECT name, value FROM sticker WHERE uri = ?1 ORDER BY name";
     let rows = match connection.query_all(find, params![uri]) {
@@ -128,9 +129,9 @@ fn has_stickers<S: Alter>(connection: &mut Connection<S>, uri: &str) -> Result<b
 impl<S: Alter + Drop> Shelf for SqlShelf<S> {
     ghost standing = { λ s. database_standing (state S.Store s.connection) };
 
-    ghost failed = { λ old new. StoreFailed S.Store old.connection new.connection };
+    ghost failed = { λ old new call. StoreFailed (state S.Store old.connection) (state S.Store new.connection) call };
 
-    ghost settled = { λ s m clean ours opened left. settled_maps _ m (λ is_open trees left. S.Store.settled s.connection.store trees is_open left) ours.1 opened left };
+    ghost settled = { λ s m clean ours opened left. settled_maps _ m (λ is_open trees left. S.Store.settled s.connection.store trees is_open left) ours.ready opened left };
 
     fn lists(&mut self) -> Result<Vec<String>, ShelfFault> {
         match self

@@ -1,15 +1,16 @@
 //! The tables of a shelf in a database: read where they are, made where there are none.
 
-ghost use Rattle.std.specs.Prelude.{◌≡◌, ◌≢◌, ◌⊎◌, ◌↔◌, pos, Some, IsTrue, IfOk, IfErr, OnOk, OnErr, is_ok, false};
+ghost use Rattle.std.specs.Prelude.{◌≡◌, ◌≢◌, ◌⊎◌, ◌↔◌, [], pos, Some, IsTrue, IfOk, IfErr, OnOk, OnErr, is_ok, false};
 ghost use Rattle.sqlite.specs.Held.{state};
-ghost use Rattle.sqlite.specs.State.{HasCleanDisk};
+ghost use Rattle.sqlite.specs.State.{HasCleanDisk, Shown};
 ghost use Rattle.shelf.specs.declared.faults.ShelfFault.{ShelfFault};
-ghost use Rattle.shelf_database.specs.Tables.{no_schema, IsReady, Reads};
-ghost use Rattle.shelf_database.specs.Opens.{Opens, IsBlamed, Leads, HasNothing, HasProfile, HasNumber, HasLists, HasTables, number_of, profile_number};
+ghost use Rattle.shelf_database.specs.Tables.{no_schema, number_of, profile_number, IsReady, Reads};
+ghost use Rattle.shelf_database.specs.Faults.{HasFailed};
+ghost use Rattle.shelf_database.specs.Opens.{Opens, IsBlamed, IsUnread, IsOther, number_query, IsBlank, IsStopped, Leads, HasNothing, HasProfile, HasNumber, HasLists, HasTables};
 
 use crate::database::fault;
 use shelf::ShelfFault;
-use sqlite::{Alter, Connection, Error, Row, Transaction};
+use sqlite::{Alter, Connection, Error, ErrorCode, Row, Transaction};
 
 /// Makes the tables where there are none, or reads the number of the profile.
 pub(crate) fn make_ready<S: Alter>(connection: &mut Connection<S>) -> Result<(), ShelfFault>
@@ -42,7 +43,8 @@ fn is_blank<S: Alter>(connection: &Connection<S>) -> bool
 fn read_number<S: Alter>(connection: &mut Connection<S>) -> Result<(), ShelfFault>
     ensures opens { (state S.Store connection.old).now.schema ≢ no_schema → Opens (state S.Store connection.old) (state S.Store connection.new) (is_ok result) }
     ensures named { IfErr result (λ fault. (fault ≡ ShelfFault.NoMemory) ⊎ (fault ≡ ShelfFault.StoreFault)) }
-    ensures blamed { IfErr result (IsBlamed (state S.Store connection.old) (state S.Store connection.new)) }
+    ensures blamed { IfErr result (IsUnread (state S.Store connection.old) (state S.Store connection.new)) }
+    ensures other { HasCleanDisk (state S.Store connection.new) → IfErr result (λ fault. fault ≡ ShelfFault.StoreFault → IsOther (state S.Store connection.old) (state S.Store connection.new)) }
 {
     let rows = numbers(connection)?;
     is_one(&rows)
@@ -54,7 +56,9 @@ fn numbers<S: Alter>(connection: &mut Connection<S>) -> Result<Vec<Row>, ShelfFa
     ensures shown { HasCleanDisk (state S.Store connection.new) → IsReady (state S.Store connection.old) → IfOk result (λ rows. number_of 0 rows.items ≡ profile_number (state S.Store connection.old).now.trees) }
     ensures failed { (state S.Store connection.old).now.schema ≢ no_schema → OnErr result (Opens (state S.Store connection.old) (state S.Store connection.new) false) }
     ensures named { IfErr result (λ fault. (fault ≡ ShelfFault.NoMemory) ⊎ (fault ≡ ShelfFault.StoreFault)) }
-    ensures blamed { IfErr result (IsBlamed (state S.Store connection.old) (state S.Store connection.new)) }
+    ensures blamed { IfErr result (IsUnread (state S.Store connection.old) (state S.Store connection.new)) }
+    ensures told { HasCleanDisk (state S.Store connection.new) → IfOk result (λ rows. Shown number_query [] (state S.Store connection.old) (state S.Store connection.new) rows.items) }
+    ensures other { HasCleanDisk (state S.Store connection.new) → IfErr result (λ fault. fault ≡ ShelfFault.StoreFault → IsOther (state S.Store connection.old) (state S.Store connection.new)) }
 {
     match connection.query_all("SELECT number FROM profile", &[]) {
         Ok(rows) => Ok(rows),
@@ -84,6 +88,7 @@ fn is_one(rows: &[Row]) -> Result<(), ShelfFault>
 /// Makes the tables, in one transaction.
 fn make_tables<S: Alter>(connection: &mut Connection<S>) -> Result<(), Error>
     ensures opens { (state S.Store connection.old).now.schema ≡ no_schema → Opens (state S.Store connection.old) (state S.Store connection.new) (is_ok result) }
+    ensures blamed { IfErr result (λ error. HasCleanDisk (state S.Store connection.new) → IsBlank (state S.Store connection.old) → error ≢ Error.SqliteFailure ErrorCode.OutOfMemory → HasFailed (state S.Store connection.old) (state S.Store connection.new)) }
 {
     if !connection.is_autocommit() {
         return Err(Error::InvalidQuery);
@@ -97,6 +102,7 @@ fn make_tables<S: Alter>(connection: &mut Connection<S>) -> Result<(), Error>
 fn fill<S: Alter>(transaction: &mut Transaction<'_, S>) -> Result<(), Error>
     ensures same_reference { transaction.new.conn.ghost_name ≡ transaction.old.conn.ghost_name }
     ensures leads { Leads HasNothing HasTables (state S.Store transaction.old.conn.now) (state S.Store transaction.new.conn.now) (is_ok result) }
+    ensures blamed { IfErr result (IsStopped HasNothing (state S.Store transaction.old.conn.now) (state S.Store transaction.new.conn.now)) }
 {
     make_profile(transaction)?;
     note_number(transaction)?;
@@ -107,6 +113,7 @@ fn fill<S: Alter>(transaction: &mut Transaction<'_, S>) -> Result<(), Error>
 fn make_profile<S: Alter>(transaction: &mut Transaction<'_, S>) -> Result<(), Error>
     ensures same_reference { transaction.new.conn.ghost_name ≡ transaction.old.conn.ghost_name }
     ensures leads { Leads HasNothing HasProfile (state S.Store transaction.old.conn.now) (state S.Store transaction.new.conn.now) (is_ok result) }
+    ensures blamed { IfErr result (IsStopped HasNothing (state S.Store transaction.old.conn.now) (state S.Store transaction.new.conn.now)) }
 {
     transaction.execute(
         "CREATE TABLE profile (one INTEGER PRIMARY KEY CHECK (one = 1), number INTEGER NOT NULL)",
@@ -118,6 +125,7 @@ fn make_profile<S: Alter>(transaction: &mut Transaction<'_, S>) -> Result<(), Er
 fn note_number<S: Alter>(transaction: &mut Transaction<'_, S>) -> Result<(), Error>
     ensures same_reference { transaction.new.conn.ghost_name ≡ transaction.old.conn.ghost_name }
     ensures leads { Leads HasProfile HasNumber (state S.Store transaction.old.conn.now) (state S.Store transaction.new.conn.now) (is_ok result) }
+    ensures blamed { IfErr result (IsStopped HasProfile (state S.Store transaction.old.conn.now) (state S.Store transaction.new.conn.now)) }
 {
     transaction.execute("INSERT INTO profile (one, number) VALUES (1, 1)", &[])?;
     Ok(())
@@ -126,6 +134,7 @@ fn note_number<S: Alter>(transaction: &mut Transaction<'_, S>) -> Result<(), Err
 fn make_lists<S: Alter>(transaction: &mut Transaction<'_, S>) -> Result<(), Error>
     ensures same_reference { transaction.new.conn.ghost_name ≡ transaction.old.conn.ghost_name }
     ensures leads { Leads HasNumber HasLists (state S.Store transaction.old.conn.now) (state S.Store transaction.new.conn.now) (is_ok result) }
+    ensures blamed { IfErr result (IsStopped HasNumber (state S.Store transaction.old.conn.now) (state S.Store transaction.new.conn.now)) }
 {
     transaction.execute(
         "CREATE TABLE list (name TEXT NOT NULL PRIMARY KEY, uris TEXT NOT NULL)",
@@ -137,6 +146,7 @@ fn make_lists<S: Alter>(transaction: &mut Transaction<'_, S>) -> Result<(), Erro
 fn make_stickers<S: Alter>(transaction: &mut Transaction<'_, S>) -> Result<(), Error>
     ensures same_reference { transaction.new.conn.ghost_name ≡ transaction.old.conn.ghost_name }
     ensures leads { Leads HasLists HasTables (state S.Store transaction.old.conn.now) (state S.Store transaction.new.conn.now) (is_ok result) }
+    ensures blamed { IfErr result (IsStopped HasLists (state S.Store transaction.old.conn.now) (state S.Store transaction.new.conn.now)) }
 {
     transaction.execute(
         "CREATE TABLE sticker (uri TEXT NOT NULL, name TEXT NOT NULL, value TEXT NOT NULL, PRIMARY KEY (uri, name))",

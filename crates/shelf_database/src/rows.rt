@@ -1,10 +1,10 @@
 //! The texts of a query's rows.
 
-ghost use Rattle.std.specs.Prelude.{◌≡◌, ◌⊎◌, ℕ, List, IfOk, IfErr, map, string_bytes};
-ghost use Rattle.std.specs.Str.{IsUtf8};
+ghost use Rattle.std.specs.Prelude.{◌≡◌, ◌⊎◌, ℕ, [], ◌∷◌, true, IfOk, IfErr, map, string_bytes};
 ghost use Rattle.sqlite.specs.Order.{column};
 ghost use Rattle.sqlite.specs.declared.types.Value.TheVariants.{Text};
-ghost use Rattle.shelf_database.specs.Faults.{LacksText};
+ghost use Rattle.sqlite_rules.specs.Lists.{Has};
+ghost use Rattle.shelf_database.specs.Faults.{IsNoText, LacksText};
 ghost use Rattle.shelf.specs.declared.faults.ShelfFault.{ShelfFault};
 ghost use Rattle.shelf.specs.Maps.{Answers, no_refusal};
 ghost use Rattle.shelf.specs.Entries.{entry_texts};
@@ -18,7 +18,7 @@ use std::alloc::Global;
 fn text_at(row: &Row, at: usize) -> Result<String, ShelfFault>
     ensures text { IfOk result (λ text. column row.now at ≡ Text (string_bytes text)) }
     ensures named { IfErr result (λ fault. (fault ≡ ShelfFault.NoMemory) ⊎ (fault ≡ ShelfFault.StoreFault)) }
-    ensures fault { IfErr result (λ fault. fault ≡ ShelfFault.StoreFault → (value : List ℕ) → column row.now at ≡ Text value → IsUtf8 value → ⊥) }
+    ensures fault { IfErr result (λ fault. fault ≡ ShelfFault.StoreFault → IsNoText (column row.now at)) }
 {
     match row.get::<String>(at) {
         Ok(text) => Ok(text),
@@ -29,7 +29,7 @@ fn text_at(row: &Row, at: usize) -> Result<String, ShelfFault>
 /// The text in the first column of each row.
 pub(crate) fn texts_of(alloc: Global, rows: &[Row]) -> Result<Vec<String>, ShelfFault>
     ensures texts { IfOk result (λ texts. map (λ row. column row 0) rows.now ≡ map (λ text. Text (string_bytes text)) texts.items) }
-    ensures answers { Answers (LacksText rows.now) no_refusal result }
+    ensures answers { Answers (LacksText (0 ∷ []) (λ _. true) rows.now) no_refusal result }
 {
     let mut texts = Vec::new(alloc);
     for row in rows {
@@ -43,7 +43,7 @@ fn entry_of(row: &Row) -> Result<Entry, ShelfFault>
     ensures key { IfOk result (λ e. column row.now 0 ≡ Text (entry_texts e).0) }
     ensures value { IfOk result (λ e. column row.now 1 ≡ Text (entry_texts e).1) }
     ensures named { IfErr result (λ fault. (fault ≡ ShelfFault.NoMemory) ⊎ (fault ≡ ShelfFault.StoreFault)) }
-    ensures fault { IfErr result (λ fault. fault ≡ ShelfFault.StoreFault → (place : ℕ) × ((text : List ℕ) → column row.now place ≡ Text text → IsUtf8 text → ⊥)) }
+    ensures fault { IfErr result (λ fault. fault ≡ ShelfFault.StoreFault → (at : ℕ) × Has (0 ∷ 1 ∷ []) at × IsNoText (column row.now at)) }
 {
     let key = text_at(row, 0)?;
     let value = text_at(row, 1)?;
@@ -54,7 +54,7 @@ fn entry_of(row: &Row) -> Result<Entry, ShelfFault>
 pub(crate) fn entries_of(alloc: Global, rows: &[Row]) -> Result<Vec<Entry>, ShelfFault>
     ensures keys { IfOk result (λ entries. map (λ row. column row 0) rows.now ≡ map (λ e. Text (entry_texts e).0) entries.items) }
     ensures values { IfOk result (λ entries. map (λ row. column row 1) rows.now ≡ map (λ e. Text (entry_texts e).1) entries.items) }
-    ensures answers { Answers (LacksText rows.now) no_refusal result }
+    ensures answers { Answers (LacksText (0 ∷ 1 ∷ []) (λ _. true) rows.now) no_refusal result }
 {
     let mut entries = Vec::new(alloc);
     for row in rows {

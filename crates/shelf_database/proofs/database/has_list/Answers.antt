@@ -8,6 +8,7 @@ use Rattle.shelf.specs.Lines.{lines_of}
 use Rattle.shelf_database.specs.Tables.{has_text}
 use Rattle.shelf_database.proofs.Statements.{uris_text, uris_is, over, equals}
 use Rattle.shelf_database.proofs.FoundLemmas.{shown_of, list_shown, first_found, mapped_some}
+use Rattle.shelf_database.proofs.BlameLemmas.{uris_blamed}
 use Rattle.shelf_database.proofs.QueryLemmas.{reads, answer_of, query_failed}
 use Rattle.shelf_database.proofs.database.has_list.Goals as goal
 
@@ -38,3 +39,9 @@ returns-in-Err-clause-failed g c = λ after.
     let params : List Value = Text c.args.name.now ∷ [] in
     let query = over 1 (equals 1 0 ∷ []) (col 1 2 ∷ []) [] in
     query_failed uris_text query _ uris_is params old new c.in-Err.error after (λ clean. rw c.params-to_sql.ensures at (c.in-Err.ensures.err clean)) (rw c.params-to_sql.ensures at c.in-Err.ensures.survives)
+
+pub returns-in-Err-clause-fault : goal.returns-in-Err-clause-fault
+returns-in-Err-clause-fault g c = λ clean ready is.
+    let old = state g.S.Store c.args.connection.now in
+    let new = state g.S.Store c.query_all.new.self in
+    uris_blamed c.args.name.now old new c.in-Err.error ready (λ memory. let none = c.fault.ensures.memory memory in cc) (rw c.params-to_sql.ensures at (c.in-Err.ensures.err clean))

@@ -7,6 +7,7 @@ use Rattle.sqlite.specs.Held.{state}
 use Rattle.shelf_database.specs.Tables.{has_text}
 use Rattle.shelf_database.proofs.Statements.{value_text, value_is, over, equals}
 use Rattle.shelf_database.proofs.FoundLemmas.{shown_of, sticker_shown, first_found, mapped_some}
+use Rattle.shelf_database.proofs.BlameLemmas.{value_blamed}
 use Rattle.shelf_database.proofs.QueryLemmas.{reads, answer_of, query_failed}
 use Rattle.shelf_database.proofs.database.has_sticker.Goals as goal
 
@@ -37,3 +38,10 @@ returns-in-Err-clause-failed g c = λ after.
     let params : List Value = Text c.args.uri.now ∷ Text c.args.name.now ∷ [] in
     let query = over 3 (equals 1 0 ∷ equals 2 1 ∷ []) (col 1 3 ∷ []) [] in
     query_failed value_text query _ value_is params old new c.in-Err.error after (λ clean. rw (c.params-to_sql.ensures, c.params-to_sql-2.ensures) at (c.in-Err.ensures.err clean)) (rw (c.params-to_sql.ensures, c.params-to_sql-2.ensures) at c.in-Err.ensures.survives)
+
+pub returns-in-Err-clause-fault : goal.returns-in-Err-clause-fault
+returns-in-Err-clause-fault g c = λ clean ready is.
+    let old = state g.S.Store c.args.connection.now in
+    let new = state g.S.Store c.query_all.new.self in
+    value_blamed c.args.uri.now c.args.name.now old new c.in-Err.error ready (λ memory. let none = c.fault.ensures.memory memory in cc)
+    (rw (c.params-to_sql.ensures, c.params-to_sql-2.ensures) at (c.in-Err.ensures.err clean))

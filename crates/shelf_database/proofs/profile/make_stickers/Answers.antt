@@ -1,8 +1,11 @@
 use Rattle.std.proofs.Common.{Ok}
+use Rattle.std.proofs.lemmas.Result.{err_from_is_err_and}
 use Rattle.sqlite.specs.Command.TheVariants.{CreateTable}
 use Rattle.sqlite.specs.Held.{state}
 use Rattle.shelf_database.specs.Opens.{list_schema, HasLists, HasTables}
 use Rattle.shelf_database.proofs.MakingLemmas.{leads, kept_at}
+use Rattle.shelf_database.proofs.MakingBlame.{stopped}
+use Rattle.shelf_database.proofs.TablesBlame.{sticker_bare, stickers_sure}
 use Rattle.shelf_database.proofs.TablesLemmas.{sticker_text, sticker_means, makes_stickers}
 use Rattle.shelf_database.proofs.profile.make_stickers.Goals as goal
 
@@ -12,3 +15,10 @@ returns-clause-leads g c =
     let new = c.execute.new.self.conn.now in
     leads HasLists HasTables list_schema (λ db has. has.0) sticker_text CreateTable sticker_means (λ old new text count ran. ran) makes_stickers (state g.S.Store old) (state g.S.Store new)
     (Ok c.in_ok-execute.field-0) c.in_ok-execute.ensures.runs (λ outside. kept_at g.S.Store old new (c.in_ok-execute.ensures.ended outside).1) c.execute.ensures.survives
+
+pub returns-in_err-execute-clause-blamed : goal.returns-in_err-execute-clause-blamed
+returns-in_err-execute-clause-blamed g c =
+    let old = state g.S.Store c.args.transaction.now.conn.now in
+    let new = state g.S.Store c.execute.new.self.conn.now in
+    let how = err_from_is_err_and c.from_residual.result c.from_residual.ensures.1 in
+    rw (how.1, how.2) (stopped HasLists list_schema (λ db has. has.0) sticker_text CreateTable tt sticker_means sticker_bare stickers_sure old new c.in_err-execute.field-0.0 c.in_err-execute.ensures.runs)

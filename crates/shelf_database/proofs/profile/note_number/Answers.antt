@@ -1,9 +1,12 @@
 use Rattle.std.proofs.Common.{Ok}
+use Rattle.std.proofs.lemmas.Result.{err_from_is_err_and}
 use Rattle.sqlite.specs.Source.TheVariants.{Values}
 use Rattle.sqlite.specs.Command.TheVariants.{Insert}
 use Rattle.sqlite.specs.Held.{state}
 use Rattle.shelf_database.specs.Opens.{profile_schema, HasProfile, HasNumber}
 use Rattle.shelf_database.proofs.MakingLemmas.{leads, kept_at}
+use Rattle.shelf_database.proofs.MakingBlame.{stopped}
+use Rattle.shelf_database.proofs.TablesBlame.{number_bare, number_sure}
 use Rattle.shelf_database.proofs.TablesLemmas.{number_text, one_row, number_means, notes_number}
 use Rattle.shelf_database.proofs.profile.note_number.Goals as goal
 
@@ -13,3 +16,10 @@ returns-clause-leads g c =
     let new = c.execute.new.self.conn.now in
     leads HasProfile HasNumber profile_schema (λ db has. has.0) number_text (Insert 0 (Values one_row 3)) number_means (λ old new text count ran. ran) notes_number (state g.S.Store old) (state g.S.Store new)
     (Ok c.in_ok-execute.field-0) c.in_ok-execute.ensures.runs (λ outside. kept_at g.S.Store old new (c.in_ok-execute.ensures.ended outside).1) c.execute.ensures.survives
+
+pub returns-in_err-execute-clause-blamed : goal.returns-in_err-execute-clause-blamed
+returns-in_err-execute-clause-blamed g c =
+    let old = state g.S.Store c.args.transaction.now.conn.now in
+    let new = state g.S.Store c.execute.new.self.conn.now in
+    let how = err_from_is_err_and c.from_residual.result c.from_residual.ensures.1 in
+    rw (how.1, how.2) (stopped HasProfile profile_schema (λ db has. has.0) number_text (Insert 0 (Values one_row 3)) tt number_means number_bare number_sure old new c.in_err-execute.field-0.0 c.in_err-execute.ensures.runs)

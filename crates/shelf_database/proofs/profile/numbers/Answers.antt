@@ -1,4 +1,4 @@
-use Rattle.std.proofs.Common.{[]}
+use Rattle.std.proofs.Common.{[], inl}
 use Rattle.sqlite.specs.Held.{state}
 use Rattle.shelf_database.proofs.BlameLemmas.{query_blamed}
 use Rattle.shelf_database.proofs.QueryLemmas.{reads, answer_of}
@@ -29,3 +29,6 @@ returns-in-Err-clause-blamed g c = λ clean ready number fault.
     let old = state g.S.Store c.args.connection.now in
     let new = state g.S.Store c.query_all.new.self in
     query_blamed old new c.in-Err.error ready (λ memory. let none = c.fault.ensures.memory memory in cc) (c.in-Err.ensures.err clean)
+
+pub returns-in-Err-clause-other : goal.returns-in-Err-clause-other
+returns-in-Err-clause-other g c = λ clean fault. inl (c.in-Err.error, λ memory. let none = c.fault.ensures.memory memory in cc, c.in-Err.ensures.err clean)

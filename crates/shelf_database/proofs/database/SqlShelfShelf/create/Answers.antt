@@ -1,12 +1,13 @@
-use Rattle.std.proofs.Common.{Some, map, string_bytes, is_ok, inl, ◌≡◌, rules, Err, sym, ◌∙◌, is_some, false}
-use Rattle.sqlite.specs.Held.{state}
-use Rattle.shelf.specs.Maps.{Maps, with_list}
-use Rattle.shelf_database.proofs.QueryLemmas.{ready_same, read_then_by}
+use Rattle.std.proofs.Common.{Some, map, string_bytes, is_ok, inl, inr, subst, ◌≡◌, rules, Err, sym, ◌∙◌, is_some, false}
 use Rattle.std.proofs.lemmas.Result.{err_from_is_err_and}
-use Rattle.shelf.specs.Maps.{Answers, refusal_of_create}
+use Rattle.sqlite.specs.Held.{state}
+use Rattle.sqlite.specs.Effect.{Database}
+use Rattle.shelf.specs.Maps.{Maps, Answers, refusal_of_create, with_list}
+use Rattle.shelf.specs.Calls.{Put, Create}
 use Rattle.shelf_database.specs.Tables.{maps_in}
-use Rattle.shelf_database.specs.Faults.{StoreFailed}
-use Rattle.shelf_database.proofs.FaultLemmas.{refused_so, answers_for, failed_now, failed_behind}
+use Rattle.shelf_database.specs.Faults.{CannotDo, StoreFailed}
+use Rattle.shelf_database.proofs.QueryLemmas.{own_same, read_then_by}
+use Rattle.shelf_database.proofs.FaultLemmas.{refused_so, answers_for, failed_behind}
 use Rattle.shelf_database.proofs.database.SqlShelfShelf.create.Goals as goal
 
 pub returns-clause-turns : goal.returns-clause-turns
@@ -17,18 +18,27 @@ returns-clause-turns g c =
 
 pub returns-in_err-has_list-clause-answers : goal.returns-in_err-has_list-clause-answers
 returns-in_err-has_list-clause-answers g c = λ trusted.
-    let told : Answers {X = Unit {0}} (StoreFailed g.S.Store c.args.self.now.connection c.has_list.new.connection) (refusal_of_create (maps_in (state g.S.Store c.args.self.now.connection).now.trees) c.args.name.now) (Err c.in_err-has_list.field-0.0) =
-    refused_so (Unit {0}) (StoreFailed g.S.Store c.args.self.now.connection c.has_list.new.connection) _ c.in_err-has_list.field-0.0 c.in_err-has_list.ensures.named (λ is.
-    failed_now g.S.Store c.args.self.now.connection c.has_list.new.connection trusted.1.0 (inl (c.in_err-has_list.ensures.fault trusted.0 is))) in
+    let old = state g.S.Store c.args.self.now.connection in
+    let failed : Type 0 = StoreFailed old (state g.S.Store c.has_list.new.connection) (Create c.args.name.now (map string_bytes c.args.uris.now)) in
+    let refusal = refusal_of_create (maps_in old.now.trees) c.args.name.now in
+    let told : Answers {X = Unit {0}} failed refusal (Err c.in_err-has_list.field-0.0) =
+    refused_so (Unit {0}) failed refusal c.in_err-has_list.field-0.0 c.in_err-has_list.ensures.named (λ is. inl (c.in_err-has_list.ensures.fault trusted.0 trusted.1.ready is)) in
     let how = err_from_is_err_and c.from_residual.result c.from_residual.ensures.1 in
     rw (how.1, how.2) told
 
 pub returns-clause-answers : goal.returns-clause-answers
 returns-clause-answers g c = λ trusted.
+    let old = state g.S.Store c.args.self.now.connection in
+    let mid = state g.S.Store c.has_list.new.connection in
+    let new = state g.S.Store c.put.new.self.connection in
+    let uris = map string_bytes c.args.uris.now in
     let clean = c.put.ensures.turns.clean trusted.0 in
-    let same = c.in_ok-has_list.ensures.reads.same clean trusted.1.1 in
-    let free : is_some ((maps_in (state g.S.Store c.args.self.now.connection).now.trees).lists c.args.name.now) ≡ false = sym (c.in_ok-has_list.ensures.found clean trusted.1.1) ∙ search rules in
-    let told = answers_for _ (StoreFailed g.S.Store c.args.self.now.connection c.put.new.self.connection) _ c.put.result
-    (λ failed. failed_behind g.S.Store c.args.self.now.connection c.has_list.new.connection c.put.new.self.connection same failed)
-    (c.put.ensures.answers (trusted.0, (same.0.is_open, ready_same (state g.S.Store c.args.self.now.connection) (state g.S.Store c.has_list.new.connection) trusted.1.1 same))) in
+    let reads = c.in_ok-has_list.ensures.reads in
+    let same = reads.same clean trusted.1.ready in
+    let free : is_some ((maps_in old.now.trees).lists c.args.name.now) ≡ false = sym (c.in_ok-has_list.ensures.found clean trusted.1.ready) ∙ search rules in
+    let put_failed : StoreFailed mid new (Put c.args.name.now uris) → StoreFailed old new (Create c.args.name.now uris) = λ failed. elim failed [
+      | inl store ↦ inl (failed_behind old mid new reads clean trusted.1.ready store)
+      | inr unstorable ↦ inr (subst (λ (d : Database). CannotDo d.trees (Create c.args.name.now uris)) same.0.now_is unstorable)
+    ] in
+    let told = answers_for _ (StoreFailed old new (Create c.args.name.now uris)) _ c.put.result put_failed (c.put.ensures.answers (trusted.0, own_same old mid trusted.1 same)) in
     rw free told

@@ -1,7 +1,9 @@
-use Rattle.std.proofs.Common.{List, [], ◌∷◌, Ok, Err, true, false, inl, inr, refl, arith}
+use Rattle.std.proofs.Common.{List, [], ◌∷◌, Ok, Err, true, false, inl, arith}
 use Rattle.sqlite.specs.declared.types.Value.{Value}
 use Rattle.sqlite.specs.declared.types.Value.TheVariants.{Text}
 use Rattle.sqlite.specs.Held.{state}
+use Rattle.sqlite.specs.State.{HasCleanDisk}
+use Rattle.shelf.specs.Calls.{DeleteStickers}
 use Rattle.shelf.specs.Maps.{Maps, with_stickers, no_stickers}
 use Rattle.shelf_database.specs.Tables.{maps_in, has_text}
 use Rattle.shelf_database.proofs.Statements.{delete_all_text, delete_all_is, equals}
@@ -9,11 +11,12 @@ use Rattle.shelf_database.proofs.TextLemmas.{one_test}
 use Rattle.shelf_database.proofs.DeleteLemmas.{deletion}
 use Rattle.shelf_database.proofs.RemoveLemmas.{deletes_all}
 use Rattle.shelf_database.proofs.WriteLemmas.{write_turns}
-use Rattle.shelf_database.proofs.QueryLemmas.{read_then_by}
+use Rattle.shelf_database.proofs.QueryLemmas.{ready_same, read_then_by}
 use Rattle.std.proofs.lemmas.Result.{err_from_is_err_and}
 use Rattle.shelf.specs.Maps.{AnswersAll}
 use Rattle.shelf_database.specs.Faults.{StoreFailed}
-use Rattle.shelf_database.proofs.FaultLemmas.{refused_all, failed_now, failed_behind}
+use Rattle.shelf_database.proofs.FaultLemmas.{refused_all, failed_behind}
+use Rattle.shelf_database.proofs.DeleteBlame.{deletion_of_all_blamed}
 use Rattle.shelf_database.proofs.database.SqlShelfShelf.delete_stickers.Goals as goal
 
 pub returns-in-Ok-clause-turns : goal.returns-in-Ok-clause-turns
@@ -42,17 +45,21 @@ returns-in-Err-clause-turns g c =
 
 pub returns-in_err-has_stickers-clause-answers : goal.returns-in_err-has_stickers-clause-answers
 returns-in_err-has_stickers-clause-answers g c = λ trusted.
-    let told : AnswersAll {X = Unit {0}} (StoreFailed g.S.Store c.args.self.now.connection c.has_stickers.new.connection) ((maps_in (state g.S.Store c.args.self.now.connection).now.trees).stickers c.args.uri.now) (Err c.in_err-has_stickers.field-0.0) =
-    refused_all (Unit {0}) (StoreFailed g.S.Store c.args.self.now.connection c.has_stickers.new.connection) _ c.in_err-has_stickers.field-0.0 c.in_err-has_stickers.ensures.named (λ is.
-    failed_now g.S.Store c.args.self.now.connection c.has_stickers.new.connection trusted.1.0 (c.in_err-has_stickers.ensures.fault trusted.0 is)) in
+    let old = state g.S.Store c.args.self.now.connection in
+    let new = state g.S.Store c.has_stickers.new.connection in
+    let told : AnswersAll {X = Unit {0}} (StoreFailed old new (DeleteStickers c.args.uri.now)) ((maps_in old.now.trees).stickers c.args.uri.now) (Err c.in_err-has_stickers.field-0.0) =
+    refused_all (Unit {0}) (StoreFailed old new (DeleteStickers c.args.uri.now)) _ c.in_err-has_stickers.field-0.0 c.in_err-has_stickers.ensures.named (c.in_err-has_stickers.ensures.fault trusted.0 trusted.1.ready) in
     let how = err_from_is_err_and c.from_residual.result c.from_residual.ensures.1 in
     rw (how.1, how.2) told
 
 pub returns-in-Err-clause-answers : goal.returns-in-Err-clause-answers
 returns-in-Err-clause-answers g c = λ trusted.
-    let clean = trusted.0 in
+    let old = state g.S.Store c.args.self.now.connection in
+    let mid = state g.S.Store c.has_stickers.new.connection in
+    let new = state g.S.Store c.execute.new.self in
     let kept = c.in-Err.ensures.survives.clean in
-    let same = c.in_ok-has_stickers.ensures.reads.same (omega (arith, clean, kept)) trusted.1.1 in
-    refused_all (Unit {0}) (StoreFailed g.S.Store c.args.self.now.connection c.execute.new.self) _ c.fault.result c.fault.ensures.named (λ is.
-    failed_behind g.S.Store c.args.self.now.connection c.has_stickers.new.connection c.execute.new.self same
-    (failed_now g.S.Store c.has_stickers.new.connection c.execute.new.self same.0.is_open (inl (record { text = _; params = _; error = _; ours = refl; fails = inr (c.in-Err.ensures.runs trusted.0) }))))
+    let clean : HasCleanDisk mid = omega (arith, trusted.0, kept) in
+    let reads = c.in_ok-has_stickers.ensures.reads in
+    let ready = ready_same old mid trusted.1.ready (reads.same clean trusted.1.ready) in
+    refused_all (Unit {0}) (StoreFailed old new (DeleteStickers c.args.uri.now)) _ c.fault.result c.fault.ensures.named (λ is.
+    inl (failed_behind old mid new reads clean trusted.1.ready (deletion_of_all_blamed mid new c.args.uri.now c.in-Err.error ready (λ e. let no_memory = c.fault.ensures.memory e in cc) (rw c.params-to_sql.ensures at (c.in-Err.ensures.runs trusted.0)))))

@@ -6,12 +6,15 @@ use Rattle.sqlite.specs.Term.{col}
 use Rattle.sqlite.specs.Held.{state}
 use Rattle.shelf.specs.Lines.{lines_of, are_single_lines}
 use Rattle.shelf.proofs.LineLemmas.{lines_are_single}
+use Rattle.shelf.specs.Calls.{ListOf}
 use Rattle.shelf_database.specs.Tables.{maps_in, has_text, Reads}
 use Rattle.shelf_database.proofs.Statements.{uris_text, uris_is, over, equals}
 use Rattle.shelf_database.proofs.FoundLemmas.{shown_of, list_shown, first_text, none_found, some_found, mapped_some}
 use Rattle.shelf_database.proofs.QueryLemmas.{reads, answer_of, query_failed, read_turns}
-use Rattle.shelf_database.specs.Faults.{StoreFailed}
-use Rattle.shelf_database.proofs.FaultLemmas.{refused_so, failed_now, within}
+use Rattle.shelf_database.specs.Faults.{IsNoText, StoreFailed}
+use Rattle.shelf_database.proofs.FaultLemmas.{refused_so, within}
+use Rattle.shelf_database.proofs.BlameLemmas.{uris_blamed}
+use Rattle.shelf_database.proofs.LacksLemmas.{first_lacks, uris_lack}
 use Rattle.shelf_database.proofs.database.SqlShelfShelf.list.Goals as goal
 
 pub returns-in-Err-clause-turns : goal.returns-in-Err-clause-turns
@@ -40,8 +43,8 @@ returns-in_default-clause-answers g c = λ trusted.
     let params : List Value = Text c.args.name.now ∷ [] in
     let query = over 1 (equals 1 0 ∷ []) (col 1 2 ∷ []) [] in
     let found : Option Row = find (has_text 1 c.args.name.now) (old.now.trees 1) in
-    let rows : c.in-Ok.rows.items ≡ shown_of 2 found = list_shown c.args.name.now old.now c.in-Ok.rows.items trusted.1.1.shelf
-    (answer_of uris_text query _ uris_is params old new trusted.1.1 c.in-Ok.rows.items (rw c.params-to_sql.ensures at (c.in-Ok.ensures.ok trusted.0))) in
+    let rows : c.in-Ok.rows.items ≡ shown_of 2 found = list_shown c.args.name.now old.now c.in-Ok.rows.items trusted.1.ready.shelf
+    (answer_of uris_text query _ uris_is params old new trusted.1.ready c.in-Ok.rows.items (rw c.params-to_sql.ensures at (c.in-Ok.ensures.ok trusted.0))) in
     let first : slice_get c.in-Ok.rows.items 0 ≡ None = search rules in
     let none : is_some (option_map lines_of (option_map (λ row. bytes (column row 2)) found)) ≡ false = mapped_some lines_of (option_map (λ row. bytes (column row 2)) found) ∙ mapped_some (λ row. bytes (column row 2)) found ∙ none_found 2 found c.in-Ok.rows.items rows first in
     rw none refl
@@ -63,8 +66,8 @@ returns-in-Ok-get-clause-answers g c = λ trusted.
     let params : List Value = Text c.args.name.now ∷ [] in
     let query = over 1 (equals 1 0 ∷ []) (col 1 2 ∷ []) [] in
     let found : Option Row = find (has_text 1 c.args.name.now) (old.now.trees 1) in
-    let rows : c.in-Ok.rows.items ≡ shown_of 2 found = list_shown c.args.name.now old.now c.in-Ok.rows.items trusted.1.1.shelf
-    (answer_of uris_text query _ uris_is params old new trusted.1.1 c.in-Ok.rows.items (rw c.params-to_sql.ensures at (c.in-Ok.ensures.ok trusted.0))) in
+    let rows : c.in-Ok.rows.items ≡ shown_of 2 found = list_shown c.args.name.now old.now c.in-Ok.rows.items trusted.1.ready.shelf
+    (answer_of uris_text query _ uris_is params old new trusted.1.ready c.in-Ok.rows.items (rw c.params-to_sql.ensures at (c.in-Ok.ensures.ok trusted.0))) in
     let first : slice_get c.in-Ok.rows.items 0 ≡ Some c.in-Some.row.now = search rules in
     let some : is_some (option_map lines_of (option_map (λ row. bytes (column row 2)) found)) ≡ true = mapped_some lines_of (option_map (λ row. bytes (column row 2)) found) ∙ mapped_some (λ row. bytes (column row 2)) found ∙ some_found 2 found c.in-Ok.rows.items c.in-Some.row.now rows first in
     rw some refl
@@ -99,26 +102,29 @@ returns-in-Ok-get-clause-uris g c = λ trusted.
     let params : List Value = Text c.args.name.now ∷ [] in
     let query = over 1 (equals 1 0 ∷ []) (col 1 2 ∷ []) [] in
     let found : Option Row = find (has_text 1 c.args.name.now) (old.now.trees 1) in
-    let rows : c.in-Ok.rows.items ≡ shown_of 2 found = list_shown c.args.name.now old.now c.in-Ok.rows.items trusted.1.1.shelf
-    (answer_of uris_text query _ uris_is params old new trusted.1.1 c.in-Ok.rows.items (rw c.params-to_sql.ensures at (c.in-Ok.ensures.ok trusted.0))) in
+    let rows : c.in-Ok.rows.items ≡ shown_of 2 found = list_shown c.args.name.now old.now c.in-Ok.rows.items trusted.1.ready.shelf
+    (answer_of uris_text query _ uris_is params old new trusted.1.ready c.in-Ok.rows.items (rw c.params-to_sql.ensures at (c.in-Ok.ensures.ok trusted.0))) in
     let first : slice_get c.in-Ok.rows.items 0 ≡ Some c.in-Some.row.now = search rules in
     let text = first_text 2 found c.in-Ok.rows.items c.in-Some.row.now (string_bytes c.in-Ok-get.text) rows first c.in-Ok-get.ensures.ok.1 in
     ap (option_map lines_of) text ∙ ap Some (sym (c.in_ok-lines_of_text-in-Ok-get.ensures ∙ ap lines_of c.as_str.ensures.value))
 
-pub returns-in-Err-clause-answers : goal.returns-in-Err-clause-answers
-returns-in-Err-clause-answers g c = λ trusted.
-    refused_so (Unit {0}) (StoreFailed g.S.Store c.args.self.now.connection c.query_all.new.self) _ c.fault.result c.fault.ensures.named (λ is.
-    failed_now g.S.Store c.args.self.now.connection c.query_all.new.self trusted.1.0 (inl (record { text = _; params = _; error = _; ours = refl; fails = inl (c.in-Err.ensures.err trusted.0) })))
-
 pub returns-clause-answers : goal.returns-clause-answers
 returns-clause-answers g c = λ trusted.
-    let first : slice_get c.in-Ok.rows.items 0 ≡ Some c.in-Some.row.now = search rules in
-    refused_so (Unit {0}) (StoreFailed g.S.Store c.args.self.now.connection c.query_all.new.self) _ c.fault-in-Err-get.result c.fault-in-Err-get.ensures.named (λ is.
-    failed_now g.S.Store c.args.self.now.connection c.query_all.new.self trusted.1.0 (inr (record {
-      text = _;
-      params = _;
-      ours = refl;
-      rows = _;
-      shown = c.in-Ok.ensures.ok trusted.0;
-      lacks = record { at = 0; row = _; is = first; place = 0; no_text = λ value text utf8. c.in-Err-get.ensures.kind (λ memory. let other = c.fault-in-Err-get.ensures.memory memory in cc) (within c.in-Some.row.now 0 value text) (value, text, utf8) };
-    })))
+    let old = state g.S.Store c.args.self.now.connection in
+    let new = state g.S.Store c.query_all.new.self in
+    let params : List Value = Text c.args.name.now ∷ [] in
+    let query = over 1 (equals 1 0 ∷ []) (col 1 2 ∷ []) [] in
+    let rows = c.in-Ok.rows.items in
+    let answer = answer_of uris_text query _ uris_is params old new trusted.1.ready rows (rw c.params-to_sql.ensures at (c.in-Ok.ensures.ok trusted.0)) in
+    let first : slice_get rows 0 ≡ Some c.in-Some.row.now = search rules in
+    refused_so (Unit {0}) (StoreFailed old new (ListOf c.args.name.now)) _ c.fault-in-Err-get.result c.fault-in-Err-get.ensures.named (λ is.
+    let lacks : IsNoText (column c.in-Some.row.now 0) = λ value text utf8.
+    c.in-Err-get.ensures.kind (λ memory. let other = c.fault-in-Err-get.ensures.memory memory in cc) (within c.in-Some.row.now 0 value text) (value, text, utf8) in
+    inr (uris_lack old.now.trees rows c.args.name.now answer (first_lacks rows c.in-Some.row.now first lacks)))
+
+pub returns-in-Err-clause-answers : goal.returns-in-Err-clause-answers
+returns-in-Err-clause-answers g c = λ trusted.
+    let old = state g.S.Store c.args.self.now.connection in
+    let new = state g.S.Store c.query_all.new.self in
+    refused_so (Unit {0}) (StoreFailed old new (ListOf c.args.name.now)) _ c.fault.result c.fault.ensures.named (λ is.
+    inl (uris_blamed c.args.name.now old new c.in-Err.error trusted.1.ready (λ memory. let none = c.fault.ensures.memory memory in cc) (rw c.params-to_sql.ensures at (c.in-Err.ensures.err trusted.0))))

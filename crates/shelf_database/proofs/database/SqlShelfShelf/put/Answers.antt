@@ -1,18 +1,28 @@
-use Rattle.std.proofs.Common.{◌≡◌, inl, inr, List, [], ◌∷◌, Some, map, string_bytes, refl, ap, subst, ◌∙◌, Ok, Err}
+use Rattle.std.proofs.Common.{◌≡◌, ◌≢◌, ◌⊎◌, ℕ, List, [], ◌∷◌, Some, map, string_bytes, refl, ap, subst, ◌∙◌, Ok, Err}
 use Rattle.sqlite.specs.declared.types.Value.{Value}
-use Rattle.sqlite.specs.declared.types.Value.TheVariants.{Text}
+use Rattle.sqlite.specs.declared.types.Value.TheVariants.{Int, Text}
 use Rattle.sqlite.specs.Source.TheVariants.{Values}
+use Rattle.sqlite.specs.Command.{Command}
 use Rattle.sqlite.specs.Command.TheVariants.{InsertOr}
-use Rattle.sqlite_schema.specs.declared.command.Conflict.TheVariants.{Replace}
 use Rattle.sqlite.specs.Held.{state}
+use Rattle.sqlite.specs.Edit.{next_rowid}
+use Rattle.sqlite.specs.Listing.{understood}
+use Rattle.sqlite.specs.declared.error.Error.TheVariants.{SqliteFailure}
+use Rattle.sqlite.specs.declared.error.ErrorCode.TheVariants as code
+use Rattle.sqlite_schema.specs.declared.command.Conflict.TheVariants.{Replace}
+use Rattle.sqlite_tied.specs.Compute.{everything}
 use Rattle.shelf.specs.Lines.{lines_of}
 use Rattle.shelf.specs.Maps.{with_list}
-use Rattle.shelf_database.specs.Tables.{maps_in, IsReady}
+use Rattle.shelf.specs.Calls.{Put}
 use Rattle.shelf.proofs.LineLemmas.{lines_back}
+use Rattle.shelf_database.specs.Tables.{maps_in, IsReady}
+use Rattle.shelf_database.specs.Faults.{HasFailed, IsUnstorable, StoreFailed}
 use Rattle.shelf_database.proofs.Statements.{put_text, put_is}
 use Rattle.shelf_database.proofs.PutListLemmas.{puts_list, list_values}
-use Rattle.shelf_database.proofs.FaultLemmas.{refused_so, failed_now}
-use Rattle.shelf_database.specs.Faults.{StoreFailed}
+use Rattle.shelf_database.proofs.FaultLemmas.{refused_so}
+use Rattle.shelf_database.proofs.PutBlame.{put_refused}
+use Rattle.shelf_database.proofs.WriteBlame.{write_blamed}
+use Rattle.shelf_database.proofs.BlameLemmas.{IsWhole}
 use Rattle.shelf_database.proofs.WriteLemmas.{DoesSo, write_turns}
 use Rattle.shelf_database.proofs.database.SqlShelfShelf.put.Goals as goal
 
@@ -44,7 +54,22 @@ returns-clause-turns g c =
     (λ clean. rw (c.params-to_sql.ensures, c.params-to_sql-2.ensures, c.as_str.ensures.value) at (c.in-Err.ensures.runs clean))
     (rw (c.params-to_sql.ensures, c.params-to_sql-2.ensures, c.as_str.ensures.value) at c.in-Err.ensures.survives)
 
+put_whole : (name text : List ℕ) → IsWhole put_text (Text name ∷ Text text ∷ [])
+unfolding understood everything
+put_whole name text = (refl, refl)
+
 pub returns-clause-answers : goal.returns-clause-answers
 returns-clause-answers g c = λ trusted.
-    refused_so (Unit {0}) (StoreFailed g.S.Store c.args.self.now.connection c.execute.new.self) _ c.fault.result c.fault.ensures.named (λ is.
-    failed_now g.S.Store c.args.self.now.connection c.execute.new.self trusted.1.0 (inl (record { text = _; params = _; error = _; ours = refl; fails = inr (c.in-Err.ensures.runs trusted.0) })))
+    let old = state g.S.Store c.args.self.now.connection in
+    let new = state g.S.Store c.execute.new.self in
+    let name = c.args.name.now in
+    let uris = map string_bytes c.args.uris.now in
+    let text = string_bytes c.in_ok-text.text in
+    let params : List Value = Text name ∷ Text text ∷ [] in
+    let command : Command = InsertOr 1 Replace (Values list_values 3) [] in
+    let failed : Type 0 = StoreFailed old new (Put name uris) in
+    refused_so (Unit {0}) failed _ c.fault.result c.fault.ensures.named (λ is.
+    let other : c.in-Err.error ≢ SqliteFailure code.OutOfMemory = λ memory. absurd (let named = c.fault.ensures.memory memory in cc) in
+    let blamed = write_blamed old new put_text params command put_is tt (put_whole name text) _ (put_refused old name text trusted.1.ready) c.in-Err.error trusted.1.ready other
+    (rw (c.params-to_sql.ensures, c.params-to_sql-2.ensures, c.as_str.ensures.value) at (c.in-Err.ensures.runs trusted.0)) in
+    subst (λ t. HasFailed old new ⊎ IsUnstorable (Int (next_rowid (old.now.trees 1)) ∷ Text name ∷ Text t ∷ [])) c.in_ok-text.ensures blamed)

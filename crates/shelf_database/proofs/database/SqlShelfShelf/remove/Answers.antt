@@ -1,8 +1,10 @@
-use Rattle.std.proofs.Common.{arith, inl, inr, refl, List, [], ◌∷◌, None, Ok, Err, true, false}
+use Rattle.std.proofs.Common.{arith, inl, List, [], ◌∷◌, None, Ok, Err, true, false}
 use Rattle.std.proofs.lemmas.Result.{err_from_is_err_and}
 use Rattle.sqlite.specs.declared.types.Value.{Value}
 use Rattle.sqlite.specs.declared.types.Value.TheVariants.{Text}
 use Rattle.sqlite.specs.Held.{state}
+use Rattle.sqlite.specs.State.{HasCleanDisk}
+use Rattle.shelf.specs.Calls.{Remove}
 use Rattle.shelf.specs.Maps.{Maps, Answers, refusal_of_list, with_list}
 use Rattle.shelf_database.specs.Tables.{maps_in, has_text}
 use Rattle.shelf_database.proofs.Statements.{remove_text, remove_is, equals}
@@ -10,9 +12,10 @@ use Rattle.shelf_database.proofs.TextLemmas.{one_test}
 use Rattle.shelf_database.proofs.DeleteLemmas.{deletion}
 use Rattle.shelf_database.proofs.RemoveLemmas.{removes_list}
 use Rattle.shelf_database.proofs.WriteLemmas.{write_turns}
-use Rattle.shelf_database.proofs.QueryLemmas.{read_then_by}
+use Rattle.shelf_database.proofs.QueryLemmas.{ready_same, read_then_by}
 use Rattle.shelf_database.specs.Faults.{StoreFailed}
-use Rattle.shelf_database.proofs.FaultLemmas.{refused_so, failed_now, failed_behind}
+use Rattle.shelf_database.proofs.FaultLemmas.{refused_so, failed_behind}
+use Rattle.shelf_database.proofs.DeleteBlame.{removal_blamed}
 use Rattle.shelf_database.proofs.database.SqlShelfShelf.remove.Goals as goal
 
 pub returns-in-Ok-clause-turns : goal.returns-in-Ok-clause-turns
@@ -41,17 +44,21 @@ returns-in-Err-clause-turns g c =
 
 pub returns-in_err-has_list-clause-answers : goal.returns-in_err-has_list-clause-answers
 returns-in_err-has_list-clause-answers g c = λ trusted.
-    let told : Answers {X = Unit {0}} (StoreFailed g.S.Store c.args.self.now.connection c.has_list.new.connection) (refusal_of_list (maps_in (state g.S.Store c.args.self.now.connection).now.trees) c.args.name.now) (Err c.in_err-has_list.field-0.0) =
-    refused_so (Unit {0}) (StoreFailed g.S.Store c.args.self.now.connection c.has_list.new.connection) _ c.in_err-has_list.field-0.0 c.in_err-has_list.ensures.named (λ is.
-    failed_now g.S.Store c.args.self.now.connection c.has_list.new.connection trusted.1.0 (inl (c.in_err-has_list.ensures.fault trusted.0 is))) in
+    let old = state g.S.Store c.args.self.now.connection in
+    let new = state g.S.Store c.has_list.new.connection in
+    let told : Answers {X = Unit {0}} (StoreFailed old new (Remove c.args.name.now)) (refusal_of_list (maps_in old.now.trees) c.args.name.now) (Err c.in_err-has_list.field-0.0) =
+    refused_so (Unit {0}) (StoreFailed old new (Remove c.args.name.now)) _ c.in_err-has_list.field-0.0 c.in_err-has_list.ensures.named (λ is. inl (c.in_err-has_list.ensures.fault trusted.0 trusted.1.ready is)) in
     let how = err_from_is_err_and c.from_residual.result c.from_residual.ensures.1 in
     rw (how.1, how.2) told
 
 pub returns-in-Err-clause-answers : goal.returns-in-Err-clause-answers
 returns-in-Err-clause-answers g c = λ trusted.
-    let clean = trusted.0 in
+    let old = state g.S.Store c.args.self.now.connection in
+    let mid = state g.S.Store c.has_list.new.connection in
+    let new = state g.S.Store c.execute.new.self in
     let kept = c.in-Err.ensures.survives.clean in
-    let same = c.in_ok-has_list.ensures.reads.same (omega (arith, clean, kept)) trusted.1.1 in
-    refused_so (Unit {0}) (StoreFailed g.S.Store c.args.self.now.connection c.execute.new.self) _ c.fault.result c.fault.ensures.named (λ is.
-    failed_behind g.S.Store c.args.self.now.connection c.has_list.new.connection c.execute.new.self same
-    (failed_now g.S.Store c.has_list.new.connection c.execute.new.self same.0.is_open (inl (record { text = _; params = _; error = _; ours = refl; fails = inr (c.in-Err.ensures.runs trusted.0) }))))
+    let clean : HasCleanDisk mid = omega (arith, trusted.0, kept) in
+    let reads = c.in_ok-has_list.ensures.reads in
+    let ready = ready_same old mid trusted.1.ready (reads.same clean trusted.1.ready) in
+    refused_so (Unit {0}) (StoreFailed old new (Remove c.args.name.now)) _ c.fault.result c.fault.ensures.named (λ is.
+    inl (failed_behind old mid new reads clean trusted.1.ready (removal_blamed mid new c.args.name.now c.in-Err.error ready (λ e. let no_memory = c.fault.ensures.memory e in cc) (rw c.params-to_sql.ensures at (c.in-Err.ensures.runs trusted.0)))))

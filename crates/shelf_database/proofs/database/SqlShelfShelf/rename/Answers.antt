@@ -1,4 +1,4 @@
-use Rattle.std.proofs.Common.{◌≡◌, Ok, Err, true, false, is_ok, rules, sym, ◌∙◌, inl, inr, refl, arith}
+use Rattle.std.proofs.Common.{◌≡◌, Ok, Err, true, false, is_ok, rules, sym, ◌∙◌, inl, arith}
 use Rattle.sqlite.specs.Held.{state}
 use Rattle.sqlite.specs.State.{HasCleanDisk}
 use Rattle.shelf.specs.Maps.{with_renamed}
@@ -7,8 +7,10 @@ use Rattle.shelf_database.proofs.QueryLemmas.{ready_same, read_then}
 use Rattle.shelf_database.proofs.RenameTurns.{rename_turns}
 use Rattle.std.proofs.lemmas.Result.{err_from_is_err_and}
 use Rattle.shelf.specs.Maps.{Answers, refusal_of_rename}
+use Rattle.shelf.specs.Calls.{Call, Rename}
 use Rattle.shelf_database.specs.Faults.{StoreFailed}
-use Rattle.shelf_database.proofs.FaultLemmas.{refused_so, failed_now, failed_behind}
+use Rattle.shelf_database.proofs.FaultLemmas.{refused_so, failed_behind}
+use Rattle.shelf_database.proofs.RenameBlame.{rename_blamed}
 use Rattle.shelf_database.proofs.database.SqlShelfShelf.rename.Goals as goal
 
 pub returns-in_err-has_list-2-clause-turns : goal.returns-in_err-has_list-2-clause-turns
@@ -46,32 +48,43 @@ returns-in-Err-clause-turns g c =
 
 pub returns-in_err-has_list-clause-answers : goal.returns-in_err-has_list-clause-answers
 returns-in_err-has_list-clause-answers g c = λ trusted.
-    let told : Answers {X = Unit {0}} (StoreFailed g.S.Store c.args.self.now.connection c.has_list.new.connection) (refusal_of_rename (maps_in (state g.S.Store c.args.self.now.connection).now.trees) c.args.name.now c.args.new_name.now) (Err c.in_err-has_list.field-0.0) =
-    refused_so (Unit {0}) (StoreFailed g.S.Store c.args.self.now.connection c.has_list.new.connection) _ c.in_err-has_list.field-0.0 c.in_err-has_list.ensures.named (λ is.
-    failed_now g.S.Store c.args.self.now.connection c.has_list.new.connection trusted.1.0 (inl (c.in_err-has_list.ensures.fault trusted.0 is))) in
+    let old = state g.S.Store c.args.self.now.connection in
+    let new = state g.S.Store c.has_list.new.connection in
+    let call : Call = Rename c.args.name.now c.args.new_name.now in
+    let told : Answers {X = Unit {0}} (StoreFailed old new call) (refusal_of_rename (maps_in old.now.trees) c.args.name.now c.args.new_name.now) (Err c.in_err-has_list.field-0.0) =
+    refused_so (Unit {0}) (StoreFailed old new call) _ c.in_err-has_list.field-0.0 c.in_err-has_list.ensures.named (λ is. inl (c.in_err-has_list.ensures.fault trusted.0 trusted.1.ready is)) in
     let how = err_from_is_err_and c.from_residual.result c.from_residual.ensures.1 in
     rw (how.1, how.2) told
 
 pub returns-in_err-has_list-2-clause-answers : goal.returns-in_err-has_list-2-clause-answers
 returns-in_err-has_list-2-clause-answers g c = λ trusted.
-    let failed = c.in_err-has_list-2.ensures.failed (maps_in (state g.S.Store c.args.self.now.connection).now.trees) in
-    let same = c.in_ok-has_list.ensures.reads.same (failed.clean trusted.0) trusted.1.1 in
-    let told : Answers {X = Unit {0}} (StoreFailed g.S.Store c.args.self.now.connection c.has_list-2.new.connection) (refusal_of_rename (maps_in (state g.S.Store c.args.self.now.connection).now.trees) c.args.name.now c.args.new_name.now) (Err c.in_err-has_list-2.field-0.0) =
-    refused_so (Unit {0}) (StoreFailed g.S.Store c.args.self.now.connection c.has_list-2.new.connection) _ c.in_err-has_list-2.field-0.0 c.in_err-has_list-2.ensures.named (λ is.
-    failed_behind g.S.Store c.args.self.now.connection c.has_list.new.connection c.has_list-2.new.connection same
-    (failed_now g.S.Store c.has_list.new.connection c.has_list-2.new.connection same.0.is_open (inl (c.in_err-has_list-2.ensures.fault trusted.0 is)))) in
+    let old = state g.S.Store c.args.self.now.connection in
+    let mid = state g.S.Store c.has_list.new.connection in
+    let new = state g.S.Store c.has_list-2.new.connection in
+    let call : Call = Rename c.args.name.now c.args.new_name.now in
+    let ready = trusted.1.ready in
+    let reads = c.in_ok-has_list.ensures.reads in
+    let clean = (c.in_err-has_list-2.ensures.failed (maps_in old.now.trees)).clean trusted.0 in
+    let then_ready = ready_same old mid ready (reads.same clean ready) in
+    let told : Answers {X = Unit {0}} (StoreFailed old new call) (refusal_of_rename (maps_in old.now.trees) c.args.name.now c.args.new_name.now) (Err c.in_err-has_list-2.field-0.0) =
+    refused_so (Unit {0}) (StoreFailed old new call) _ c.in_err-has_list-2.field-0.0 c.in_err-has_list-2.ensures.named (λ is.
+    inl (failed_behind old mid new reads clean ready (c.in_err-has_list-2.ensures.fault trusted.0 then_ready is))) in
     let how = err_from_is_err_and c.from_residual-in_err-has_list-2.result c.from_residual-in_err-has_list-2.ensures.1 in
     rw (how.1, how.2) told
 
 pub returns-in-Err-clause-answers : goal.returns-in-Err-clause-answers
 returns-in-Err-clause-answers g c = λ trusted.
-    let clean = trusted.0 in
+    let old = state g.S.Store c.args.self.now.connection in
+    let mid = state g.S.Store c.has_list.new.connection in
+    let late = state g.S.Store c.has_list-2.new.connection in
+    let new = state g.S.Store c.execute.new.self in
+    let first = c.in_ok-has_list.ensures.reads in
+    let second = c.in_ok-has_list-2.ensures.reads in
     let kept = c.in-Err.ensures.survives.clean in
-    let late : HasCleanDisk (state g.S.Store c.has_list-2.new.connection) = omega (arith, clean, kept) in
-    let same = c.in_ok-has_list.ensures.reads.same (c.in_ok-has_list-2.ensures.reads.clean late) trusted.1.1 in
-    let ready = ready_same (state g.S.Store c.args.self.now.connection) (state g.S.Store c.has_list.new.connection) trusted.1.1 same in
-    let again = c.in_ok-has_list-2.ensures.reads.same late ready in
-    refused_so (Unit {0}) (StoreFailed g.S.Store c.args.self.now.connection c.execute.new.self) _ c.fault.result c.fault.ensures.named (λ is.
-    failed_behind g.S.Store c.args.self.now.connection c.has_list.new.connection c.execute.new.self same
-    (failed_behind g.S.Store c.has_list.new.connection c.has_list-2.new.connection c.execute.new.self again
-    (failed_now g.S.Store c.has_list-2.new.connection c.execute.new.self again.0.is_open (inl (record { text = _; params = _; error = _; ours = refl; fails = inr (c.in-Err.ensures.runs trusted.0) })))))
+    let clean : HasCleanDisk late = omega (arith, trusted.0, kept) in
+    let there : c.in_ok-has_list.field-0 ≡ true = search rules in
+    let free : c.in_ok-has_list-2.field-0 ≡ false = search rules in
+    refused_so (Unit {0}) (StoreFailed old new (Rename c.args.name.now c.args.new_name.now)) _ c.fault.result c.fault.ensures.named (λ is.
+    rename_blamed old mid late new c.args.name.now c.args.new_name.now first second clean trusted.1.ready (sym (c.in_ok-has_list.ensures.found (second.clean clean) trusted.1.ready) ∙ there)
+    (λ ready. sym (c.in_ok-has_list-2.ensures.found clean ready) ∙ free) c.in-Err.error (λ memory. let none = c.fault.ensures.memory memory in cc)
+    (rw (c.params-to_sql.ensures, c.params-to_sql-2.ensures) at (c.in-Err.ensures.runs trusted.0)))

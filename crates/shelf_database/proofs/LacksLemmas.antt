@@ -1,0 +1,80 @@
+-- Where a row that a query shows has no text, the row of the table that it comes from has none.
+use Rattle.std.proofs.Common.{◌≡◌, ℕ, List, [], ◌∷◌, filter, slice_get, Bool, true, ◌&&◌, Some, refl, ap, subst, ◌∙◌, inl, inr}
+use Rattle.std.specs.List.{list_all}
+use Rattle.sqlite.specs.declared.types.Value.TheVariants.{Text}
+use Rattle.sqlite.specs.Order.{Row, column}
+use Rattle.sqlite.specs.Tree.{Trees}
+use Rattle.sqlite.specs.Term.{Term, col, holds, eval_all}
+use Rattle.sqlite.specs.Query.{IsAnswer}
+use Rattle.sqlite.specs.Program.{overlay}
+use Rattle.sqlite_value.specs.declared.keys.Key.{Key}
+use Rattle.sqlite_rules.specs.Lists.{Has}
+use Rattle.sqlite_rules.proofs.ListLemmas.{has_filtered, has_got}
+use Rattle.shelf_database.specs.Tables.{has_text}
+use Rattle.shelf_database.specs.Faults.{IsNoText, LacksText}
+use Rattle.shelf_database.proofs.Statements.{over, equals, rising}
+use Rattle.shelf_database.proofs.ReadLemmas.{answer_is}
+use Rattle.shelf_database.proofs.AnyRowLemmas.{shown_from}
+use Rattle.shelf_database.proofs.TextLemmas.{one_test, two_tests}
+
+-- the first row is one of them
+pub first_lacks : (rows : List Row) (row : Row) → slice_get rows 0 ≡ Some row → IsNoText (column row 0) → LacksText (0 ∷ []) (λ _. true) rows
+first_lacks rows row first lacks = (row, has_got rows 0 row first, refl, 0, inl refl, lacks)
+
+-- each of these columns shows one of those of the table
+abbrev Moves : Row → List Term → List ℕ → List ℕ → Type 0
+Moves params project columns wanted = (row : Row) (at : ℕ) → Has columns at → (place : ℕ) × Has wanted place × (column (eval_all project (params ∷ row ∷ [])) at ≡ column row place)
+
+first_moves : (params : Row) (place : ℕ) (more : List Term) → Moves params (col 1 place ∷ more) (0 ∷ []) (place ∷ [])
+first_moves params place more row at (inl is) = (place, inl refl, ap (column (eval_all (col 1 place ∷ more) (params ∷ row ∷ []))) is)
+first_moves params place more row at (inr never) = absurd never
+
+both_move : (params : Row) (a b : ℕ) → Moves params (col 1 a ∷ col 1 b ∷ []) (0 ∷ 1 ∷ []) (a ∷ b ∷ [])
+both_move params a b row at (inl is) = (a, inl refl, ap (column (eval_all (col 1 a ∷ col 1 b ∷ []) (params ∷ row ∷ []))) is)
+both_move params a b row at (inr (inl is)) = (b, inr (inl refl), ap (column (eval_all (col 1 a ∷ col 1 b ∷ []) (params ∷ row ∷ []))) is)
+both_move params a b row at (inr (inr never)) = absurd never
+
+module _ (params : Row) (tree : ℕ) (terms project : List Term) (order : List (Term × Key)) (test : Row → Bool) (tests : (row : Row) → list_all (holds (params ∷ row ∷ [])) terms ≡ test row) where
+  lacks_below : (columns wanted : List ℕ) → Moves params project columns wanted → (db : Trees) (rows : List Row) → IsAnswer (over tree terms project order) db params rows
+      → LacksText columns (λ _. true) rows → LacksText wanted test (db tree)
+  lacks_below columns wanted moves db rows answer lacks =
+      let read = answer_is params tree terms project order test tests db rows answer in
+      let from = shown_from params tree terms project order test tests (filter test (db tree)) rows read lacks.0 lacks.1 in
+      let was = has_filtered test (db tree) from.0 from.1 in
+      let moved = moves from.0 lacks.3 lacks.4 in
+      let same : column lacks.0 lacks.3 ≡ column from.0 moved.0 = ap (λ r. column r lacks.3) from.2 ∙ moved.2 in
+      (from.0, was.0, was.1, moved.0, moved.1, subst IsNoText same lacks.5)
+
+-- ---- the queries
+
+module _ (db : Trees) (rows : List Row) where
+  pub uris_lack : (name : List ℕ) → IsAnswer (over 1 (equals 1 0 ∷ []) (col 1 2 ∷ []) []) (overlay db []) (Text name ∷ []) rows → LacksText (0 ∷ []) (λ _. true) rows → LacksText (2 ∷ []) (has_text 1 name) (db 1)
+  uris_lack name = lacks_below (Text name ∷ []) 1 (equals 1 0 ∷ []) (col 1 2 ∷ []) [] (has_text 1 name) (one_test 1 name) (0 ∷ []) (2 ∷ []) (first_moves (Text name ∷ []) 2 []) (overlay db []) rows
+
+  pub names_lack : IsAnswer (over 1 [] (col 1 1 ∷ []) (rising 1)) (overlay db []) [] rows → LacksText (0 ∷ []) (λ _. true) rows → LacksText (1 ∷ []) (λ _. true) (db 1)
+  names_lack = lacks_below [] 1 [] (col 1 1 ∷ []) (rising 1) (λ _. true) (λ _. refl) (0 ∷ []) (1 ∷ []) (first_moves [] 1 []) (overlay db []) rows
+
+  pub value_lacks : (uri name : List ℕ) → IsAnswer (over 3 (equals 1 0 ∷ equals 2 1 ∷ []) (col 1 3 ∷ []) []) (overlay db []) (Text uri ∷ Text name ∷ []) rows
+      → LacksText (0 ∷ []) (λ _. true) rows → LacksText (3 ∷ []) (λ row. has_text 1 uri row && has_text 2 name row) (db 3)
+  value_lacks uri name =
+      lacks_below (Text uri ∷ Text name ∷ []) 3 (equals 1 0 ∷ equals 2 1 ∷ []) (col 1 3 ∷ []) [] (λ row. has_text 1 uri row && has_text 2 name row) (two_tests uri name)
+      (0 ∷ []) (3 ∷ []) (first_moves (Text uri ∷ Text name ∷ []) 3 []) (overlay db []) rows
+
+  pub of_uri_lack : (uri : List ℕ) → IsAnswer (over 3 (equals 1 0 ∷ []) (col 1 2 ∷ col 1 3 ∷ []) (rising 2)) (overlay db []) (Text uri ∷ []) rows
+      → LacksText (0 ∷ 1 ∷ []) (λ _. true) rows → LacksText (2 ∷ 3 ∷ []) (has_text 1 uri) (db 3)
+  of_uri_lack uri =
+      lacks_below (Text uri ∷ []) 3 (equals 1 0 ∷ []) (col 1 2 ∷ col 1 3 ∷ []) (rising 2) (has_text 1 uri) (one_test 1 uri)
+      (0 ∷ 1 ∷ []) (2 ∷ 3 ∷ []) (both_move (Text uri ∷ []) 2 3) (overlay db []) rows
+
+  -- where their names alone are read
+  pub of_uri_unnamed : (uri : List ℕ) → IsAnswer (over 3 (equals 1 0 ∷ []) (col 1 2 ∷ col 1 3 ∷ []) (rising 2)) (overlay db []) (Text uri ∷ []) rows
+      → LacksText (0 ∷ []) (λ _. true) rows → LacksText (2 ∷ []) (has_text 1 uri) (db 3)
+  of_uri_unnamed uri =
+      lacks_below (Text uri ∷ []) 3 (equals 1 0 ∷ []) (col 1 2 ∷ col 1 3 ∷ []) (rising 2) (has_text 1 uri) (one_test 1 uri)
+      (0 ∷ []) (2 ∷ []) (first_moves (Text uri ∷ []) 2 (col 1 3 ∷ [])) (overlay db []) rows
+
+  pub of_name_lack : (name : List ℕ) → IsAnswer (over 3 (equals 2 0 ∷ []) (col 1 1 ∷ col 1 3 ∷ []) (rising 1)) (overlay db []) (Text name ∷ []) rows
+      → LacksText (0 ∷ 1 ∷ []) (λ _. true) rows → LacksText (1 ∷ 3 ∷ []) (has_text 2 name) (db 3)
+  of_name_lack name =
+      lacks_below (Text name ∷ []) 3 (equals 2 0 ∷ []) (col 1 1 ∷ col 1 3 ∷ []) (rising 1) (has_text 2 name) (one_test 2 name)
+      (0 ∷ 1 ∷ []) (1 ∷ 3 ∷ []) (both_move (Text name ∷ []) 1 3) (overlay db []) rows
