@@ -1,6 +1,6 @@
 #!/usr/bin/env python3
-"""Refused memory in the built tests of crates: each allocation of each test is refused in turn. A test has to end by itself,
-with success or with want of memory.
+"""Refused memory in the built tests of crates: each allocation of each test is refused in turn (of a test that makes more than
+2,000 of them, 2,000 evenly spread). A test has to end by itself, with success or with want of memory.
 
     checks/test_memory.py CRATE...          crates whose tests are built, as `rt test` leaves them in out/
 """
@@ -11,6 +11,7 @@ import sys
 import tempfile
 
 HERE = os.path.dirname(os.path.abspath(__file__))
+MOST = 2000  # the allocations of a test that are refused
 WANTS = ('AllocError', 'AllocFailed', 'NoMemory', 'OutOfMemory')
 
 
@@ -41,7 +42,7 @@ def check(crate, library, folder):
     for name in names_of(binary):
         whole = run(binary, name, library, report, 0)
         count = allocations_in(report)
-        sorts = collections.Counter(sort_of(run(binary, name, library, report, place)) for place in range(1, count + 1))
+        sorts = collections.Counter(sort_of(run(binary, name, library, report, place)) for place in range(1, count + 1, -(-count // MOST) or 1))
         failed += sorts['FAILED'] + (whole.returncode != 0)
         print('%-14s %-44s %5d allocations: %s' % (crate, name, count, ', '.join('%s %d' % sort for sort in sorted(sorts.items()))))
     return failed

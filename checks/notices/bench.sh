@@ -1,5 +1,6 @@
 #!/bin/sh
-# Prints microseconds of a change that is told to clients that wait in `idle`, and of their next `idle`s; best of five.
+# Prints microseconds of a change that is told to clients that wait in `idle`, and of their next `idle`s, and the lines of
+# `ping` a second that a player reads and answers while 1 or 60 clients are connected; best of five.
 # Usage: bench.sh [ROOT]     (ROOT is the repository's top folder; two folders up from here if left out)
 # It builds on a copy in a temporary folder. What the crates have proved is copied along; the rest is proved there first.
 set -eu
@@ -33,5 +34,16 @@ grep -E '^notices [0-9]+ [0-9]+ [0-9]+ [0-9]+ [0-9]+$' "$work/ours.log" | awk '
             if (n == 0) printf "%-8d %14.2f %19s %9s %14s %12s  %s\n", n, best[n], "-", "-", "-", "-", all[n]
             else printf "%-8d %14.2f %19.3f %9s %14.2f %12.3f  %s\n", n, best[n], (best[n] - best[0]) / n, "2", least[n], least[n] / n, all[n]
         }
+    }
+'
+grep -E '^pings [0-9]+ [0-9]+ [0-9]+$' "$work/ours.log" | awk '
+    {
+        each = $4 / $3
+        if (!($2 in best)) { rows[++count] = $2; best[$2] = each }
+        if (each < best[$2]) best[$2] = each
+    }
+    END {
+        printf "\n%-10s %16s\n", "connected", "lines a second"
+        for (i = 1; i <= count; i++) printf "%-10d %16.0f\n", rows[i], 1e9 / best[rows[i]]
     }
 '

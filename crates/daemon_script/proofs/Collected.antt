@@ -2,7 +2,7 @@
 use Rattle.std.proofs.Common.{◌≡◌, Bool, true, false, List, [], ◌∷◌, ◌++◌, refl}
 use Rattle.std.specs.Prelude.{◌||◌}
 use Rattle.std.specs.List.{list_any}
-use Rattle.mpd_text.specs.Songs.{SongData}
+use Rattle.mpd_text.specs.Songs.Song.{SongData}
 use Rattle.song_db.specs.Library.{same_uri, is_twice_named}
 use Rattle.daemon_script.specs.Script.{has_uri}
 

@@ -1,6 +1,10 @@
+pub mod Alike
 pub mod Collected
+pub mod Lives
 pub mod Numbered
+pub mod Outputs
 pub mod Ran
 pub mod Ranges
+pub mod Refused
 pub mod Runs
 pub mod Writes

@@ -5,28 +5,34 @@ use Rattle.std.proofs.lemmas.List.{map-append}
 use Rattle.std.specs.Option.{IsSome, IfSome}
 use Rattle.std.specs.Result.{OnErr}
 use Rattle.std.specs.Io.KnownBytes.{Appends, Consumes, Keeps, IsAtEnd}
-use Rattle.mpd_text.specs.declared.device.Tally.{Tally}
-use Rattle.mpd_text.specs.Cut.{split, cut, split_from, then_split}
-use Rattle.mpd_text.specs.Devices.{NoFewer, one_call}
-use Rattle.mpd_text.specs.Lines.{line_of}
-use Rattle.daemon_script.specs.Output.{Run, script_after, text_of, lines_in, ending, IsRunOf, output_of, WritesOutput, AppendsFront, WritesAll, WritesFront}
+use Rattle.mpd_text.specs.declared.devices.tally.Tally.{Tally}
+use Rattle.mpd_text.specs.Lines.Cut.{split, cut, split_from, then_split}
+use Rattle.mpd_text.specs.Devices.Tally.{NoFewer, one_call}
+use Rattle.mpd_text.specs.Lines.Split.{line_of}
+use Rattle.partition.specs.Image.{Image}
+use Rattle.daemon_script.specs.Kinds.{images}
+use Rattle.daemon_script.specs.Output.{Run, script_after, text_of, lines_in, ending, IsRunOf, output_of, WritesOutput, AppendsFront, WritesAll, WritesFront, CalledTooOften}
 use Rattle.daemon_script.specs.Pieces.{ShowsPiece}
 use Rattle.daemon_script.specs.Script.{ScriptData, opening_script}
 use Rattle.daemon_script.proofs.Runs.{script_after-append, text_of-append, lines_in-append, ample, lines_in-ample}
 
+-- a device was called this often, by a count that stays at its greatest value
+abbrev Called : ℕ → Tally → Tally → Type 0
+Called turns old new = ((turns ≡ 0) × (new.calls ≡ old.calls)) ⊎ (new.calls ≡ min (old.calls + turns) (2 ^ 64 - 1))
+
 -- what was read and written so far, by what its lines found of memory
-pub record Ran (unread left old new start : Option (List ℕ)) (script : ScriptData) (turns : ℕ) (reader reader' writer writer' : Tally) : Type 0 where
+pub record Ran (unread left old new start : Option (List ℕ)) (script : ScriptData Image) (turns : ℕ) (reader reader' writer writer' : Tally) : Type 0 where
   pub read : List ℕ
   pub run : Run
   pub consumed : Consumes unread left read
   pub next : (split read).next ≡ start
   pub goes : IsSome start
   pub are : IsRunOf read run
-  pub stands : script ≡ script_after opening_script run
-  pub written : Appends old new (text_of opening_script run)
+  pub script_is : script ≡ script_after images opening_script run
+  pub written : Appends old new (text_of images opening_script run)
   pub reads : NoFewer reader reader'
   pub writes : NoFewer writer writer'
-  pub calls : (reader.calls + turns ≤ reader'.calls) ⊎ (reader'.calls ≡ 2 ^ 64 - 1)
+  pub calls : Called turns reader reader'
 
 abbrev Cuts : Type 0
 Cuts = (stream more : List ℕ) → split (stream ++ more) ≡ then_split (split stream) more
@@ -76,23 +82,23 @@ next_more cuts read piece start e = rw (cuts read piece, e) refl
 
 -- the output for one more piece
 output_more : Cuts → (read piece : List ℕ) (start : Option (List ℕ)) (run more : Run) → (split read).next ≡ start
-    → output_of (read ++ piece) (run ++ more) ≡ text_of opening_script run ++ (text_of (script_after opening_script run) more ++ ending (split_from start piece).next)
+    → output_of images (read ++ piece) (run ++ more) ≡ text_of images opening_script run ++ (text_of images (script_after images opening_script run) more ++ ending (split_from start piece).next)
 unfolding output_of
 output_more cuts read piece start run more e =
-    ap (λ (o : Option (List ℕ)). text_of opening_script (run ++ more) ++ ending o) (next_more cuts read piece start e)
+    ap (λ (o : Option (List ℕ)). text_of images opening_script (run ++ more) ++ ending o) (next_more cuts read piece start e)
     ∙ ap (λ (t : List ℕ). t ++ ending (split_from start piece).next) (text_of-append opening_script run more)
-    ∙ append_assoc (text_of opening_script run) (text_of (script_after opening_script run) more) (ending (split_from start piece).next)
+    ∙ append_assoc (text_of images opening_script run) (text_of images (script_after images opening_script run) more) (ending (split_from start piece).next)
 
 no_ending : (o : Option (List ℕ)) → IsSome o → ending o ≡ []
 no_ending (Some partial) some = refl
 no_ending None some = absurd cc
 
 -- the output so far, while no line was too long
-output_open : (read : List ℕ) (start : Option (List ℕ)) (run : Run) → (split read).next ≡ start → IsSome start → output_of read run ≡ text_of opening_script run
+output_open : (read : List ℕ) (start : Option (List ℕ)) (run : Run) → (split read).next ≡ start → IsSome start → output_of images read run ≡ text_of images opening_script run
 unfolding output_of
 output_open read start run e some =
-    ap (λ (o : Option (List ℕ)). text_of opening_script run ++ ending o) e
-    ∙ ap (λ (t : List ℕ). text_of opening_script run ++ t) (no_ending start some) ∙ append-nil (text_of opening_script run)
+    ap (λ (o : Option (List ℕ)). text_of images opening_script run ++ ending o) e
+    ∙ ap (λ (t : List ℕ). text_of images opening_script run ++ t) (no_ending start some) ∙ append-nil (text_of images opening_script run)
 
 none_ran : (unread old : Option (List ℕ)) (reader writer : Tally) → Ran unread unread old old (Some []) opening_script 0 reader reader writer writer
 unfolding split cut script_after text_of
@@ -103,36 +109,36 @@ none_ran unread old reader writer = record {
   next = refl;
   goes = refl;
   are = refl;
-  stands = refl;
+  script_is = refl;
   written = appends_none old;
   reads = (omega arith, omega arith, omega arith);
   writes = (omega arith, omega arith, omega arith);
-  calls = inl (omega arith);
+  calls = inl (refl, refl);
 }
 
-pub start_ran : (unread old start : Option (List ℕ)) (script : ScriptData) (reader writer : Tally) → start ≡ Some [] → script ≡ opening_script
+pub start_ran : (unread old start : Option (List ℕ)) (script : ScriptData Image) (reader writer : Tally) → start ≡ Some [] → script ≡ opening_script
     → Ran unread unread old old start script 0 reader reader writer writer
 start_ran unread old start script reader writer e f = rw (e, f) (none_ran unread old reader writer)
 
 -- all that was read is answered
-pub all_here : (unread left left' old new start : Option (List ℕ)) (script : ScriptData) (turns : ℕ) (r r' w w' : Tally)
-    → Ran unread left old new start script turns r r' w w' → Keeps left left' → WritesAll unread left' old new
+pub all_here : (unread left left' old new start : Option (List ℕ)) (script : ScriptData Image) (turns : ℕ) (r r' w w' : Tally)
+    → Ran unread left old new start script turns r r' w w' → Keeps left left' → WritesAll images unread left' old new
 all_here unread left left' old new start script turns r r' w w' ran keeps = (
   ran.read,
   consumes_kept unread left left' ran.read ran.consumed keeps,
   (ran.run, ran.are, subst (Appends old new) (sym (output_open ran.read start ran.run ran.next ran.goes)) ran.written),
 )
 
-pub front_of_all : (unread left old new : Option (List ℕ)) → WritesAll unread left old new → WritesFront unread left old new
+pub front_of_all : (unread left old new : Option (List ℕ)) → WritesAll images unread left old new → WritesFront images unread left old new
 front_of_all unread left old new (read, consumes, (run, are, written)) =
-    (read, consumes, run, are, (output_of read run, [], sym (append-nil (output_of read run)), written))
+    (read, consumes, run, are, (output_of images read run, [], sym (append-nil (output_of images read run)), written))
 
 -- a front of what a piece prints was written
-pub front_piece : Cuts → (unread left left' old mid new start : Option (List ℕ)) (script : ScriptData) (piece : List ℕ) (more : Run) (turns : ℕ) (r r' w w' : Tally)
+pub front_piece : Cuts → (unread left left' old mid new start : Option (List ℕ)) (script : ScriptData Image) (piece : List ℕ) (more : Run) (turns : ℕ) (r r' w w' : Tally)
     → Ran unread left old mid start script turns r r' w w' → Consumes left left' piece → lines_in more ≡ map line_of (split_from start piece).lines
-    → AppendsFront mid new (text_of script more ++ ending (split_from start piece).next) → WritesFront unread left' old new
+    → AppendsFront mid new (text_of images script more ++ ending (split_from start piece).next) → WritesFront images unread left' old new
 front_piece cuts unread left left' old mid new start script piece more turns r r' w w' ran consumes lines front =
-    let texts : List ℕ = text_of opening_script ran.run in (
+    let texts : List ℕ = text_of images opening_script ran.run in (
       ran.read ++ piece,
       consumes_both unread left left' ran.read piece ran.consumed consumes,
       ran.run ++ more,
@@ -141,19 +147,19 @@ front_piece cuts unread left left' old mid new start script piece more turns r r
         texts ++ front.0,
         front.1,
         output_more cuts ran.read piece start ran.run more ran.next
-            ∙ ap (λ (s : ScriptData). texts ++ (text_of s more ++ ending (split_from start piece).next)) (sym ran.stands)
+            ∙ ap (λ (s : ScriptData Image). texts ++ (text_of images s more ++ ending (split_from start piece).next)) (sym ran.script_is)
             ∙ ap (λ (t : List ℕ). texts ++ t) front.2 ∙ sym (append_assoc texts front.0 front.1),
         appends_both old mid new texts front.0 ran.written front.3,
       ),
     )
 
 -- nothing of a piece was written
-pub none_of_piece : Cuts → (unread left left' old mid start : Option (List ℕ)) (script : ScriptData) (piece : List ℕ) (turns : ℕ) (r r' w w' : Tally)
-    → Ran unread left old mid start script turns r r' w w' → Consumes left left' piece → WritesFront unread left' old mid
+pub none_of_piece : Cuts → (unread left left' old mid start : Option (List ℕ)) (script : ScriptData Image) (piece : List ℕ) (turns : ℕ) (r r' w w' : Tally)
+    → Ran unread left old mid start script turns r r' w w' → Consumes left left' piece → WritesFront images unread left' old mid
 none_of_piece cuts unread left left' old mid start script piece turns r r' w w' ran consumes =
     let more : Run = ample (map line_of (split_from start piece).lines) in
     front_piece cuts unread left left' old mid mid start script piece more turns r r' w w' ran consumes (lines_in-ample (map line_of (split_from start piece).lines))
-    ([], text_of script more ++ ending (split_from start piece).next, refl, appends_none mid)
+    ([], text_of images script more ++ ending (split_from start piece).next, refl, appends_none mid)
 
 -- the input is at its end
 ends_all : (unread left : Option (List ℕ)) (read : List ℕ) (P : List ℕ → Type 0) → Consumes unread left read → IsAtEnd left → P read → IfSome unread P
@@ -161,78 +167,103 @@ ends_all None left read P c e h = tt
 ends_all (Some x) None read P c e h = absurd c
 ends_all (Some x) (Some y) read P c e h = subst P (sym (c ∙ ap (λ (l : List ℕ). read ++ l) e ∙ append-nil read)) h
 
-pub whole_input : (unread left left' old new start : Option (List ℕ)) (script : ScriptData) (turns : ℕ) (r r' w w' : Tally)
-    → Ran unread left old new start script turns r r' w w' → Consumes left left' [] → IsAtEnd left' → IfSome unread (WritesOutput old new)
+pub whole_input : (unread left left' old new start : Option (List ℕ)) (script : ScriptData Image) (turns : ℕ) (r r' w w' : Tally)
+    → Ran unread left old new start script turns r r' w w' → Consumes left left' [] → IsAtEnd left' → IfSome unread (WritesOutput images old new)
 whole_input unread left left' old new start script turns r r' w w' ran consumes ends =
     let consumed = subst (Consumes unread left') (append-nil ran.read) (consumes_both unread left left' ran.read [] ran.consumed consumes) in
-    ends_all unread left' ran.read (WritesOutput old new) consumed ends
+    ends_all unread left' ran.read (WritesOutput images old new) consumed ends
     (ran.run, ran.are, subst (Appends old new) (sym (output_open ran.read start ran.run ran.next ran.goes)) ran.written)
 
 closed_more : Cuts → (read more : List ℕ) → (split read).next ≡ None → ((split (read ++ more)).lines ≡ (split read).lines) × ((split (read ++ more)).next ≡ None)
 closed_more cuts read more e = rw (cuts read more, e) (append-nil (split read).lines, refl)
 
-closed_output : Cuts → (old new : Option (List ℕ)) (read more : List ℕ) → (split read).next ≡ None → WritesOutput old new read → WritesOutput old new (read ++ more)
+closed_output : Cuts → (old new : Option (List ℕ)) (read more : List ℕ) → (split read).next ≡ None → WritesOutput images old new read → WritesOutput images old new (read ++ more)
 unfolding output_of
 closed_output cuts old new read more e w =
     let c = closed_more cuts read more e in (
       w.0,
       w.1 ∙ ap (map line_of) (sym c.0),
-      subst (λ (o : Option (List ℕ)). Appends old new (text_of opening_script w.0 ++ ending o)) (e ∙ sym c.1) w.2,
+      subst (λ (o : Option (List ℕ)). Appends old new (text_of images opening_script w.0 ++ ending o)) (e ∙ sym c.1) w.2,
     )
 
-closed_all : Cuts → (unread left old new : Option (List ℕ)) (read : List ℕ) → Consumes unread left read → (split read).next ≡ None → WritesOutput old new read → IfSome unread (WritesOutput old new)
+closed_all : Cuts → (unread left old new : Option (List ℕ)) (read : List ℕ) → Consumes unread left read → (split read).next ≡ None → WritesOutput images old new read → IfSome unread (WritesOutput images old new)
 closed_all cuts None left old new read c e w = tt
 closed_all cuts (Some x) None old new read c e w = absurd c
-closed_all cuts (Some x) (Some y) old new read c e w = subst (WritesOutput old new) (sym c) (closed_output cuts old new read y e w)
+closed_all cuts (Some x) (Some y) old new read c e w = subst (WritesOutput images old new) (sym c) (closed_output cuts old new read y e w)
 
 text_alone : (before after text : List ℕ) → before ≡ [] → after ≡ before ++ text → after ≡ text
 text_alone before after text e f = rw e at f
 
 -- what a piece prints was written
-piece_written : Cuts → (old mid new start : Option (List ℕ)) (script script' : ScriptData) (read piece before after : List ℕ) (run : Run)
-    → (split read).next ≡ start → script ≡ script_after opening_script run → Appends old mid (text_of opening_script run)
+piece_written : Cuts → (old mid new start : Option (List ℕ)) (script script' : ScriptData Image) (read piece before after : List ℕ) (run : Run)
+    → (split read).next ≡ start → script ≡ script_after images opening_script run → Appends old mid (text_of images opening_script run)
     → before ≡ [] → (shows : ShowsPiece start piece script script' before after) → Appends mid new after
-    → Appends old new (output_of (read ++ piece) (run ++ shows.run))
-piece_written cuts old mid new start script script' read piece before after run e stands written none shows appends =
-    let texts : List ℕ = text_of opening_script run in
+    → Appends old new (output_of images (read ++ piece) (run ++ shows.run))
+piece_written cuts old mid new start script script' read piece before after run e script_is written none shows appends =
+    let texts : List ℕ = text_of images opening_script run in
     subst (Appends old new)
     (sym (output_more cuts read piece start run shows.run e
-    ∙ ap (λ (s : ScriptData). texts ++ (text_of s shows.run ++ ending (split_from start piece).next)) (sym stands)
+    ∙ ap (λ (s : ScriptData Image). texts ++ (text_of images s shows.run ++ ending (split_from start piece).next)) (sym script_is)
     ∙ ap (λ (t : List ℕ). texts ++ t) (sym (text_alone before after _ none shows.text))))
     (appends_both old mid new texts after written appends)
 
 -- a line was too long
-pub all_closed : Cuts → (unread left left' old mid new start : Option (List ℕ)) (script script' : ScriptData) (piece before after : List ℕ) (turns : ℕ) (r r' w w' : Tally)
+pub all_closed : Cuts → (unread left left' old mid new start : Option (List ℕ)) (script script' : ScriptData Image) (piece before after : List ℕ) (turns : ℕ) (r r' w w' : Tally)
     → Ran unread left old mid start script turns r r' w w' → Consumes left left' piece
     → before ≡ [] → ShowsPiece start piece script script' before after → Appends mid new after → (split_from start piece).next ≡ None
-    → IfSome unread (WritesOutput old new)
+    → IfSome unread (WritesOutput images old new)
 all_closed cuts unread left left' old mid new start script script' piece before after turns r r' w w' ran consumes none shows appends closed =
     closed_all cuts unread left' old new (ran.read ++ piece) (consumes_both unread left left' ran.read piece ran.consumed consumes)
     (next_more cuts ran.read piece start ran.next ∙ closed) (
       ran.run ++ shows.run,
       are_more cuts ran.read piece start ran.run shows.run ran.next ran.are shows.are,
-      piece_written cuts old mid new start script script' ran.read piece before after ran.run ran.next ran.stands ran.written none shows appends,
+      piece_written cuts old mid new start script script' ran.read piece before after ran.run ran.next ran.script_is ran.written none shows appends,
     )
 
 -- only a front of what a piece prints was written
-pub front_shown : Cuts → (unread left left' old mid new start : Option (List ℕ)) (script script' : ScriptData) (piece before after : List ℕ) (turns : ℕ) (r r' w w' : Tally)
+pub front_shown : Cuts → (unread left left' old mid new start : Option (List ℕ)) (script script' : ScriptData Image) (piece before after : List ℕ) (turns : ℕ) (r r' w w' : Tally)
     → Ran unread left old mid start script turns r r' w w' → Consumes left left' piece
-    → before ≡ [] → ShowsPiece start piece script script' before after → AppendsFront mid new after → WritesFront unread left' old new
+    → before ≡ [] → ShowsPiece start piece script script' before after → AppendsFront mid new after → WritesFront images unread left' old new
 front_shown cuts unread left left' old mid new start script script' piece before after turns r r' w w' ran consumes none shows front =
     front_piece cuts unread left left' old mid new start script piece shows.run turns r r' w w' ran consumes shows.are
     (front.0, front.1, sym (text_alone before after _ none shows.text) ∙ front.2, front.3)
 
-room_left : (a b : ℕ) → (a ≤ b) ⊎ (b < a)
-room_left a b = grind arith
+min_more : (a turns top : ℕ) → min (min (a + turns) top + 1) top ≡ min (a + (turns + 1)) top
+min_more a turns top = omega arith
 
-more_calls : (a b c turns : ℕ) → ((a + turns ≤ b) ⊎ (b ≡ 2 ^ 64 - 1)) → c ≡ min (b + 1) (2 ^ 64 - 1) → (a + (turns + 1) ≤ c) ⊎ (c ≡ 2 ^ 64 - 1)
-more_calls a b c turns before e = elim before [
-  | inl h ↦ elim (room_left (b + 1) (2 ^ 64 - 1)) [ inl room ↦ inl (omega arith) | inr full ↦ inr (omega arith) ]
-  | inr h ↦ inr (omega arith)
+min_first : (a b turns top : ℕ) → turns ≡ 0 → b ≡ a → min (b + 1) top ≡ min (a + (turns + 1)) top
+min_first a b turns top e f = rw (e, f) refl
+
+-- one more call
+more_calls : (old mid : Tally) (turns now : ℕ) → Called turns old mid → now ≡ (one_call mid).calls → now ≡ min (old.calls + (turns + 1)) (2 ^ 64 - 1)
+more_calls old mid turns now before e = elim before [
+  | inl h ↦ e ∙ min_first old.calls mid.calls turns (2 ^ 64 - 1) h.0 h.1
+  | inr h ↦ e ∙ ap (λ (n : ℕ). min (n + 1) (2 ^ 64 - 1)) h ∙ min_more old.calls turns (2 ^ 64 - 1)
 ]
 
+at_most : (a b turns top : ℕ) → b ≡ min (a + turns) top → turns ≤ 2 ^ 32 → b ≤ a + 2 ^ 32
+at_most a b turns top e most = omega (arith, e, most)
+
+all_calls : (old new : Tally) (turns : ℕ) → Called turns old new → turns ≡ 2 ^ 32 → CalledTooOften old new
+all_calls old new turns called e = elim called [ inl h ↦ absurd (omega (arith, h.0, e)) | inr h ↦ h ∙ ap (λ (n : ℕ). min (old.calls + n) (2 ^ 64 - 1)) e ]
+
+-- after one call more than were made so far
+pub few : (unread left old new start : Option (List ℕ)) (script : ScriptData Image) (turns : ℕ) (r r' w w' : Tally) (now : ℕ)
+    → Ran unread left old new start script turns r r' w w' → now ≡ (one_call r').calls → turns < 2 ^ 32 → now ≤ r.calls + 2 ^ 32
+few unread left old new start script turns r r' w w' now ran calls less =
+    at_most r.calls now (turns + 1) (2 ^ 64 - 1) (more_calls r r' turns now ran.calls calls) (omega (arith, less))
+
+-- after all calls
+pub too_often : (unread left old new start : Option (List ℕ)) (script : ScriptData Image) (turns : ℕ) (r r' w w' : Tally)
+    → Ran unread left old new start script turns r r' w w' → turns ≡ 2 ^ 32 → CalledTooOften r r'
+too_often unread left old new start script turns r r' w w' ran e = all_calls r r' turns ran.calls e
+
+pub few_in_all : (unread left old new start : Option (List ℕ)) (script : ScriptData Image) (turns : ℕ) (r r' w w' : Tally)
+    → Ran unread left old new start script turns r r' w w' → turns ≡ 2 ^ 32 → r'.calls ≤ r.calls + 2 ^ 32
+few_in_all unread left old new start script turns r r' w w' ran e = at_most r.calls r'.calls (2 ^ 32) (2 ^ 64 - 1) (all_calls r r' turns ran.calls e) (omega arith)
+
 -- one more turn
-pub one_turn : Cuts → (unread left left' old mid new start start' : Option (List ℕ)) (script script' : ScriptData) (piece before after : List ℕ) (turns : ℕ) (r r' r'' w w' w'' : Tally)
+pub one_turn : Cuts → (unread left left' old mid new start start' : Option (List ℕ)) (script script' : ScriptData Image) (piece before after : List ℕ) (turns : ℕ) (r r' r'' w w' w'' : Tally)
     → Ran unread left old mid start script turns r r' w w' → Consumes left left' piece
     → before ≡ [] → ShowsPiece start piece script script' before after → Appends mid new after → start' ≡ (split_from start piece).next → IsSome start'
     → NoFewer r' r'' → r''.calls ≡ (one_call r').calls → NoFewer w' w'' → Ran unread left' old new start' script' (turns + 1) r r'' w w''
@@ -245,12 +276,12 @@ one_turn cuts unread left left' old mid new start start' script script' piece be
       next = next;
       goes = some;
       are = are_more cuts ran.read piece start ran.run shows.run ran.next ran.are shows.are;
-      stands = shows.script ∙ ap (λ (s : ScriptData). script_after s shows.run) ran.stands ∙ sym (script_after-append opening_script ran.run shows.run);
+      script_is = shows.script ∙ ap (λ (s : ScriptData Image). script_after images s shows.run) ran.script_is ∙ sym (script_after-append opening_script ran.run shows.run);
       written = subst (Appends old new) (output_open (ran.read ++ piece) start' (ran.run ++ shows.run) next some)
-          (piece_written cuts old mid new start script script' ran.read piece before after ran.run ran.next ran.stands ran.written none shows appends);
+          (piece_written cuts old mid new start script script' ran.read piece before after ran.run ran.next ran.script_is ran.written none shows appends);
       reads = (omega (arith, ran.reads.0, reads.0), omega (arith, ran.reads.1, reads.1), omega (arith, ran.reads.2, reads.2));
       writes = (omega (arith, ran.writes.0, writes.0), omega (arith, ran.writes.1, writes.1), omega (arith, ran.writes.2, writes.2));
-      calls = more_calls r.calls r'.calls r''.calls turns ran.calls calls;
+      calls = inr (more_calls r r' turns r''.calls ran.calls calls);
     }
 
 pub some_left : (o : Option (List ℕ)) → is_none o ≡ false → IsSome o

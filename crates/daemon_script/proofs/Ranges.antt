@@ -4,10 +4,10 @@ use Rattle.std.specs.Prelude.{◌&&◌, nat_le, codes}
 use Rattle.std.specs.List.{list_all}
 use Rattle.std.specs.Str.{bytes_eq}
 use Rattle.std.proofs.lemmas.Bool.Decides.{nat_tests}
-use Rattle.mpd_text.specs.Numbers.{number_of}
-use Rattle.mpd_text.specs.Scan.{words_of}
-use Rattle.mpd_text.specs.Songs.{SongData}
-use Rattle.mpd_text.specs.declared.quoting.WordsFault.{WordsFault}
+use Rattle.mpd_text.specs.Answers.Number.{number_of}
+use Rattle.mpd_text.specs.Lines.Scan.{words_of}
+use Rattle.mpd_text.specs.Songs.Song.{SongData}
+use Rattle.mpd_text.specs.declared.lines.quoting.WordsFault.{WordsFault}
 use Rattle.script_lines.specs.Limits.{limit_named, greatest_of, within, number_within}
 use Rattle.script_lines.specs.Steps.{step_of, step_if_read, song_of, song_with, is_uri, limit_of, limit_with, limit_to, gone_of, gone_with}
 use Rattle.script_lines.specs.Tags.{is_tag, tags_of}

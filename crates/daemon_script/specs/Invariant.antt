@@ -1,6 +1,6 @@
 -- What is true of each script.
 use Rattle.std.specs.Prelude.{◌≡◌, ◌≤◌, List, length, false}
-use Rattle.mpd_text.specs.Songs.{SongData}
+use Rattle.mpd_text.specs.Songs.Song.{SongData}
 use Rattle.song_db.specs.Library.{is_twice_named}
 use Rattle.partition.specs.declared.state.Limits.{Limits}
 

@@ -1,3 +1,4 @@
+pub mod Kinds
 pub mod Script
 pub mod Output
 pub mod Pieces

@@ -1,25 +1,28 @@
 -- What a whole run writes (this profile's script).
-use Rattle.std.specs.Prelude.{◌≡◌, ℕ, ◌+◌, ◌-◌, ◌^◌, ◌≤◌, ◌⊎◌, List, [], ◌∷◌, ◌++◌, map, codes, Option, Some, None}
+use Rattle.std.specs.Prelude.{◌≡◌, ℕ, ◌+◌, ◌-◌, ◌^◌, min, List, [], ◌∷◌, ◌++◌, map, codes, Option, Some, None, option_map}
 use Rattle.std.specs.Io.KnownBytes.{Appends, Consumes}
-use Rattle.mpd_text.specs.declared.device.Tally.{Tally}
-use Rattle.mpd_text.specs.Cut.{split}
-use Rattle.mpd_text.specs.Lines.{line_of}
+use Rattle.mpd_text.specs.declared.devices.tally.Tally.{Tally}
+use Rattle.mpd_text.specs.Lines.Cut.{split}
+use Rattle.mpd_text.specs.Lines.Split.{line_of}
+use Rattle.partition.specs.Image.{Image}
 use Rattle.daemon_script.specs.declared.memory.Memory.{Memory}
+use Rattle.daemon_script.specs.Kinds.{PlayerKind, Lived, images, lives, seen}
 use Rattle.daemon_script.specs.Script.{ScriptData, shown_of, opening_script}
 
 -- lines, each with the memory that it found
 abbrev pub Run : Type 0
 Run = List (Option (List ℕ) × Memory)
 
--- the script after these lines
-unfoldable pub script_after : ScriptData → Run → ScriptData
-script_after s [] = s
-script_after s (l ∷ ls) = script_after (shown_of s l.0 l.1).script ls
+module _ {P : Type 0} (kind : PlayerKind P) where
+  -- the script after these lines
+  unfoldable pub script_after : ScriptData P → Run → ScriptData P
+  script_after s [] = s
+  script_after s (l ∷ ls) = script_after (shown_of kind s l.0 l.1).script ls
 
--- what these lines print, one after the other
-unfoldable pub text_of : ScriptData → Run → List ℕ
-text_of s [] = []
-text_of s (l ∷ ls) = (shown_of s l.0 l.1).text ++ text_of (shown_of s l.0 l.1).script ls
+  -- what these lines print, one after the other
+  unfoldable pub text_of : ScriptData P → Run → List ℕ
+  text_of s [] = []
+  text_of s (l ∷ ls) = (shown_of kind s l.0 l.1).text ++ text_of (shown_of kind s l.0 l.1).script ls
 
 abbrev pub lines_in : Run → List (Option (List ℕ))
 lines_in run = map (λ l. l.0) run
@@ -33,26 +36,38 @@ ending None = codes "! bad\n"
 abbrev pub IsRunOf : List ℕ → Run → Type 0
 IsRunOf input run = lines_in run ≡ map line_of (split input).lines
 
--- what is written for an input whose lines found so much memory
-unfoldable pub output_of : List ℕ → Run → List ℕ
-output_of input run = text_of opening_script run ++ ending (split input).next
-
--- what was written is the output for this input, by what its lines found of memory
-abbrev pub WritesOutput : Option (List ℕ) → Option (List ℕ) → List ℕ → Type 0
-WritesOutput old new input = (run : Run) × IsRunOf input run × Appends old new (output_of input run)
-
 -- known bytes grow by a front of these
 abbrev pub AppendsFront : Option (List ℕ) → Option (List ℕ) → List ℕ → Type 0
 AppendsFront old new bytes = (front back : List ℕ) × (bytes ≡ front ++ back) × Appends old new front
 
+-- what is written for an input whose lines found so much memory, by a player of this kind
+unfoldable pub output_of : {P : Type 0} → PlayerKind P → List ℕ → Run → List ℕ
+output_of kind input run = text_of kind opening_script run ++ ending (split input).next
+
+-- what was written is the output for this input, by what its lines found of memory
+abbrev pub WritesOutput : {P : Type 0} → PlayerKind P → Option (List ℕ) → Option (List ℕ) → List ℕ → Type 0
+WritesOutput kind old new input = (run : Run) × IsRunOf input run × Appends old new (output_of kind input run)
+
 -- what was written is the whole output for what was read
-abbrev pub WritesAll : Option (List ℕ) → Option (List ℕ) → Option (List ℕ) → Option (List ℕ) → Type 0
-WritesAll unread left old new = (read : List ℕ) × Consumes unread left read × WritesOutput old new read
+abbrev pub WritesAll : {P : Type 0} → PlayerKind P → Option (List ℕ) → Option (List ℕ) → Option (List ℕ) → Option (List ℕ) → Type 0
+WritesAll kind unread left old new = (read : List ℕ) × Consumes unread left read × WritesOutput kind old new read
 
 -- what was written is a front of the output for what was read
-abbrev pub WritesFront : Option (List ℕ) → Option (List ℕ) → Option (List ℕ) → Option (List ℕ) → Type 0
-WritesFront unread left old new = (read : List ℕ) × Consumes unread left read × (run : Run) × IsRunOf read run × AppendsFront old new (output_of read run)
+abbrev pub WritesFront : {P : Type 0} → PlayerKind P → Option (List ℕ) → Option (List ℕ) → Option (List ℕ) → Option (List ℕ) → Type 0
+WritesFront kind unread left old new =
+    (read : List ℕ) × Consumes unread left read × (run : Run) × IsRunOf read run × AppendsFront old new (output_of kind read run)
 
--- the device was called 2 ^ 32 times since, or its count stands at its greatest value
+-- the device was called 2 ^ 32 times since, by a count that stays at its greatest value
 abbrev pub CalledTooOften : Tally → Tally → Type 0
-CalledTooOften old new = (old.calls + 2 ^ 32 ≤ new.calls) ⊎ (new.calls ≡ 2 ^ 64 - 1)
+CalledTooOften old new = new.calls ≡ min (old.calls + 2 ^ 32) (2 ^ 64 - 1)
+
+-- what commands read of a script's life
+abbrev pub seen_script : ScriptData Lived → ScriptData Image
+seen_script s = record { limits = s.limits; songs = s.songs; player = option_map seen s.player }
+
+-- what a run prints is what the life of its player tells, with every queue that it had and every moment; and what commands read
+-- after it is what they read of that life
+abbrev pub RunsAreLived : Type 0
+RunsAreLived = (run : Run)
+    → (text_of images opening_script run ≡ text_of lives opening_script run)
+    × (script_after images opening_script run ≡ seen_script (script_after lives opening_script run))

@@ -1,20 +1,31 @@
--- What some lines, and the lines of a piece of the input, print.
+-- What parts of a run print: a refused step, some lines, and the lines of a piece of the input.
 use Rattle.std.specs.Prelude.{◌≡◌, ℕ, List, ◌++◌, Option, map}
-use Rattle.mpd_text.specs.Cut.{split_from}
-use Rattle.mpd_text.specs.Lines.{line_of}
+use Rattle.mpd_text.specs.Lines.Cut.{split_from}
+use Rattle.mpd_text.specs.Lines.Split.{line_of}
+use Rattle.partition.specs.Image.{Image}
+use Rattle.partition.specs.declared.partition.PartitionFault.{PartitionFault}
+use Rattle.partition.specs.declared.partition.PartitionFault.TheVariants.{AtLimit, NoMemory}
+use Rattle.daemon_script.specs.declared.memory.Memory.{Memory}
+use Rattle.daemon_script.specs.declared.memory.Memory.TheVariants.{Ample, NoneToRun}
 use Rattle.daemon_script.specs.Output.{Run, script_after, text_of, lines_in, ending}
+use Rattle.daemon_script.specs.Kinds.{images}
 use Rattle.daemon_script.specs.Script.{ScriptData}
 
+-- the memory that a step found which the player refused
+abbrev pub memory_of : PartitionFault → Memory
+memory_of AtLimit = Ample
+memory_of NoMemory = NoneToRun
+
 -- by what the lines found of memory, the script goes on from old to new, and their texts are appended
-pub record ShowsLines (old new : ScriptData) (lines : List (Option (List ℕ))) (before after : List ℕ) : Type 0 where
+pub record ShowsLines (old new : ScriptData Image) (lines : List (Option (List ℕ))) (before after : List ℕ) : Type 0 where
   pub run : Run
   pub are : lines_in run ≡ lines
-  pub script : new ≡ script_after old run
-  pub text : after ≡ before ++ text_of old run
+  pub script : new ≡ script_after images old run
+  pub text : after ≡ before ++ text_of images old run
 
 -- the same of the lines that a piece ends, and of a line that is too long
-pub record ShowsPiece (start : Option (List ℕ)) (piece : List ℕ) (old new : ScriptData) (before after : List ℕ) : Type 0 where
+pub record ShowsPiece (start : Option (List ℕ)) (piece : List ℕ) (old new : ScriptData Image) (before after : List ℕ) : Type 0 where
   pub run : Run
   pub are : lines_in run ≡ map line_of (split_from start piece).lines
-  pub script : new ≡ script_after old run
-  pub text : after ≡ before ++ (text_of old run ++ ending (split_from start piece).next)
+  pub script : new ≡ script_after images old run
+  pub text : after ≡ before ++ (text_of images old run ++ ending (split_from start piece).next)

@@ -1,12 +1,12 @@
 //! Scripts: numbered client lines and steps in, answers out.
 #![tactic(auto)]
 
-mod hear;
+mod client_lines;
+mod laws;
 mod memory;
 mod run;
 mod script;
-#[cfg(test)]
-mod tests;
 
+pub use laws::runs_are_lived;
 pub use memory::Memory;
 pub use run::{MAX_READS, ScriptFault, run_script};

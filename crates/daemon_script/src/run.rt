@@ -1,12 +1,14 @@
 //! Whole runs of a script.
-ghost use Rattle.std.specs.Prelude.{◌≡◌, ◌⊎◌, OnOk, OnErr, IfErr, IfSome, IsErrOf, IsSome};
+ghost use Rattle.std.specs.Prelude.{◌≡◌, ◌⊎◌, ◌≤◌, ◌+◌, ◌^◌, OnOk, OnErr, IfErr, IfSome, IsErrOf, IsSome};
 ghost use Rattle.std.specs.Io.KnownBytes.{Appends};
-ghost use Rattle.mpd_text.specs.Cut.{split_from};
-ghost use Rattle.mpd_text.specs.Devices.{HasFailed, NoFewer};
-ghost use Rattle.mpd_text.specs.Lines.{views};
+ghost use Rattle.mpd_text.specs.Lines.Cut.{split_from};
+ghost use Rattle.mpd_text.specs.Devices.Tally.{HasFailed, NoFewer};
+ghost use Rattle.mpd_text.specs.Lines.Split.{views};
+ghost use Rattle.daemon_script.specs.Kinds.{images, lives};
 ghost use Rattle.daemon_script.specs.Output.{WritesOutput, WritesAll, WritesFront, AppendsFront, CalledTooOften};
 ghost use Rattle.daemon_script.specs.Pieces.{ShowsLines, ShowsPiece};
 
+use crate::laws::runs_are_lived;
 use crate::script::Script;
 use mpd_text::{Line, Sink, Source, SplitFault, Splitter, any_cut};
 use std::alloc::{AllocError, Global};
@@ -41,19 +43,41 @@ impl From<AllocError> for ScriptFault {
 
 /// Reads a script to its end, or to a line that is too long, and writes what its lines print.
 ///
-/// Client lines that find no memory print their line of number 52 and change nothing, and the run goes on.
+/// Client lines that find no memory print their line of number 52 and change nothing, and the run goes on. What is
+/// written is told by the life of the script's player, with every queue that it had and every moment. The law
+/// [`runs_are_lived`] says the same of what commands read.
+///
+/// [`runs_are_lived`]: crate::runs_are_lived
 pub fn run_script<R: Source, W: Sink>(
     alloc: Global,
     reader: &mut R,
     writer: &mut W,
 ) -> Result<(), ScriptFault>
     // What is written is the output for the input, by what its lines found of memory.
-    ensures ok { OnOk result (IfSome (R.remaining reader.old) (WritesOutput (W.contents writer.old) (W.contents writer.new))) }
+    ensures ok { OnOk result (IfSome (R.remaining reader.old) (WritesOutput lives (W.contents writer.old) (W.contents writer.new))) }
     // After a read fault it is the whole output for what was read, and else a front of it.
-    ensures read { IsErrOf result ScriptFault.ReadFault → WritesAll (R.remaining reader.old) (R.remaining reader.new) (W.contents writer.old) (W.contents writer.new) }
-    ensures front { OnErr result (WritesFront (R.remaining reader.old) (R.remaining reader.new) (W.contents writer.old) (W.contents writer.new)) }
-    // A fault of a device comes only where it failed, or was read too often, or its count stands at its greatest value.
+    ensures read { IsErrOf result ScriptFault.ReadFault → WritesAll lives (R.remaining reader.old) (R.remaining reader.new) (W.contents writer.old) (W.contents writer.new) }
+    ensures front { OnErr result (WritesFront lives (R.remaining reader.old) (R.remaining reader.new) (W.contents writer.old) (W.contents writer.new)) }
+    // A fault of a device comes only where it failed, or was read 2 ^ 32 times.
     ensures read_fault { IsErrOf result ScriptFault.ReadFault → HasFailed (R.tally reader.old) (R.tally reader.new) ⊎ CalledTooOften (R.tally reader.old) (R.tally reader.new) }
+    ensures few_calls { (R.tally reader.new).calls ≤ (R.tally reader.old).calls + 2 ^ 32 }
+    ensures write_fault { IsErrOf result ScriptFault.WriteFault → HasFailed (W.tally writer.old) (W.tally writer.new) }
+{
+    runs_are_lived();
+    run_pieces(alloc, reader, writer)
+}
+
+/// Reads a script to its end, piece by piece. What is written is told by what commands read of the player.
+fn run_pieces<R: Source, W: Sink>(
+    alloc: Global,
+    reader: &mut R,
+    writer: &mut W,
+) -> Result<(), ScriptFault>
+    ensures ok { OnOk result (IfSome (R.remaining reader.old) (WritesOutput images (W.contents writer.old) (W.contents writer.new))) }
+    ensures read { IsErrOf result ScriptFault.ReadFault → WritesAll images (R.remaining reader.old) (R.remaining reader.new) (W.contents writer.old) (W.contents writer.new) }
+    ensures front { OnErr result (WritesFront images (R.remaining reader.old) (R.remaining reader.new) (W.contents writer.old) (W.contents writer.new)) }
+    ensures read_fault { IsErrOf result ScriptFault.ReadFault → HasFailed (R.tally reader.old) (R.tally reader.new) ⊎ CalledTooOften (R.tally reader.old) (R.tally reader.new) }
+    ensures few_calls { (R.tally reader.new).calls ≤ (R.tally reader.old).calls + 2 ^ 32 }
     ensures write_fault { IsErrOf result ScriptFault.WriteFault → HasFailed (W.tally writer.old) (W.tally writer.new) }
 {
     any_cut();

@@ -1,11 +1,13 @@
 //! A script: what it collects, and its player.
-ghost use Rattle.std.specs.Prelude.{◌≡◌, ◌≤◌, ◌++◌, codes, IfOk, OnOk};
-ghost use Rattle.mpd_text.specs.Lines.{view as view_of_line};
+ghost use Rattle.std.specs.Prelude.{◌≡◌, ◌≤◌, ◌++◌, codes, None, IfOk, OnOk};
+ghost use Rattle.mpd_text.specs.Lines.Split.{view as view_of_line};
 ghost use Rattle.song_db.specs.Library.{in_byte_order};
 ghost use Rattle.partition.specs.Image.{opening};
-ghost use Rattle.daemon_script.specs.Script.{opening_script, shown_of, step_line, collect_line, gone_line, lowers, shown_client, has_uri as has_uri_lem};
+ghost use Rattle.daemon_script.specs.Kinds.{images};
+ghost use Rattle.daemon_script.specs.Pieces.{memory_of};
+ghost use Rattle.daemon_script.specs.Script.{opening_script, shown_of, step_line, collect_line, gone_line, lowers, shown_client, refusal_text, has_uri as has_uri_lem};
 
-use crate::hear::{SEAT, hear, push_fault, push_notices};
+use crate::client_lines::{SEAT, push_fault, push_notices, run_line};
 use crate::memory::Memory;
 use mpd_text::{Line, Song, Tag};
 use partition::{Event, Limits, Partition, PartitionFault};
@@ -25,10 +27,11 @@ pub(crate) struct Script {
 
 impl Model for Script {
     ghost use Rattle.std.specs.Prelude.{option_map};
+    ghost use Rattle.partition.specs.Image.{Image};
     ghost use Rattle.daemon_script.specs.Script.{ScriptData};
     ghost use Rattle.daemon_script.specs.Invariant.{IsScript};
 
-    ghost Value = { ScriptData };
+    ghost Value = { ScriptData Image };
 
     ghost view = { λ s. record { limits = s.limits; songs = s.songs.items; player = option_map (λ p. p.present) s.player } };
 
@@ -55,42 +58,29 @@ impl Script {
     /// Runs a line, and appends what it prints. An `Err` says that there was no room to append.
     #[tactic(auto, unfolding(crate::specs::Script::shown_of))]
     pub(crate) fn show(&mut self, line: &Line, shown: &mut Vec<u8>) -> Result<Memory, AllocError>
-        ensures script { IfOk result (λ memory. self.new ≡ (shown_of self.old (view_of_line line.now) memory).script) }
-        ensures text { IfOk result (λ memory. shown.new.items ≡ shown.old.items ++ (shown_of self.old (view_of_line line.now) memory).text) }
+        ensures script { IfOk result (λ memory. self.new ≡ (shown_of images self.old (view_of_line line.now) memory).script) }
+        ensures text { IfOk result (λ memory. shown.new.items ≡ shown.old.items ++ (shown_of images self.old (view_of_line line.now) memory).text) }
     {
         let Line::Text(text) = line else {
-            push_bad(shown)?;
-            return Ok(Memory::Ample);
+            return push_bad(shown);
         };
         match ScriptLine::of(text.as_str()) {
-            ScriptLine::Client(number, line) => self.hear(number, line, shown),
-            ScriptLine::Step(rest) => self.step(rest, shown),
-            ScriptLine::Bad => {
-                push_bad(shown)?;
-                Ok(Memory::Ample)
-            }
+            ScriptLine::Client(number, line) => self.run_client_line(number, line, shown),
+            ScriptLine::Step(rest) => self.run_step(rest, shown),
+            ScriptLine::Bad => push_bad(shown),
         }
     }
 
-    fn step(&mut self, rest: &str, shown: &mut Vec<u8>) -> Result<Memory, AllocError>
-        ensures script { IfOk result (λ memory. self.new ≡ (step_line self.old rest.now memory).script) }
-        ensures text { IfOk result (λ memory. shown.new.items ≡ shown.old.items ++ (step_line self.old rest.now memory).text) }
+    fn run_step(&mut self, rest: &str, shown: &mut Vec<u8>) -> Result<Memory, AllocError>
+        ensures script { IfOk result (λ memory. self.new ≡ (step_line images self.old rest.now memory).script) }
+        ensures text { IfOk result (λ memory. shown.new.items ≡ shown.old.items ++ (step_line images self.old rest.now memory).text) }
     {
-        let Ok(step) = Step::of_line(self.alloc, rest) else {
-            shown.extend_from_slice(b"! refused out of memory\n")?;
-            return Ok(Memory::NoneToRun);
-        };
-        match step {
-            None => {
-                push_bad(shown)?;
-                Ok(Memory::Ample)
-            }
-            Some(Step::Song(song)) => self.collect(song, shown),
-            Some(Step::Limit(name, n)) => {
-                self.lower(name, n, shown)?;
-                Ok(Memory::Ample)
-            }
-            Some(Step::Gone(number)) => self.send_off(number, shown),
+        match Step::of_line(self.alloc, rest) {
+            Ok(Some(Step::Song(song))) => self.collect(song, shown),
+            Ok(Some(Step::Limit(name, n))) => self.lower(name, n, shown),
+            Ok(Some(Step::Gone(number))) => self.send_off(number, shown),
+            Ok(None) => push_bad(shown),
+            Err(AllocError) => push_refusal(shown, PartitionFault::NoMemory),
         }
     }
 
@@ -99,20 +89,19 @@ impl Script {
         ensures text { IfOk result (λ memory. shown.new.items ≡ shown.old.items ++ (collect_line self.old song memory).text) }
     {
         if self.songs.len() >= MAX_SONGS || has_uri(&self.songs, song.uri()) {
-            push_bad(shown)?;
-            return Ok(Memory::Ample);
+            return push_bad(shown);
         }
         if self.songs.push(song).is_err() {
-            shown.extend_from_slice(b"! refused out of memory\n")?;
-            return Ok(Memory::NoneToRun);
+            return push_refusal(shown, PartitionFault::NoMemory);
         }
         Ok(Memory::Ample)
     }
 
-    fn lower(&mut self, name: LimitName, n: u32, shown: &mut Vec<u8>) -> Result<(), AllocError>
+    fn lower(&mut self, name: LimitName, n: u32, shown: &mut Vec<u8>) -> Result<Memory, AllocError>
         requires { 1 ≤ n }
         ensures script { OnOk result (self.new ≡ (lowers self.old name n).script) }
         ensures text { OnOk result (shown.new.items ≡ shown.old.items ++ (lowers self.old name n).text) }
+        ensures memory { IfOk result (λ memory. memory ≡ Memory.Ample) }
     {
         if self.player.is_some() {
             return push_bad(shown);
@@ -122,52 +111,63 @@ impl Script {
             LimitName::MaxVersion => self.limits.max_version = n,
             LimitName::MaxId => self.limits.max_id = n,
         }
-        Ok(())
+        Ok(Memory::Ample)
     }
 
     /// A client goes, once the player is there.
     fn send_off(&mut self, number: u32, shown: &mut Vec<u8>) -> Result<Memory, AllocError>
-        ensures script { IfOk result (λ memory. self.new ≡ (gone_line self.old number memory).script) }
-        ensures text { IfOk result (λ memory. shown.new.items ≡ shown.old.items ++ (gone_line self.old number memory).text) }
+        ensures script { IfOk result (λ memory. self.new ≡ (gone_line images self.old number memory).script) }
+        ensures text { IfOk result (λ memory. shown.new.items ≡ shown.old.items ++ (gone_line images self.old number memory).text) }
     {
         let Some(player) = &mut self.player else {
-            push_bad(shown)?;
-            return Ok(Memory::Ample);
+            return push_bad(shown);
         };
         match player.apply(SEAT, Event::Disconnect(number)) {
             Ok(outcome) => {
                 push_notices(self.alloc, shown, outcome.notices())?;
                 Ok(Memory::Ample)
             }
-            Err(PartitionFault::AtLimit) => {
-                shown.extend_from_slice(b"! refused player limit reached\n")?;
-                Ok(Memory::Ample)
-            }
-            Err(PartitionFault::NoMemory) => {
-                shown.extend_from_slice(b"! refused out of memory\n")?;
-                Ok(Memory::NoneToRun)
-            }
+            Err(fault) => push_refusal(shown, fault),
         }
     }
 
-    #[tactic(auto, unfolding(crate::specs::Script::heard_client))]
-    fn hear(&mut self, number: u32, line: &str, shown: &mut Vec<u8>) -> Result<Memory, AllocError>
-        ensures script { IfOk result (λ memory. self.new ≡ (shown_client self.old self.old.player number line.now memory).script) }
-        ensures text { IfOk result (λ memory. shown.new.items ≡ shown.old.items ++ (shown_client self.old self.old.player number line.now memory).text) }
+    fn run_client_line(
+        &mut self,
+        number: u32,
+        line: &str,
+        shown: &mut Vec<u8>,
+    ) -> Result<Memory, AllocError>
+        ensures script { IfOk result (λ memory. self.new ≡ (shown_client images self.old self.old.player number line.now memory).script) }
+        ensures text { IfOk result (λ memory. shown.new.items ≡ shown.old.items ++ (shown_client images self.old self.old.player number line.now memory).text) }
     {
-        if let Some(player) = &mut self.player {
-            let heard = hear(self.alloc, player, number, line, shown)?;
-            return Ok(heard.memory);
-        }
+        let Some(player) = &mut self.player else {
+            return self.run_first_line(number, line, shown);
+        };
+        let ran = run_line(self.alloc, player, number, line, shown)?;
+        Ok(ran.memory)
+    }
+
+    /// Opens a player, and keeps it where the line's client connects.
+    #[tactic(auto, unfolding(crate::specs::Script::client_run))]
+    fn run_first_line(
+        &mut self,
+        number: u32,
+        line: &str,
+        shown: &mut Vec<u8>,
+    ) -> Result<Memory, AllocError>
+        requires { self.old.player ≡ None }
+        ensures script { IfOk result (λ memory. self.new ≡ (shown_client images self.old None number line.now memory).script) }
+        ensures text { IfOk result (λ memory. shown.new.items ≡ shown.old.items ++ (shown_client images self.old None number line.now memory).text) }
+    {
         let Ok(mut player) = self.opened() else {
             push_fault(self.alloc, shown, number, "", PartitionFault::NoMemory)?;
             return Ok(Memory::NoneToConnect);
         };
-        let heard = hear(self.alloc, &mut player, number, line, shown)?;
-        if heard.connected {
+        let ran = run_line(self.alloc, &mut player, number, line, shown)?;
+        if ran.connected {
             self.player = Some(player);
         }
-        Ok(heard.memory)
+        Ok(ran.memory)
     }
 
     /// A player over the songs so far.
@@ -183,10 +183,29 @@ impl Script {
     }
 }
 
-fn push_bad(shown: &mut Vec<u8>) -> Result<(), AllocError>
-    ensures { OnOk result (shown.new.items ≡ shown.old.items ++ codes "! bad\n") }
+fn push_bad(shown: &mut Vec<u8>) -> Result<Memory, AllocError>
+    ensures text { OnOk result (shown.new.items ≡ shown.old.items ++ codes "! bad\n") }
+    ensures memory { IfOk result (λ memory. memory ≡ Memory.Ample) }
 {
-    shown.extend_from_slice(b"! bad\n")
+    shown.extend_from_slice(b"! bad\n")?;
+    Ok(Memory::Ample)
+}
+
+/// Appends the line of a step that was refused.
+fn push_refusal(shown: &mut Vec<u8>, fault: PartitionFault) -> Result<Memory, AllocError>
+    ensures text { OnOk result (shown.new.items ≡ shown.old.items ++ refusal_text fault) }
+    ensures memory { IfOk result (λ memory. memory ≡ memory_of fault) }
+{
+    match fault {
+        PartitionFault::AtLimit => {
+            shown.extend_from_slice(b"! refused player limit reached\n")?;
+            Ok(Memory::Ample)
+        }
+        PartitionFault::NoMemory => {
+            shown.extend_from_slice(b"! refused out of memory\n")?;
+            Ok(Memory::NoneToRun)
+        }
+    }
 }
 
 /// Whether a song of this URI is among these.

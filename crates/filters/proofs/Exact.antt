@@ -4,7 +4,7 @@ use Rattle.filters.specs.declared.reading.FilterFault.{FilterFault}
 use Rattle.filters.specs.declared.reading.FilterFault.TheVariants.{Syntax, UnknownTag, TooDeep, NoMemory}
 use Rattle.filters.specs.Expressions.{Expression}
 use Rattle.filters.specs.Machine.{parsed, Reads}
-use Rattle.filters.specs.Grammar.{Says, Spells, IsLongestFront, BeginsFilter}
+use Rattle.filters.specs.Grammar.{Says, Spells, IsLongestStart, BeginsFilter}
 use Rattle.filters.specs.Answers.{IsFirstFault, IsAnswer, OrNoMemory, HasOneAnswer}
 use Rattle.filters.proofs.GrammarRead.{spelled_is_read, allowed_from, from_allowed}
 use Rattle.filters.proofs.GrammarAt.{read_is_spelled, refused_for}
@@ -30,7 +30,7 @@ is_answer text (Err (UnknownTag word)) h = refused_for text (UnknownTag word) h
 is_answer text (Err TooDeep) h = refused_for text TooDeep h
 is_answer text (Err NoMemory) h = refused_for text NoMemory h
 
--- two fronts of one text: the longer goes on with the byte behind the other
+-- two starts of one text: the longer goes on with the byte after the other
 longer : (front back front' back' : List ℕ) → front ++ back ≡ front' ++ back' → length front < length front' → (b : ℕ) × (more : List ℕ) × (front' ≡ front ++ b ∷ more) × (back ≡ b ∷ (more ++ back'))
 longer [] back [] back' same less = absurd (omega (arith, less))
 longer [] back (b ∷ more) back' same less = (b, more, refl, same)
@@ -45,12 +45,12 @@ begins_shorter : (front front' more : List ℕ) (b : ℕ) → front' ≡ front +
 begins_shorter front front' more b is begins =
     (more ++ begins.0, begins.1, subst (λ (t : List ℕ). Spells t begins.1) (ap (λ (t : List ℕ). t ++ begins.0) is ∙ append_assoc front (b ∷ more) begins.0 ∙ sym (append_assoc front (b ∷ []) (more ++ begins.0))) begins.2)
 
-not_longer : (text : List ℕ) (k n : ℕ) (h : IsLongestFront text k) (h' : IsLongestFront text n) → length h.front < length h'.front → ⊥
+not_longer : (text : List ℕ) (k n : ℕ) (h : IsLongestStart text k) (h' : IsLongestStart text n) → length h.front < length h'.front → ⊥
 not_longer text k n h h' less =
     let more = longer h.front h.back h'.front h'.back (sym h.parts ∙ h'.parts) less in
     h.longest more.0 (more.1 ++ h'.back) more.3 (begins_shorter h.front h'.front more.1 more.0 more.2 h'.begins)
 
-one_place : (text : List ℕ) (k n : ℕ) → IsLongestFront text k → IsLongestFront text n → k ≡ n
+one_place : (text : List ℕ) (k n : ℕ) → IsLongestStart text k → IsLongestStart text n → k ≡ n
 one_place text k n h h' =
     let not_less = not_longer text k n h h' in
     let not_more = not_longer text n k h' h in
@@ -72,7 +72,7 @@ answer_read text (Err (UnknownTag word)) is = sym (unknown_first text word is)
 answer_read text (Err TooDeep) is = sym (deep_first text is)
 answer_read text (Err NoMemory) is = elim is [ ]
 
-reads_or : (r exact : Result Expression FilterFault) → Reads r exact → OrNoMemory r exact
+pub reads_or : (r exact : Result Expression FilterFault) → Reads r exact → OrNoMemory r exact
 reads_or (Ok e) exact h = inr (sym h)
 reads_or (Err (Syntax k)) exact h = inr (sym h)
 reads_or (Err (UnknownTag word)) exact h = inr (sym h)

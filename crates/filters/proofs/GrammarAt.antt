@@ -1,23 +1,23 @@
--- What is read is spelled by the grammar: what the bytes in front of a place are.
+-- What is read is spelled by the grammar: what the bytes before a place are.
 use Rattle.std.proofs.Common.{◌≡◌, ◌≢◌, ◌⊎◌, inl, inr, ℕ, zero, suc, ◌+◌, ◌<◌, ◌≤◌, ◌==◌, nat_le, nat_lt, slice_index, ◌&&◌, ◌||◌, Bool, true, false, cond, List, [], ◌∷◌, ◌++◌, length, take, codes, Option, Some, None, is_some, Result, Ok, Err, refl, ap, sym, subst, ◌∙◌, append_assoc, arith}
 use Rattle.std.proofs.lemmas.Bool.Decides.{nat_tests}
 use Rattle.filters.specs.declared.place.Stop.{Stop}
 use Rattle.filters.specs.declared.place.Stop.TheVariants.{Syntax, UnknownTag, TooDeep, NoMemory}
-use Rattle.filters.specs.declared.place.Frame.{Frame}
-use Rattle.filters.specs.declared.place.Frame.TheVariants.{Whole, Negated, First as FirstFrame, Next}
+use Rattle.filters.specs.declared.place.Purpose.{Purpose}
+use Rattle.filters.specs.declared.place.Purpose.TheVariants.{Whole, Negated, First as FirstPurpose, Next}
 use Rattle.filters.specs.declared.place.Goal.{Goal}
 use Rattle.filters.specs.declared.place.Goal.TheVariants.{Compared, Base as BaseGoal}
 use Rattle.filters.specs.declared.place.Named.{Named}
 use Rattle.filters.specs.declared.place.Named.TheVariants.{Field as NamedField, Base as NamedBase}
 use Rattle.filters.specs.declared.place.Place.{Place}
-use Rattle.filters.specs.declared.place.Place.TheVariants.{Start, Opened, Bang, Word, BehindField, Sign, Contains, NeedsSpace, BeforeText, InText, Escaped, Done, Joined, BehindJoined, And, BehindAnd, Finished}
+use Rattle.filters.specs.declared.place.Place.TheVariants.{Start, Opened, Bang, Word, AfterField, Sign, Contains, NeedsSpace, BeforeText, InText, Escaped, Done, Joined, AfterJoined, And, AfterAnd, Finished}
 use Rattle.filters.specs.declared.expression.Field.{Field}
 use Rattle.filters.specs.declared.expression.Test.{Test}
 use Rattle.filters.specs.declared.expression.Test.TheVariants.{Equals, Differs, Contains as ContainsTest}
 use Rattle.filters.specs.Expressions.{Expression, Negation, Both}
 use Rattle.filters.specs.Words.{is_letter, is_base, field_named}
-use Rattle.filters.specs.Machine.{run, ending, word_at_end, fault_at, step, opened, closed, sign, behind_word, named_of, names, contains_letter, and_letter, filter_for, alone}
-use Rattle.filters.specs.Grammar.{Body, Comparison, Base, Not, First, Then, AreSpaces, Spaces, Gap, AreLetters, IsWord, IsInside, IsQuote, IsString, IsOperator, InParentheses, IsBody, is_joined, field_of, meaning, FollowsAnd, MayOpen, StandsOpen, EndsWord, NamesNothing, GoesTooDeep}
+use Rattle.filters.specs.Machine.{run, ending, word_at_end, fault_at, step, opened, closed, sign, after_word, named_of, names, contains_letter, and_letter, filter_for, alone}
+use Rattle.filters.specs.Grammar.{Body, Comparison, Base, Not, First, Then, AreSpaces, Spaces, Gap, AreLetters, IsWord, IsInside, IsQuote, IsString, IsOperator, InParentheses, IsBody, is_joined, field_of, meaning, FollowsAnd, MayOpen, AreOpen, EndsWord, NamesNothing, GoesTooDeep}
 use Rattle.filters.proofs.Reaching.{goes}
 use Rattle.filters.specs.declared.reading.FilterFault.{FilterFault}
 use Rattle.filters.specs.declared.reading.FilterFault.TheVariants.{Syntax as SyntaxFault, UnknownTag as UnknownFault, TooDeep as DeepFault, NoMemory as MemoryFault}
@@ -31,55 +31,55 @@ record Joins (strict : Bool) (level : ℕ) (e : Expression) (text rest : List �
   means : meaning body ≡ e
   allowed : Allowed strict level body
 
--- the text goes up to right behind these open parentheses, and spaces
-Opens : Bool → List Frame → List ℕ → List ℕ → Type 0
+-- the text goes up to right after these open parentheses, and spaces
+Opens : Bool → List Purpose → List ℕ → List ℕ → Type 0
 Opens strict [] text rest = ⊥
-Opens strict (Whole ∷ frames) text rest = (inner : List ℕ) × (frames ≡ []) × (text ≡ 40 ∷ inner) × Spaces inner rest
-Opens strict (Negated ∷ frames) text rest = (outer more inner : List ℕ) × Opens strict frames text outer × (outer ≡ 33 ∷ more) × (more ≡ 40 ∷ inner) × Spaces inner rest × Room strict (length frames)
-Opens strict (FirstFrame ∷ frames) text rest = (outer inner : List ℕ) × Opens strict frames text outer × (outer ≡ 40 ∷ inner) × Spaces inner rest × Room strict (length frames)
-Opens strict (Next e ∷ frames) text rest =
-    (outer gap word behind next inner : List ℕ) × Opens strict frames text outer × Joins strict (length frames) e outer gap × Gap gap word × (word ≡ codes "AND" ++ behind) × Gap behind next × (next ≡ 40 ∷ inner) × Spaces inner rest × Room strict (length frames)
+Opens strict (Whole ∷ purposes) text rest = (inner : List ℕ) × (purposes ≡ []) × (text ≡ 40 ∷ inner) × Spaces inner rest
+Opens strict (Negated ∷ purposes) text rest = (outer more inner : List ℕ) × Opens strict purposes text outer × (outer ≡ 33 ∷ more) × (more ≡ 40 ∷ inner) × Spaces inner rest × Room strict (length purposes)
+Opens strict (FirstPurpose ∷ purposes) text rest = (outer inner : List ℕ) × Opens strict purposes text outer × (outer ≡ 40 ∷ inner) × Spaces inner rest × Room strict (length purposes)
+Opens strict (Next e ∷ purposes) text rest =
+    (outer gap word second_gap next inner : List ℕ) × Opens strict purposes text outer × Joins strict (length purposes) e outer gap × Gap gap word × (word ≡ codes "AND" ++ second_gap) × Gap second_gap next × (next ≡ 40 ∷ inner) × Spaces inner rest × Room strict (length purposes)
 
--- a tag's word stands there, and then the rest
-record Tags (strict : Bool) (field : Field) (frames : List Frame) (text rest : List ℕ) : Type 0 where
+-- a tag's word is there, and then the rest
+record Tags (strict : Bool) (field : Field) (purposes : List Purpose) (text rest : List ℕ) : Type 0 where
   outer : List ℕ
   word : List ℕ
-  opens : Opens strict frames text outer
+  opens : Opens strict purposes text outer
   is : outer ≡ word ++ rest
   a_word : IsWord false word
   names_it : field_of (field_named word) ≡ field
   known : strict ≡ true → is_some (field_named word) ≡ true
 
--- what stands in front of a text in quotes
-data Leads (strict : Bool) (goal : Goal) (frames : List Frame) (text rest : List ℕ) : Type 0 where
-  Operates : (field : Field) (test : Test) (operator : List ℕ) → goal ≡ Compared field test → Tags strict field frames text operator → IsOperator test operator rest → Leads strict goal frames text rest
-  Bases : (outer word gap : List ℕ) → goal ≡ BaseGoal → Opens strict frames text outer → outer ≡ word ++ gap → IsWord true word → Gap gap rest → Leads strict goal frames text rest
+-- what is before a text in quotes
+data Leads (strict : Bool) (goal : Goal) (purposes : List Purpose) (text rest : List ℕ) : Type 0 where
+  Operates : (field : Field) (test : Test) (operator : List ℕ) → goal ≡ Compared field test → Tags strict field purposes text operator → IsOperator test operator rest → Leads strict goal purposes text rest
+  Bases : (outer word gap : List ℕ) → goal ≡ BaseGoal → Opens strict purposes text outer → outer ≡ word ++ gap → IsWord true word → Gap gap rest → Leads strict goal purposes text rest
 
 -- between quotes
-record Quotes (strict : Bool) (goal : Goal) (quote : ℕ) (string : List ℕ) (frames : List Frame) (text rest : List ℕ) : Type 0 where
+record Quotes (strict : Bool) (goal : Goal) (quote : ℕ) (string : List ℕ) (purposes : List Purpose) (text rest : List ℕ) : Type 0 where
   quoted : List ℕ
   inside : List ℕ
-  leads : Leads strict goal frames text quoted
+  leads : Leads strict goal purposes text quoted
   is_quote : IsQuote quote
   is : quoted ≡ quote ∷ (inside ++ rest)
   in_quotes : IsInside quote inside string
 
 -- a B that is no J
-record Ends (strict : Bool) (e : Expression) (frames : List Frame) (text rest : List ℕ) : Type 0 where
+record Ends (strict : Bool) (e : Expression) (purposes : List Purpose) (text rest : List ℕ) : Type 0 where
   outer : List ℕ
   end : List ℕ
   body : Body
-  opens : Opens strict frames text outer
+  opens : Opens strict purposes text outer
   is : IsBody body outer end
   spaces : Spaces end rest
   means : meaning body ≡ e
-  allowed : Allowed strict (length frames) body
+  allowed : Allowed strict (length purposes) body
 
 -- a J
-record Chains (strict : Bool) (e : Expression) (frames : List Frame) (text rest : List ℕ) : Type 0 where
+record Chains (strict : Bool) (e : Expression) (purposes : List Purpose) (text rest : List ℕ) : Type 0 where
   outer : List ℕ
-  opens : Opens strict frames text outer
-  joins : Joins strict (length frames) e outer rest
+  opens : Opens strict purposes text outer
+  joins : Joins strict (length purposes) e outer rest
 
 record Whole_filter (strict : Bool) (e : Expression) (text rest : List ℕ) : Type 0 where
   body : Body
@@ -87,51 +87,51 @@ record Whole_filter (strict : Bool) (e : Expression) (text rest : List ℕ) : Ty
   means : meaning body ≡ e
   allowed : Allowed strict 1 body
 
--- what the text is up to a place, in front of the rest
-At : Bool → Place → List Frame → List ℕ → List ℕ → Type 0
-At strict Start frames text rest = (frames ≡ []) × (text ≡ rest)
-At strict Opened frames text rest = Opens strict frames text rest
-At strict Bang frames text rest = (outer : List ℕ) × Opens strict frames text outer × (outer ≡ 33 ∷ rest)
-At strict (Word word) frames text rest = (outer : List ℕ) × Opens strict frames text outer × (outer ≡ word ++ rest) × AreLetters word × (0 < length word)
-At strict (BehindField field) frames text rest = (gap : List ℕ) × Tags strict field frames text gap × Gap gap rest
-At strict (Sign field Equals) frames text rest = (operator word : List ℕ) × Tags strict field frames text operator × Spaces operator word × (word ≡ 61 ∷ rest)
-At strict (Sign field Differs) frames text rest = (operator word : List ℕ) × Tags strict field frames text operator × Spaces operator word × (word ≡ 33 ∷ rest)
-At strict (Sign field ContainsTest) frames text rest = ⊥
-At strict (Contains field read) frames text rest = (gap word : List ℕ) × Tags strict field frames text gap × Gap gap word × (word ≡ take read (codes "contains") ++ rest) × (1 ≤ read) × (read ≤ 7)
-At strict (NeedsSpace goal) frames text rest = (field : Field) × (gap word : List ℕ) × (goal ≡ Compared field ContainsTest) × Tags strict field frames text gap × Gap gap word × (word ≡ codes "contains" ++ rest)
-At strict (BeforeText goal) frames text rest = Leads strict goal frames text rest
-At strict (InText goal quote string) frames text rest = Quotes strict goal quote string frames text rest
-At strict (Escaped goal quote string) frames text rest = Quotes strict goal quote string frames text (92 ∷ rest)
-At strict (Done e) frames text rest = Ends strict e frames text rest
-At strict (Joined e) frames text rest = Chains strict e frames text rest
-At strict (BehindJoined e) frames text rest = (gap : List ℕ) × Chains strict e frames text gap × Gap gap rest
-At strict (And e read) frames text rest = (gap word : List ℕ) × Chains strict e frames text gap × Gap gap word × (word ≡ take read (codes "AND") ++ rest) × (1 ≤ read) × (read ≤ 3)
-At strict (BehindAnd e) frames text rest = (gap word behind : List ℕ) × Chains strict e frames text gap × Gap gap word × (word ≡ codes "AND" ++ behind) × Gap behind rest
-At strict (Finished e) frames text rest = Whole_filter strict e text rest
+-- what the text is up to a place, before the rest
+At : Bool → Place → List Purpose → List ℕ → List ℕ → Type 0
+At strict Start purposes text rest = (purposes ≡ []) × (text ≡ rest)
+At strict Opened purposes text rest = Opens strict purposes text rest
+At strict Bang purposes text rest = (outer : List ℕ) × Opens strict purposes text outer × (outer ≡ 33 ∷ rest)
+At strict (Word word) purposes text rest = (outer : List ℕ) × Opens strict purposes text outer × (outer ≡ word ++ rest) × AreLetters word × (0 < length word)
+At strict (AfterField field) purposes text rest = (gap : List ℕ) × Tags strict field purposes text gap × Gap gap rest
+At strict (Sign field Equals) purposes text rest = (operator word : List ℕ) × Tags strict field purposes text operator × Spaces operator word × (word ≡ 61 ∷ rest)
+At strict (Sign field Differs) purposes text rest = (operator word : List ℕ) × Tags strict field purposes text operator × Spaces operator word × (word ≡ 33 ∷ rest)
+At strict (Sign field ContainsTest) purposes text rest = ⊥
+At strict (Contains field read) purposes text rest = (gap word : List ℕ) × Tags strict field purposes text gap × Gap gap word × (word ≡ take read (codes "contains") ++ rest) × (1 ≤ read) × (read ≤ 7)
+At strict (NeedsSpace goal) purposes text rest = (field : Field) × (gap word : List ℕ) × (goal ≡ Compared field ContainsTest) × Tags strict field purposes text gap × Gap gap word × (word ≡ codes "contains" ++ rest)
+At strict (BeforeText goal) purposes text rest = Leads strict goal purposes text rest
+At strict (InText goal quote string) purposes text rest = Quotes strict goal quote string purposes text rest
+At strict (Escaped goal quote string) purposes text rest = Quotes strict goal quote string purposes text (92 ∷ rest)
+At strict (Done e) purposes text rest = Ends strict e purposes text rest
+At strict (Joined e) purposes text rest = Chains strict e purposes text rest
+At strict (AfterJoined e) purposes text rest = (gap : List ℕ) × Chains strict e purposes text gap × Gap gap rest
+At strict (And e read) purposes text rest = (gap word : List ℕ) × Chains strict e purposes text gap × Gap gap word × (word ≡ take read (codes "AND") ++ rest) × (1 ≤ read) × (read ≤ 3)
+At strict (AfterAnd e) purposes text rest = (gap word second_gap : List ℕ) × Chains strict e purposes text gap × Gap gap word × (word ≡ codes "AND" ++ second_gap) × Gap second_gap rest
+At strict (Finished e) purposes text rest = Whole_filter strict e text rest
 
 -- what the step leads to has this property of the rest
-KeptNext : Bool → List ℕ → List ℕ → Result (Place × List Frame) Stop → Type 0
+KeptNext : Bool → List ℕ → List ℕ → Result (Place × List Purpose) Stop → Type 0
 KeptNext strict text rest (Ok next) = At strict next.0 next.1 text rest
 KeptNext strict text rest (Err stop) = Unit {0}
 
-record Kept (strict : Bool) (text rest : List ℕ) (r : Result (Place × List Frame) Stop) : Type 0 where
+record Kept (strict : Bool) (text rest : List ℕ) (r : Result (Place × List Purpose) Stop) : Type 0 where
   is : KeptNext strict text rest r
 
-to : (strict : Bool) (text rest : List ℕ) (place : Place) (frames : List Frame) → At strict place frames text rest → Kept strict text rest (Ok (place, frames))
+to : (strict : Bool) (text rest : List ℕ) (place : Place) (purposes : List Purpose) → At strict place purposes text rest → Kept strict text rest (Ok (place, purposes))
 unfolding KeptNext
-to strict text rest place frames at = record { is = at }
+to strict text rest place purposes at = record { is = at }
 
 stop : (strict : Bool) (text rest : List ℕ) (s : Stop) → Kept strict text rest (Err s)
 unfolding KeptNext
 stop strict text rest s = record { is = tt }
 
-when : (strict : Bool) (text rest : List ℕ) (c : Bool) (x y : Result (Place × List Frame) Stop) → (c ≡ true → Kept strict text rest x) → (c ≡ false → Kept strict text rest y) → Kept strict text rest (cond c x y)
+when : (strict : Bool) (text rest : List ℕ) (c : Bool) (x y : Result (Place × List Purpose) Stop) → (c ≡ true → Kept strict text rest x) → (c ≡ false → Kept strict text rest y) → Kept strict text rest (cond c x y)
 when strict text rest true x y h k = h refl
 when strict text rest false x y h k = k refl
 
-when_alone : (strict : Bool) (text rest : List ℕ) (frames : List Frame) (c : Bool) (x y : Result Place Stop) → (c ≡ true → Kept strict text rest (alone x frames)) → (c ≡ false → Kept strict text rest (alone y frames)) → Kept strict text rest (alone (cond c x y) frames)
-when_alone strict text rest frames true x y h k = h refl
-when_alone strict text rest frames false x y h k = k refl
+when_alone : (strict : Bool) (text rest : List ℕ) (purposes : List Purpose) (c : Bool) (x y : Result Place Stop) → (c ≡ true → Kept strict text rest (alone x purposes)) → (c ≡ false → Kept strict text rest (alone y purposes)) → Kept strict text rest (alone (cond c x y) purposes)
+when_alone strict text rest purposes true x y h k = h refl
+when_alone strict text rest purposes false x y h k = k refl
 
 equal : (b c : ℕ) → (b == c) ≡ true → b ≡ c
 equal b c e = grind (arith, nat_tests)
@@ -179,51 +179,51 @@ inside_push [] inside more quote c one is = rw is ([], one, refl)
 inside_push (d ∷ string) inside more quote c one is =
     (is.0 ++ more, (elim is.1 [ inl h ↦ inl (ap (λ (t : List ℕ). t ++ more) h.0, h.1, h.2) | inr h ↦ inr (ap (λ (t : List ℕ). t ++ more) h) ]), inside_push string is.0 more quote c one is.2)
 
-opens_space : (strict : Bool) (frames : List Frame) (text rest : List ℕ) → Opens strict frames text (32 ∷ rest) → Opens strict frames text rest
+opens_space : (strict : Bool) (purposes : List Purpose) (text rest : List ℕ) → Opens strict purposes text (32 ∷ rest) → Opens strict purposes text rest
 unfolding Opens
 opens_space strict [] text rest o = o
-opens_space strict (Whole ∷ frames) text rest o = (o.0, o.1, o.2, one_space o.0 rest o.3)
-opens_space strict (Negated ∷ frames) text rest o = (o.0, o.1, o.2, o.3, o.4, o.5, one_space o.2 rest o.6, o.7)
-opens_space strict (FirstFrame ∷ frames) text rest o = (o.0, o.1, o.2, o.3, one_space o.1 rest o.4, o.5)
-opens_space strict (Next e ∷ frames) text rest o = (o.0, o.1, o.2, o.3, o.4, o.5, o.6, o.7, o.8, o.9, o.10, o.11, one_space o.5 rest o.12, o.13)
+opens_space strict (Whole ∷ purposes) text rest o = (o.0, o.1, o.2, one_space o.0 rest o.3)
+opens_space strict (Negated ∷ purposes) text rest o = (o.0, o.1, o.2, o.3, o.4, o.5, one_space o.2 rest o.6, o.7)
+opens_space strict (FirstPurpose ∷ purposes) text rest o = (o.0, o.1, o.2, o.3, one_space o.1 rest o.4, o.5)
+opens_space strict (Next e ∷ purposes) text rest o = (o.0, o.1, o.2, o.3, o.4, o.5, o.6, o.7, o.8, o.9, o.10, o.11, one_space o.5 rest o.12, o.13)
 
 operator_space : (test : Test) (text rest : List ℕ) → IsOperator test text (32 ∷ rest) → IsOperator test text rest
 operator_space Equals text rest is = (is.0, is.1, is.2, is.3, one_space is.1 rest is.4)
 operator_space Differs text rest is = (is.0, is.1, is.2, is.3, one_space is.1 rest is.4)
 operator_space ContainsTest text rest is = (is.0, is.1, is.2, is.3, gap_more is.1 rest is.4)
 
-leads_space : (strict : Bool) (goal : Goal) (frames : List Frame) (text rest : List ℕ) → Leads strict goal frames text (32 ∷ rest) → Leads strict goal frames text rest
-leads_space strict goal frames text rest (Operates field test operator e tags is) = Operates field test operator e tags (operator_space test operator rest is)
-leads_space strict goal frames text rest (Bases outer word gap e opens is a_word spaces) = Bases outer word gap e opens is a_word (gap_more gap rest spaces)
+leads_space : (strict : Bool) (goal : Goal) (purposes : List Purpose) (text rest : List ℕ) → Leads strict goal purposes text (32 ∷ rest) → Leads strict goal purposes text rest
+leads_space strict goal purposes text rest (Operates field test operator e tags is) = Operates field test operator e tags (operator_space test operator rest is)
+leads_space strict goal purposes text rest (Bases outer word gap e opens is a_word spaces) = Bases outer word gap e opens is a_word (gap_more gap rest spaces)
 
 -- one more parenthesis
 room_from : (strict : Bool) (n : ℕ) → (strict && nat_le 32 n) ≡ false → Room strict n
 room_from true n e = λ _. grind (arith, nat_tests)
 room_from false n e = λ h. cc
 
-opened_kept : (strict : Bool) (frame : Frame) (frames : List Frame) (text rest : List ℕ) → (Room strict (length frames) → Opens strict (frame ∷ frames) text rest) → Kept strict text rest (opened strict frame frames)
+opened_kept : (strict : Bool) (purpose : Purpose) (purposes : List Purpose) (text rest : List ℕ) → (Room strict (length purposes) → Opens strict (purpose ∷ purposes) text rest) → Kept strict text rest (opened strict purpose purposes)
 unfolding At
-opened_kept strict frame frames text rest h =
-    when strict text rest (strict && nat_le 32 (length frames)) _ _ (λ _. stop strict text rest TooDeep) (λ e. to strict text rest Opened (frame ∷ frames) (h (room_from strict (length frames) e)))
+opened_kept strict purpose purposes text rest h =
+    when strict text rest (strict && nat_le 32 (length purposes)) _ _ (λ _. stop strict text rest TooDeep) (λ e. to strict text rest Opened (purpose ∷ purposes) (h (room_from strict (length purposes) e)))
 
--- the parenthesis that a B stands in
+-- the parenthesis around a B
 parentheses : (body : Body) (text inner start end rest : List ℕ) → text ≡ 40 ∷ inner → Spaces inner start → IsBody body start end → Spaces end (41 ∷ rest) → InParentheses (IsBody body) text rest
 parentheses body text inner start end rest is before b after = (inner, start, end, 41 ∷ rest, is, before, b, after, refl)
 
-closed_kept : (strict : Bool) (e : Expression) (frames : List Frame) (text rest : List ℕ) → Ends strict e frames text (41 ∷ rest) → Kept strict text rest (closed e frames)
+closed_kept : (strict : Bool) (e : Expression) (purposes : List Purpose) (text rest : List ℕ) → Ends strict e purposes text (41 ∷ rest) → Kept strict text rest (closed e purposes)
 unfolding At Opens
 closed_kept strict e [] text rest ends = stop strict text rest Syntax
-closed_kept strict e (Whole ∷ frames) text rest ends =
+closed_kept strict e (Whole ∷ purposes) text rest ends =
     let o = ends.opens in
-    to strict text rest (Finished e) frames (record {
+    to strict text rest (Finished e) purposes (record {
       body = ends.body;
       is = parentheses ends.body text o.0 ends.outer ends.end rest o.2 o.3 ends.is ends.spaces;
       means = ends.means;
-      allowed = subst (λ (fs : List Frame). Allowed strict (length (Whole ∷ fs)) ends.body) o.1 ends.allowed;
+      allowed = subst (λ (fs : List Purpose). Allowed strict (length (Whole ∷ fs)) ends.body) o.1 ends.allowed;
     })
-closed_kept strict e (Negated ∷ frames) text rest ends =
+closed_kept strict e (Negated ∷ purposes) text rest ends =
     let o = ends.opens in
-    to strict text rest (Done (Negation e)) frames (record {
+    to strict text rest (Done (Negation e)) purposes (record {
       outer = o.0;
       end = rest;
       body = Not ends.body;
@@ -233,17 +233,17 @@ closed_kept strict e (Negated ∷ frames) text rest ends =
       means = ap Negation ends.means;
       allowed = (o.7, ends.allowed);
     })
-closed_kept strict e (FirstFrame ∷ frames) text rest ends =
+closed_kept strict e (FirstPurpose ∷ purposes) text rest ends =
     let o = ends.opens in
-    to strict text rest (Joined e) frames (record {
+    to strict text rest (Joined e) purposes (record {
       outer = o.0;
       opens = o.2;
       joins = record { body = First ends.body; is = parentheses ends.body o.0 o.1 ends.outer ends.end rest o.3 o.4 ends.is ends.spaces; joined = refl; means = ends.means; allowed = (o.5, ends.allowed) };
     })
-closed_kept strict e (Next f ∷ frames) text rest ends =
+closed_kept strict e (Next f ∷ purposes) text rest ends =
     let o = ends.opens in
     let j = o.7 in
-    to strict text rest (Joined (Both f e)) frames (record {
+    to strict text rest (Joined (Both f e)) purposes (record {
       outer = o.0;
       opens = o.6;
       joins = record {
@@ -255,8 +255,8 @@ closed_kept strict e (Next f ∷ frames) text rest ends =
       };
     })
 
-chain_ends : (strict : Bool) (e : Expression) (frames : List Frame) (text gap rest : List ℕ) → Chains strict e frames text gap → Spaces gap rest → Ends strict e frames text rest
-chain_ends strict e frames text gap rest chains spaces =
+chain_ends : (strict : Bool) (e : Expression) (purposes : List Purpose) (text gap rest : List ℕ) → Chains strict e purposes text gap → Spaces gap rest → Ends strict e purposes text rest
+chain_ends strict e purposes text gap rest chains spaces =
     record { outer = chains.outer; end = gap; body = chains.joins.body; opens = chains.opens; is = chains.joins.is; spaces = spaces; means = chains.joins.means; allowed = chains.joins.allowed }
 
 -- what a tag's word names
@@ -278,30 +278,30 @@ named_base true false word (Some other) base named e = let n : Some (NamedField 
 named_base false false word None base named e = let n : Some (NamedField (field_of None)) ≡ Some NamedBase = rw (base, named) at e in cc
 named_base false false word (Some other) base named e = let n : Some (NamedField other) ≡ Some NamedBase = rw (base, named) at e in cc
 
--- behind a tag's word
-sign_kept : (strict : Bool) (field : Field) (frames : List Frame) (text operator : List ℕ) (b : ℕ) (rest : List ℕ) → Tags strict field frames text operator → Spaces operator (b ∷ rest) → (b ≡ 99 → Gap operator (b ∷ rest))
-    → Kept strict text rest (alone (sign field b) frames)
+-- after a tag's word
+sign_kept : (strict : Bool) (field : Field) (purposes : List Purpose) (text operator : List ℕ) (b : ℕ) (rest : List ℕ) → Tags strict field purposes text operator → Spaces operator (b ∷ rest) → (b ≡ 99 → Gap operator (b ∷ rest))
+    → Kept strict text rest (alone (sign field b) purposes)
 unfolding At
-sign_kept strict field frames text operator b rest tags spaces gap =
-    when_alone strict text rest frames (b == 32) _ _ (λ e. to strict text rest (BehindField field) frames (operator, tags, spaces_gap operator rest (subst (λ (c : ℕ). Spaces operator (c ∷ rest)) (equal b 32 e) spaces))) (λ _.
-    when_alone strict text rest frames (b == 61) _ _ (λ e. to strict text rest (Sign field Equals) frames (operator, b ∷ rest, tags, spaces, ap (λ (c : ℕ). c ∷ rest) (equal b 61 e))) (λ _.
-    when_alone strict text rest frames (b == 33) _ _ (λ e. to strict text rest (Sign field Differs) frames (operator, b ∷ rest, tags, spaces, ap (λ (c : ℕ). c ∷ rest) (equal b 33 e))) (λ _.
-    when_alone strict text rest frames (b == 99) _ _ (λ e. to strict text rest (Contains field 1) frames (operator, b ∷ rest, tags, gap (equal b 99 e), ap (λ (c : ℕ). c ∷ rest) (equal b 99 e), omega arith, omega arith)) (λ _.
+sign_kept strict field purposes text operator b rest tags spaces gap =
+    when_alone strict text rest purposes (b == 32) _ _ (λ e. to strict text rest (AfterField field) purposes (operator, tags, spaces_gap operator rest (subst (λ (c : ℕ). Spaces operator (c ∷ rest)) (equal b 32 e) spaces))) (λ _.
+    when_alone strict text rest purposes (b == 61) _ _ (λ e. to strict text rest (Sign field Equals) purposes (operator, b ∷ rest, tags, spaces, ap (λ (c : ℕ). c ∷ rest) (equal b 61 e))) (λ _.
+    when_alone strict text rest purposes (b == 33) _ _ (λ e. to strict text rest (Sign field Differs) purposes (operator, b ∷ rest, tags, spaces, ap (λ (c : ℕ). c ∷ rest) (equal b 33 e))) (λ _.
+    when_alone strict text rest purposes (b == 99) _ _ (λ e. to strict text rest (Contains field 1) purposes (operator, b ∷ rest, tags, gap (equal b 99 e), ap (λ (c : ℕ). c ∷ rest) (equal b 99 e), omega arith, omega arith)) (λ _.
     stop strict text rest Syntax))))
 
 no_letter : (b : ℕ) → is_letter b ≡ false → b ≡ 99 → ⊥
 no_letter b other e = grind (arith, nat_tests)
 
-word_kept : (strict : Bool) (word : List ℕ) (frames : List Frame) (text outer : List ℕ) (b : ℕ) (rest : List ℕ) (name : Option Named) → names strict word ≡ name → is_letter b ≡ false → Opens strict frames text outer → outer ≡ word ++ b ∷ rest
-    → AreLetters word → 0 < length word → Kept strict text rest (alone (behind_word name word b) frames)
+word_kept : (strict : Bool) (word : List ℕ) (purposes : List Purpose) (text outer : List ℕ) (b : ℕ) (rest : List ℕ) (name : Option Named) → names strict word ≡ name → is_letter b ≡ false → Opens strict purposes text outer → outer ≡ word ++ b ∷ rest
+    → AreLetters word → 0 < length word → Kept strict text rest (alone (after_word name word b) purposes)
 unfolding At
-word_kept strict word frames text outer b rest None named other opens is letters some = stop strict text rest (UnknownTag word)
-word_kept strict word frames text outer b rest (Some (NamedField field)) named other opens is letters some =
+word_kept strict word purposes text outer b rest None named other opens is letters some = stop strict text rest (UnknownTag word)
+word_kept strict word purposes text outer b rest (Some (NamedField field)) named other opens is letters some =
     let meant = named_field strict (is_base word) word (field_named word) field refl refl named in
-    let tags : Tags strict field frames text (b ∷ rest) = record { outer = outer; word = word; opens = opens; is = is; a_word = (some, letters, meant.0); names_it = meant.1; known = meant.2 } in
-    sign_kept strict field frames text (b ∷ rest) b rest tags (no_spaces (b ∷ rest)) (λ e. absurd (no_letter b other e))
-word_kept strict word frames text outer b rest (Some NamedBase) named other opens is letters some =
-    when_alone strict text rest frames (b == 32) _ _ (λ e. to strict text rest (BeforeText BaseGoal) frames
+    let tags : Tags strict field purposes text (b ∷ rest) = record { outer = outer; word = word; opens = opens; is = is; a_word = (some, letters, meant.0); names_it = meant.1; known = meant.2 } in
+    sign_kept strict field purposes text (b ∷ rest) b rest tags (no_spaces (b ∷ rest)) (λ e. absurd (no_letter b other e))
+word_kept strict word purposes text outer b rest (Some NamedBase) named other opens is letters some =
+    when_alone strict text rest purposes (b == 32) _ _ (λ e. to strict text rest (BeforeText BaseGoal) purposes
     (Bases outer word (b ∷ rest) refl opens is (some, letters, named_base strict (is_base word) word (field_named word) refl refl named) (subst (λ (c : ℕ). Gap (c ∷ rest) rest) (sym (equal b 32 e)) (a_gap rest)))) (λ _. stop strict text rest Syntax)
 
 -- the letters of `contains` and of AND
@@ -321,15 +321,15 @@ both_tests read b c e = (grind (arith, nat_tests), grind (arith, nat_tests))
 two_tests : (read n b c : ℕ) → ((read == n) && (b == c)) ≡ true → (read ≡ n) × (b ≡ c)
 two_tests read n b c e = (grind (arith, nat_tests), grind (arith, nat_tests))
 
-contains_kept : (strict : Bool) (field : Field) (read : ℕ) (frames : List Frame) (text : List ℕ) (b : ℕ) (rest : List ℕ) → At strict (Contains field read) frames text (b ∷ rest) → Kept strict text rest (alone (contains_letter field read b) frames)
+contains_kept : (strict : Bool) (field : Field) (read : ℕ) (purposes : List Purpose) (text : List ℕ) (b : ℕ) (rest : List ℕ) → At strict (Contains field read) purposes text (b ∷ rest) → Kept strict text rest (alone (contains_letter field read b) purposes)
 unfolding At
-contains_kept strict field read frames text b rest at =
-    when_alone strict text rest frames (nat_lt read 7 && (b == slice_index (codes "contains") read)) _ _ (λ e.
+contains_kept strict field read purposes text b rest at =
+    when_alone strict text rest purposes (nat_lt read 7 && (b == slice_index (codes "contains") read)) _ _ (λ e.
     let tests = both_tests read b (slice_index (codes "contains") read) e in
-    to strict text rest (Contains field (read + 1)) frames (at.0, at.1, at.2, at.3, at.4 ∙ ap (λ (c : ℕ). take read (codes "contains") ++ c ∷ rest) tests.1 ∙ letters_on read rest tests.0, omega arith, (let low = tests.0 in omega (arith, low)))) (λ _.
-    when_alone strict text rest frames ((read == 7) && (b == 115)) _ _ (λ e.
+    to strict text rest (Contains field (read + 1)) purposes (at.0, at.1, at.2, at.3, at.4 ∙ ap (λ (c : ℕ). take read (codes "contains") ++ c ∷ rest) tests.1 ∙ letters_on read rest tests.0, omega arith, (let low = tests.0 in omega (arith, low)))) (λ _.
+    when_alone strict text rest purposes ((read == 7) && (b == 115)) _ _ (λ e.
     let tests = two_tests read 7 b 115 e in
-    to strict text rest (NeedsSpace (Compared field ContainsTest)) frames (
+    to strict text rest (NeedsSpace (Compared field ContainsTest)) purposes (
       field,
       at.0,
       at.1,
@@ -339,23 +339,23 @@ contains_kept strict field read frames text b rest at =
       at.4 ∙ ap (λ (n : ℕ). take n (codes "contains") ++ b ∷ rest) tests.0 ∙ ap (λ (c : ℕ). take 7 (codes "contains") ++ c ∷ rest) tests.1,
     )) (λ _. stop strict text rest Syntax))
 
-and_kept : (strict : Bool) (e : Expression) (read : ℕ) (frames : List Frame) (text : List ℕ) (b : ℕ) (rest : List ℕ) → At strict (And e read) frames text (b ∷ rest) → Kept strict text rest (alone (and_letter e read b) frames)
+and_kept : (strict : Bool) (e : Expression) (read : ℕ) (purposes : List Purpose) (text : List ℕ) (b : ℕ) (rest : List ℕ) → At strict (And e read) purposes text (b ∷ rest) → Kept strict text rest (alone (and_letter e read b) purposes)
 unfolding At
-and_kept strict e read frames text b rest at =
-    when_alone strict text rest frames ((read == 1) && (b == 78)) _ _ (λ h.
+and_kept strict e read purposes text b rest at =
+    when_alone strict text rest purposes ((read == 1) && (b == 78)) _ _ (λ h.
     let tests = two_tests read 1 b 78 h in
-    to strict text rest (And e 2) frames (at.0, at.1, at.2, at.3, at.4 ∙ ap (λ (n : ℕ). take n (codes "AND") ++ b ∷ rest) tests.0 ∙ ap (λ (c : ℕ). take 1 (codes "AND") ++ c ∷ rest) tests.1, omega arith, omega arith)) (λ _.
-    when_alone strict text rest frames ((read == 2) && (b == 68)) _ _ (λ h.
+    to strict text rest (And e 2) purposes (at.0, at.1, at.2, at.3, at.4 ∙ ap (λ (n : ℕ). take n (codes "AND") ++ b ∷ rest) tests.0 ∙ ap (λ (c : ℕ). take 1 (codes "AND") ++ c ∷ rest) tests.1, omega arith, omega arith)) (λ _.
+    when_alone strict text rest purposes ((read == 2) && (b == 68)) _ _ (λ h.
     let tests = two_tests read 2 b 68 h in
-    to strict text rest (And e 3) frames (at.0, at.1, at.2, at.3, at.4 ∙ ap (λ (n : ℕ). take n (codes "AND") ++ b ∷ rest) tests.0 ∙ ap (λ (c : ℕ). take 2 (codes "AND") ++ c ∷ rest) tests.1, omega arith, omega arith)) (λ _.
-    when_alone strict text rest frames ((read == 3) && (b == 32)) _ _ (λ h.
+    to strict text rest (And e 3) purposes (at.0, at.1, at.2, at.3, at.4 ∙ ap (λ (n : ℕ). take n (codes "AND") ++ b ∷ rest) tests.0 ∙ ap (λ (c : ℕ). take 2 (codes "AND") ++ c ∷ rest) tests.1, omega arith, omega arith)) (λ _.
+    when_alone strict text rest purposes ((read == 3) && (b == 32)) _ _ (λ h.
     let tests = two_tests read 3 b 32 h in
-    to strict text rest (BehindAnd e) frames (at.0, at.1, b ∷ rest, at.2, at.3, at.4 ∙ ap (λ (n : ℕ). take n (codes "AND") ++ b ∷ rest) tests.0, subst (λ (c : ℕ). Gap (c ∷ rest) rest) (sym tests.1) (a_gap rest))) (λ _.
+    to strict text rest (AfterAnd e) purposes (at.0, at.1, b ∷ rest, at.2, at.3, at.4 ∙ ap (λ (n : ℕ). take n (codes "AND") ++ b ∷ rest) tests.0, subst (λ (c : ℕ). Gap (c ∷ rest) rest) (sym tests.1) (a_gap rest))) (λ _.
     stop strict text rest Syntax)))
 
 -- texts in quotes
-string_ends_by : (strict : Bool) (goal : Goal) (string : List ℕ) (frames : List Frame) (text rest quoted : List ℕ) → Leads strict goal frames text quoted → IsString string quoted rest → Ends strict (filter_for goal string) frames text rest
-string_ends_by strict goal string frames text rest quoted (Operates field test operator e tags operates) s =
+string_ends_by : (strict : Bool) (goal : Goal) (string : List ℕ) (purposes : List Purpose) (text rest quoted : List ℕ) → Leads strict goal purposes text quoted → IsString string quoted rest → Ends strict (filter_for goal string) purposes text rest
+string_ends_by strict goal string purposes text rest quoted (Operates field test operator e tags operates) s =
     record {
       outer = tags.outer;
       end = rest;
@@ -366,15 +366,15 @@ string_ends_by strict goal string frames text rest quoted (Operates field test o
       means = ap (λ (f : Field). filter_for (Compared f test) string) tags.names_it ∙ ap (λ (g : Goal). filter_for g string) (sym e);
       allowed = tags.known;
     }
-string_ends_by strict goal string frames text rest quoted (Bases outer word gap e opens is a_word spaces) s =
+string_ends_by strict goal string purposes text rest quoted (Bases outer word gap e opens is a_word spaces) s =
     record { outer = outer; end = rest; body = Base string; opens = opens; is = (word, gap, quoted, is, a_word, spaces, s); spaces = no_spaces rest; means = ap (λ (g : Goal). filter_for g string) (sym e); allowed = tt }
 
-string_ends : (strict : Bool) (goal : Goal) (quote : ℕ) (string : List ℕ) (frames : List Frame) (text rest : List ℕ) → Quotes strict goal quote string frames text (quote ∷ rest) → Ends strict (filter_for goal string) frames text rest
-string_ends strict goal quote string frames text rest q = string_ends_by strict goal string frames text rest q.quoted q.leads (quote, q.inside, q.is_quote, q.is, q.in_quotes)
+string_ends : (strict : Bool) (goal : Goal) (quote : ℕ) (string : List ℕ) (purposes : List Purpose) (text rest : List ℕ) → Quotes strict goal quote string purposes text (quote ∷ rest) → Ends strict (filter_for goal string) purposes text rest
+string_ends strict goal quote string purposes text rest q = string_ends_by strict goal string purposes text rest q.quoted q.leads (quote, q.inside, q.is_quote, q.is, q.in_quotes)
 
-string_goes : (strict : Bool) (goal : Goal) (quote : ℕ) (string : List ℕ) (frames : List Frame) (text rest more : List ℕ) (c : ℕ) → (((more ≡ c ∷ []) × (c ≢ quote) × (c ≢ 92)) ⊎ (more ≡ 92 ∷ c ∷ []))
-    → Quotes strict goal quote string frames text (more ++ rest) → Quotes strict goal quote (string ++ c ∷ []) frames text rest
-string_goes strict goal quote string frames text rest more c one q =
+string_goes : (strict : Bool) (goal : Goal) (quote : ℕ) (string : List ℕ) (purposes : List Purpose) (text rest more : List ℕ) (c : ℕ) → (((more ≡ c ∷ []) × (c ≢ quote) × (c ≢ 92)) ⊎ (more ≡ 92 ∷ c ∷ []))
+    → Quotes strict goal quote string purposes text (more ++ rest) → Quotes strict goal quote (string ++ c ∷ []) purposes text rest
+string_goes strict goal quote string purposes text rest more c one q =
     record {
       quoted = q.quoted;
       inside = q.inside ++ more;
@@ -387,45 +387,45 @@ string_goes strict goal quote string frames text rest more c one q =
 a_quote : (b : ℕ) → ((b == 34) || (b == 39)) ≡ true → IsQuote b
 a_quote b e = grind (arith, nat_tests)
 
-signed : (strict : Bool) (field : Field) (test : Test) (frames : List Frame) (text : List ℕ) (b : ℕ) (rest : List ℕ) → At strict (Sign field test) frames text (b ∷ rest) → b ≡ 61 → Leads strict (Compared field test) frames text rest
+signed : (strict : Bool) (field : Field) (test : Test) (purposes : List Purpose) (text : List ℕ) (b : ℕ) (rest : List ℕ) → At strict (Sign field test) purposes text (b ∷ rest) → b ≡ 61 → Leads strict (Compared field test) purposes text rest
 unfolding At
-signed strict field Equals frames text b rest at e = Operates field Equals at.0 refl at.2 (at.1, rest, at.3, at.4 ∙ ap (λ (c : ℕ). 61 ∷ c ∷ rest) e, no_spaces rest)
-signed strict field Differs frames text b rest at e = Operates field Differs at.0 refl at.2 (at.1, rest, at.3, at.4 ∙ ap (λ (c : ℕ). 33 ∷ c ∷ rest) e, no_spaces rest)
-signed strict field ContainsTest frames text b rest at e = absurd at
+signed strict field Equals purposes text b rest at e = Operates field Equals at.0 refl at.2 (at.1, rest, at.3, at.4 ∙ ap (λ (c : ℕ). 61 ∷ c ∷ rest) e, no_spaces rest)
+signed strict field Differs purposes text b rest at e = Operates field Differs at.0 refl at.2 (at.1, rest, at.3, at.4 ∙ ap (λ (c : ℕ). 33 ∷ c ∷ rest) e, no_spaces rest)
+signed strict field ContainsTest purposes text b rest at e = absurd at
 
-kept : (strict : Bool) (place : Place) (frames : List Frame) (text : List ℕ) (b : ℕ) (rest : List ℕ) → At strict place frames text (b ∷ rest) → Kept strict text rest (step strict place frames b)
+kept : (strict : Bool) (place : Place) (purposes : List Purpose) (text : List ℕ) (b : ℕ) (rest : List ℕ) → At strict place purposes text (b ∷ rest) → Kept strict text rest (step strict place purposes b)
 unfolding step At Opens
-kept strict Start frames text b rest at =
-    when strict text rest (b == 40) _ _ (λ e. opened_kept strict Whole frames text rest (λ room. (rest, at.0, at.1 ∙ ap (λ (c : ℕ). c ∷ rest) (equal b 40 e), no_spaces rest))) (λ _. stop strict text rest Syntax)
-kept strict Opened frames text b rest at =
-    when strict text rest (b == 32) _ _ (λ e. to strict text rest Opened frames (opens_space strict frames text rest (subst (λ (c : ℕ). Opens strict frames text (c ∷ rest)) (equal b 32 e) at))) (λ _.
-    when strict text rest (b == 33) _ _ (λ e. to strict text rest Bang frames (b ∷ rest, at, ap (λ (c : ℕ). c ∷ rest) (equal b 33 e))) (λ _.
-    when strict text rest (is_letter b) _ _ (λ e. to strict text rest (Word (b ∷ [])) frames (b ∷ rest, at, refl, (e, tt), omega arith)) (λ _.
-    when strict text rest (b == 40) _ _ (λ e. opened_kept strict FirstFrame frames text rest (λ room. (b ∷ rest, rest, at, ap (λ (c : ℕ). c ∷ rest) (equal b 40 e), no_spaces rest, room))) (λ _. stop strict text rest Syntax))))
-kept strict Bang frames text b rest at =
-    when strict text rest (b == 40) _ _ (λ e. opened_kept strict Negated frames text rest (λ room. (at.0, b ∷ rest, rest, at.1, at.2, ap (λ (c : ℕ). c ∷ rest) (equal b 40 e), no_spaces rest, room))) (λ _. stop strict text rest Syntax)
-kept strict (Word word) frames text b rest at =
-    when strict text rest (is_letter b) _ _ (λ e. to strict text rest (Word (word ++ b ∷ [])) frames (at.0, at.1, at.2 ∙ sym (append_assoc word (b ∷ []) rest), letters_push word b at.3 e, some_push word b))
-    (λ e. word_kept strict word frames text at.0 b rest (names strict word) refl e at.1 at.2 at.3 at.4)
-kept strict (BehindField field) frames text b rest at = sign_kept strict field frames text at.0 b rest at.1 (gap_spaces at.0 (b ∷ rest) at.2) (λ _. at.2)
-kept strict (Sign field test) frames text b rest at =
-    when strict text rest (b == 61) _ _ (λ e. to strict text rest (BeforeText (Compared field test)) frames (signed strict field test frames text b rest at (equal b 61 e))) (λ _. stop strict text rest Syntax)
-kept strict (Contains field read) frames text b rest at = contains_kept strict field read frames text b rest at
-kept strict (NeedsSpace goal) frames text b rest at =
-    when strict text rest (b == 32) _ _ (λ e. to strict text rest (BeforeText goal) frames
+kept strict Start purposes text b rest at =
+    when strict text rest (b == 40) _ _ (λ e. opened_kept strict Whole purposes text rest (λ room. (rest, at.0, at.1 ∙ ap (λ (c : ℕ). c ∷ rest) (equal b 40 e), no_spaces rest))) (λ _. stop strict text rest Syntax)
+kept strict Opened purposes text b rest at =
+    when strict text rest (b == 32) _ _ (λ e. to strict text rest Opened purposes (opens_space strict purposes text rest (subst (λ (c : ℕ). Opens strict purposes text (c ∷ rest)) (equal b 32 e) at))) (λ _.
+    when strict text rest (b == 33) _ _ (λ e. to strict text rest Bang purposes (b ∷ rest, at, ap (λ (c : ℕ). c ∷ rest) (equal b 33 e))) (λ _.
+    when strict text rest (is_letter b) _ _ (λ e. to strict text rest (Word (b ∷ [])) purposes (b ∷ rest, at, refl, (e, tt), omega arith)) (λ _.
+    when strict text rest (b == 40) _ _ (λ e. opened_kept strict FirstPurpose purposes text rest (λ room. (b ∷ rest, rest, at, ap (λ (c : ℕ). c ∷ rest) (equal b 40 e), no_spaces rest, room))) (λ _. stop strict text rest Syntax))))
+kept strict Bang purposes text b rest at =
+    when strict text rest (b == 40) _ _ (λ e. opened_kept strict Negated purposes text rest (λ room. (at.0, b ∷ rest, rest, at.1, at.2, ap (λ (c : ℕ). c ∷ rest) (equal b 40 e), no_spaces rest, room))) (λ _. stop strict text rest Syntax)
+kept strict (Word word) purposes text b rest at =
+    when strict text rest (is_letter b) _ _ (λ e. to strict text rest (Word (word ++ b ∷ [])) purposes (at.0, at.1, at.2 ∙ sym (append_assoc word (b ∷ []) rest), letters_push word b at.3 e, some_push word b))
+    (λ e. word_kept strict word purposes text at.0 b rest (names strict word) refl e at.1 at.2 at.3 at.4)
+kept strict (AfterField field) purposes text b rest at = sign_kept strict field purposes text at.0 b rest at.1 (gap_spaces at.0 (b ∷ rest) at.2) (λ _. at.2)
+kept strict (Sign field test) purposes text b rest at =
+    when strict text rest (b == 61) _ _ (λ e. to strict text rest (BeforeText (Compared field test)) purposes (signed strict field test purposes text b rest at (equal b 61 e))) (λ _. stop strict text rest Syntax)
+kept strict (Contains field read) purposes text b rest at = contains_kept strict field read purposes text b rest at
+kept strict (NeedsSpace goal) purposes text b rest at =
+    when strict text rest (b == 32) _ _ (λ e. to strict text rest (BeforeText goal) purposes
     (Operates at.0 ContainsTest at.1 at.3 at.4 (at.2, b ∷ rest, at.5, at.6, subst (λ (c : ℕ). Gap (c ∷ rest) rest) (sym (equal b 32 e)) (a_gap rest)))) (λ _. stop strict text rest Syntax)
-kept strict (BeforeText goal) frames text b rest at =
-    when strict text rest (b == 32) _ _ (λ e. to strict text rest (BeforeText goal) frames (leads_space strict goal frames text rest (subst (λ (c : ℕ). Leads strict goal frames text (c ∷ rest)) (equal b 32 e) at))) (λ _.
-    when strict text rest ((b == 34) || (b == 39)) _ _ (λ e. to strict text rest (InText goal b []) frames (record { quoted = b ∷ rest; inside = []; leads = at; is_quote = a_quote b e; is = refl; in_quotes = refl })) (λ _.
+kept strict (BeforeText goal) purposes text b rest at =
+    when strict text rest (b == 32) _ _ (λ e. to strict text rest (BeforeText goal) purposes (leads_space strict goal purposes text rest (subst (λ (c : ℕ). Leads strict goal purposes text (c ∷ rest)) (equal b 32 e) at))) (λ _.
+    when strict text rest ((b == 34) || (b == 39)) _ _ (λ e. to strict text rest (InText goal b []) purposes (record { quoted = b ∷ rest; inside = []; leads = at; is_quote = a_quote b e; is = refl; in_quotes = refl })) (λ _.
     stop strict text rest Syntax))
-kept strict (InText goal quote string) frames text b rest at =
-    when strict text rest (b == quote) _ _ (λ e. to strict text rest (Done (filter_for goal string)) frames
-    (string_ends strict goal quote string frames text rest (subst (λ (c : ℕ). Quotes strict goal quote string frames text (c ∷ rest)) (equal b quote e) at))) (λ not_quote.
-    when strict text rest (b == 92) _ _ (λ e. to strict text rest (Escaped goal quote string) frames (subst (λ (c : ℕ). Quotes strict goal quote string frames text (c ∷ rest)) (equal b 92 e) at)) (λ not_escape.
-    to strict text rest (InText goal quote (string ++ b ∷ [])) frames (string_goes strict goal quote string frames text rest (b ∷ []) b (inl (refl, differs b quote not_quote, differs b 92 not_escape)) at)))
-kept strict (Escaped goal quote string) frames text b rest at = to strict text rest (InText goal quote (string ++ b ∷ [])) frames (string_goes strict goal quote string frames text rest (92 ∷ b ∷ []) b (inr refl) at)
-kept strict (Done e) frames text b rest at =
-    when strict text rest (b == 32) _ _ (λ h. to strict text rest (Done e) frames (record {
+kept strict (InText goal quote string) purposes text b rest at =
+    when strict text rest (b == quote) _ _ (λ e. to strict text rest (Done (filter_for goal string)) purposes
+    (string_ends strict goal quote string purposes text rest (subst (λ (c : ℕ). Quotes strict goal quote string purposes text (c ∷ rest)) (equal b quote e) at))) (λ not_quote.
+    when strict text rest (b == 92) _ _ (λ e. to strict text rest (Escaped goal quote string) purposes (subst (λ (c : ℕ). Quotes strict goal quote string purposes text (c ∷ rest)) (equal b 92 e) at)) (λ not_escape.
+    to strict text rest (InText goal quote (string ++ b ∷ [])) purposes (string_goes strict goal quote string purposes text rest (b ∷ []) b (inl (refl, differs b quote not_quote, differs b 92 not_escape)) at)))
+kept strict (Escaped goal quote string) purposes text b rest at = to strict text rest (InText goal quote (string ++ b ∷ [])) purposes (string_goes strict goal quote string purposes text rest (92 ∷ b ∷ []) b (inr refl) at)
+kept strict (Done e) purposes text b rest at =
+    when strict text rest (b == 32) _ _ (λ h. to strict text rest (Done e) purposes (record {
       outer = at.outer;
       end = at.end;
       body = at.body;
@@ -435,44 +435,44 @@ kept strict (Done e) frames text b rest at =
       means = at.means;
       allowed = at.allowed;
     })) (λ _.
-    when strict text rest (b == 41) _ _ (λ h. closed_kept strict e frames text rest (subst (λ (c : ℕ). Ends strict e frames text (c ∷ rest)) (equal b 41 h) at)) (λ _. stop strict text rest Syntax))
-kept strict (Joined e) frames text b rest at =
-    when strict text rest (b == 32) _ _ (λ h. to strict text rest (BehindJoined e) frames (b ∷ rest, at, subst (λ (c : ℕ). Gap (c ∷ rest) rest) (sym (equal b 32 h)) (a_gap rest))) (λ _.
-    when strict text rest (b == 41) _ _ (λ h. closed_kept strict e frames text rest (chain_ends strict e frames text (b ∷ rest) (41 ∷ rest) at (subst (λ (c : ℕ). Spaces (b ∷ rest) (c ∷ rest)) (equal b 41 h) (no_spaces (b ∷ rest))))) (λ _. stop strict text rest Syntax))
-kept strict (BehindJoined e) frames text b rest at =
-    when strict text rest (b == 32) _ _ (λ h. to strict text rest (BehindJoined e) frames (at.0, at.1, gap_more at.0 rest (subst (λ (c : ℕ). Gap at.0 (c ∷ rest)) (equal b 32 h) at.2))) (λ _.
-    when strict text rest (b == 65) _ _ (λ h. to strict text rest (And e 1) frames (at.0, b ∷ rest, at.1, at.2, ap (λ (c : ℕ). c ∷ rest) (equal b 65 h), omega arith, omega arith)) (λ _.
-    when strict text rest (b == 41) _ _ (λ h. closed_kept strict e frames text rest (chain_ends strict e frames text at.0 (41 ∷ rest) at.1 (gap_spaces at.0 (41 ∷ rest) (subst (λ (c : ℕ). Gap at.0 (c ∷ rest)) (equal b 41 h) at.2)))) (λ _. stop strict text rest Syntax)))
-kept strict (And e read) frames text b rest at = and_kept strict e read frames text b rest at
-kept strict (BehindAnd e) frames text b rest at =
-    when strict text rest (b == 32) _ _ (λ h. to strict text rest (BehindAnd e) frames (at.0, at.1, at.2, at.3, at.4, at.5, gap_more at.2 rest (subst (λ (c : ℕ). Gap at.2 (c ∷ rest)) (equal b 32 h) at.6))) (λ _.
-    when strict text rest (b == 40) _ _ (λ h. opened_kept strict (Next e) frames text rest (λ room.
+    when strict text rest (b == 41) _ _ (λ h. closed_kept strict e purposes text rest (subst (λ (c : ℕ). Ends strict e purposes text (c ∷ rest)) (equal b 41 h) at)) (λ _. stop strict text rest Syntax))
+kept strict (Joined e) purposes text b rest at =
+    when strict text rest (b == 32) _ _ (λ h. to strict text rest (AfterJoined e) purposes (b ∷ rest, at, subst (λ (c : ℕ). Gap (c ∷ rest) rest) (sym (equal b 32 h)) (a_gap rest))) (λ _.
+    when strict text rest (b == 41) _ _ (λ h. closed_kept strict e purposes text rest (chain_ends strict e purposes text (b ∷ rest) (41 ∷ rest) at (subst (λ (c : ℕ). Spaces (b ∷ rest) (c ∷ rest)) (equal b 41 h) (no_spaces (b ∷ rest))))) (λ _. stop strict text rest Syntax))
+kept strict (AfterJoined e) purposes text b rest at =
+    when strict text rest (b == 32) _ _ (λ h. to strict text rest (AfterJoined e) purposes (at.0, at.1, gap_more at.0 rest (subst (λ (c : ℕ). Gap at.0 (c ∷ rest)) (equal b 32 h) at.2))) (λ _.
+    when strict text rest (b == 65) _ _ (λ h. to strict text rest (And e 1) purposes (at.0, b ∷ rest, at.1, at.2, ap (λ (c : ℕ). c ∷ rest) (equal b 65 h), omega arith, omega arith)) (λ _.
+    when strict text rest (b == 41) _ _ (λ h. closed_kept strict e purposes text rest (chain_ends strict e purposes text at.0 (41 ∷ rest) at.1 (gap_spaces at.0 (41 ∷ rest) (subst (λ (c : ℕ). Gap at.0 (c ∷ rest)) (equal b 41 h) at.2)))) (λ _. stop strict text rest Syntax)))
+kept strict (And e read) purposes text b rest at = and_kept strict e read purposes text b rest at
+kept strict (AfterAnd e) purposes text b rest at =
+    when strict text rest (b == 32) _ _ (λ h. to strict text rest (AfterAnd e) purposes (at.0, at.1, at.2, at.3, at.4, at.5, gap_more at.2 rest (subst (λ (c : ℕ). Gap at.2 (c ∷ rest)) (equal b 32 h) at.6))) (λ _.
+    when strict text rest (b == 40) _ _ (λ h. opened_kept strict (Next e) purposes text rest (λ room.
     (at.3.outer, at.0, at.1, at.2, b ∷ rest, rest, at.3.opens, at.3.joins, at.4, at.5, at.6, ap (λ (c : ℕ). c ∷ rest) (equal b 40 h), no_spaces rest, room))) (λ _. stop strict text rest Syntax))
-kept strict (Finished e) frames text b rest at = stop strict text rest Syntax
+kept strict (Finished e) purposes text b rest at = stop strict text rest Syntax
 
 word_ends : (n : ℕ) (name : Option Named) (word : List ℕ) (e : Expression) → word_at_end n name word ≡ Ok e → ⊥
 word_ends n None word e h = cc
 word_ends n (Some name) word e h = cc
 
 -- what a whole text gives is the meaning of a form that the text is
-ended : (strict : Bool) (n : ℕ) (place : Place) (frames : List Frame) (text : List ℕ) (e : Expression) → At strict place frames text [] → ending n place ≡ Ok e → Whole_filter strict e text []
+ended : (strict : Bool) (n : ℕ) (place : Place) (purposes : List Purpose) (text : List ℕ) (e : Expression) → At strict place purposes text [] → ending n place ≡ Ok e → Whole_filter strict e text []
 unfolding At
-ended strict n (Finished f) frames text e at h = let same : f ≡ e = cc in subst (λ (g : Expression). Whole_filter strict g text []) same at
-ended strict n (Word word) frames text e at h = absurd (word_ends n (named_of word) word e h)
-ended strict n _ frames text e at h = cc
+ended strict n (Finished f) purposes text e at h = let same : f ≡ e = cc in subst (λ (g : Expression). Whole_filter strict g text []) same at
+ended strict n (Word word) purposes text e at h = absurd (word_ends n (named_of word) word e h)
+ended strict n _ purposes text e at h = cc
 
-onward : (strict : Bool) (n : ℕ) (place : Place) (frames : List Frame) (text : List ℕ) (b : ℕ) (rest : List ℕ) (e : Expression) (r : Result (Place × List Frame) Stop) → step strict place frames b ≡ r → Kept strict text rest (step strict place frames b)
-    → run strict n place frames (b ∷ rest) ≡ Ok e → ((next : Place) (more : List Frame) → At strict next more text rest → run strict (n + 1) next more rest ≡ Ok e → Whole_filter strict e text []) → Whole_filter strict e text []
+onward : (strict : Bool) (n : ℕ) (place : Place) (purposes : List Purpose) (text : List ℕ) (b : ℕ) (rest : List ℕ) (e : Expression) (r : Result (Place × List Purpose) Stop) → step strict place purposes b ≡ r → Kept strict text rest (step strict place purposes b)
+    → run strict n place purposes (b ∷ rest) ≡ Ok e → ((next : Place) (more : List Purpose) → At strict next more text rest → run strict (n + 1) next more rest ≡ Ok e → Whole_filter strict e text []) → Whole_filter strict e text []
 unfolding KeptNext
-onward strict n place frames text b rest e (Ok next) s k h go =
-    go next.0 next.1 (subst (KeptNext strict text rest) s k.is) (sym (goes strict n place frames b rest (Ok next) s) ∙ h)
-onward strict n place frames text b rest e (Err fault) s k h go = let failed : Err (fault_at n fault) ≡ Ok e = sym (goes strict n place frames b rest (Err fault) s) ∙ h in cc
+onward strict n place purposes text b rest e (Ok next) s k h go =
+    go next.0 next.1 (subst (KeptNext strict text rest) s k.is) (sym (goes strict n place purposes b rest (Ok next) s) ∙ h)
+onward strict n place purposes text b rest e (Err fault) s k h go = let failed : Err (fault_at n fault) ≡ Ok e = sym (goes strict n place purposes b rest (Err fault) s) ∙ h in cc
 
-run_spelled : (rest : List ℕ) (strict : Bool) (n : ℕ) (place : Place) (frames : List Frame) (text : List ℕ) (e : Expression) → At strict place frames text rest → run strict n place frames rest ≡ Ok e → Whole_filter strict e text []
+run_spelled : (rest : List ℕ) (strict : Bool) (n : ℕ) (place : Place) (purposes : List Purpose) (text : List ℕ) (e : Expression) → At strict place purposes text rest → run strict n place purposes rest ≡ Ok e → Whole_filter strict e text []
 unfolding run
-run_spelled [] strict n place frames text e at h = ended strict n place frames text e at h
-run_spelled (b ∷ rest) strict n place frames text e at h =
-    onward strict n place frames text b rest e (step strict place frames b) refl (kept strict place frames text b rest at) h (λ next more at_next ok. run_spelled rest strict (n + 1) next more text e at_next ok)
+run_spelled [] strict n place purposes text e at h = ended strict n place purposes text e at h
+run_spelled (b ∷ rest) strict n place purposes text e at h =
+    onward strict n place purposes text b rest e (step strict place purposes b) refl (kept strict place purposes text b rest at) h (λ next more at_next ok. run_spelled rest strict (n + 1) next more text e at_next ok)
 
 -- what is read whole is spelled so
 pub read_is_spelled : (strict : Bool) (text : List ℕ) (e : Expression) → run strict 0 Start [] text ≡ Ok e → (body : Body) × InParentheses (IsBody body) text [] × (meaning body ≡ e) × Allowed strict 1 body
@@ -480,43 +480,43 @@ unfolding At
 read_is_spelled strict text e h = let whole = run_spelled text strict 0 Start [] text e (refl, refl) h in (whole.body, whole.is, whole.means, whole.allowed)
 
 -- as the definitions count what is open
-may_open : (frames : List Frame) (strict : Bool) (text before rest : List ℕ) → Opens strict frames text before → ((before ≡ rest) ⊎ ((before ≡ 33 ∷ rest) ⊎ FollowsAnd (length frames) before rest)) → MayOpen (length frames) before rest
+may_open : (purposes : List Purpose) (strict : Bool) (text before rest : List ℕ) → Opens strict purposes text before → ((before ≡ rest) ⊎ ((before ≡ 33 ∷ rest) ⊎ FollowsAnd (length purposes) before rest)) → MayOpen (length purposes) before rest
 unfolding Opens
 may_open [] strict text before rest o way = absurd o
-may_open (frame ∷ frames) strict text before rest o way = way
+may_open (purpose ∷ purposes) strict text before rest o way = way
 
-follows_and : (level : ℕ) (e : Expression) (text gap word behind rest : List ℕ) → level ≤ 32 → Joins true level e text gap → Gap gap word → word ≡ codes "AND" ++ behind → Gap behind rest → FollowsAnd level text rest
-follows_and level e text gap word behind rest low joins before is after =
-    let fit = from_allowed joins.body level low joins.allowed in (joins.body, gap, word, behind, joins.is, joins.joined, fit.0, fit.1, before, is, after)
+follows_and : (level : ℕ) (e : Expression) (text gap word second_gap rest : List ℕ) → level ≤ 32 → Joins true level e text gap → Gap gap word → word ≡ codes "AND" ++ second_gap → Gap second_gap rest → FollowsAnd level text rest
+follows_and level e text gap word second_gap rest low joins before is after =
+    let fit = from_allowed joins.body level low joins.allowed in (joins.body, gap, word, second_gap, joins.is, joins.joined, fit.0, fit.1, before, is, after)
 
-stands_open : (frames : List Frame) (text rest : List ℕ) → Opens true frames text rest → StandsOpen (length frames) text rest × (1 ≤ length frames) × (length frames ≤ 32)
+are_open : (purposes : List Purpose) (text rest : List ℕ) → Opens true purposes text rest → AreOpen (length purposes) text rest × (1 ≤ length purposes) × (length purposes ≤ 32)
 unfolding Opens
-stands_open [] text rest o = absurd o
-stands_open (Whole ∷ frames) text rest o =
-    let none : length frames ≡ 0 = ap length o.1 in
-    (subst (λ (n : ℕ). StandsOpen (suc n) text rest) (sym none) (text, text, o.0, refl, refl, o.2, o.3), omega arith, omega (arith, none))
-stands_open (Negated ∷ frames) text rest o =
-    let outer = stands_open frames text o.0 o.3 in let room = o.7 refl in
-    ((o.0, o.1, o.2, outer.0, may_open frames true text o.0 o.1 o.3 (inr (inl o.4)), o.5, o.6), omega arith, omega (arith, room))
-stands_open (FirstFrame ∷ frames) text rest o =
-    let outer = stands_open frames text o.0 o.2 in let room = o.5 refl in
-    ((o.0, o.0, o.1, outer.0, may_open frames true text o.0 o.0 o.2 (inl refl), o.3, o.4), omega arith, omega (arith, room))
-stands_open (Next e ∷ frames) text rest o =
-    let outer = stands_open frames text o.0 o.6 in let room = o.13 refl in let low = outer.2 in
-    ((o.0, o.4, o.5, outer.0, may_open frames true text o.0 o.4 o.6 (inr (inr (follows_and (length frames) e o.0 o.1 o.2 o.3 o.4 low o.7 o.8 o.9 o.10))), o.11, o.12), omega arith, omega (arith, room))
+are_open [] text rest o = absurd o
+are_open (Whole ∷ purposes) text rest o =
+    let none : length purposes ≡ 0 = ap length o.1 in
+    (subst (λ (n : ℕ). AreOpen (suc n) text rest) (sym none) (text, text, o.0, refl, refl, o.2, o.3), omega arith, omega (arith, none))
+are_open (Negated ∷ purposes) text rest o =
+    let outer = are_open purposes text o.0 o.3 in let room = o.7 refl in
+    ((o.0, o.1, o.2, outer.0, may_open purposes true text o.0 o.1 o.3 (inr (inl o.4)), o.5, o.6), omega arith, omega (arith, room))
+are_open (FirstPurpose ∷ purposes) text rest o =
+    let outer = are_open purposes text o.0 o.2 in let room = o.5 refl in
+    ((o.0, o.0, o.1, outer.0, may_open purposes true text o.0 o.0 o.2 (inl refl), o.3, o.4), omega arith, omega (arith, room))
+are_open (Next e ∷ purposes) text rest o =
+    let outer = are_open purposes text o.0 o.6 in let room = o.13 refl in let low = outer.2 in
+    ((o.0, o.4, o.5, outer.0, may_open purposes true text o.0 o.4 o.6 (inr (inr (follows_and (length purposes) e o.0 o.1 o.2 o.3 o.4 low o.7 o.8 o.9 o.10))), o.11, o.12), omega arith, omega (arith, room))
 
 -- why a step of the strict rules stops
-CausesNext : List ℕ → Result (Place × List Frame) Stop → Type 0
+CausesNext : List ℕ → Result (Place × List Purpose) Stop → Type 0
 CausesNext text (Ok next) = Unit {0}
 CausesNext text (Err Syntax) = Unit {0}
 CausesNext text (Err (UnknownTag word)) = NamesNothing text word
 CausesNext text (Err TooDeep) = GoesTooDeep text
 CausesNext text (Err NoMemory) = ⊥
 
-record Causes (text : List ℕ) (r : Result (Place × List Frame) Stop) : Type 0 where
+record Causes (text : List ℕ) (r : Result (Place × List Purpose) Stop) : Type 0 where
   is : CausesNext text r
 
-goes_on_so : (text : List ℕ) (next : Place × List Frame) → Causes text (Ok next)
+goes_on_so : (text : List ℕ) (next : Place × List Purpose) → Causes text (Ok next)
 unfolding CausesNext
 goes_on_so text next = record { is = tt }
 
@@ -524,29 +524,29 @@ syntax_so : (text : List ℕ) → Causes text (Err Syntax)
 unfolding CausesNext
 syntax_so text = record { is = tt }
 
-caused_when : (text : List ℕ) (c : Bool) (x y : Result (Place × List Frame) Stop) → (c ≡ true → Causes text x) → (c ≡ false → Causes text y) → Causes text (cond c x y)
+caused_when : (text : List ℕ) (c : Bool) (x y : Result (Place × List Purpose) Stop) → (c ≡ true → Causes text x) → (c ≡ false → Causes text y) → Causes text (cond c x y)
 caused_when text true x y h k = h refl
 caused_when text false x y h k = k refl
 
-caused_alone : (text : List ℕ) (frames : List Frame) (c : Bool) (x y : Result Place Stop) → Causes text (alone x frames) → Causes text (alone y frames) → Causes text (alone (cond c x y) frames)
-caused_alone text frames true x y h k = h
-caused_alone text frames false x y h k = k
+caused_alone : (text : List ℕ) (purposes : List Purpose) (c : Bool) (x y : Result Place Stop) → Causes text (alone x purposes) → Causes text (alone y purposes) → Causes text (alone (cond c x y) purposes)
+caused_alone text purposes true x y h k = h
+caused_alone text purposes false x y h k = k
 
 full : (n : ℕ) → (true && nat_le 32 n) ≡ true → n ≤ 32 → n ≡ 32
 full n e low = let high : 32 ≤ n = grind (arith, nat_tests) in omega (arith, high)
 
-opened_causes : (frame : Frame) (frames : List Frame) (text before outer rest : List ℕ) (b : ℕ) → b ≡ 40 → Opens true frames text before → ((before ≡ outer) ⊎ ((before ≡ 33 ∷ outer) ⊎ FollowsAnd (length frames) before outer)) → outer ≡ b ∷ rest → Causes text (opened true frame frames)
+opened_causes : (purpose : Purpose) (purposes : List Purpose) (text before outer rest : List ℕ) (b : ℕ) → b ≡ 40 → Opens true purposes text before → ((before ≡ outer) ⊎ ((before ≡ 33 ∷ outer) ⊎ FollowsAnd (length purposes) before outer)) → outer ≡ b ∷ rest → Causes text (opened true purpose purposes)
 unfolding CausesNext
-opened_causes frame frames text before outer rest b e o way is =
-    let stands = stands_open frames text before o in
-    caused_when text (true && nat_le 32 (length frames)) _ _ (λ h.
-    let n = full (length frames) h stands.2 in
-    record { is = (before, outer, rest, subst (λ (k : ℕ). StandsOpen k text before) n stands.0, subst (λ (k : ℕ). MayOpen k before outer) n (may_open frames true text before outer o way), is ∙ ap (λ (c : ℕ). c ∷ rest) e) }) (λ _. goes_on_so text _)
+opened_causes purpose purposes text before outer rest b e o way is =
+    let open_at = are_open purposes text before o in
+    caused_when text (true && nat_le 32 (length purposes)) _ _ (λ h.
+    let n = full (length purposes) h open_at.2 in
+    record { is = (before, outer, rest, subst (λ (k : ℕ). AreOpen k text before) n open_at.0, subst (λ (k : ℕ). MayOpen k before outer) n (may_open purposes true text before outer o way), is ∙ ap (λ (c : ℕ). c ∷ rest) e) }) (λ _. goes_on_so text _)
 
-sign_causes : (field : Field) (frames : List Frame) (text : List ℕ) (b : ℕ) → Causes text (alone (sign field b) frames)
-sign_causes field frames text b =
-    caused_alone text frames (b == 32) _ _ (goes_on_so text _) (caused_alone text frames (b == 61) _ _ (goes_on_so text _)
-    (caused_alone text frames (b == 33) _ _ (goes_on_so text _) (caused_alone text frames (b == 99) _ _ (goes_on_so text _) (syntax_so text))))
+sign_causes : (field : Field) (purposes : List Purpose) (text : List ℕ) (b : ℕ) → Causes text (alone (sign field b) purposes)
+sign_causes field purposes text b =
+    caused_alone text purposes (b == 32) _ _ (goes_on_so text _) (caused_alone text purposes (b == 61) _ _ (goes_on_so text _)
+    (caused_alone text purposes (b == 33) _ _ (goes_on_so text _) (caused_alone text purposes (b == 99) _ _ (goes_on_so text _) (syntax_so text))))
 
 nameless : (based : Bool) (word : List ℕ) (name : Option Field) → is_base word ≡ based → field_named word ≡ name → named_of word ≡ None → (based ≡ false) × (name ≡ None)
 unfolding named_of
@@ -554,64 +554,64 @@ nameless true word name base named e = let n : Some NamedBase ≡ None = rw base
 nameless false word None base named e = (refl, refl)
 nameless false word (Some field) base named e = let n : Some (NamedField field) ≡ None = rw (base, named) at e in cc
 
-names_nothing : (word : List ℕ) (frames : List Frame) (text outer rest : List ℕ) → named_of word ≡ None → Opens true frames text outer → outer ≡ word ++ rest → AreLetters word → 0 < length word → EndsWord rest → NamesNothing text word
-names_nothing word frames text outer rest named o is letters some ends =
-    let stands = stands_open frames text outer o in
+names_nothing : (word : List ℕ) (purposes : List Purpose) (text outer rest : List ℕ) → named_of word ≡ None → Opens true purposes text outer → outer ≡ word ++ rest → AreLetters word → 0 < length word → EndsWord rest → NamesNothing text word
+names_nothing word purposes text outer rest named o is letters some ends =
+    let open_at = are_open purposes text outer o in
     let none = nameless (is_base word) word (field_named word) refl refl named in
-    record { count = length frames; outer = outer; rest = rest; some_open = (stands.1, stands.2); open_there = stands.0; there = is; is_word = (some, letters, none.0); ends = ends; unknown = none.1 }
+    record { count = length purposes; outer = outer; rest = rest; some_open = (open_at.1, open_at.2); open_there = open_at.0; there = is; is_word = (some, letters, none.0); ends = ends; unknown = none.1 }
 
-word_causes : (word : List ℕ) (frames : List Frame) (text outer : List ℕ) (b : ℕ) (rest : List ℕ) (name : Option Named) → named_of word ≡ name → is_letter b ≡ false → Opens true frames text outer → outer ≡ word ++ b ∷ rest
-    → AreLetters word → 0 < length word → Causes text (alone (behind_word name word b) frames)
+word_causes : (word : List ℕ) (purposes : List Purpose) (text outer : List ℕ) (b : ℕ) (rest : List ℕ) (name : Option Named) → named_of word ≡ name → is_letter b ≡ false → Opens true purposes text outer → outer ≡ word ++ b ∷ rest
+    → AreLetters word → 0 < length word → Causes text (alone (after_word name word b) purposes)
 unfolding CausesNext
-word_causes word frames text outer b rest None named other o is letters some = record { is = names_nothing word frames text outer (b ∷ rest) named o is letters some other }
-word_causes word frames text outer b rest (Some (NamedField field)) named other o is letters some = sign_causes field frames text b
-word_causes word frames text outer b rest (Some NamedBase) named other o is letters some = caused_alone text frames (b == 32) _ _ (goes_on_so text _) (syntax_so text)
+word_causes word purposes text outer b rest None named other o is letters some = record { is = names_nothing word purposes text outer (b ∷ rest) named o is letters some other }
+word_causes word purposes text outer b rest (Some (NamedField field)) named other o is letters some = sign_causes field purposes text b
+word_causes word purposes text outer b rest (Some NamedBase) named other o is letters some = caused_alone text purposes (b == 32) _ _ (goes_on_so text _) (syntax_so text)
 
-closed_causes : (e : Expression) (frames : List Frame) (text : List ℕ) → Causes text (closed e frames)
+closed_causes : (e : Expression) (purposes : List Purpose) (text : List ℕ) → Causes text (closed e purposes)
 closed_causes e [] text = syntax_so text
-closed_causes e (Whole ∷ frames) text = goes_on_so text _
-closed_causes e (Negated ∷ frames) text = goes_on_so text _
-closed_causes e (FirstFrame ∷ frames) text = goes_on_so text _
-closed_causes e (Next first ∷ frames) text = goes_on_so text _
+closed_causes e (Whole ∷ purposes) text = goes_on_so text _
+closed_causes e (Negated ∷ purposes) text = goes_on_so text _
+closed_causes e (FirstPurpose ∷ purposes) text = goes_on_so text _
+closed_causes e (Next first ∷ purposes) text = goes_on_so text _
 
-one_test : (text : List ℕ) (c : Bool) (next : Place × List Frame) → Causes text (cond c (Ok next) (Err Syntax))
+one_test : (text : List ℕ) (c : Bool) (next : Place × List Purpose) → Causes text (cond c (Ok next) (Err Syntax))
 one_test text c next = caused_when text c _ _ (λ _. goes_on_so text next) (λ _. syntax_so text)
 
-closes_or_not : (text : List ℕ) (c : Bool) (e : Expression) (frames : List Frame) → Causes text (cond c (closed e frames) (Err Syntax))
-closes_or_not text c e frames = caused_when text c _ _ (λ _. closed_causes e frames text) (λ _. syntax_so text)
+closes_or_not : (text : List ℕ) (c : Bool) (e : Expression) (purposes : List Purpose) → Causes text (cond c (closed e purposes) (Err Syntax))
+closes_or_not text c e purposes = caused_when text c _ _ (λ _. closed_causes e purposes text) (λ _. syntax_so text)
 
 none_full : (n : ℕ) → n ≡ 0 → (true && nat_le 32 n) ≡ true → ⊥
 none_full n none e = let high : 32 ≤ n = grind (arith, nat_tests) in omega (arith, high, none)
 
-caused : (place : Place) (frames : List Frame) (text : List ℕ) (b : ℕ) (rest : List ℕ) → At true place frames text (b ∷ rest) → Causes text (step true place frames b)
+caused : (place : Place) (purposes : List Purpose) (text : List ℕ) (b : ℕ) (rest : List ℕ) → At true place purposes text (b ∷ rest) → Causes text (step true place purposes b)
 unfolding step At
-caused Start frames text b rest at =
-    caused_when text (b == 40) _ _ (λ _. caused_when text (true && nat_le 32 (length frames)) _ _ (λ h. absurd (none_full (length frames) (ap length at.0) h)) (λ _. goes_on_so text _)) (λ _. syntax_so text)
-caused Opened frames text b rest at =
+caused Start purposes text b rest at =
+    caused_when text (b == 40) _ _ (λ _. caused_when text (true && nat_le 32 (length purposes)) _ _ (λ h. absurd (none_full (length purposes) (ap length at.0) h)) (λ _. goes_on_so text _)) (λ _. syntax_so text)
+caused Opened purposes text b rest at =
     caused_when text (b == 32) _ _ (λ _. goes_on_so text _) (λ _. caused_when text (b == 33) _ _ (λ _. goes_on_so text _) (λ _. caused_when text (is_letter b) _ _ (λ _. goes_on_so text _) (λ _.
-    caused_when text (b == 40) _ _ (λ e. opened_causes FirstFrame frames text (b ∷ rest) (b ∷ rest) rest b (equal b 40 e) at (inl refl) refl) (λ _. syntax_so text))))
-caused Bang frames text b rest at =
-    caused_when text (b == 40) _ _ (λ e. opened_causes Negated frames text at.0 (b ∷ rest) rest b (equal b 40 e) at.1 (inr (inl at.2)) refl) (λ _. syntax_so text)
-caused (Word word) frames text b rest at =
-    caused_when text (is_letter b) _ _ (λ _. goes_on_so text _) (λ other. word_causes word frames text at.0 b rest (named_of word) refl other at.1 at.2 at.3 at.4)
-caused (BehindField field) frames text b rest at = sign_causes field frames text b
-caused (Sign field test) frames text b rest at = one_test text (b == 61) _
-caused (Contains field read) frames text b rest at =
-    caused_alone text frames (nat_lt read 7 && (b == slice_index (codes "contains") read)) _ _ (goes_on_so text _) (caused_alone text frames ((read == 7) && (b == 115)) _ _ (goes_on_so text _) (syntax_so text))
-caused (NeedsSpace goal) frames text b rest at = one_test text (b == 32) _
-caused (BeforeText goal) frames text b rest at = caused_when text (b == 32) _ _ (λ _. goes_on_so text _) (λ _. one_test text ((b == 34) || (b == 39)) _)
-caused (InText goal quote string) frames text b rest at = caused_when text (b == quote) _ _ (λ _. goes_on_so text _) (λ _. caused_when text (b == 92) _ _ (λ _. goes_on_so text _) (λ _. goes_on_so text _))
-caused (Escaped goal quote string) frames text b rest at = goes_on_so text _
-caused (Done e) frames text b rest at = caused_when text (b == 32) _ _ (λ _. goes_on_so text _) (λ _. closes_or_not text (b == 41) e frames)
-caused (Joined e) frames text b rest at = caused_when text (b == 32) _ _ (λ _. goes_on_so text _) (λ _. closes_or_not text (b == 41) e frames)
-caused (BehindJoined e) frames text b rest at = caused_when text (b == 32) _ _ (λ _. goes_on_so text _) (λ _. caused_when text (b == 65) _ _ (λ _. goes_on_so text _) (λ _. closes_or_not text (b == 41) e frames))
-caused (And e read) frames text b rest at =
-    caused_alone text frames ((read == 1) && (b == 78)) _ _ (goes_on_so text _) (caused_alone text frames ((read == 2) && (b == 68)) _ _ (goes_on_so text _) (caused_alone text frames ((read == 3) && (b == 32)) _ _ (goes_on_so text _) (syntax_so text)))
-caused (BehindAnd e) frames text b rest at =
+    caused_when text (b == 40) _ _ (λ e. opened_causes FirstPurpose purposes text (b ∷ rest) (b ∷ rest) rest b (equal b 40 e) at (inl refl) refl) (λ _. syntax_so text))))
+caused Bang purposes text b rest at =
+    caused_when text (b == 40) _ _ (λ e. opened_causes Negated purposes text at.0 (b ∷ rest) rest b (equal b 40 e) at.1 (inr (inl at.2)) refl) (λ _. syntax_so text)
+caused (Word word) purposes text b rest at =
+    caused_when text (is_letter b) _ _ (λ _. goes_on_so text _) (λ other. word_causes word purposes text at.0 b rest (named_of word) refl other at.1 at.2 at.3 at.4)
+caused (AfterField field) purposes text b rest at = sign_causes field purposes text b
+caused (Sign field test) purposes text b rest at = one_test text (b == 61) _
+caused (Contains field read) purposes text b rest at =
+    caused_alone text purposes (nat_lt read 7 && (b == slice_index (codes "contains") read)) _ _ (goes_on_so text _) (caused_alone text purposes ((read == 7) && (b == 115)) _ _ (goes_on_so text _) (syntax_so text))
+caused (NeedsSpace goal) purposes text b rest at = one_test text (b == 32) _
+caused (BeforeText goal) purposes text b rest at = caused_when text (b == 32) _ _ (λ _. goes_on_so text _) (λ _. one_test text ((b == 34) || (b == 39)) _)
+caused (InText goal quote string) purposes text b rest at = caused_when text (b == quote) _ _ (λ _. goes_on_so text _) (λ _. caused_when text (b == 92) _ _ (λ _. goes_on_so text _) (λ _. goes_on_so text _))
+caused (Escaped goal quote string) purposes text b rest at = goes_on_so text _
+caused (Done e) purposes text b rest at = caused_when text (b == 32) _ _ (λ _. goes_on_so text _) (λ _. closes_or_not text (b == 41) e purposes)
+caused (Joined e) purposes text b rest at = caused_when text (b == 32) _ _ (λ _. goes_on_so text _) (λ _. closes_or_not text (b == 41) e purposes)
+caused (AfterJoined e) purposes text b rest at = caused_when text (b == 32) _ _ (λ _. goes_on_so text _) (λ _. caused_when text (b == 65) _ _ (λ _. goes_on_so text _) (λ _. closes_or_not text (b == 41) e purposes))
+caused (And e read) purposes text b rest at =
+    caused_alone text purposes ((read == 1) && (b == 78)) _ _ (goes_on_so text _) (caused_alone text purposes ((read == 2) && (b == 68)) _ _ (goes_on_so text _) (caused_alone text purposes ((read == 3) && (b == 32)) _ _ (goes_on_so text _) (syntax_so text)))
+caused (AfterAnd e) purposes text b rest at =
     caused_when text (b == 32) _ _ (λ _. goes_on_so text _) (λ _. caused_when text (b == 40) _ _ (λ h.
-    let stands = stands_open frames text at.3.outer at.3.opens in
-    opened_causes (Next e) frames text at.3.outer (b ∷ rest) rest b (equal b 40 h) at.3.opens (inr (inr (follows_and (length frames) e at.3.outer at.0 at.1 at.2 (b ∷ rest) stands.2 at.3.joins at.4 at.5 at.6))) refl) (λ _. syntax_so text))
-caused (Finished e) frames text b rest at = syntax_so text
+    let open_at = are_open purposes text at.3.outer at.3.opens in
+    opened_causes (Next e) purposes text at.3.outer (b ∷ rest) rest b (equal b 40 h) at.3.opens (inr (inr (follows_and (length purposes) e at.3.outer at.0 at.1 at.2 (b ∷ rest) open_at.2 at.3.joins at.4 at.5 at.6))) refl) (λ _. syntax_so text))
+caused (Finished e) purposes text b rest at = syntax_so text
 
 -- why a text of the strict rules is no filter, where it is not for syntax
 abbrev pub HasCause : List ℕ → FilterFault → Type 0
@@ -627,31 +627,31 @@ fault_cause n text (UnknownTag word) h = h
 fault_cause n text TooDeep h = h
 fault_cause n text NoMemory h = h
 
-word_end_cause : (n : ℕ) (name : Option Named) (word : List ℕ) (frames : List Frame) (text outer : List ℕ) (fault : FilterFault) → named_of word ≡ name → Opens true frames text outer → outer ≡ word ++ [] → AreLetters word → 0 < length word
+word_end_cause : (n : ℕ) (name : Option Named) (word : List ℕ) (purposes : List Purpose) (text outer : List ℕ) (fault : FilterFault) → named_of word ≡ name → Opens true purposes text outer → outer ≡ word ++ [] → AreLetters word → 0 < length word
     → word_at_end n name word ≡ Err fault → HasCause text fault
-word_end_cause n None word frames text outer fault named o is letters some e =
-    let same : UnknownFault word ≡ fault = cc in subst (HasCause text) same (names_nothing word frames text outer [] named o is letters some tt)
-word_end_cause n (Some name) word frames text outer fault named o is letters some e = let same : SyntaxFault n ≡ fault = cc in subst (HasCause text) same tt
+word_end_cause n None word purposes text outer fault named o is letters some e =
+    let same : UnknownFault word ≡ fault = cc in subst (HasCause text) same (names_nothing word purposes text outer [] named o is letters some tt)
+word_end_cause n (Some name) word purposes text outer fault named o is letters some e = let same : SyntaxFault n ≡ fault = cc in subst (HasCause text) same tt
 
-end_cause : (n : ℕ) (place : Place) (frames : List Frame) (text : List ℕ) (fault : FilterFault) → At true place frames text [] → ending n place ≡ Err fault → HasCause text fault
+end_cause : (n : ℕ) (place : Place) (purposes : List Purpose) (text : List ℕ) (fault : FilterFault) → At true place purposes text [] → ending n place ≡ Err fault → HasCause text fault
 unfolding At
-end_cause n (Finished e) frames text fault at h = cc
-end_cause n (Word word) frames text fault at h = word_end_cause n (named_of word) word frames text at.0 fault refl at.1 at.2 at.3 at.4 h
-end_cause n _ frames text fault at h = let same : SyntaxFault n ≡ fault = cc in subst (HasCause text) same tt
+end_cause n (Finished e) purposes text fault at h = cc
+end_cause n (Word word) purposes text fault at h = word_end_cause n (named_of word) word purposes text at.0 fault refl at.1 at.2 at.3 at.4 h
+end_cause n _ purposes text fault at h = let same : SyntaxFault n ≡ fault = cc in subst (HasCause text) same tt
 
-step_cause : (n : ℕ) (place : Place) (frames : List Frame) (text : List ℕ) (b : ℕ) (rest : List ℕ) (fault : FilterFault) (r : Result (Place × List Frame) Stop) → step true place frames b ≡ r → Causes text (step true place frames b) → Kept true text rest (step true place frames b)
-    → run true n place frames (b ∷ rest) ≡ Err fault → ((next : Place) (more : List Frame) → At true next more text rest → run true (n + 1) next more rest ≡ Err fault → HasCause text fault) → HasCause text fault
+step_cause : (n : ℕ) (place : Place) (purposes : List Purpose) (text : List ℕ) (b : ℕ) (rest : List ℕ) (fault : FilterFault) (r : Result (Place × List Purpose) Stop) → step true place purposes b ≡ r → Causes text (step true place purposes b) → Kept true text rest (step true place purposes b)
+    → run true n place purposes (b ∷ rest) ≡ Err fault → ((next : Place) (more : List Purpose) → At true next more text rest → run true (n + 1) next more rest ≡ Err fault → HasCause text fault) → HasCause text fault
 unfolding KeptNext
-step_cause n place frames text b rest fault (Ok next) s c k h go = go next.0 next.1 (subst (KeptNext true text rest) s k.is) (sym (goes true n place frames b rest (Ok next) s) ∙ h)
-step_cause n place frames text b rest fault (Err why) s c k h go =
-    let same : fault_at n why ≡ fault = (let failed : Err (fault_at n why) ≡ Err fault = sym (goes true n place frames b rest (Err why) s) ∙ h in cc) in
+step_cause n place purposes text b rest fault (Ok next) s c k h go = go next.0 next.1 (subst (KeptNext true text rest) s k.is) (sym (goes true n place purposes b rest (Ok next) s) ∙ h)
+step_cause n place purposes text b rest fault (Err why) s c k h go =
+    let same : fault_at n why ≡ fault = (let failed : Err (fault_at n why) ≡ Err fault = sym (goes true n place purposes b rest (Err why) s) ∙ h in cc) in
     subst (HasCause text) same (fault_cause n text why (subst (CausesNext text) s c.is))
 
-run_cause : (rest : List ℕ) (n : ℕ) (place : Place) (frames : List Frame) (text : List ℕ) (fault : FilterFault) → At true place frames text rest → run true n place frames rest ≡ Err fault → HasCause text fault
+run_cause : (rest : List ℕ) (n : ℕ) (place : Place) (purposes : List Purpose) (text : List ℕ) (fault : FilterFault) → At true place purposes text rest → run true n place purposes rest ≡ Err fault → HasCause text fault
 unfolding run
-run_cause [] n place frames text fault at h = end_cause n place frames text fault at h
-run_cause (b ∷ rest) n place frames text fault at h =
-    step_cause n place frames text b rest fault (step true place frames b) refl (caused place frames text b rest at) (kept true place frames text b rest at) h (λ next more at_next failed. run_cause rest (n + 1) next more text fault at_next failed)
+run_cause [] n place purposes text fault at h = end_cause n place purposes text fault at h
+run_cause (b ∷ rest) n place purposes text fault at h =
+    step_cause n place purposes text b rest fault (step true place purposes b) refl (caused place purposes text b rest at) (kept true place purposes text b rest at) h (λ next more at_next failed. run_cause rest (n + 1) next more text fault at_next failed)
 
 pub refused_for : (text : List ℕ) (fault : FilterFault) → run true 0 Start [] text ≡ Err fault → HasCause text fault
 unfolding At

@@ -1,11 +1,11 @@
 -- What is spelled by the grammar is read as its expression.
 use Rattle.std.proofs.Common.{◌≡◌, ℕ, suc, ◌+◌, ◌<◌, ◌≤◌, nat_le, Bool, true, false, List, [], ◌∷◌, ◌++◌, length, codes, is_some, Result, Ok, refl, sym, subst, ◌∙◌, arith}
 use Rattle.std.proofs.lemmas.Bool.Decides.{nat_tests}
-use Rattle.filters.specs.declared.place.Frame.{Frame}
-use Rattle.filters.specs.declared.place.Frame.TheVariants.{Whole, Negated, First as FirstFrame, Next}
+use Rattle.filters.specs.declared.place.Purpose.{Purpose}
+use Rattle.filters.specs.declared.place.Purpose.TheVariants.{Whole, Negated, First as FirstPurpose, Next}
 use Rattle.filters.specs.declared.place.Goal.TheVariants.{Compared, Base as BaseGoal}
 use Rattle.filters.specs.declared.place.Place.{Place}
-use Rattle.filters.specs.declared.place.Place.TheVariants.{Start, Opened, Bang, Done, Joined, BehindJoined, And, BehindAnd, Finished}
+use Rattle.filters.specs.declared.place.Place.TheVariants.{Start, Opened, Bang, Done, Joined, AfterJoined, And, AfterAnd, Finished}
 use Rattle.filters.specs.declared.reading.FilterFault.{FilterFault}
 use Rattle.filters.specs.Expressions.{Expression, Negation, Both}
 use Rattle.filters.specs.Words.{field_named}
@@ -17,7 +17,7 @@ use Rattle.filters.proofs.Reaching.{Reaches, by_byte, spaces_reach, gap_reach, s
 abbrev pub Room : Bool → ℕ → Type 0
 Room strict level = strict ≡ true → level < 32
 
--- the form may stand inside so many parentheses, if the rules are strict
+-- the form may be inside so many parentheses, if the rules are strict
 abbrev pub Allowed : Bool → ℕ → Body → Type 0
 Allowed strict level (Comparison word test string) = strict ≡ true → is_some (field_named word) ≡ true
 Allowed strict level (Base string) = Unit {0}
@@ -32,98 +32,98 @@ end_place false e = Done e
 low : (n : ℕ) → n < 32 → nat_le 32 n ≡ false
 low n h = grind (arith, nat_tests)
 
-pub opens : (strict : Bool) (frame : Frame) (frames : List Frame) → Room strict (length frames) → opened strict frame frames ≡ Ok (Opened, frame ∷ frames)
-opens true frame frames room = rw (low (length frames) (room refl)) refl
-opens false frame frames room = refl
+pub opens : (strict : Bool) (purpose : Purpose) (purposes : List Purpose) → Room strict (length purposes) → opened strict purpose purposes ≡ Ok (Opened, purpose ∷ purposes)
+opens true purpose purposes room = rw (low (length purposes) (room refl)) refl
+opens false purpose purposes room = refl
 
--- behind a form and spaces the parenthesis closes
-done_closes : (strict : Bool) (e : Expression) (frames : List Frame) → step strict (Done e) frames 41 ≡ closed e frames
+-- after a form and spaces the parenthesis closes
+done_closes : (strict : Bool) (e : Expression) (purposes : List Purpose) → step strict (Done e) purposes 41 ≡ closed e purposes
 unfolding step
-done_closes strict e frames = refl
+done_closes strict e purposes = refl
 
-joined_closes : (strict : Bool) (e : Expression) (frames : List Frame) → (step strict (Joined e) frames 41 ≡ closed e frames) × (step strict (BehindJoined e) frames 41 ≡ closed e frames)
+joined_closes : (strict : Bool) (e : Expression) (purposes : List Purpose) → (step strict (Joined e) purposes 41 ≡ closed e purposes) × (step strict (AfterJoined e) purposes 41 ≡ closed e purposes)
 unfolding step
-joined_closes strict e frames = (refl, refl)
+joined_closes strict e purposes = (refl, refl)
 
-joined_end : (strict : Bool) (f : Expression) (frames : List Frame) (spaces more rest : List ℕ) (next : Place) (outer : List Frame) (e : Result Expression FilterFault) → AreSpaces spaces → more ≡ 41 ∷ rest → closed f frames ≡ Ok (next, outer)
-    → Reaches strict next outer rest e → Reaches strict (Joined f) frames (spaces ++ more) e
+joined_end : (strict : Bool) (f : Expression) (purposes : List Purpose) (spaces more rest : List ℕ) (next : Place) (outer : List Purpose) (e : Result Expression FilterFault) → AreSpaces spaces → more ≡ 41 ∷ rest → closed f purposes ≡ Ok (next, outer)
+    → Reaches strict next outer rest e → Reaches strict (Joined f) purposes (spaces ++ more) e
 unfolding step
-joined_end strict f frames [] more rest next outer e are ends closes r = rw ends (by_byte strict (Joined f) frames 41 rest next outer e ((joined_closes strict f frames).0 ∙ closes) r)
-joined_end strict f frames (b ∷ bs) more rest next outer e are ends closes r =
-    rw are.0 (by_byte strict (Joined f) frames 32 (bs ++ more) (BehindJoined f) frames e refl
-    (spaces_reach strict (BehindJoined f) frames (bs ++ more) more e refl (bs, refl, are.1) (rw ends (by_byte strict (BehindJoined f) frames 41 rest next outer e ((joined_closes strict f frames).1 ∙ closes) r))))
+joined_end strict f purposes [] more rest next outer e are ends closes r = rw ends (by_byte strict (Joined f) purposes 41 rest next outer e ((joined_closes strict f purposes).0 ∙ closes) r)
+joined_end strict f purposes (b ∷ bs) more rest next outer e are ends closes r =
+    rw are.0 (by_byte strict (Joined f) purposes 32 (bs ++ more) (AfterJoined f) purposes e refl
+    (spaces_reach strict (AfterJoined f) purposes (bs ++ more) more e refl (bs, refl, are.1) (rw ends (by_byte strict (AfterJoined f) purposes 41 rest next outer e ((joined_closes strict f purposes).1 ∙ closes) r))))
 
-ends : (strict joined : Bool) (f : Expression) (frames : List Frame) (text more rest : List ℕ) (next : Place) (outer : List Frame) (e : Result Expression FilterFault) → Spaces text more → more ≡ 41 ∷ rest → closed f frames ≡ Ok (next, outer)
-    → Reaches strict next outer rest e → Reaches strict (end_place joined f) frames text e
+ends : (strict joined : Bool) (f : Expression) (purposes : List Purpose) (text more rest : List ℕ) (next : Place) (outer : List Purpose) (e : Result Expression FilterFault) → Spaces text more → more ≡ 41 ∷ rest → closed f purposes ≡ Ok (next, outer)
+    → Reaches strict next outer rest e → Reaches strict (end_place joined f) purposes text e
 unfolding step
-ends strict true f frames text more rest next outer e spaces last closes r = subst (λ (t : List ℕ). Reaches strict (Joined f) frames t e) (sym spaces.1) (joined_end strict f frames spaces.0 more rest next outer e spaces.2 last closes r)
-ends strict false f frames text more rest next outer e spaces last closes r =
-    spaces_reach strict (Done f) frames text more e refl spaces (rw last (by_byte strict (Done f) frames 41 rest next outer e (done_closes strict f frames ∙ closes) r))
+ends strict true f purposes text more rest next outer e spaces last closes r = subst (λ (t : List ℕ). Reaches strict (Joined f) purposes t e) (sym spaces.1) (joined_end strict f purposes spaces.0 more rest next outer e spaces.2 last closes r)
+ends strict false f purposes text more rest next outer e spaces last closes r =
+    spaces_reach strict (Done f) purposes text more e refl spaces (rw last (by_byte strict (Done f) purposes 41 rest next outer e (done_closes strict f purposes ∙ closes) r))
 
-pub bang : (strict : Bool) (frames : List Frame) → (step strict Opened frames 33 ≡ Ok (Bang, frames)) × (step strict Bang frames 40 ≡ opened strict Negated frames)
+pub bang : (strict : Bool) (purposes : List Purpose) → (step strict Opened purposes 33 ≡ Ok (Bang, purposes)) × (step strict Bang purposes 40 ≡ opened strict Negated purposes)
 unfolding step
-bang strict frames = (refl, refl)
+bang strict purposes = (refl, refl)
 
-pub first_opens : (strict : Bool) (frames : List Frame) → step strict Opened frames 40 ≡ opened strict FirstFrame frames
+pub first_opens : (strict : Bool) (purposes : List Purpose) → step strict Opened purposes 40 ≡ opened strict FirstPurpose purposes
 unfolding step
-first_opens strict frames = refl
+first_opens strict purposes = refl
 
-pub and_reach : (strict : Bool) (f : Expression) (frames : List Frame) (gap word behind next : List ℕ) (e : Result Expression FilterFault) → Gap gap word → word ≡ codes "AND" ++ behind → Gap behind next
-    → Reaches strict (BehindAnd f) frames next e → Reaches strict (Joined f) frames gap e
+pub and_reach : (strict : Bool) (f : Expression) (purposes : List Purpose) (gap word second_gap next : List ℕ) (e : Result Expression FilterFault) → Gap gap word → word ≡ codes "AND" ++ second_gap → Gap second_gap next
+    → Reaches strict (AfterAnd f) purposes next e → Reaches strict (Joined f) purposes gap e
 unfolding step
-and_reach strict f frames gap word behind next e before is after r =
-    gap_reach strict (Joined f) (BehindJoined f) frames gap word e refl refl before
-    (rw is (by_byte strict (BehindJoined f) frames 65 _ (And f 1) frames e refl (by_byte strict (And f 1) frames 78 _ (And f 2) frames e refl (by_byte strict (And f 2) frames 68 behind (And f 3) frames e refl
-    (gap_reach strict (And f 3) (BehindAnd f) frames behind next e refl refl after r)))))
+and_reach strict f purposes gap word second_gap next e before is after r =
+    gap_reach strict (Joined f) (AfterJoined f) purposes gap word e refl refl before
+    (rw is (by_byte strict (AfterJoined f) purposes 65 _ (And f 1) purposes e refl (by_byte strict (And f 1) purposes 78 _ (And f 2) purposes e refl (by_byte strict (And f 2) purposes 68 second_gap (And f 3) purposes e refl
+    (gap_reach strict (And f 3) (AfterAnd f) purposes second_gap next e refl refl after r)))))
 
-pub next_opens : (strict : Bool) (f : Expression) (frames : List Frame) → step strict (BehindAnd f) frames 40 ≡ opened strict (Next f) frames
+pub next_opens : (strict : Bool) (f : Expression) (purposes : List Purpose) → step strict (AfterAnd f) purposes 40 ≡ opened strict (Next f) purposes
 unfolding step
-next_opens strict f frames = refl
+next_opens strict f purposes = refl
 
-pub whole_opens : (strict : Bool) (frames : List Frame) → step strict Start frames 40 ≡ opened strict Whole frames
+pub whole_opens : (strict : Bool) (purposes : List Purpose) → step strict Start purposes 40 ≡ opened strict Whole purposes
 unfolding step
-whole_opens strict frames = refl
+whole_opens strict purposes = refl
 
-pub at_joined : (b : Body) (strict : Bool) (frames : List Frame) (text : List ℕ) (e : Result Expression FilterFault) → is_joined b ≡ true → Reaches strict (Joined (meaning b)) frames text e → Reaches strict (end_place (is_joined b) (meaning b)) frames text e
-at_joined b strict frames text e is r = rw is r
+pub at_joined : (b : Body) (strict : Bool) (purposes : List Purpose) (text : List ℕ) (e : Result Expression FilterFault) → is_joined b ≡ true → Reaches strict (Joined (meaning b)) purposes text e → Reaches strict (end_place (is_joined b) (meaning b)) purposes text e
+at_joined b strict purposes text e is r = rw is r
 
-pub stays_opened : (strict : Bool) (frames : List Frame) → step strict Opened frames 32 ≡ Ok (Opened, frames)
+pub stays_opened : (strict : Bool) (purposes : List Purpose) → step strict Opened purposes 32 ≡ Ok (Opened, purposes)
 unfolding step
-stays_opened strict frames = refl
+stays_opened strict purposes = refl
 
 -- a form that is read so in this parenthesis
-abbrev ReadsInside : Body → Bool → List Frame → Result Expression FilterFault → Type 0
-ReadsInside b strict frames e = (text rest : List ℕ) → IsBody b text rest → Reaches strict (end_place (is_joined b) (meaning b)) frames rest e → Reaches strict Opened frames text e
+abbrev ReadsInside : Body → Bool → List Purpose → Result Expression FilterFault → Type 0
+ReadsInside b strict purposes e = (text rest : List ℕ) → IsBody b text rest → Reaches strict (end_place (is_joined b) (meaning b)) purposes rest e → Reaches strict Opened purposes text e
 
 -- a parenthesis of such a form: from the byte that opens it up to what follows it
-parentheses_reach : (b : Body) (strict : Bool) (place : Place) (frame : Frame) (frames : List Frame) (text rest : List ℕ) (next : Place) (e : Result Expression FilterFault)
-    → step strict place frames 40 ≡ opened strict frame frames → Room strict (length frames) → ReadsInside b strict (frame ∷ frames) e → InParentheses (IsBody b) text rest → closed (meaning b) (frame ∷ frames) ≡ Ok (next, frames)
-    → Reaches strict next frames rest e → Reaches strict place frames text e
-parentheses_reach b strict place frame frames text rest next e opening room inside is closes r =
-    subst (λ (t : List ℕ). Reaches strict place frames t e) (sym is.4)
-    (by_byte strict place frames 40 is.0 Opened (frame ∷ frames) e (opening ∙ opens strict frame frames room)
-    (spaces_reach strict Opened (frame ∷ frames) is.0 is.1 e (stays_opened strict (frame ∷ frames)) is.5
-    (inside is.1 is.2 is.6 (ends strict (is_joined b) (meaning b) (frame ∷ frames) is.2 is.3 rest next frames e is.7 is.8 closes r))))
+parentheses_reach : (b : Body) (strict : Bool) (place : Place) (purpose : Purpose) (purposes : List Purpose) (text rest : List ℕ) (next : Place) (e : Result Expression FilterFault)
+    → step strict place purposes 40 ≡ opened strict purpose purposes → Room strict (length purposes) → ReadsInside b strict (purpose ∷ purposes) e → InParentheses (IsBody b) text rest → closed (meaning b) (purpose ∷ purposes) ≡ Ok (next, purposes)
+    → Reaches strict next purposes rest e → Reaches strict place purposes text e
+parentheses_reach b strict place purpose purposes text rest next e opening room inside is closes r =
+    subst (λ (t : List ℕ). Reaches strict place purposes t e) (sym is.4)
+    (by_byte strict place purposes 40 is.0 Opened (purpose ∷ purposes) e (opening ∙ opens strict purpose purposes room)
+    (spaces_reach strict Opened (purpose ∷ purposes) is.0 is.1 e (stays_opened strict (purpose ∷ purposes)) is.5
+    (inside is.1 is.2 is.6 (ends strict (is_joined b) (meaning b) (purpose ∷ purposes) is.2 is.3 rest next purposes e is.7 is.8 closes r))))
 
-pub body_reach : (b : Body) (strict : Bool) (frames : List Frame) (e : Result Expression FilterFault) → Allowed strict (length frames) b → ReadsInside b strict frames e
-body_reach (Comparison word test string) strict frames e allowed = λ text rest is r.
-    subst (λ (t : List ℕ). Reaches strict Opened frames t e) (sym is.2)
-    (word_reach strict false word frames is.0 e is.3 (operator_reach strict word (field_of (field_named word)) test frames is.0 is.1 e (tag_names strict word is.3.2 allowed) is.4
-    (string_reach strict (Compared (field_of (field_named word)) test) string frames is.1 rest e is.5 r)))
-body_reach (Base string) strict frames e allowed = λ text rest is r.
-    subst (λ (t : List ℕ). Reaches strict Opened frames t e) (sym is.3)
-    (word_reach strict true is.0 frames is.1 e is.4 (base_reach strict is.0 frames is.1 is.2 e is.4.2 is.5 (string_reach strict BaseGoal string frames is.2 rest e is.6 r)))
-body_reach (Not b) strict frames e allowed = λ text rest is r.
-    subst (λ (t : List ℕ). Reaches strict Opened frames t e) (sym is.1)
-    (by_byte strict Opened frames 33 is.0 Bang frames e (bang strict frames).0
-    (parentheses_reach b strict Bang Negated frames is.0 rest (Done (Negation (meaning b))) e (bang strict frames).1 allowed.0 (body_reach b strict (Negated ∷ frames) e allowed.1) is.2 refl r))
-body_reach (First b) strict frames e allowed = λ text rest is r.
-    parentheses_reach b strict Opened FirstFrame frames text rest (Joined (meaning b)) e (first_opens strict frames) allowed.0 (body_reach b strict (FirstFrame ∷ frames) e allowed.1) is refl r
-body_reach (Then j b) strict frames e allowed = λ text rest is r.
-    body_reach j strict frames e allowed.0 text is.1 is.5 (at_joined j strict frames is.1 e is.0
-    (and_reach strict (meaning j) frames is.1 is.2 is.3 is.4 e is.6 is.7 is.8
-    (parentheses_reach b strict (BehindAnd (meaning j)) (Next (meaning j)) frames is.4 rest (Joined (Both (meaning j) (meaning b))) e (next_opens strict (meaning j) frames) allowed.1
-    (body_reach b strict (Next (meaning j) ∷ frames) e allowed.2) is.9 refl r)))
+pub body_reach : (b : Body) (strict : Bool) (purposes : List Purpose) (e : Result Expression FilterFault) → Allowed strict (length purposes) b → ReadsInside b strict purposes e
+body_reach (Comparison word test string) strict purposes e allowed = λ text rest is r.
+    subst (λ (t : List ℕ). Reaches strict Opened purposes t e) (sym is.2)
+    (word_reach strict false word purposes is.0 e is.3 (operator_reach strict word (field_of (field_named word)) test purposes is.0 is.1 e (tag_names strict word is.3.2 allowed) is.4
+    (string_reach strict (Compared (field_of (field_named word)) test) string purposes is.1 rest e is.5 r)))
+body_reach (Base string) strict purposes e allowed = λ text rest is r.
+    subst (λ (t : List ℕ). Reaches strict Opened purposes t e) (sym is.3)
+    (word_reach strict true is.0 purposes is.1 e is.4 (base_reach strict is.0 purposes is.1 is.2 e is.4.2 is.5 (string_reach strict BaseGoal string purposes is.2 rest e is.6 r)))
+body_reach (Not b) strict purposes e allowed = λ text rest is r.
+    subst (λ (t : List ℕ). Reaches strict Opened purposes t e) (sym is.1)
+    (by_byte strict Opened purposes 33 is.0 Bang purposes e (bang strict purposes).0
+    (parentheses_reach b strict Bang Negated purposes is.0 rest (Done (Negation (meaning b))) e (bang strict purposes).1 allowed.0 (body_reach b strict (Negated ∷ purposes) e allowed.1) is.2 refl r))
+body_reach (First b) strict purposes e allowed = λ text rest is r.
+    parentheses_reach b strict Opened FirstPurpose purposes text rest (Joined (meaning b)) e (first_opens strict purposes) allowed.0 (body_reach b strict (FirstPurpose ∷ purposes) e allowed.1) is refl r
+body_reach (Then j b) strict purposes e allowed = λ text rest is r.
+    body_reach j strict purposes e allowed.0 text is.1 is.5 (at_joined j strict purposes is.1 e is.0
+    (and_reach strict (meaning j) purposes is.1 is.2 is.3 is.4 e is.6 is.7 is.8
+    (parentheses_reach b strict (AfterAnd (meaning j)) (Next (meaning j)) purposes is.4 rest (Joined (Both (meaning j) (meaning b))) e (next_opens strict (meaning j) purposes) allowed.1
+    (body_reach b strict (Next (meaning j) ∷ purposes) e allowed.2) is.9 refl r)))
 
 finished : (strict : Bool) (e : Expression) → Reaches strict (Finished e) [] [] (Ok e)
 unfolding run

@@ -10,3 +10,4 @@ pub mod Keeps
 pub mod Longest
 pub mod FirstFault
 pub mod Exact
+pub mod PairLaws

@@ -1,14 +1,14 @@
--- Each place in front of a byte can be completed to a filter.
+-- Each place before a byte can be completed to a filter.
 use Rattle.std.proofs.Common.{◌≡◌, ℕ, zero, suc, ◌+◌, ◌-◌, ◌<◌, ◌≤◌, ◌==◌, true, false, List, [], ◌∷◌, ◌++◌, codes, drop, Option, Some, None, Result, Ok, Err, refl, sym, subst, arith}
 use Rattle.std.proofs.lemmas.Bool.Decides.{nat_tests}
-use Rattle.filters.specs.declared.place.Frame.{Frame}
-use Rattle.filters.specs.declared.place.Frame.TheVariants.{Whole, Negated, First, Next}
+use Rattle.filters.specs.declared.place.Purpose.{Purpose}
+use Rattle.filters.specs.declared.place.Purpose.TheVariants.{Whole, Negated, First, Next}
 use Rattle.filters.specs.declared.place.Goal.{Goal}
 use Rattle.filters.specs.declared.place.Goal.TheVariants.{Base as BaseGoal}
 use Rattle.filters.specs.declared.place.Named.{Named}
 use Rattle.filters.specs.declared.place.Named.TheVariants.{Field as NamedField, Base as NamedBase}
 use Rattle.filters.specs.declared.place.Place.{Place}
-use Rattle.filters.specs.declared.place.Place.TheVariants.{Start, Opened, Bang, Word, BehindField, Sign, Contains, NeedsSpace, BeforeText, InText, Escaped, Done, Joined, BehindJoined, And, BehindAnd, Finished}
+use Rattle.filters.specs.declared.place.Place.TheVariants.{Start, Opened, Bang, Word, AfterField, Sign, Contains, NeedsSpace, BeforeText, InText, Escaped, Done, Joined, AfterJoined, And, AfterAnd, Finished}
 use Rattle.filters.specs.declared.expression.Field.{Field}
 use Rattle.filters.specs.declared.expression.Field.TheVariants.{Any}
 use Rattle.filters.specs.declared.expression.Test.{Test}
@@ -17,153 +17,153 @@ use Rattle.filters.specs.Expressions.{Expression, Negation, Both}
 use Rattle.filters.specs.Machine.{run, step, named_of, names, or_any, filter_for}
 
 -- the innermost parenthesis first, the whole filter's last
-abbrev pub IsOpen : List Frame → Type 0
+abbrev pub IsOpen : List Purpose → Type 0
 IsOpen [] = ⊥
 IsOpen (Whole ∷ []) = Unit {0}
-IsOpen (Whole ∷ frame ∷ frames) = ⊥
-IsOpen (Negated ∷ frames) = IsOpen frames
-IsOpen (First ∷ frames) = IsOpen frames
-IsOpen (Next first ∷ frames) = IsOpen frames
+IsOpen (Whole ∷ purpose ∷ purposes) = ⊥
+IsOpen (Negated ∷ purposes) = IsOpen purposes
+IsOpen (First ∷ purposes) = IsOpen purposes
+IsOpen (Next first ∷ purposes) = IsOpen purposes
 
 abbrev pub IsFilter : Result Expression FilterFault → Type 0
 IsFilter (Ok e) = Unit {0}
 IsFilter (Err fault) = ⊥
 
--- a place that some front of a text leads to
-abbrev pub IsLive : Place → List Frame → Type 0
-IsLive Start frames = frames ≡ []
-IsLive (Finished e) frames = Unit {0}
-IsLive (Contains field read) frames = (1 ≤ read) × (read ≤ 7) × IsOpen frames
-IsLive (And e read) frames = (1 ≤ read) × (read ≤ 3) × IsOpen frames
-IsLive _ frames = IsOpen frames
+-- a place that some start of a text leads to
+abbrev pub IsLive : Place → List Purpose → Type 0
+IsLive Start purposes = purposes ≡ []
+IsLive (Finished e) purposes = Unit {0}
+IsLive (Contains field read) purposes = (1 ≤ read) × (read ≤ 7) × IsOpen purposes
+IsLive (And e read) purposes = (1 ≤ read) × (read ≤ 3) × IsOpen purposes
+IsLive _ purposes = IsOpen purposes
 
 -- a right parenthesis for each that is open
-close_all : List Frame → List ℕ
+close_all : List Purpose → List ℕ
 close_all [] = []
-close_all (frame ∷ frames) = 41 ∷ close_all frames
+close_all (purpose ∷ purposes) = 41 ∷ close_all purposes
 
-closes : (n : ℕ) (e : Expression) (frames : List Frame) → IsOpen frames → IsFilter (run false n (Done e) frames (close_all frames)) × IsFilter (run false n (Joined e) frames (close_all frames))
+closes : (n : ℕ) (e : Expression) (purposes : List Purpose) → IsOpen purposes → IsFilter (run false n (Done e) purposes (close_all purposes)) × IsFilter (run false n (Joined e) purposes (close_all purposes))
 unfolding run step close_all
 closes n e [] is = elim is [ ]
 closes n e (Whole ∷ []) is = (tt, tt)
-closes n e (Whole ∷ frame ∷ frames) is = elim is [ ]
-closes n e (Negated ∷ frames) is = let k = closes (n + 1) (Negation e) frames is in (k.0, k.0)
-closes n e (First ∷ frames) is = let k = closes (n + 1) e frames is in (k.1, k.1)
-closes n e (Next first ∷ frames) is = let k = closes (n + 1) (Both first e) frames is in (k.1, k.1)
+closes n e (Whole ∷ purpose ∷ purposes) is = elim is [ ]
+closes n e (Negated ∷ purposes) is = let k = closes (n + 1) (Negation e) purposes is in (k.0, k.0)
+closes n e (First ∷ purposes) is = let k = closes (n + 1) e purposes is in (k.1, k.1)
+closes n e (Next first ∷ purposes) is = let k = closes (n + 1) (Both first e) purposes is in (k.1, k.1)
 
--- a text in quotes, and what closes behind it
-quoted_end : List Frame → List ℕ
-quoted_end frames = 39 ∷ 39 ∷ close_all frames
+-- a text in quotes, and what closes after it
+quoted_end : List Purpose → List ℕ
+quoted_end purposes = 39 ∷ 39 ∷ close_all purposes
 
-before_text : (n : ℕ) (goal : Goal) (frames : List Frame) → IsOpen frames → IsFilter (run false n (BeforeText goal) frames (quoted_end frames))
+before_text : (n : ℕ) (goal : Goal) (purposes : List Purpose) → IsOpen purposes → IsFilter (run false n (BeforeText goal) purposes (quoted_end purposes))
 unfolding run step quoted_end
-before_text n goal frames is = (closes (n + 1 + 1) (filter_for goal []) frames is).0
+before_text n goal purposes is = (closes (n + 1 + 1) (filter_for goal []) purposes is).0
 
--- a comparison of any tag, and what closes behind it
-opened_end : List Frame → List ℕ
-opened_end frames = 98 ∷ 97 ∷ 115 ∷ 101 ∷ 32 ∷ quoted_end frames
+-- a comparison of any tag, and what closes after it
+opened_end : List Purpose → List ℕ
+opened_end purposes = 98 ∷ 97 ∷ 115 ∷ 101 ∷ 32 ∷ quoted_end purposes
 
-at_sign : (n : ℕ) (field : Field) (test : Test) (frames : List Frame) → IsOpen frames → IsFilter (run false n (Sign field test) frames (61 ∷ quoted_end frames))
+at_sign : (n : ℕ) (field : Field) (test : Test) (purposes : List Purpose) → IsOpen purposes → IsFilter (run false n (Sign field test) purposes (61 ∷ quoted_end purposes))
 unfolding run step
-at_sign n field test frames is = before_text (n + 1) _ frames is
+at_sign n field test purposes is = before_text (n + 1) _ purposes is
 
-needs_space : (n : ℕ) (goal : Goal) (frames : List Frame) → IsOpen frames → IsFilter (run false n (NeedsSpace goal) frames (32 ∷ quoted_end frames))
+needs_space : (n : ℕ) (goal : Goal) (purposes : List Purpose) → IsOpen purposes → IsFilter (run false n (NeedsSpace goal) purposes (32 ∷ quoted_end purposes))
 unfolding run step
-needs_space n goal frames is = before_text (n + 1) goal frames is
+needs_space n goal purposes is = before_text (n + 1) goal purposes is
 
-finished : (n : ℕ) (e : Expression) (frames : List Frame) → IsFilter (run false n (Finished e) frames [])
+finished : (n : ℕ) (e : Expression) (purposes : List Purpose) → IsFilter (run false n (Finished e) purposes [])
 unfolding run
-finished n e frames = tt
+finished n e purposes = tt
 
-behind_field : (n : ℕ) (field : Field) (frames : List Frame) → IsOpen frames → IsFilter (run false n (BehindField field) frames (61 ∷ 61 ∷ quoted_end frames))
+after_field : (n : ℕ) (field : Field) (purposes : List Purpose) → IsOpen purposes → IsFilter (run false n (AfterField field) purposes (61 ∷ 61 ∷ quoted_end purposes))
 unfolding run step
-behind_field n field frames is = before_text (n + 1 + 1) _ frames is
+after_field n field purposes is = before_text (n + 1 + 1) _ purposes is
 
-at_opened : (n : ℕ) (frames : List Frame) → IsOpen frames → IsFilter (run false n Opened frames (opened_end frames))
+at_opened : (n : ℕ) (purposes : List Purpose) → IsOpen purposes → IsFilter (run false n Opened purposes (opened_end purposes))
 unfolding run step opened_end named_of
-at_opened n frames is = before_text (n + 1 + 1 + 1 + 1 + 1) BaseGoal frames is
+at_opened n purposes is = before_text (n + 1 + 1 + 1 + 1 + 1) BaseGoal purposes is
 
-word_end : Option Named → List Frame → List ℕ
-word_end None frames = []
-word_end (Some (NamedField field)) frames = 32 ∷ 61 ∷ 61 ∷ quoted_end frames
-word_end (Some NamedBase) frames = 32 ∷ quoted_end frames
+word_end : Option Named → List Purpose → List ℕ
+word_end None purposes = []
+word_end (Some (NamedField field)) purposes = 32 ∷ 61 ∷ 61 ∷ quoted_end purposes
+word_end (Some NamedBase) purposes = 32 ∷ quoted_end purposes
 
-at_name : (n : ℕ) (name : Option Named) (word : List ℕ) (frames : List Frame) → names false word ≡ or_any name → IsOpen frames → IsFilter (run false n (Word word) frames (word_end (or_any name) frames))
+at_name : (n : ℕ) (name : Option Named) (word : List ℕ) (purposes : List Purpose) → names false word ≡ or_any name → IsOpen purposes → IsFilter (run false n (Word word) purposes (word_end (or_any name) purposes))
 unfolding run step word_end
-at_name n None word frames e is = rw e (behind_field (n + 1) Any frames is)
-at_name n (Some (NamedField field)) word frames e is = rw e (behind_field (n + 1) field frames is)
-at_name n (Some NamedBase) word frames e is = rw e (before_text (n + 1) BaseGoal frames is)
+at_name n None word purposes e is = rw e (after_field (n + 1) Any purposes is)
+at_name n (Some (NamedField field)) word purposes e is = rw e (after_field (n + 1) field purposes is)
+at_name n (Some NamedBase) word purposes e is = rw e (before_text (n + 1) BaseGoal purposes is)
 
-at_bang : (n : ℕ) (frames : List Frame) → IsOpen frames → IsFilter (run false n Bang frames (40 ∷ opened_end (Negated ∷ frames)))
+at_bang : (n : ℕ) (purposes : List Purpose) → IsOpen purposes → IsFilter (run false n Bang purposes (40 ∷ opened_end (Negated ∷ purposes)))
 unfolding run step
-at_bang n frames is = at_opened (n + 1) (Negated ∷ frames) is
+at_bang n purposes is = at_opened (n + 1) (Negated ∷ purposes) is
 
 at_start : (n : ℕ) → IsFilter (run false n Start [] (40 ∷ opened_end (Whole ∷ [])))
 unfolding run step
 at_start n = at_opened (n + 1) (Whole ∷ []) tt
 
-behind_and : (n : ℕ) (e : Expression) (frames : List Frame) → IsOpen frames → IsFilter (run false n (BehindAnd e) frames (40 ∷ opened_end (Next e ∷ frames)))
+after_and : (n : ℕ) (e : Expression) (purposes : List Purpose) → IsOpen purposes → IsFilter (run false n (AfterAnd e) purposes (40 ∷ opened_end (Next e ∷ purposes)))
 unfolding run step
-behind_and n e frames is = at_opened (n + 1) (Next e ∷ frames) is
+after_and n e purposes is = at_opened (n + 1) (Next e ∷ purposes) is
 
 same_quote : (q : ℕ) → (q == q) ≡ true
 same_quote q = grind (arith, nat_tests)
 
-in_text : (n : ℕ) (goal : Goal) (quote : ℕ) (text : List ℕ) (frames : List Frame) → IsOpen frames → IsFilter (run false n (InText goal quote text) frames (quote ∷ close_all frames))
+in_text : (n : ℕ) (goal : Goal) (quote : ℕ) (text : List ℕ) (purposes : List Purpose) → IsOpen purposes → IsFilter (run false n (InText goal quote text) purposes (quote ∷ close_all purposes))
 unfolding run step
-in_text n goal quote text frames is = rw (same_quote quote) (closes (n + 1) (filter_for goal text) frames is).0
+in_text n goal quote text purposes is = rw (same_quote quote) (closes (n + 1) (filter_for goal text) purposes is).0
 
-escaped : (n : ℕ) (goal : Goal) (quote : ℕ) (text : List ℕ) (frames : List Frame) → IsOpen frames → IsFilter (run false n (Escaped goal quote text) frames (97 ∷ quote ∷ close_all frames))
+escaped : (n : ℕ) (goal : Goal) (quote : ℕ) (text : List ℕ) (purposes : List Purpose) → IsOpen purposes → IsFilter (run false n (Escaped goal quote text) purposes (97 ∷ quote ∷ close_all purposes))
 unfolding run step
-escaped n goal quote text frames is = in_text (n + 1) goal quote (text ++ 97 ∷ []) frames is
+escaped n goal quote text purposes is = in_text (n + 1) goal quote (text ++ 97 ∷ []) purposes is
 
-behind_joined : (n : ℕ) (e : Expression) (frames : List Frame) → IsOpen frames → IsFilter (run false n (BehindJoined e) frames (close_all frames))
+after_joined : (n : ℕ) (e : Expression) (purposes : List Purpose) → IsOpen purposes → IsFilter (run false n (AfterJoined e) purposes (close_all purposes))
 unfolding run step close_all
-behind_joined n e [] is = elim is [ ]
-behind_joined n e (Whole ∷ []) is = tt
-behind_joined n e (Whole ∷ frame ∷ frames) is = elim is [ ]
-behind_joined n e (Negated ∷ frames) is = (closes (n + 1) (Negation e) frames is).0
-behind_joined n e (First ∷ frames) is = (closes (n + 1) e frames is).1
-behind_joined n e (Next first ∷ frames) is = (closes (n + 1) (Both first e) frames is).1
+after_joined n e [] is = elim is [ ]
+after_joined n e (Whole ∷ []) is = tt
+after_joined n e (Whole ∷ purpose ∷ purposes) is = elim is [ ]
+after_joined n e (Negated ∷ purposes) is = (closes (n + 1) (Negation e) purposes is).0
+after_joined n e (First ∷ purposes) is = (closes (n + 1) e purposes is).1
+after_joined n e (Next first ∷ purposes) is = (closes (n + 1) (Both first e) purposes is).1
 
 -- the letters of `contains` that are left
 letters : ℕ → List ℕ
 letters read = drop read (codes "contains")
 
-all_letters : (n : ℕ) (field : Field) (frames : List Frame) → IsOpen frames → (k : ℕ) → k < 7 → IsFilter (run false n (Contains field (7 - k)) frames (letters (7 - k) ++ 32 ∷ quoted_end frames))
+all_letters : (n : ℕ) (field : Field) (purposes : List Purpose) → IsOpen purposes → (k : ℕ) → k < 7 → IsFilter (run false n (Contains field (7 - k)) purposes (letters (7 - k) ++ 32 ∷ quoted_end purposes))
 unfolding run step letters
-all_letters n field frames is zero low = before_text (n + 1 + 1) _ frames is
-all_letters n field frames is (suc zero) low = before_text (n + 1 + 1 + 1) _ frames is
-all_letters n field frames is (suc (suc zero)) low = before_text _ _ frames is
-all_letters n field frames is (suc (suc (suc zero))) low = before_text _ _ frames is
-all_letters n field frames is (suc (suc (suc (suc zero)))) low = before_text _ _ frames is
-all_letters n field frames is (suc (suc (suc (suc (suc zero))))) low = before_text _ _ frames is
-all_letters n field frames is (suc (suc (suc (suc (suc (suc zero)))))) low = before_text _ _ frames is
-all_letters n field frames is (suc (suc (suc (suc (suc (suc (suc k))))))) low = absurd (omega arith)
+all_letters n field purposes is zero low = before_text (n + 1 + 1) _ purposes is
+all_letters n field purposes is (suc zero) low = before_text (n + 1 + 1 + 1) _ purposes is
+all_letters n field purposes is (suc (suc zero)) low = before_text _ _ purposes is
+all_letters n field purposes is (suc (suc (suc zero))) low = before_text _ _ purposes is
+all_letters n field purposes is (suc (suc (suc (suc zero)))) low = before_text _ _ purposes is
+all_letters n field purposes is (suc (suc (suc (suc (suc zero))))) low = before_text _ _ purposes is
+all_letters n field purposes is (suc (suc (suc (suc (suc (suc zero)))))) low = before_text _ _ purposes is
+all_letters n field purposes is (suc (suc (suc (suc (suc (suc (suc k))))))) low = absurd (omega arith)
 
-all_and : (n : ℕ) (e : Expression) (frames : List Frame) → IsOpen frames → (k : ℕ) → k < 3 → IsFilter (run false n (And e (3 - k)) frames (drop (3 - k) (codes "AND ") ++ 40 ∷ opened_end (Next e ∷ frames)))
+all_and : (n : ℕ) (e : Expression) (purposes : List Purpose) → IsOpen purposes → (k : ℕ) → k < 3 → IsFilter (run false n (And e (3 - k)) purposes (drop (3 - k) (codes "AND ") ++ 40 ∷ opened_end (Next e ∷ purposes)))
 unfolding run step
-all_and n e frames is zero low = behind_and (n + 1) e frames is
-all_and n e frames is (suc zero) low = behind_and (n + 1 + 1) e frames is
-all_and n e frames is (suc (suc zero)) low = behind_and (n + 1 + 1 + 1) e frames is
-all_and n e frames is (suc (suc (suc k))) low = absurd (omega arith)
+all_and n e purposes is zero low = after_and (n + 1) e purposes is
+all_and n e purposes is (suc zero) low = after_and (n + 1 + 1) e purposes is
+all_and n e purposes is (suc (suc zero)) low = after_and (n + 1 + 1 + 1) e purposes is
+all_and n e purposes is (suc (suc (suc k))) low = absurd (omega arith)
 
--- what is in front of a byte can be completed to a filter
-pub live : (n : ℕ) (place : Place) (frames : List Frame) → IsLive place frames → (rest : List ℕ) × IsFilter (run false n place frames rest)
-live n Start frames is = (40 ∷ opened_end (Whole ∷ []), subst (λ (f : List Frame). IsFilter (run false n Start f (40 ∷ opened_end (Whole ∷ [])))) (sym is) (at_start n))
-live n Opened frames is = (_, at_opened n frames is)
-live n Bang frames is = (_, at_bang n frames is)
-live n (Word word) frames is = (_, at_name n (named_of word) word frames refl is)
-live n (BehindField field) frames is = (_, behind_field n field frames is)
-live n (Sign field test) frames is = (61 ∷ quoted_end frames, at_sign n field test frames is)
-live n (Contains field read) frames is = let k : read ≡ 7 - (7 - read) = omega arith in (letters read ++ 32 ∷ quoted_end frames, subst (λ (r : ℕ). IsFilter (run false n (Contains field r) frames (letters r ++ 32 ∷ quoted_end frames))) (sym k) (all_letters n field frames is.2 (7 - read) (omega arith)))
-live n (NeedsSpace goal) frames is = (32 ∷ quoted_end frames, needs_space n goal frames is)
-live n (BeforeText goal) frames is = (_, before_text n goal frames is)
-live n (InText goal quote text) frames is = (_, in_text n goal quote text frames is)
-live n (Escaped goal quote text) frames is = (_, escaped n goal quote text frames is)
-live n (Done e) frames is = (_, (closes n e frames is).0)
-live n (Joined e) frames is = (_, (closes n e frames is).1)
-live n (BehindJoined e) frames is = (_, behind_joined n e frames is)
-live n (And e read) frames is = let k : read ≡ 3 - (3 - read) = omega arith in (drop read (codes "AND ") ++ 40 ∷ opened_end (Next e ∷ frames), subst (λ (r : ℕ). IsFilter (run false n (And e r) frames (drop r (codes "AND ") ++ 40 ∷ opened_end (Next e ∷ frames)))) (sym k) (all_and n e frames is.2 (3 - read) (omega arith)))
-live n (BehindAnd e) frames is = (_, behind_and n e frames is)
-live n (Finished e) frames is = ([], finished n e frames)
+-- what is before a byte can be completed to a filter
+pub live : (n : ℕ) (place : Place) (purposes : List Purpose) → IsLive place purposes → (rest : List ℕ) × IsFilter (run false n place purposes rest)
+live n Start purposes is = (40 ∷ opened_end (Whole ∷ []), subst (λ (f : List Purpose). IsFilter (run false n Start f (40 ∷ opened_end (Whole ∷ [])))) (sym is) (at_start n))
+live n Opened purposes is = (_, at_opened n purposes is)
+live n Bang purposes is = (_, at_bang n purposes is)
+live n (Word word) purposes is = (_, at_name n (named_of word) word purposes refl is)
+live n (AfterField field) purposes is = (_, after_field n field purposes is)
+live n (Sign field test) purposes is = (61 ∷ quoted_end purposes, at_sign n field test purposes is)
+live n (Contains field read) purposes is = let k : read ≡ 7 - (7 - read) = omega arith in (letters read ++ 32 ∷ quoted_end purposes, subst (λ (r : ℕ). IsFilter (run false n (Contains field r) purposes (letters r ++ 32 ∷ quoted_end purposes))) (sym k) (all_letters n field purposes is.2 (7 - read) (omega arith)))
+live n (NeedsSpace goal) purposes is = (32 ∷ quoted_end purposes, needs_space n goal purposes is)
+live n (BeforeText goal) purposes is = (_, before_text n goal purposes is)
+live n (InText goal quote text) purposes is = (_, in_text n goal quote text purposes is)
+live n (Escaped goal quote text) purposes is = (_, escaped n goal quote text purposes is)
+live n (Done e) purposes is = (_, (closes n e purposes is).0)
+live n (Joined e) purposes is = (_, (closes n e purposes is).1)
+live n (AfterJoined e) purposes is = (_, after_joined n e purposes is)
+live n (And e read) purposes is = let k : read ≡ 3 - (3 - read) = omega arith in (drop read (codes "AND ") ++ 40 ∷ opened_end (Next e ∷ purposes), subst (λ (r : ℕ). IsFilter (run false n (And e r) purposes (drop r (codes "AND ") ++ 40 ∷ opened_end (Next e ∷ purposes)))) (sym k) (all_and n e purposes is.2 (3 - read) (omega arith)))
+live n (AfterAnd e) purposes is = (_, after_and n e purposes is)
+live n (Finished e) purposes is = ([], finished n e purposes)

@@ -1,8 +1,8 @@
--- Filters that stand side by side, and folders.
+-- Filters side by side, and folders.
 use Rattle.std.proofs.Common.{◌≡◌, ◌≢◌, ◌<◌, ◌≤◌, ◌+◌, ℕ, get_or, drop, List, length, [], ◌∷◌, ◌++◌, Bool, true, false, IsTrue, refl, subst, sym, ap, ◌∙◌}
 use Rattle.std.specs.Prelude.{◌↔◌}
 use Rattle.std.proofs.lemmas.List.{drop_more, drop_all}
-use Rattle.mpd_text.specs.Songs.{SongData}
+use Rattle.mpd_text.specs.Songs.Song.{SongData}
 use Rattle.filters.specs.declared.matching.Case.{Case}
 use Rattle.filters.specs.Expressions.{Expression, Both, all_of}
 use Rattle.filters.specs.Truth.{Holds, IsUnder}

@@ -1,7 +1,7 @@
--- The grammar of filters (MPD protocol reference, Filters; where spaces may stand is this profile's). Each relation is of a text and what
+-- The grammar of filters (MPD protocol reference, Filters; where spaces may be is this profile's). Each relation is of a text and what
 -- is left of it: `IsBody s text rest` says that text is a B of this form, and then rest. In the grammar
 --   F = "(" B ")"      B = TYPE OP STRING | "base" s STRING | "!" F | J      J = F | J s "AND" s F
--- s is one or more spaces. Spaces may also stand at both ends inside a parenthesis and around `==` and `!=`; `contains` has s on both sides.
+-- s is one or more spaces. Spaces may also be at both ends inside a parenthesis and around `==` and `!=`; `contains` has s on both sides.
 use Rattle.std.specs.Prelude.{◌≡◌, ◌≢◌, ℕ, zero, suc, ◌+◌, ◌<◌, ◌≤◌, max, List, [], ◌∷◌, ◌++◌, length, codes, Bool, true, false, is_some, ◌⊎◌, Option, Some, None}
 use Rattle.filters.specs.declared.expression.Field.{Field}
 use Rattle.filters.specs.declared.expression.Field.TheVariants.{Any}
@@ -14,7 +14,7 @@ use Rattle.filters.specs.Words.{is_letter, is_base, field_named}
 pub data Body : Type 0 where
   -- the word TYPE, the test of OP, and what STRING says
   Comparison : List ℕ → Test → List ℕ → Body
-  -- what STRING says behind `base`
+  -- what STRING says after `base`
   Base : List ℕ → Body
   -- the B inside F
   Not : Body → Body
@@ -42,7 +42,7 @@ AreLetters (b ∷ bs) = (is_letter b ≡ true) × AreLetters bs
 abbrev pub IsWord : Bool → List ℕ → Type 0
 IsWord base word = (0 < length word) × AreLetters word × (is_base word ≡ base)
 
--- between quotes stands the text, each character itself or behind a backslash; a quote and a backslash always stand behind one
+-- between quotes is the text, each character itself or after a backslash; a quote and a backslash are always after one
 abbrev pub IsInside : ℕ → List ℕ → List ℕ → Type 0
 IsInside quote inside [] = inside ≡ []
 IsInside quote inside (c ∷ text) = (rest : List ℕ) × (((inside ≡ c ∷ rest) × (c ≢ quote) × (c ≢ 92)) ⊎ (inside ≡ 92 ∷ c ∷ rest)) × IsInside quote rest text
@@ -75,7 +75,7 @@ IsBody (Base string) text rest = (word gap quoted : List ℕ) × (text ≡ word 
 IsBody (Not b) text rest = (more : List ℕ) × (text ≡ 33 ∷ more) × InParentheses (IsBody b) more rest
 IsBody (First b) text rest = InParentheses (IsBody b) text rest
 IsBody (Then j b) text rest =
-    (is_joined j ≡ true) × (gap word gap_behind next : List ℕ) × IsBody j text gap × Gap gap word × (word ≡ codes "AND" ++ gap_behind) × Gap gap_behind next × InParentheses (IsBody b) next rest
+    (is_joined j ≡ true) × (gap word second_gap next : List ℕ) × IsBody j text gap × Gap gap word × (word ≡ codes "AND" ++ second_gap) × Gap second_gap next × InParentheses (IsBody b) next rest
 
 -- the whole text is an F of this form
 abbrev pub Spells : List ℕ → Body → Type 0
@@ -85,8 +85,8 @@ Spells text body = InParentheses (IsBody body) text []
 abbrev pub BeginsFilter : List ℕ → Type 0
 BeginsFilter front = (rest : List ℕ) × (body : Body) × Spells (front ++ rest) body
 
--- k is the length of the longest front of the text with which some filter begins, and the text is no filter
-pub record IsLongestFront (text : List ℕ) (k : ℕ) : Type 0 where
+-- k is the length of the longest start of the text with which some filter begins, and the text is no filter
+pub record IsLongestStart (text : List ℕ) (k : ℕ) : Type 0 where
   pub front : List ℕ
   pub back : List ℕ
   pub parts : text ≡ front ++ back
@@ -95,7 +95,7 @@ pub record IsLongestFront (text : List ℕ) (k : ℕ) : Type 0 where
   pub longest : (b : ℕ) (more : List ℕ) → back ≡ b ∷ more → BeginsFilter (front ++ b ∷ []) → ⊥
   pub no_filter : (body : Body) → Spells text body → ⊥
 
--- what a word stands for; a word that names nothing is never read, so any field serves for it
+-- what a word names; a word that names nothing is never read, so any field serves for it
 abbrev pub field_of : Option Field → Field
 field_of None = Any
 field_of (Some field) = field
@@ -128,32 +128,32 @@ depth (Then j b) = max (depth j) (depth b + 1)
 abbrev pub Says : List ℕ → Expression → Type 0
 Says text e = (body : Body) × Spells text body × HasKnownTags body × (depth body ≤ 32) × (meaning body ≡ e)
 
--- behind this J and AND a parenthesis may open, where n are open
+-- after this J and AND a parenthesis may open, where n are open
 abbrev pub FollowsAnd : ℕ → List ℕ → List ℕ → Type 0
 FollowsAnd n text rest =
-    (j : Body) × (gap word behind : List ℕ) × IsBody j text gap × (is_joined j ≡ true) × HasKnownTags j × (n + depth j ≤ 33) × Gap gap word × (word ≡ codes "AND" ++ behind) × Gap behind rest
+    (j : Body) × (gap word second_gap : List ℕ) × IsBody j text gap × (is_joined j ≡ true) × HasKnownTags j × (n + depth j ≤ 33) × Gap gap word × (word ≡ codes "AND" ++ second_gap) × Gap second_gap rest
 
--- a parenthesis may open in front of the rest, where n are open: as the whole filter, or at once, behind `!`, or behind J and AND
+-- a parenthesis may open before the rest, where n are open: as the whole filter, or at once, after `!`, or after J and AND
 abbrev pub MayOpen : ℕ → List ℕ → List ℕ → Type 0
 MayOpen zero text rest = text ≡ rest
 MayOpen (suc n) text rest = (text ≡ rest) ⊎ ((text ≡ 33 ∷ rest) ⊎ FollowsAnd (suc n) text rest)
 
--- n parentheses are open in front of the rest, and only spaces stand behind the last of them
-abbrev pub StandsOpen : ℕ → List ℕ → List ℕ → Type 0
-StandsOpen zero text rest = text ≡ rest
-StandsOpen (suc n) text rest = (before outer inner : List ℕ) × StandsOpen n text before × MayOpen n before outer × (outer ≡ 40 ∷ inner) × Spaces inner rest
+-- n parentheses are open before the rest, and only spaces follow the last of them
+abbrev pub AreOpen : ℕ → List ℕ → List ℕ → Type 0
+AreOpen zero text rest = text ≡ rest
+AreOpen (suc n) text rest = (before outer inner : List ℕ) × AreOpen n text before × MayOpen n before outer × (outer ≡ 40 ∷ inner) × Spaces inner rest
 
 abbrev pub EndsWord : List ℕ → Type 0
 EndsWord [] = Unit {0}
 EndsWord (b ∷ bs) = is_letter b ≡ false
 
--- behind the last open parenthesis stands a whole word that names nothing
+-- after the last open parenthesis comes a whole word that names nothing
 pub record NamesNothing (text word : List ℕ) : Type 0 where
   pub count : ℕ
   pub outer : List ℕ
   pub rest : List ℕ
   pub some_open : (1 ≤ count) × (count ≤ 32)
-  pub open_there : StandsOpen count text outer
+  pub open_there : AreOpen count text outer
   pub there : outer ≡ word ++ rest
   pub is_word : IsWord false word
   pub ends : EndsWord rest
@@ -161,4 +161,4 @@ pub record NamesNothing (text word : List ℕ) : Type 0 where
 
 -- where 32 parentheses are open, one more opens
 abbrev pub GoesTooDeep : List ℕ → Type 0
-GoesTooDeep text = (before outer inner : List ℕ) × StandsOpen 32 text before × MayOpen 32 before outer × (outer ≡ 40 ∷ inner)
+GoesTooDeep text = (before outer inner : List ℕ) × AreOpen 32 text before × MayOpen 32 before outer × (outer ≡ 40 ∷ inner)

@@ -6,5 +6,6 @@ pub mod Words
 pub mod Machine
 pub mod Truth
 pub mod Pairs
+pub mod PairSteps
 pub mod Grammar
 pub mod Answers

@@ -1,4 +1,4 @@
--- A filter, read byte by byte: what stands in front of the next byte, and which parentheses are open. Where the rules are not
+-- A filter, read byte by byte: what comes before the next byte, and which parentheses are open. Where the rules are not
 -- strict, any tag is known and any number of parentheses may be open: this is the grammar alone (MPD protocol reference, Filters).
 use Rattle.std.specs.Prelude.{◌≡◌, ◌<◌, ℕ, ◌+◌, List, [], ◌∷◌, ◌++◌, length, Bool, true, false, ◌&&◌, ◌||◌, ◌==◌, nat_le, nat_lt, codes, slice_index, Option, Some, None, option_map, Result, Ok, Err, if◌then◌else◌}
 use Rattle.std.specs.Str.{IsAscii, IsUtf8}
@@ -7,20 +7,20 @@ use Rattle.filters.specs.declared.expression.Field.TheVariants.{Any}
 use Rattle.filters.specs.declared.expression.Test.TheVariants.{Equals, Differs, Contains as ContainsTest}
 use Rattle.filters.specs.declared.place.Stop.{Stop}
 use Rattle.filters.specs.declared.place.Stop.TheVariants.{Syntax, UnknownTag, TooDeep, NoMemory}
-use Rattle.filters.specs.declared.place.Frame.{Frame}
-use Rattle.filters.specs.declared.place.Frame.TheVariants.{Whole, Negated, First, Next}
+use Rattle.filters.specs.declared.place.Purpose.{Purpose}
+use Rattle.filters.specs.declared.place.Purpose.TheVariants.{Whole, Negated, First, Next}
 use Rattle.filters.specs.declared.place.Goal.{Goal}
 use Rattle.filters.specs.declared.place.Goal.TheVariants.{Compared, Base as BaseGoal}
 use Rattle.filters.specs.declared.place.Named.{Named}
 use Rattle.filters.specs.declared.place.Named.TheVariants.{Field as NamedField, Base as NamedBase}
 use Rattle.filters.specs.declared.place.Place.{Place}
-use Rattle.filters.specs.declared.place.Place.TheVariants.{Start, Opened, Bang, Word, BehindField, Sign, Contains, NeedsSpace, BeforeText, InText, Escaped, Done, Joined, BehindJoined, And, BehindAnd, Finished}
+use Rattle.filters.specs.declared.place.Place.TheVariants.{Start, Opened, Bang, Word, AfterField, Sign, Contains, NeedsSpace, BeforeText, InText, Escaped, Done, Joined, AfterJoined, And, AfterAnd, Finished}
 use Rattle.filters.specs.declared.reading.FilterFault.{FilterFault}
 use Rattle.filters.specs.declared.reading.FilterFault.TheVariants.{Syntax as Err_Syntax, UnknownTag as Err_UnknownTag, TooDeep as Err_TooDeep, NoMemory as Err_NoMemory}
 use Rattle.filters.specs.Expressions.{Expression, Compare, Under, Negation, Both}
 use Rattle.filters.specs.Words.{is_letter, is_base, field_named}
 
--- what a word in front of a text names
+-- what a word before a text names
 unfoldable pub named_of : List ℕ → Option Named
 named_of word = if is_base word then Some NamedBase else option_map NamedField (field_named word)
 
@@ -38,28 +38,28 @@ filter_for (Compared field test) text = Compare field test text
 filter_for BaseGoal text = Under text
 
 -- one parenthesis more is open; the strict rules bound how many
-abbrev pub opened : Bool → Frame → List Frame → Result (Place × List Frame) Stop
-opened strict frame frames = if strict && nat_le 32 (length frames) then Err TooDeep else Ok (Opened, frame ∷ frames)
+abbrev pub opened : Bool → Purpose → List Purpose → Result (Place × List Purpose) Stop
+opened strict purpose purposes = if strict && nat_le 32 (length purposes) then Err TooDeep else Ok (Opened, purpose ∷ purposes)
 
--- the innermost parenthesis is closed behind this expression
-abbrev pub closed : Expression → List Frame → Result (Place × List Frame) Stop
+-- the innermost parenthesis is closed after this expression
+abbrev pub closed : Expression → List Purpose → Result (Place × List Purpose) Stop
 closed e [] = Err Syntax
-closed e (Whole ∷ frames) = Ok (Finished e, frames)
-closed e (Negated ∷ frames) = Ok (Done (Negation e), frames)
-closed e (First ∷ frames) = Ok (Joined e, frames)
-closed e (Next first ∷ frames) = Ok (Joined (Both first e), frames)
+closed e (Whole ∷ purposes) = Ok (Finished e, purposes)
+closed e (Negated ∷ purposes) = Ok (Done (Negation e), purposes)
+closed e (First ∷ purposes) = Ok (Joined e, purposes)
+closed e (Next first ∷ purposes) = Ok (Joined (Both first e), purposes)
 
 abbrev pub sign : Field → ℕ → Result Place Stop
 sign field b =
-    if b == 32 then Ok (BehindField field)
+    if b == 32 then Ok (AfterField field)
     else (if b == 61 then Ok (Sign field Equals)
     else (if b == 33 then Ok (Sign field Differs)
     else (if b == 99 then Ok (Contains field 1) else Err Syntax)))
 
-abbrev pub behind_word : Option Named → List ℕ → ℕ → Result Place Stop
-behind_word None word b = Err (UnknownTag word)
-behind_word (Some (NamedField field)) word b = sign field b
-behind_word (Some NamedBase) word b = if b == 32 then Ok (BeforeText BaseGoal) else Err Syntax
+abbrev pub after_word : Option Named → List ℕ → ℕ → Result Place Stop
+after_word None word b = Err (UnknownTag word)
+after_word (Some (NamedField field)) word b = sign field b
+after_word (Some NamedBase) word b = if b == 32 then Ok (BeforeText BaseGoal) else Err Syntax
 
 abbrev pub contains_letter : Field → ℕ → ℕ → Result Place Stop
 contains_letter field read b =
@@ -70,51 +70,51 @@ abbrev pub and_letter : Expression → ℕ → ℕ → Result Place Stop
 and_letter e read b =
     if (read == 1) && (b == 78) then Ok (And e 2)
     else (if (read == 2) && (b == 68) then Ok (And e 3)
-    else (if (read == 3) && (b == 32) then Ok (BehindAnd e) else Err Syntax))
+    else (if (read == 3) && (b == 32) then Ok (AfterAnd e) else Err Syntax))
 
 -- a step that opens and closes nothing
-abbrev pub alone : Result Place Stop → List Frame → Result (Place × List Frame) Stop
-alone (Ok place) frames = Ok (place, frames)
-alone (Err stop) frames = Err stop
+abbrev pub alone : Result Place Stop → List Purpose → Result (Place × List Purpose) Stop
+alone (Ok place) purposes = Ok (place, purposes)
+alone (Err stop) purposes = Err stop
 
-unfoldable pub step : Bool → Place → List Frame → ℕ → Result (Place × List Frame) Stop
-step strict Start frames b = if b == 40 then opened strict Whole frames else Err Syntax
-step strict Opened frames b =
-    if b == 32 then Ok (Opened, frames)
-    else (if b == 33 then Ok (Bang, frames)
-    else (if is_letter b then Ok (Word (b ∷ []), frames)
-    else (if b == 40 then opened strict First frames else Err Syntax)))
-step strict Bang frames b = if b == 40 then opened strict Negated frames else Err Syntax
-step strict (Word word) frames b = if is_letter b then Ok (Word (word ++ b ∷ []), frames) else alone (behind_word (names strict word) word b) frames
-step strict (BehindField field) frames b = alone (sign field b) frames
-step strict (Sign field test) frames b = if b == 61 then Ok (BeforeText (Compared field test), frames) else Err Syntax
-step strict (Contains field read) frames b = alone (contains_letter field read b) frames
-step strict (NeedsSpace goal) frames b = if b == 32 then Ok (BeforeText goal, frames) else Err Syntax
-step strict (BeforeText goal) frames b =
-    if b == 32 then Ok (BeforeText goal, frames)
-    else (if (b == 34) || (b == 39) then Ok (InText goal b [], frames) else Err Syntax)
-step strict (InText goal quote text) frames b =
-    if b == quote then Ok (Done (filter_for goal text), frames)
-    else (if b == 92 then Ok (Escaped goal quote text, frames)
-    else Ok (InText goal quote (text ++ b ∷ []), frames))
-step strict (Escaped goal quote text) frames b = Ok (InText goal quote (text ++ b ∷ []), frames)
-step strict (Done e) frames b = if b == 32 then Ok (Done e, frames) else (if b == 41 then closed e frames else Err Syntax)
-step strict (Joined e) frames b = if b == 32 then Ok (BehindJoined e, frames) else (if b == 41 then closed e frames else Err Syntax)
-step strict (BehindJoined e) frames b =
-    if b == 32 then Ok (BehindJoined e, frames)
-    else (if b == 65 then Ok (And e 1, frames)
-    else (if b == 41 then closed e frames else Err Syntax))
-step strict (And e read) frames b = alone (and_letter e read b) frames
-step strict (BehindAnd e) frames b = if b == 32 then Ok (BehindAnd e, frames) else (if b == 40 then opened strict (Next e) frames else Err Syntax)
-step strict (Finished e) frames b = Err Syntax
+unfoldable pub step : Bool → Place → List Purpose → ℕ → Result (Place × List Purpose) Stop
+step strict Start purposes b = if b == 40 then opened strict Whole purposes else Err Syntax
+step strict Opened purposes b =
+    if b == 32 then Ok (Opened, purposes)
+    else (if b == 33 then Ok (Bang, purposes)
+    else (if is_letter b then Ok (Word (b ∷ []), purposes)
+    else (if b == 40 then opened strict First purposes else Err Syntax)))
+step strict Bang purposes b = if b == 40 then opened strict Negated purposes else Err Syntax
+step strict (Word word) purposes b = if is_letter b then Ok (Word (word ++ b ∷ []), purposes) else alone (after_word (names strict word) word b) purposes
+step strict (AfterField field) purposes b = alone (sign field b) purposes
+step strict (Sign field test) purposes b = if b == 61 then Ok (BeforeText (Compared field test), purposes) else Err Syntax
+step strict (Contains field read) purposes b = alone (contains_letter field read b) purposes
+step strict (NeedsSpace goal) purposes b = if b == 32 then Ok (BeforeText goal, purposes) else Err Syntax
+step strict (BeforeText goal) purposes b =
+    if b == 32 then Ok (BeforeText goal, purposes)
+    else (if (b == 34) || (b == 39) then Ok (InText goal b [], purposes) else Err Syntax)
+step strict (InText goal quote text) purposes b =
+    if b == quote then Ok (Done (filter_for goal text), purposes)
+    else (if b == 92 then Ok (Escaped goal quote text, purposes)
+    else Ok (InText goal quote (text ++ b ∷ []), purposes))
+step strict (Escaped goal quote text) purposes b = Ok (InText goal quote (text ++ b ∷ []), purposes)
+step strict (Done e) purposes b = if b == 32 then Ok (Done e, purposes) else (if b == 41 then closed e purposes else Err Syntax)
+step strict (Joined e) purposes b = if b == 32 then Ok (AfterJoined e, purposes) else (if b == 41 then closed e purposes else Err Syntax)
+step strict (AfterJoined e) purposes b =
+    if b == 32 then Ok (AfterJoined e, purposes)
+    else (if b == 65 then Ok (And e 1, purposes)
+    else (if b == 41 then closed e purposes else Err Syntax))
+step strict (And e read) purposes b = alone (and_letter e read b) purposes
+step strict (AfterAnd e) purposes b = if b == 32 then Ok (AfterAnd e, purposes) else (if b == 40 then opened strict (Next e) purposes else Err Syntax)
+step strict (Finished e) purposes b = Err Syntax
 
 -- what is given, with what is open then, is this, unless memory ran out
-abbrev pub Steps : Result Place Stop → List Frame → Result (Place × List Frame) Stop → Type 0
-Steps (Ok place) frames exact = exact ≡ Ok (place, frames)
-Steps (Err NoMemory) frames exact = Unit {0}
-Steps (Err Syntax) frames exact = exact ≡ Err Syntax
-Steps (Err (UnknownTag word)) frames exact = exact ≡ Err (UnknownTag word)
-Steps (Err TooDeep) frames exact = exact ≡ Err TooDeep
+abbrev pub Steps : Result Place Stop → List Purpose → Result (Place × List Purpose) Stop → Type 0
+Steps (Ok place) purposes exact = exact ≡ Ok (place, purposes)
+Steps (Err NoMemory) purposes exact = Unit {0}
+Steps (Err Syntax) purposes exact = exact ≡ Err Syntax
+Steps (Err (UnknownTag word)) purposes exact = exact ≡ Err (UnknownTag word)
+Steps (Err TooDeep) purposes exact = exact ≡ Err TooDeep
 
 abbrev pub StepsAlone : Result Place Stop → Result Place Stop → Type 0
 StepsAlone (Ok place) exact = exact ≡ Ok place
@@ -139,14 +139,14 @@ ending n (Finished e) = Ok e
 ending n (Word word) = word_at_end n (named_of word) word
 ending n _ = Err (Err_Syntax n)
 
-abbrev pub goes_on : ℕ → Result (Place × List Frame) Stop → (Place → List Frame → Result Expression FilterFault) → Result Expression FilterFault
+abbrev pub goes_on : ℕ → Result (Place × List Purpose) Stop → (Place → List Purpose → Result Expression FilterFault) → Result Expression FilterFault
 goes_on n (Ok next) more = more next.0 next.1
 goes_on n (Err stop) more = Err (fault_at n stop)
 
--- what the rest of a filter gives behind so many bytes
-unfoldable pub run : Bool → ℕ → Place → List Frame → List ℕ → Result Expression FilterFault
-run strict n place frames [] = ending n place
-run strict n place frames (b ∷ bs) = goes_on n (step strict place frames b) (λ next more. run strict (n + 1) next more bs)
+-- what the rest of a filter gives after so many bytes
+unfoldable pub run : Bool → ℕ → Place → List Purpose → List ℕ → Result Expression FilterFault
+run strict n place purposes [] = ending n place
+run strict n place purposes (b ∷ bs) = goes_on n (step strict place purposes b) (λ next more. run strict (n + 1) next more bs)
 
 -- the expression of a text, or its first fault from the left
 abbrev pub parsed : List ℕ → Result Expression FilterFault

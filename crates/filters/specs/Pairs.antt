@@ -1,33 +1,31 @@
--- Filters given as pairs of words (MPD protocol reference, Filters; that `base` is no comparison is this profile's).
-use Rattle.std.specs.Prelude.{List, [], ◌∷◌, ℕ, Option, Some, None, Result, Ok, Err}
+-- What pairs of words ask for (MPD protocol reference, Filters, the older form; that `base` is no comparison is this profile's).
+use Rattle.std.specs.Prelude.{ℕ, Bool, ◌||◌, not, is_some, List, [], ◌∷◌, Option, Some, None, option_map, Result, Ok, Err, if◌then◌else◌}
+use Rattle.std.specs.List.{find, filter_map}
 use Rattle.filters.specs.declared.expression.Test.{Test}
 use Rattle.filters.specs.declared.pairs.Pair.{Pair}
-use Rattle.filters.specs.declared.place.Named.{Named}
-use Rattle.filters.specs.declared.place.Named.TheVariants.{Field as NamedField, Base as NamedBase}
 use Rattle.filters.specs.declared.reading.FilterFault.{FilterFault}
 use Rattle.filters.specs.declared.reading.FilterFault.TheVariants.{UnknownTag}
-use Rattle.filters.specs.Expressions.{Expression, Compare, Under, Both}
-use Rattle.filters.specs.Machine.{named_of}
+use Rattle.filters.specs.Expressions.{Expression, Compare, Under, all_of}
+use Rattle.filters.specs.Words.{is_base, field_named}
 
-abbrev pub compared : Test → List ℕ → List ℕ → Option Named → Result Expression FilterFault
-compared test word text None = Err (UnknownTag word)
-compared test word text (Some (NamedField field)) = Ok (Compare field test text)
-compared test word text (Some NamedBase) = Ok (Under text)
+-- a word that is `base`, or names what is compared
+abbrev pub names_something : List ℕ → Bool
+names_something word = is_base word || is_some (field_named word)
 
--- what one pair asks for
-unfoldable pub pair_of : Test → Pair → Result Expression FilterFault
-pair_of test pair = compared test pair.name pair.text (named_of pair.name)
+-- what one pair asks for, if its word names something: the songs under a folder, or one comparison
+abbrev pub asked : Test → Pair → Option Expression
+asked test pair = if is_base pair.name then Some (Under pair.text) else option_map (λ field. Compare field test pair.text) (field_named pair.name)
 
-abbrev pub and_then : Result Expression FilterFault → (Expression → Result Expression FilterFault) → Result Expression FilterFault
-and_then (Ok e) more = more e
-and_then (Err fault) more = Err fault
+-- all of these together; none of them ask for nothing, as the empty folder does
+abbrev pub together : List Expression → Expression
+together [] = Under []
+together (e ∷ more) = all_of e more
 
--- an expression and all of these pairs, or the first pair from the left that names nothing
-unfoldable pub joined_with : Test → Expression → List Pair → Result Expression FilterFault
-joined_with test e [] = Ok e
-joined_with test e (pair ∷ pairs) = and_then (pair_of test pair) (λ f. joined_with test (Both e f) pairs)
+-- the fault of a pair whose word names nothing, if there is one
+abbrev pub unless_unknown : Option Pair → Expression → Result Expression FilterFault
+unless_unknown None e = Ok e
+unless_unknown (Some pair) e = Err (UnknownTag pair.name)
 
--- all of these pairs; none of them ask for nothing, as the empty folder does
-unfoldable pub pairs_of : Test → List Pair → Result Expression FilterFault
-pairs_of test [] = Ok (Under [])
-pairs_of test (pair ∷ pairs) = and_then (pair_of test pair) (λ e. joined_with test e pairs)
+-- what all pairs ask for together, or the first word from the left that names nothing
+abbrev pub pairs_meaning : Test → List Pair → Result Expression FilterFault
+pairs_meaning test pairs = unless_unknown (find (λ pair. not (names_something pair.name)) pairs) (together (filter_map (asked test) pairs))

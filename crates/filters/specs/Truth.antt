@@ -2,9 +2,9 @@
 use Rattle.std.specs.Prelude.{◌≡◌, ℕ, List, [], ◌∷◌, ◌++◌, ◌⊎◌, ◌==◌, if◌then◌else◌, chars, encode_utf8_all}
 use Rattle.std.specs.Str.Iter.{HasSubslice}
 use Rattle.caseless.specs.Caseless.{default_case_fold}
-use Rattle.mpd_text.specs.Songs.{SongData, TagData}
-use Rattle.mpd_text.specs.declared.song.TagName.{TagName}
-use Rattle.mpd_text.specs.declared.song.TagName.TheVariants.{Title, Artist, Album, Date, Genre, Comment}
+use Rattle.mpd_text.specs.Songs.Song.{SongData, TagData}
+use Rattle.mpd_text.specs.Songs.Tags.{tag_names, tag_number}
+use Rattle.mpd_text.specs.declared.songs.song.TagName.{TagName}
 use Rattle.filters.specs.declared.expression.Field.{Field}
 use Rattle.filters.specs.declared.expression.Field.TheVariants.{Tag, File, Any}
 use Rattle.filters.specs.declared.expression.Test.{Test}
@@ -15,39 +15,28 @@ use Rattle.filters.specs.declared.matching.Relation.{Relation}
 use Rattle.filters.specs.declared.matching.Relation.TheVariants.{Same, Includes as IncludesIt}
 use Rattle.filters.specs.Expressions.{Expression, Compare, Under, Negation, Both}
 
-abbrev pub name_number : TagName → ℕ
-name_number Title = 0
-name_number Artist = 1
-name_number Album = 2
-name_number Date = 3
-name_number Genre = 4
-name_number Comment = 5
-
 -- the text of the first tag of this name; empty where there is none
-abbrev pub tag_text : TagName → List TagData → List ℕ
-tag_text name [] = []
-tag_text name (tag ∷ tags) = if name_number tag.name == name_number name then tag.text else tag_text name tags
-
-abbrev pub all_names : List TagName
-all_names = Title ∷ Artist ∷ Album ∷ Date ∷ Genre ∷ Comment ∷ []
+abbrev pub text_of_tag : TagName → List TagData → List ℕ
+text_of_tag name [] = []
+text_of_tag name (tag ∷ tags) = if tag_number tag.name == tag_number name then tag.text else text_of_tag name tags
 
 -- some tag of these names has a text with this property
 abbrev pub SomeTag : (List ℕ → Type 0) → List TagName → List TagData → Type 0
 SomeTag P [] tags = ⊥
-SomeTag P (name ∷ names) tags = P (tag_text name tags) ⊎ SomeTag P names tags
+SomeTag P (name ∷ names) tags = P (text_of_tag name tags) ⊎ SomeTag P names tags
 
 -- what is compared has this property: of `any` it is enough that one tag has it
 abbrev pub HasIt : (List ℕ → Type 0) → Field → SongData → Type 0
-HasIt P (Tag name) song = P (tag_text name song.tags)
+HasIt P (Tag name) song = P (text_of_tag name song.tags)
 HasIt P File song = P song.uri
-HasIt P Any song = SomeTag P all_names song.tags
+HasIt P Any song = SomeTag P tag_names song.tags
 
 -- a text as it is compared: where case is ignored, in the default case folding of the Unicode Standard, section 3.13
 abbrev pub folded : Case → List ℕ → List ℕ
 folded Heeded text = text
 folded Ignored text = encode_utf8_all (default_case_fold (chars text))
 
--- how two texts that are folded already stand to each other
+-- how two texts that are folded already are compared
 abbrev pub IsRelated : Relation → List ℕ → List ℕ → Type 0
 IsRelated Same text wanted = text ≡ wanted
 IsRelated IncludesIt text wanted = HasSubslice text wanted
@@ -63,7 +52,7 @@ Compares case Equals wanted field song = HasIt (IsSame case wanted) field song
 Compares case Differs wanted field song = HasIt (IsSame case wanted) field song → ⊥
 Compares case Contains wanted field song = HasIt (Includes case wanted) field song
 
--- the URI goes on behind the folder and a slash; each URI lies under the empty folder
+-- the URI goes on after the folder and a slash; each URI lies under the empty folder
 abbrev pub IsUnder : List ℕ → List ℕ → Type 0
 IsUnder [] uri = Unit {0}
 IsUnder (b ∷ bs) uri = (rest : List ℕ) × (uri ≡ (b ∷ bs) ++ 47 ∷ rest)

@@ -24,7 +24,7 @@ pub enum Test {
     Equals,
     /// They are not, written `!=`.
     Differs,
-    /// The wanted one stands somewhere in the song's.
+    /// The wanted one is somewhere in the song's.
     Contains,
 }
 
@@ -46,7 +46,7 @@ pub enum Node {
     Under(Text),
     /// The songs of which the filter does not hold.
     Negation(Box<Filter>),
-    /// The songs of which all of these hold. They stand side by side, so that a tree is no deeper than the
+    /// The songs of which all of these hold. They are side by side, so that a tree is no deeper than the
     /// parentheses of its text.
     All(Box<Filter>, Box<Filter>, Vec<Filter>),
 }

@@ -6,9 +6,8 @@ mod matching;
 mod pairs;
 mod place;
 mod reading;
+mod sequence;
 mod stack;
-#[cfg(test)]
-mod tests;
 
 pub use expression::{Field, Filter, Test};
 pub use matching::Case;

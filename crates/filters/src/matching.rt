@@ -1,12 +1,12 @@
 //! Whether a song meets a filter (MPD protocol reference, Filters).
 ghost use Rattle.std.specs.Prelude.{◌≡◌, ◌≢◌, ◌↔◌, ◌++◌, ◌∷◌, List, ℕ, IfOk, IsOk, IsTrue, MatchOption};
-ghost use Rattle.filters.specs.Truth.{Holds, HasIt, Compares, IsUnder, SomeTag, IsRelated, folded, tag_text as tag_text_lem};
+ghost use Rattle.filters.specs.Truth.{Holds, HasIt, Compares, IsUnder, SomeTag, IsRelated, folded, text_of_tag as text_of_tag_lem};
 ghost use Rattle.std.specs.Str.Iter.{HasSubslice};
 ghost use Rattle.filters.specs.declared.matching.Case.TheVariants.{Heeded};
 
 use crate::expression::{Field, Filter, Node, Test};
 use caseless::default_case_fold_str;
-use mpd_text::{Song, Tag, TagName};
+use mpd_text::{Song, TAG_NAMES, Tag, TagName};
 use std::alloc::{AllocError, Global};
 
 /// Whether the case of letters counts.
@@ -15,7 +15,7 @@ pub enum Case {
     /// It does, as in `find`.
     Heeded,
     /// It does not, as in `search`: texts are compared in their full default case folding (the Unicode Standard,
-    /// section 3.13). Folders are compared as they stand.
+    /// section 3.13). Folders are compared as they are.
     Ignored,
 }
 
@@ -25,16 +25,6 @@ enum Relation {
     Same,
     Includes,
 }
-
-/// The tags of which `any` wants one.
-const TAGS: [TagName; 6] = [
-    TagName::Title,
-    TagName::Artist,
-    TagName::Album,
-    TagName::Date,
-    TagName::Genre,
-    TagName::Comment,
-];
 
 impl Filter {
     /// Whether a song meets the filter. Where case is heeded this takes no memory, and always answers.
@@ -85,7 +75,7 @@ fn compares(
     }
 }
 
-/// Whether what is compared stands so to the wanted text.
+/// Whether what is compared has this relation to the wanted text.
 fn relates(
     alloc: Global,
     song: &Song,
@@ -106,7 +96,7 @@ fn relates(
     }
 }
 
-/// Whether what is compared stands so to a wanted text that is folded already.
+/// Whether what is compared has this relation to a wanted text that is folded already.
 fn has_it(
     alloc: Global,
     song: &Song,
@@ -119,13 +109,19 @@ fn has_it(
     ensures answers { case ≡ Heeded → IsOk result }
 {
     match field {
-        Field::Tag(name) => text_has_it(alloc, tag_text(song.tags(), name), relation, wanted, case),
+        Field::Tag(name) => text_has_it(
+            alloc,
+            text_of_tag(song.tags(), name),
+            relation,
+            wanted,
+            case,
+        ),
         Field::File => text_has_it(alloc, song.uri(), relation, wanted, case),
-        Field::Any => some_tag(alloc, song.tags(), &TAGS, relation, wanted, case),
+        Field::Any => some_tag(alloc, song.tags(), &TAG_NAMES, relation, wanted, case),
     }
 }
 
-/// Whether some tag of these names has a text that stands so to the wanted one. An absent tag is the empty text.
+/// Whether some tag of these names has a text with this relation to the wanted one. An absent tag is the empty text.
 fn some_tag(
     alloc: Global,
     tags: &[Tag],
@@ -138,14 +134,14 @@ fn some_tag(
     ensures answers { case ≡ Heeded → IsOk result }
 {
     for name in names {
-        if text_has_it(alloc, tag_text(tags, *name), relation, wanted, case)? {
+        if text_has_it(alloc, text_of_tag(tags, *name), relation, wanted, case)? {
             return Ok(true);
         }
     }
     Ok(false)
 }
 
-/// Whether a text, folded where case is ignored, stands so to the wanted one.
+/// Whether a text, folded where case is ignored, has this relation to the wanted one.
 fn text_has_it(
     alloc: Global,
     text: &str,
@@ -174,7 +170,7 @@ fn is_related(relation: Relation, text: &str, wanted: &str) -> bool
     }
 }
 
-/// Whether the wanted text stands somewhere in the text.
+/// Whether the wanted text is somewhere in the text.
 fn includes(text: &str, wanted: &str) -> bool
     ensures { IsTrue result ↔ HasSubslice text.now wanted.now }
 {
@@ -182,8 +178,8 @@ fn includes(text: &str, wanted: &str) -> bool
 }
 
 /// The text of the first tag of this name; empty where there is none.
-fn tag_text(tags: &[Tag], name: TagName) -> &str
-    ensures { result.now ≡ tag_text_lem name tags.now }
+fn text_of_tag(tags: &[Tag], name: TagName) -> &str
+    ensures { result.now ≡ text_of_tag_lem name tags.now }
 {
     for tag in tags {
         if tag.name() == name {
@@ -200,17 +196,17 @@ fn is_under(uri: &str, folder: &str) -> bool
     if folder.is_empty() {
         return true;
     }
-    match behind(uri.as_bytes(), folder.as_bytes()) {
+    match after_prefix(uri.as_bytes(), folder.as_bytes()) {
         None => false,
         Some(rest) => begins_with_slash(rest),
     }
 }
 
-/// What stands behind a front, if there is that front.
-fn behind<'a>(bytes: &'a [u8], front: &[u8]) -> Option<&'a [u8]>
-    ensures { MatchOption result ((rest : List ℕ) → bytes.now ≢ front.now ++ rest) (λ rest. bytes.now ≡ front.now ++ rest.now) }
+/// The bytes after a prefix, if they begin with it.
+fn after_prefix<'a>(bytes: &'a [u8], prefix: &[u8]) -> Option<&'a [u8]>
+    ensures { MatchOption result ((rest : List ℕ) → bytes.now ≢ prefix.now ++ rest) (λ rest. bytes.now ≡ prefix.now ++ rest.now) }
 {
-    bytes.strip_prefix(front)
+    bytes.strip_prefix(prefix)
 }
 
 fn begins_with_slash(bytes: &[u8]) -> bool

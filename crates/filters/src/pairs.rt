@@ -1,7 +1,9 @@
 //! Filters given as pairs of words (MPD protocol reference, Filters, the older form).
 ghost use Rattle.std.specs.Prelude.{◌≡◌};
+ghost use Rattle.filters.specs.Answers.{OrNoMemory};
 ghost use Rattle.filters.specs.Machine.{Reads};
-ghost use Rattle.filters.specs.Pairs.{pair_of as pair_of_lem, pairs_of};
+ghost use Rattle.filters.specs.Pairs.{pairs_meaning};
+ghost use Rattle.filters.specs.PairSteps.{pair_of as pair_of_lem, pairs_of};
 
 use crate::expression::{Filter, Test};
 use crate::place::{Named, name_of};
@@ -21,31 +23,38 @@ pub struct Pair {
 impl Filter {
     /// The filter that all these pairs make together. Each compares as `test` says, save for `base`. No pairs ask
     /// for nothing, so every song meets them. The fault is the first word from the left that names nothing.
-    #[tactic(auto, unfolding(crate::specs::Pairs::pairs_of, crate::specs::Pairs::joined_with))]
     pub fn of_pairs(alloc: Global, pairs: &[Pair], test: Test) -> Result<Filter, FilterFault>
-        ensures { Reads result (pairs_of test pairs.now) }
+        ensures { OrNoMemory result (pairs_meaning test pairs.now) }
     {
-        let (first, more) = match pairs {
-            [] => return Ok(Filter::under(alloc, Text::of(String::new(alloc)))),
-            [first, more @ ..] => (first, more),
-        };
-        let mut filter = match pair_of(alloc, first, test) {
-            Ok(filter) => filter,
-            Err(fault) => return Err(fault),
-        };
-        for pair in more {
-            let next = match pair_of(alloc, pair, test) {
-                Ok(next) => next,
-                Err(fault) => return Err(fault),
-            };
-            filter = Filter::both(alloc, filter, next)?;
-        }
-        Ok(filter)
+        read_pairs(alloc, pairs, test)
     }
 }
 
+/// The filter of all pairs, which are read from the left.
+#[tactic(auto, unfolding(crate::specs::PairSteps::pairs_of, crate::specs::PairSteps::joined_with))]
+fn read_pairs(alloc: Global, pairs: &[Pair], test: Test) -> Result<Filter, FilterFault>
+    ensures { Reads result (pairs_of test pairs.now) }
+{
+    let (first, more) = match pairs {
+        [] => return Ok(Filter::under(alloc, Text::of(String::new(alloc)))),
+        [first, more @ ..] => (first, more),
+    };
+    let mut filter = match pair_of(alloc, first, test) {
+        Ok(filter) => filter,
+        Err(fault) => return Err(fault),
+    };
+    for pair in more {
+        let next = match pair_of(alloc, pair, test) {
+            Ok(next) => next,
+            Err(fault) => return Err(fault),
+        };
+        filter = Filter::both(alloc, filter, next)?;
+    }
+    Ok(filter)
+}
+
 /// The filter that one pair makes.
-#[tactic(auto, unfolding(crate::specs::Pairs::pair_of))]
+#[tactic(auto, unfolding(crate::specs::PairSteps::pair_of))]
 fn pair_of(alloc: Global, pair: &Pair, test: Test) -> Result<Filter, FilterFault>
     ensures { Reads result (pair_of_lem test pair.now) }
 {

@@ -1,24 +1,25 @@
-//! What stands in front of each byte of a filter's text.
+//! What comes before each byte of a filter's text.
 ghost use Rattle.std.specs.Prelude.{◌≡◌, Some, None, Ok, Err, true, if◌then◌else◌, ◌==◌, ◌||◌, ◌++◌, ◌∷◌, []};
 ghost use Rattle.std.specs.Str.{IsUtf8};
 ghost use Rattle.filters.specs.Words.{is_letter as is_letter_lem, same_word as same_word_lem, field_named as field_named_lem};
-ghost use Rattle.filters.specs.Machine.{named_of, step as step_lem, opened, closed, behind_word as behind_word_lem, sign as sign_lem, Steps, StepsAlone, contains_letter as contains_letter_lem, and_letter as and_letter_lem, filter_for, CanTake};
+ghost use Rattle.filters.specs.Machine.{named_of, step as step_lem, opened, closed, after_word as after_word_lem, sign as sign_lem, Steps, StepsAlone, contains_letter as contains_letter_lem, and_letter as and_letter_lem, filter_for, CanTake};
 ghost use Rattle.filters.specs.declared.place.Stop.TheVariants.{Syntax, NoMemory};
 
 use crate::expression::{Field, Filter, Test};
+use crate::sequence::Sequence;
 use crate::stack::Stack;
-use mpd_text::{Sequence, TagName, Text};
+use mpd_text::{TagName, Text};
 use std::alloc::{AllocError, AllocFailed, Global};
 
 /// The most parentheses that may be open at once (this profile's).
 pub const MAX_DEPTH: usize = 32;
 
-/// Why a byte cannot stand where it stands.
+/// Why a byte cannot be where it is.
 #[derive(Drop)]
 pub enum Stop {
     /// No filter goes on so.
     Syntax,
-    /// The word in front of it names no tag.
+    /// The word before it names no tag.
     UnknownTag(Text),
     /// It opens one parenthesis too many.
     TooDeep,
@@ -44,14 +45,14 @@ impl<T: Drop> From<AllocFailed<T>> for Stop {
 
 /// What an open parenthesis is closed for.
 #[derive(Drop)]
-pub enum Frame {
+pub enum Purpose {
     /// The whole filter.
     Whole,
     /// A negation.
     Negated,
     /// The first of those that are to hold together.
     First,
-    /// The next of them, behind those before it.
+    /// The next of them, after those before it.
     Next(Filter),
 }
 
@@ -64,7 +65,7 @@ pub enum Goal {
     Base,
 }
 
-/// What a word in front of a text names.
+/// What a word before a text names.
 #[derive(Clone, Copy)]
 pub enum Named {
     /// What is compared.
@@ -73,14 +74,14 @@ pub enum Named {
     Base,
 }
 
-/// What stands in front of the next byte. Numbers are how many letters of a word were read.
+/// What comes before the next byte. Numbers are how many letters of a word were read.
 #[derive(Drop)]
 pub enum Place {
     Start,
     Opened,
     Bang,
     Word(Sequence<u8>),
-    BehindField(Field),
+    AfterField(Field),
     Sign(Field, Test),
     Contains(Field, u8),
     NeedsSpace(Goal),
@@ -89,24 +90,29 @@ pub enum Place {
     Escaped(Goal, u8, Sequence<u8>),
     Done(Filter),
     Joined(Filter),
-    BehindJoined(Filter),
+    AfterJoined(Filter),
     And(Filter, u8),
-    BehindAnd(Filter),
+    AfterAnd(Filter),
     Finished(Filter),
 }
 
-/// What stands in front of the byte behind this one.
+/// What comes before the byte after this one.
 #[tactic(auto, unfolding(crate::specs::Machine::step))]
-pub fn step(alloc: Global, place: Place, frames: &mut Stack<Frame>, b: u8) -> Result<Place, Stop>
+pub fn step(
+    alloc: Global,
+    place: Place,
+    purposes: &mut Stack<Purpose>,
+    b: u8,
+) -> Result<Place, Stop>
     requires { CanTake place b }
-    ensures { Steps result frames.new (step_lem true place frames.old b) }
+    ensures { Steps result purposes.new (step_lem true place purposes.old b) }
 {
     match place {
-        Place::Start => open(frames, Frame::Whole, b),
-        Place::Opened => behind_open(alloc, frames, b),
-        Place::Bang => open(frames, Frame::Negated, b),
+        Place::Start => open(purposes, Purpose::Whole, b),
+        Place::Opened => after_open(alloc, purposes, b),
+        Place::Bang => open(purposes, Purpose::Negated, b),
         Place::Word(word) => in_word(word, b),
-        Place::BehindField(field) => sign(field, b),
+        Place::AfterField(field) => sign(field, b),
         Place::Sign(field, test) => only_at(b'=', b, Goal::Compared(field, test)),
         Place::Contains(field, read) => contains_letter(field, read, b),
         Place::NeedsSpace(goal) => only_at(b' ', b, goal),
@@ -116,19 +122,19 @@ pub fn step(alloc: Global, place: Place, frames: &mut Stack<Frame>, b: u8) -> Re
             text.push(b)?;
             Ok(Place::InText(goal, quote, text))
         }
-        Place::Done(filter) => done(alloc, frames, filter, b),
-        Place::Joined(filter) => joined(alloc, frames, filter, b),
-        Place::BehindJoined(filter) => behind_joined(alloc, frames, filter, b),
+        Place::Done(filter) => done(alloc, purposes, filter, b),
+        Place::Joined(filter) => joined(alloc, purposes, filter, b),
+        Place::AfterJoined(filter) => after_joined(alloc, purposes, filter, b),
         Place::And(filter, read) => and_letter(filter, read, b),
-        Place::BehindAnd(filter) => behind_and(frames, filter, b),
+        Place::AfterAnd(filter) => after_and(purposes, filter, b),
         Place::Finished(_) => Err(Stop::Syntax),
     }
 }
 
-/// Behind an open parenthesis and perhaps spaces.
+/// After an open parenthesis and perhaps spaces.
 #[tactic(auto, unfolding(crate::specs::Machine::step))]
-fn behind_open(alloc: Global, frames: &mut Stack<Frame>, b: u8) -> Result<Place, Stop>
-    ensures { Steps result frames.new (step_lem true Place.Opened frames.old b) }
+fn after_open(alloc: Global, purposes: &mut Stack<Purpose>, b: u8) -> Result<Place, Stop>
+    ensures { Steps result purposes.new (step_lem true Place.Opened purposes.old b) }
 {
     if b == b' ' {
         Ok(Place::Opened)
@@ -139,96 +145,101 @@ fn behind_open(alloc: Global, frames: &mut Stack<Frame>, b: u8) -> Result<Place,
         word.push(b)?;
         Ok(Place::Word(word))
     } else {
-        open(frames, Frame::First, b)
+        open(purposes, Purpose::First, b)
     }
 }
 
 /// An open parenthesis, if it is one and there may be one more.
-fn open(frames: &mut Stack<Frame>, frame: Frame, b: u8) -> Result<Place, Stop>
-    ensures { Steps result frames.new (if b == 40 then opened true frame frames.old else Err Syntax) }
+fn open(purposes: &mut Stack<Purpose>, purpose: Purpose, b: u8) -> Result<Place, Stop>
+    ensures { Steps result purposes.new (if b == 40 then opened true purpose purposes.old else Err Syntax) }
 {
     if b != b'(' {
         return Err(Stop::Syntax);
     }
-    if frames.len() >= MAX_DEPTH {
+    if purposes.len() >= MAX_DEPTH {
         return Err(Stop::TooDeep);
     }
-    frames.push(frame)?;
+    purposes.push(purpose)?;
     Ok(Place::Opened)
 }
 
-/// Behind what stands alone in its parenthesis.
+/// After what is alone in its parenthesis.
 #[tactic(auto, unfolding(crate::specs::Machine::step))]
-fn done(alloc: Global, frames: &mut Stack<Frame>, filter: Filter, b: u8) -> Result<Place, Stop>
-    ensures { Steps result frames.new (step_lem true (Place.Done filter) frames.old b) }
+fn done(alloc: Global, purposes: &mut Stack<Purpose>, filter: Filter, b: u8) -> Result<Place, Stop>
+    ensures { Steps result purposes.new (step_lem true (Place.Done filter) purposes.old b) }
 {
     if b == b' ' {
         return Ok(Place::Done(filter));
     }
-    close(alloc, frames, filter, b)
+    close(alloc, purposes, filter, b)
 }
 
-/// Right behind the last of those that are to hold together.
+/// Right after the last of those that are to hold together.
 #[tactic(auto, unfolding(crate::specs::Machine::step))]
-fn joined(alloc: Global, frames: &mut Stack<Frame>, filter: Filter, b: u8) -> Result<Place, Stop>
-    ensures { Steps result frames.new (step_lem true (Place.Joined filter) frames.old b) }
-{
-    if b == b' ' {
-        return Ok(Place::BehindJoined(filter));
-    }
-    close(alloc, frames, filter, b)
-}
-
-/// Behind them and spaces.
-#[tactic(auto, unfolding(crate::specs::Machine::step))]
-fn behind_joined(
+fn joined(
     alloc: Global,
-    frames: &mut Stack<Frame>,
+    purposes: &mut Stack<Purpose>,
     filter: Filter,
     b: u8,
 ) -> Result<Place, Stop>
-    ensures { Steps result frames.new (step_lem true (Place.BehindJoined filter) frames.old b) }
+    ensures { Steps result purposes.new (step_lem true (Place.Joined filter) purposes.old b) }
 {
     if b == b' ' {
-        return Ok(Place::BehindJoined(filter));
+        return Ok(Place::AfterJoined(filter));
+    }
+    close(alloc, purposes, filter, b)
+}
+
+/// After them and spaces.
+#[tactic(auto, unfolding(crate::specs::Machine::step))]
+fn after_joined(
+    alloc: Global,
+    purposes: &mut Stack<Purpose>,
+    filter: Filter,
+    b: u8,
+) -> Result<Place, Stop>
+    ensures { Steps result purposes.new (step_lem true (Place.AfterJoined filter) purposes.old b) }
+{
+    if b == b' ' {
+        return Ok(Place::AfterJoined(filter));
     }
     if b == b'A' {
         return Ok(Place::And(filter, 1));
     }
-    close(alloc, frames, filter, b)
+    close(alloc, purposes, filter, b)
 }
 
-/// Behind AND and spaces.
+/// After AND and spaces.
 #[tactic(auto, unfolding(crate::specs::Machine::step))]
-fn behind_and(frames: &mut Stack<Frame>, filter: Filter, b: u8) -> Result<Place, Stop>
-    ensures { Steps result frames.new (step_lem true (Place.BehindAnd filter) frames.old b) }
+fn after_and(purposes: &mut Stack<Purpose>, filter: Filter, b: u8) -> Result<Place, Stop>
+    ensures { Steps result purposes.new (step_lem true (Place.AfterAnd filter) purposes.old b) }
 {
     if b == b' ' {
-        return Ok(Place::BehindAnd(filter));
+        return Ok(Place::AfterAnd(filter));
     }
-    open(frames, Frame::Next(filter), b)
+    open(purposes, Purpose::Next(filter), b)
 }
 
 /// A closed parenthesis, if it is one: what it closes is the innermost that is open.
-fn close(alloc: Global, frames: &mut Stack<Frame>, filter: Filter, b: u8) -> Result<Place, Stop>
-    ensures { Steps result frames.new (if b == 41 then closed filter frames.old else Err Syntax) }
+fn close(alloc: Global, purposes: &mut Stack<Purpose>, filter: Filter, b: u8) -> Result<Place, Stop>
+    ensures { Steps result purposes.new (if b == 41 then closed filter purposes.old else Err Syntax) }
 {
     if b != b')' {
         return Err(Stop::Syntax);
     }
-    match frames.pop() {
+    match purposes.pop() {
         None => Err(Stop::Syntax),
-        Some(Frame::Whole) => Ok(Place::Finished(filter)),
-        Some(Frame::Negated) => Ok(Place::Done(Filter::negation(alloc, filter)?)),
-        Some(Frame::First) => Ok(Place::Joined(filter)),
-        Some(Frame::Next(first)) => Ok(Place::Joined(Filter::both(alloc, first, filter)?)),
+        Some(Purpose::Whole) => Ok(Place::Finished(filter)),
+        Some(Purpose::Negated) => Ok(Place::Done(Filter::negation(alloc, filter)?)),
+        Some(Purpose::First) => Ok(Place::Joined(filter)),
+        Some(Purpose::Next(first)) => Ok(Place::Joined(Filter::both(alloc, first, filter)?)),
     }
 }
 
-/// In a word, or behind it.
+/// In a word, or after it.
 fn in_word(mut word: Sequence<u8>, b: u8) -> Result<Place, Stop>
     requires { IsUtf8 word }
-    ensures { StepsAlone result (if is_letter_lem b then Ok (Place.Word (word ++ b ∷ [])) else behind_word_lem (named_of word) word b) }
+    ensures { StepsAlone result (if is_letter_lem b then Ok (Place.Word (word ++ b ∷ [])) else after_word_lem (named_of word) word b) }
 {
     if is_letter(b) {
         word.push(b)?;
@@ -249,7 +260,7 @@ pub fn text_of(bytes: Sequence<u8>) -> Text
     Text::of(String::from_utf8(bytes.into_items()).unwrap())
 }
 
-/// In front of a text in quotes, if the byte is this one.
+/// Before a text in quotes, if the byte is this one.
 fn only_at(wanted: u8, b: u8, goal: Goal) -> Result<Place, Stop>
     ensures { StepsAlone result (if b == wanted then Ok (Place.BeforeText goal) else Err Syntax) }
 {
@@ -260,7 +271,7 @@ fn only_at(wanted: u8, b: u8, goal: Goal) -> Result<Place, Stop>
     }
 }
 
-/// In front of a text in quotes.
+/// Before a text in quotes.
 fn before_text(alloc: Global, goal: Goal, b: u8) -> Result<Place, Stop>
     ensures { StepsAlone result (if b == 32 then Ok (Place.BeforeText goal) else (if (b == 34) || (b == 39) then Ok (Place.InText goal b []) else Err Syntax)) }
 {
@@ -309,12 +320,12 @@ fn is_letter(b: u8) -> bool
     (b >= b'A' && b <= b'Z') || (b >= b'a' && b <= b'z')
 }
 
-/// Behind what is compared.
+/// After what is compared.
 fn sign(field: Field, b: u8) -> Result<Place, Stop>
     ensures { StepsAlone result (sign_lem field b) }
 {
     if b == b' ' {
-        Ok(Place::BehindField(field))
+        Ok(Place::AfterField(field))
     } else if b == b'=' {
         Ok(Place::Sign(field, Test::Equals))
     } else if b == b'!' {
@@ -349,13 +360,13 @@ fn and_letter(filter: Filter, read: u8, b: u8) -> Result<Place, Stop>
     } else if read == 2 && b == b'D' {
         Ok(Place::And(filter, 3))
     } else if read == 3 && b == b' ' {
-        Ok(Place::BehindAnd(filter))
+        Ok(Place::AfterAnd(filter))
     } else {
         Err(Stop::Syntax)
     }
 }
 
-/// What a word in front of a text names.
+/// What a word before a text names.
 #[tactic(auto, unfolding(crate::specs::Machine::named_of))]
 pub fn name_of(word: &[u8]) -> Option<Named>
     ensures { result ≡ named_of word.now }

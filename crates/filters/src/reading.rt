@@ -16,9 +16,9 @@ use std::alloc::{AllocError, AllocFailed, Global};
 /// Why words are no filter: the first cause from the left.
 #[derive(Debug, Drop)]
 pub enum FilterFault {
-    /// It goes wrong behind so many bytes: the length of the longest front with which some filter begins.
+    /// It goes wrong after so many bytes: the length of the longest start with which some filter begins.
     Syntax(usize),
-    /// This word stands where a tag, `file`, `any` or `base` is wanted. In a text it ends in front of the first
+    /// This word is where a tag, `file`, `any` or `base` is wanted. In a text it ends before the first
     /// byte that is no ASCII letter, or at the end.
     UnknownTag(Text),
     /// A 33rd parenthesis is open.
@@ -69,10 +69,10 @@ fn read(alloc: Global, text: &[u8]) -> Result<Filter, FilterFault>
     requires { IsUtf8 text.now }
     ensures { Reads result (parsed text.now) }
 {
-    let mut frames = Stack::new(alloc);
+    let mut purposes = Stack::new(alloc);
     let mut place = Place::Start;
     for (i, b) in text.iter().enumerate() {
-        match step(alloc, place, &mut frames, *b) {
+        match step(alloc, place, &mut purposes, *b) {
             Ok(next) => place = next,
             Err(stop) => return Err(fault(i, stop)),
         }
@@ -91,7 +91,7 @@ fn fault(at: usize, stop: Stop) -> FilterFault
     }
 }
 
-/// What a text is that ends at this place, behind so many bytes.
+/// What a text is that ends at this place, after so many bytes.
 fn end(at: usize, place: Place) -> Result<Filter, FilterFault>
     requires { CanEnd place }
     ensures { Reads result (ending at place) }

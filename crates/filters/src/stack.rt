@@ -35,7 +35,7 @@ impl<T: Drop> Stack<T> {
         self.items.len()
     }
 
-    /// Puts an item in front. Without memory nothing changes.
+    /// Puts an item at the front. Without memory nothing changes.
     pub fn push(&mut self, item: T) -> Result<(), AllocFailed<T>>
         ensures { self.new ≡ (if is_ok result then item ∷ self.old else self.old) }
     {

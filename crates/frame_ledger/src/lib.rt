@@ -8,6 +8,3 @@ pub mod tally;
 pub use books::{Blanks, Books, OutputShares};
 pub use settlement::{SettleFault, Settled, settle};
 pub use tally::{AtLimit, Tally};
-
-#[cfg(test)]
-mod tests;

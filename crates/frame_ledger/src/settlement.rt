@@ -1,12 +1,12 @@
 //! The books against the rings.
-ghost use Rattle.std.specs.Prelude.{◌≡◌, ◌+◌, ◌<◌, ◌↔◌, if◌then◌else◌, List, length, slice_index, IfOk, IsNone, IsSome, IsOk};
-ghost use Rattle.output_ring.specs.Rings.{AreEndsAfter, unreported_of};
+ghost use Rattle.std.specs.Prelude.{◌≡◌, ◌+◌, ◌^◌, ◌<◌, ◌↔◌, if◌then◌else◌, List, length, slice_index, IfOk, IfSome, IsNone, IsSome, IsOk};
+ghost use Rattle.output_ring.specs.Rings.{AreEndsAfter, end_owed, hand_of, unreported_of};
 ghost use Rattle.output_ring.specs.declared.frames.CutFrame.{CutFrame};
 ghost use Rattle.frame_ledger.specs.declared.settlement.SettleFault.TheVariants.{Unsettled};
 ghost use Rattle.frame_ledger.specs.Balance.{raised, has_room, Balances, Agrees};
 
 use crate::books::{Books, OutputShares};
-use output_ring::{Drainer, FeederEnd};
+use output_ring::{Drainer, FeederEnd, Totals};
 use std::sync::ledger::Ledger;
 
 /// What became of all frames of one output.
@@ -25,7 +25,7 @@ pub struct Settled {
 /// Why an output was not settled.
 #[derive(Clone, Copy, PartialEq, Eq, Debug)]
 pub enum SettleFault {
-    /// The feeder's end has no token.
+    /// The feeder's end has no token, so what it sent is not known.
     Unsettled,
     /// A book says otherwise than the ring, or would pass 2^63-1.
     Mismatch,
@@ -68,22 +68,48 @@ pub fn settle<E: Ledger, W: Ledger, X: Ledger>(
     if counted.is_err() {
         return Err(SettleFault::Mismatch);
     }
-    let booked = books.decoded.number(output);
-    let totals = drainer.totals();
-    let left = drainer.held() as u64 + ring as u64 + end.owed() as u64;
-    let Some(decoded) = (totals.written + totals.discarded).checked_add(left) else {
-        return Err(SettleFault::Mismatch);
+    let left = left_of(&end, &drainer, ring);
+    let booked = Booked {
+        decoded: books.decoded.number(output),
+        written: books.written.number(output),
+        discarded: books.discarded.number(output),
     };
-    if decoded != booked {
-        return Err(SettleFault::Mismatch);
+    match compare(drainer.totals(), left, booked) {
+        Some(settled) => Ok(settled),
+        None => Err(SettleFault::Mismatch),
     }
-    if totals.written != books.written.number(output) {
-        return Err(SettleFault::Mismatch);
+}
+
+// An output's numbers in the three books.
+#[derive(Clone, Copy)]
+struct Booked {
+    decoded: u64,
+    written: u64,
+    discarded: u64,
+}
+
+// How many frames have no fate: those in the hand, in the ring, and owed.
+fn left_of(end: &FeederEnd, drainer: &Drainer, ring: usize) -> u64
+    requires { (length (hand_of drainer.now) + ring) + length (end_owed end.now) < 2 ^ 64 }
+    ensures { result ≡ (length (hand_of drainer.now) + ring) + length (end_owed end.now) }
+{
+    drainer.held() as u64 + ring as u64 + end.owed() as u64
+}
+
+// The settled numbers, if the books agree with the drainer's totals and what is left.
+fn compare(totals: Totals, left: u64, booked: Booked) -> Option<Settled>
+    requires { totals.written + totals.discarded < 2 ^ 64 }
+    ensures agrees { IsSome result ↔ (((totals.written + totals.discarded) + left ≡ booked.decoded) × (totals.written ≡ booked.written) × (totals.discarded ≡ booked.discarded)) }
+    ensures numbers { IfSome result (λ s. s ≡ record { decoded = (totals.written + totals.discarded) + left; written = totals.written; discarded = totals.discarded; left = left; torn = totals.torn }) }
+{
+    let decoded = (totals.written + totals.discarded).checked_add(left)?;
+    if decoded != booked.decoded
+        || totals.written != booked.written
+        || totals.discarded != booked.discarded
+    {
+        return None;
     }
-    if totals.discarded != books.discarded.number(output) {
-        return Err(SettleFault::Mismatch);
-    }
-    Ok(Settled {
+    Some(Settled {
         decoded,
         written: totals.written,
         discarded: totals.discarded,

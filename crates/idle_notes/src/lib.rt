@@ -1,11 +1,9 @@
-//! What changed, and which clients wait to hear of it (MPD protocol reference, Querying MPD's status, `idle`).
+//! What changed, and which clients wait to be told (MPD protocol reference, Querying MPD's status, `idle`).
 #![tactic(auto)]
 
 mod pending;
 mod sets;
 mod subsystem;
-#[cfg(test)]
-mod tests;
 
 pub use pending::Pending;
 pub use sets::Subsystems;

@@ -12,7 +12,7 @@ pub struct Pending {
 }
 
 impl Pending {
-    /// Of a client that has just come: nothing changed, and it does not wait.
+    /// What is pending for a new client: nothing changed, and it does not wait.
     pub fn new() -> Pending
         ensures { result ≡ fresh }
     {

@@ -3,7 +3,7 @@ use Rattle.std.proofs.Common.{◌≡◌, ◌≢◌, ◌⊎◌, inl, inr, ℕ, �
 use Rattle.std.specs.List.{concat}
 use Rattle.std.proofs.lemmas.List.{append-nil}
 use Rattle.std.proofs.lemmas.Bool.Decides.{nat_tests}
-use Rattle.mpd_text.specs.Cut.{Cut, onto_first, cut, fits, Split, up_to_long, split, split_from, then_split, split_pieces, HasNoNewline, IsStart, with_newlines, AreLines}
+use Rattle.mpd_text.specs.Lines.Cut.{Cut, onto_first, cut, fits, Split, up_to_long, split, split_from, then_split, split_pieces, HasNoNewline, IsStart, with_newlines, AreLines}
 use Rattle.mpd_text.proofs.CutLemmas.{none_nil, none_cons, split_long, split_line, split_start, first_is_long, first_of, closes}
 
 is_newline : (b : ℕ) → ((eqb b 10 ≡ true) × (b ≡ 10)) ⊎ ((eqb b 10 ≡ false) × (b ≢ 10))
@@ -67,15 +67,15 @@ none_left : (s : Split) → then_pieces s [] ≡ s
 unfolding then_pieces
 none_left s = rw append-nil refl
 
-behind : (x : List ℕ) (pieces : List (List ℕ)) → then_pieces (split x) pieces ≡ split (x ++ concat pieces)
-behind x [] = none_left (split x) ∙ ap split (sym (append-nil x))
-behind x (piece ∷ pieces) =
-    regroup (split x) piece pieces ∙ ap (λ (s : Split). then_pieces s pieces) (sym (split_append x piece)) ∙ behind (x ++ piece) pieces ∙ ap split (append_assoc x piece (concat pieces))
+then_all : (x : List ℕ) (pieces : List (List ℕ)) → then_pieces (split x) pieces ≡ split (x ++ concat pieces)
+then_all x [] = none_left (split x) ∙ ap split (sym (append-nil x))
+then_all x (piece ∷ pieces) =
+    regroup (split x) piece pieces ∙ ap (λ (s : Split). then_pieces s pieces) (sym (split_append x piece)) ∙ then_all (x ++ piece) pieces ∙ ap split (append_assoc x piece (concat pieces))
 
 -- in whatever pieces a stream comes
 pub pieces_split : (pieces : List (List ℕ)) → split_pieces (Some []) pieces ≡ split (concat pieces)
 unfolding then_pieces split cut
-pieces_split pieces = behind [] pieces
+pieces_split pieces = then_all [] pieces
 
 pub open_split : (lines : List (List ℕ)) (start : List ℕ) → AreLines lines → IsStart start → split (with_newlines lines ++ start) ≡ record { lines = lines; next = Some start }
 open_split [] start are is = split_start start is

@@ -1,11 +1,11 @@
--- How a stream splits behind what has come of a line.
+-- How a stream splits after what has come of a line.
 use Rattle.std.proofs.Common.{◌≡◌, ◌≢◌, inl, inr, ℕ, ◌+◌, ◌-◌, ◌≤◌, ◌<◌, suc, true, false, eqb, List, [], ◌∷◌, ◌++◌, length, take, drop, get_or, Some, None, refl, sym, ap, ◌∙◌, append_assoc, arith}
 use Rattle.std.proofs.lemmas.List.{length-append, length-drop, length-take-le, get_or-drop, drop-drop, take-append-drop, take_all, take_more, drop_more}
 use Rattle.std.proofs.lemmas.List.Elements.{Contains-append_left, Contains-append_right, Contains-append_cases, Contains-push, Contains-push_cases}
 use Rattle.std.proofs.lemmas.Bool.Decides.{nat_tests}
-use Rattle.mpd_text.specs.Cut.{onto_first, cut, fits, up_to_long, split, HasNoNewline, IsStart}
+use Rattle.mpd_text.specs.Lines.Cut.{onto_first, cut, fits, up_to_long, split, HasNoNewline, IsStart}
 
--- a newline at the front or behind it
+-- a newline at the start or after it
 
 pub none_head : (b : ℕ) (bs : List ℕ) → HasNoNewline (b ∷ bs) → b ≢ 10
 none_head b bs none = λ e. none (Contains-append_left (b ∷ []) bs 10 (rw e (Contains-push [] 10)))
@@ -49,7 +49,7 @@ unfolding first_of
 longer b n [] rest h = omega arith
 longer b n (line ∷ lines) rest h = omega arith
 
--- bytes without a newline stand in the first part
+-- bytes without a newline are in the first part
 pub first_is_long : (front rest : List ℕ) → HasNoNewline front → length front ≤ length (first_of (cut (front ++ rest)).lines (cut (front ++ rest)).rest)
 unfolding cut
 first_is_long [] rest none = omega arith
@@ -76,7 +76,7 @@ pub split_start : (start : List ℕ) → IsStart start → split start ≡ recor
 unfolding split
 split_start start is = let e : fits start ≡ true = grind (arith, nat_tests) in rw (cut_start start is.0, e) refl
 
--- how a stream splits by the place of its first newline, or its end, behind what has come of a line
+-- how a stream splits by the place of its first newline, or its end, after what has come of a line
 
 parts : (xs : List ℕ) (i : ℕ) → i < length xs → get_or xs i 0 ≡ 10 → xs ≡ take i xs ++ 10 ∷ drop (i + 1) xs
 parts xs i l e = sym (take-append-drop i xs) ∙ ap (λ (ys : List ℕ). take i xs ++ ys) (drop_more xs i 0 l ∙ ap (λ (b : ℕ). b ∷ drop (i + 1) xs) e)
@@ -106,7 +106,7 @@ line_goes_on partial piece i none front short l = split_start (partial ++ piece)
 
 -- one more byte that is no newline
 pub none_further : (bytes : List ℕ) (start i : ℕ) → start ≤ i → i < length bytes → get_or bytes i 0 ≢ 10 → HasNoNewline (take (i - start) (drop start bytes)) → HasNoNewline (take (i + 1 - start) (drop start bytes))
-none_further bytes start i behind l other none =
+none_further bytes start i after_start l other none =
     let left = length-drop start bytes in
     let inside : i - start < length (drop start bytes) = omega arith in
     let step : i + 1 - start ≡ (i - start) + 1 = omega arith in
@@ -119,7 +119,7 @@ none_further bytes start i behind l other none =
 
 pub stream_line : (stream : List ℕ) (start end : ℕ) → start ≤ end → end < length stream → HasNoNewline (take (end - start) (drop start stream)) → end - start ≤ 16384 → get_or stream end 0 ≡ 10
     → split (drop start stream) ≡ record { lines = take (end - start) (drop start stream) ∷ (split (drop (end + 1) stream)).lines; next = (split (drop (end + 1) stream)).next }
-stream_line stream start end behind l none short e =
+stream_line stream start end after_start l none short e =
     let left = length-drop start stream in
     let inside : end - start < length (drop start stream) = omega arith in
     let place : start + (end - start) ≡ end = omega arith in
@@ -129,14 +129,14 @@ stream_line stream start end behind l none short e =
     line_ends [] (drop start stream) (end - start) none_nil none fits inside at ∙ rw same refl
 
 pub stream_long : (stream : List ℕ) (start end : ℕ) → start ≤ end → end ≤ length stream → HasNoNewline (take (end - start) (drop start stream)) → 16384 < end - start → split (drop start stream) ≡ record { lines = []; next = None }
-stream_long stream start end behind l none long =
+stream_long stream start end after_start l none long =
     let left = length-drop start stream in
     let over : 16384 < 0 + (end - start) = omega arith in
     line_is_long [] (drop start stream) (end - start) none_nil none over (omega arith)
 
 pub stream_rest : (stream : List ℕ) (start end : ℕ) (tail : List ℕ) → start ≤ end → length stream ≤ end → HasNoNewline (take (end - start) (drop start stream)) → end - start ≤ 16384
     → tail ≡ take (length stream - start) (drop start stream) → (split (drop start stream) ≡ record { lines = []; next = Some tail }) × IsStart tail
-stream_rest stream start end tail behind l none short e =
+stream_rest stream start end tail after_start l none short e =
     let left = length-drop start stream in
     let fits : 0 + (end - start) ≤ 16384 = omega arith in
     let all : length (drop start stream) ≤ end - start = omega arith in

@@ -2,11 +2,11 @@
 use Rattle.std.proofs.Common.{◌≡◌, ◌≢◌, ℕ, ◌≤◌, List, length, Result, Ok, Err, String, refl, subst}
 use Rattle.std.specs.Global.{Vec, Global}
 use Rattle.std.specs.Result.{IfOk, IfErr}
-use Rattle.mpd_text.specs.declared.quoting.WordsFault.{WordsFault}
-use Rattle.mpd_text.specs.declared.quoting.WordsFault.TheVariants.{BadUnquoted, NoClosingQuote, NoSpaceAfterQuote, TooMany, NoMemory}
-use Rattle.mpd_text.specs.Scan.{words_of}
-use Rattle.mpd_text.specs.Words.{Gives, texts_of}
-use Rattle.mpd_text.specs.Grammar.{Spells, IsFaulty}
+use Rattle.mpd_text.specs.declared.lines.quoting.WordsFault.{WordsFault}
+use Rattle.mpd_text.specs.declared.lines.quoting.WordsFault.TheVariants.{BadUnquoted, NoClosingQuote, NoSpaceAfterQuote, TooMany, NoMemory}
+use Rattle.mpd_text.specs.Lines.Scan.{words_of}
+use Rattle.mpd_text.specs.Lines.Words.{Gives, texts_of}
+use Rattle.mpd_text.specs.Lines.Grammar.{Spells, IsFaulty}
 use Rattle.mpd_text.proofs.GrammarScan.{spelled_is_read}
 use Rattle.mpd_text.proofs.ScanGrammar.{is_read}
 

@@ -2,12 +2,12 @@
 use Rattle.std.proofs.Common.{◌≡◌, ◌≢◌, ◌⊎◌, inl, inr, ℕ, suc, ◌+◌, ◌<◌, ◌≤◌, true, false, eqb, List, [], ◌∷◌, ◌++◌, length, Ok, Err, refl, sym, ap, ◌∙◌, append_assoc, arith}
 use Rattle.std.proofs.lemmas.List.{append-nil}
 use Rattle.std.proofs.lemmas.Bool.Decides.{nat_tests}
-use Rattle.mpd_text.specs.declared.quoting.WordsFault.{WordsFault}
-use Rattle.mpd_text.specs.declared.quoting.WordsFault.TheVariants.{BadUnquoted, NoClosingQuote, NoSpaceAfterQuote, TooMany, NoMemory}
-use Rattle.mpd_text.specs.declared.quoting.Place.{Place}
-use Rattle.mpd_text.specs.declared.quoting.Place.TheVariants.{Between, Bare, Quoted, Closed}
-use Rattle.mpd_text.specs.Scan.{is_blank, is_bare, after, scan, words_of}
-use Rattle.mpd_text.specs.Grammar.{AreBlanks, AreBare, IsInside, IsBareWord, IsQuotedWord, EndsWord, Begins, Spells, GoesWrong, IsFaulty}
+use Rattle.mpd_text.specs.declared.lines.quoting.WordsFault.{WordsFault}
+use Rattle.mpd_text.specs.declared.lines.quoting.WordsFault.TheVariants.{BadUnquoted, NoClosingQuote, NoSpaceAfterQuote, TooMany, NoMemory}
+use Rattle.mpd_text.specs.declared.lines.quoting.Place.{Place}
+use Rattle.mpd_text.specs.declared.lines.quoting.Place.TheVariants.{Between, Bare, Quoted, Closed}
+use Rattle.mpd_text.specs.Lines.Scan.{is_blank, is_bare, after, scan, words_of}
+use Rattle.mpd_text.specs.Lines.Grammar.{AreBlanks, AreBare, IsInside, IsBareWord, IsQuotedWord, EndsWord, Begins, Spells, GoesWrong, IsFaulty}
 use Rattle.mpd_text.proofs.Scans.{after_nil, after_after}
 
 pub bare_is : (b : ℕ) → is_bare b ≡ true → (is_blank b ≡ false) × (eqb b 34 ≡ false)

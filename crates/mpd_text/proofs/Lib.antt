@@ -4,7 +4,9 @@ pub mod CutLaws
 pub mod Scans
 pub mod GrammarScan
 pub mod ScanGrammar
+pub mod AsciiCuts
 pub mod Utf8Words
 pub mod ExactWords
 pub mod DeviceLemmas
 pub mod Digits
+pub mod TagNumbers

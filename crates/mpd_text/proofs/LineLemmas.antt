@@ -1,12 +1,12 @@
 -- The text of a line, as `from_utf8` decides it.
 use Rattle.std.proofs.Common.{◌≡◌, ℕ, ◌+◌, take, drop, List, Bool, true, false, Option, Some, None, [], ◌∷◌, ◌++◌, map, refl, sym, ap, ◌∙◌, append_assoc}
 use Rattle.std.proofs.lemmas.List.{map-append, append-nil}
-use Rattle.mpd_text.specs.declared.lines.Line.{Line}
+use Rattle.mpd_text.specs.declared.lines.splitter.Line.{Line}
 use Rattle.std.specs.Str.{IsUtf8, is_utf8}
 use Rattle.std.specs.Str.Lines.{strip_carriage_return}
 use Rattle.std.proofs.lemmas.Str.{is_utf8-from_IsUtf8, IsUtf8-from_is_utf8}
-use Rattle.mpd_text.specs.Lines.{line_of, view, views}
-use Rattle.mpd_text.specs.Cut.{Split, split}
+use Rattle.mpd_text.specs.Lines.Split.{line_of, view, views}
+use Rattle.mpd_text.specs.Lines.Cut.{Split, split}
 
 pub line_of_text : (bytes text : List ℕ) → text ≡ strip_carriage_return bytes → IsUtf8 text → line_of bytes ≡ Some text
 line_of_text bytes text e utf8 = rw (← e) (rw (is_utf8-from_IsUtf8 text utf8) refl)
@@ -37,7 +37,7 @@ one_given lines new line text s rest whole e given split_off h =
     ap (λ (xs : List (Option (List ℕ))). xs ++ map line_of rest.lines) (views_push lines new line text text e given refl)
     ∙ append_assoc (views lines) (line_of text ∷ []) (map line_of rest.lines) ∙ rw split_off at h
 
--- a line that ends in a piece, and those of the piece behind it
+-- a line that ends in a piece, and those of the piece after it
 pub first_given : (partial piece tail : List ℕ) (i : ℕ) (line : Line) (lines : List Line) (next : Option (List ℕ))
     → split (partial ++ piece) ≡ record { lines = (partial ++ take i piece) ∷ (split (drop (i + 1) piece)).lines; next = (split (drop (i + 1) piece)).next }
     → view line ≡ line_of (partial ++ take i piece) → tail ≡ drop (i + 1) piece → views lines ≡ view line ∷ map line_of (split tail).lines → next ≡ (split tail).next

@@ -2,15 +2,15 @@
 use Rattle.std.proofs.Common.{◌≡◌, ◌≢◌, ◌⊎◌, inl, inr, ℕ, ◌+◌, ◌<◌, ◌≤◌, Bool, true, false, eqb, List, [], ◌∷◌, ◌++◌, length, Result, Ok, Err, refl, sym, ap, subst, ◌∙◌, append_assoc, arith}
 use Rattle.std.proofs.lemmas.List.{append-nil, length_push}
 use Rattle.std.proofs.lemmas.Bool.Decides.{nat_tests}
-use Rattle.mpd_text.specs.declared.quoting.WordsFault.{WordsFault}
-use Rattle.mpd_text.specs.declared.quoting.WordsFault.TheVariants.{BadUnquoted, NoClosingQuote, NoSpaceAfterQuote, TooMany}
-use Rattle.mpd_text.specs.declared.quoting.Place.{Place}
-use Rattle.mpd_text.specs.declared.quoting.Place.TheVariants.{Between, Bare, Quoted, Escaped, Closed}
+use Rattle.mpd_text.specs.declared.lines.quoting.WordsFault.{WordsFault}
+use Rattle.mpd_text.specs.declared.lines.quoting.WordsFault.TheVariants.{BadUnquoted, NoClosingQuote, NoSpaceAfterQuote, TooMany}
+use Rattle.mpd_text.specs.declared.lines.quoting.Place.{Place}
+use Rattle.mpd_text.specs.declared.lines.quoting.Place.TheVariants.{Between, Bare, Quoted, Escaped, Closed}
 use Rattle.std.specs.Result.{MatchResult}
-use Rattle.mpd_text.specs.Scan.{is_blank, is_bare, after, scan, words_of}
-use Rattle.mpd_text.specs.Grammar.{AreBlanks, AreBare, IsInside, IsBareWord, IsQuotedWord, EndsWord, Begins, Spells, GoesWrong, IsFaulty}
+use Rattle.mpd_text.specs.Lines.Scan.{is_blank, is_bare, after, scan, words_of}
+use Rattle.mpd_text.specs.Lines.Grammar.{AreBlanks, AreBare, IsInside, IsBareWord, IsQuotedWord, EndsWord, Begins, Spells, GoesWrong, IsFaulty}
 
--- what is read of a line behind so many words
+-- what is read of a line after so many words
 Reads : ℕ → List ℕ → Result (List (List ℕ)) WordsFault → Type 0
 Reads count line (Ok words) = Spells line words × (count + length words ≤ 65)
 Reads count line (Err fault) = IsFaulty count line fault

@@ -1,12 +1,12 @@
 -- Steps of the scan of a line.
 use Rattle.std.proofs.Common.{◌≡◌, ℕ, ◌+◌, ◌<◌, get_or, drop, true, List, [], ◌∷◌, ◌++◌, length, Result, Ok, Err, refl, sym, ap, subst, ◌∙◌, append_assoc}
 use Rattle.std.proofs.lemmas.List.{map-append, length_push, drop_more}
-use Rattle.mpd_text.specs.declared.quoting.WordsFault.{WordsFault}
-use Rattle.mpd_text.specs.declared.quoting.Reading.{Reading}
-use Rattle.mpd_text.specs.declared.quoting.Place.{Place}
-use Rattle.mpd_text.specs.declared.quoting.Place.TheVariants.{Between, Bare, Closed}
-use Rattle.mpd_text.specs.Scan.{after, scan, is_blank}
-use Rattle.mpd_text.specs.Words.{outcome, bytes_of, Refuses}
+use Rattle.mpd_text.specs.declared.lines.quoting.WordsFault.{WordsFault}
+use Rattle.mpd_text.specs.declared.lines.quoting.Reading.{Reading}
+use Rattle.mpd_text.specs.declared.lines.quoting.Place.{Place}
+use Rattle.mpd_text.specs.declared.lines.quoting.Place.TheVariants.{Between, Bare, Closed}
+use Rattle.mpd_text.specs.Lines.Scan.{after, scan, is_blank}
+use Rattle.mpd_text.specs.Lines.Words.{outcome, bytes_of, Refuses}
 
 pub after_nil : (r : Result (List (List ℕ)) WordsFault) → after [] r ≡ r
 after_nil (Ok words) = refl

@@ -1,32 +1,15 @@
 -- The words of a text are texts.
-use Rattle.std.proofs.Common.{◌≡◌, ◌≢◌, ◌⊎◌, inl, inr, ℕ, ◌+◌, ◌<◌, Bool, true, false, eqb, List, [], ◌∷◌, ◌++◌, map, length, get_or, drop, Result, Ok, Err, refl, sym, ap, subst, ◌∙◌, append_assoc, arith}
+use Rattle.std.proofs.Common.{◌≡◌, ◌≢◌, ◌⊎◌, inl, inr, ℕ, ◌+◌, ◌<◌, Bool, true, false, eqb, List, [], ◌∷◌, ◌++◌, map, Result, Ok, Err, refl, subst, arith}
 use Rattle.std.specs.List.{AllByRecursion}
 use Rattle.std.specs.Global.{Vec}
 use Rattle.std.specs.Str.{IsUtf8}
-use Rattle.std.proofs.lemmas.List.{append-nil, length-append, take_at, drop_at, get_or_at}
-use Rattle.std.proofs.lemmas.Str.{IsUtf8-append, IsUtf8-take, IsUtf8-drop, IsCharBoundary-before_ascii, IsCharBoundary-after_ascii}
+use Rattle.std.proofs.lemmas.List.{append-nil}
 use Rattle.std.proofs.lemmas.Bool.Decides.{nat_tests}
-use Rattle.mpd_text.specs.declared.quoting.WordsFault.{WordsFault}
-use Rattle.mpd_text.specs.declared.quoting.Place.{Place}
-use Rattle.mpd_text.specs.declared.quoting.Place.TheVariants.{Between, Bare, Quoted, Escaped, Closed}
-use Rattle.mpd_text.specs.Scan.{is_blank, is_bare, after, scan, words_of}
-
--- a text may be cut at an ASCII byte
-pub cut_at : (xs ys : List ℕ) (c : ℕ) → IsUtf8 (xs ++ c ∷ ys) → c < 128 → IsUtf8 xs × IsUtf8 ys
-cut_at xs ys c utf8 small =
-    let bytes = xs ++ c ∷ ys in
-    let at : get_or bytes (length xs) 0 ≡ c = get_or_at xs c ys 0 (length xs) refl in
-    let len = length-append xs (c ∷ ys) in
-    let inside : length xs < length bytes = omega arith in
-    let ascii : get_or bytes (length xs) 0 < 128 = omega arith in
-    let front = IsUtf8-take bytes (length xs) utf8 (IsCharBoundary-before_ascii bytes (length xs) inside ascii) in
-    let back = IsUtf8-drop bytes (length xs + 1) utf8 (IsCharBoundary-after_ascii bytes (length xs) utf8 inside ascii) in (
-      subst IsUtf8 (take_at xs (c ∷ ys) (length xs) refl) front,
-      subst IsUtf8 (ap (drop (length xs + 1)) (sym (append_assoc xs (c ∷ []) ys)) ∙ drop_at (xs ++ c ∷ []) ys (length xs + 1) (length-append xs (c ∷ []))) back,
-    )
-
-without : (xs ys : List ℕ) (c : ℕ) → IsUtf8 (xs ++ c ∷ ys) → c < 128 → IsUtf8 (xs ++ ys)
-without xs ys c utf8 small = let parts = cut_at xs ys c utf8 small in IsUtf8-append xs ys parts.0 parts.1
+use Rattle.mpd_text.specs.declared.lines.quoting.WordsFault.{WordsFault}
+use Rattle.mpd_text.specs.declared.lines.quoting.Place.{Place}
+use Rattle.mpd_text.specs.declared.lines.quoting.Place.TheVariants.{Between, Bare, Quoted, Escaped, Closed}
+use Rattle.mpd_text.specs.Lines.Scan.{is_blank, is_bare, after, scan, words_of}
+use Rattle.mpd_text.proofs.AsciiCuts.{cut_at, without, one_more}
 
 pub AllUtf8 : Result (List (List ℕ)) WordsFault → Type 0
 AllUtf8 (Ok words) = AllByRecursion IsUtf8 words
@@ -46,9 +29,6 @@ is_equal a b = grind (arith, nat_tests)
 
 blank_small : (b : ℕ) → is_blank b ≡ true → b < 128
 blank_small b e = grind (arith, nat_tests)
-
-one_more : (word : List ℕ) (b : ℕ) (rest : List ℕ) → IsUtf8 (word ++ b ∷ rest) → IsUtf8 ((word ++ b ∷ []) ++ rest)
-one_more word b rest utf8 = subst IsUtf8 (sym (append_assoc word (b ∷ []) rest)) utf8
 
 all_utf8 : (rest : List ℕ) (place : Place) (count : ℕ) (word : List ℕ) → IsUtf8 (word ++ rest) → AllUtf8 (scan place count word rest)
 unfolding scan AllUtf8

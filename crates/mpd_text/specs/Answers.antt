@@ -1,22 +1,3 @@
--- The lines of answers (MPD protocol reference, Responses and Failure responses).
-use Rattle.std.specs.Prelude.{ℕ, List, ◌++◌, codes, decimal}
-use Rattle.mpd_text.specs.declared.answer.ErrorNumber.{ErrorNumber}
-use Rattle.mpd_text.specs.declared.answer.ErrorNumber.TheVariants.{Argument, Permission, Unknown, NoExist, PlaylistMax, System, UpdateAlready, PlayerSync, Exist}
-
-abbrev pub pair_line : List ℕ → List ℕ → List ℕ
-pair_line key value = key ++ codes ": " ++ value ++ codes "\n"
-
-abbrev pub ack_line : ℕ → ℕ → List ℕ → List ℕ → List ℕ
-ack_line number place command text =
-    codes "ACK [" ++ decimal number ++ codes "@" ++ decimal place ++ codes "] {" ++ command ++ codes "} " ++ text ++ codes "\n"
-
-abbrev pub number_of : ErrorNumber → ℕ
-number_of Argument = 2
-number_of Permission = 4
-number_of Unknown = 5
-number_of NoExist = 50
-number_of PlaylistMax = 51
-number_of System = 52
-number_of UpdateAlready = 54
-number_of PlayerSync = 55
-number_of Exist = 56
+-- Numbers and the lines of answers.
+pub mod Answer
+pub mod Number

@@ -1,9 +1,4 @@
-pub mod Cut
 pub mod Lines
 pub mod Answers
-pub mod Scan
-pub mod Words
-pub mod Grammar
-pub mod Devices
 pub mod Songs
-pub mod Numbers
+pub mod Devices

@@ -1,26 +1,15 @@
-//! The byte edges of the player: lines, words, answers, songs, and devices that count what they answer.
+//! The byte edges of the player: lines, words, answers, songs, and devices that count how their calls end.
 #![tactic(auto)]
 
-mod answer;
-mod device;
-mod fail_at;
+mod answers;
+mod devices;
 mod lines;
-mod numbers;
-mod quoting;
-mod sequence;
-mod song;
-#[cfg(test)]
-mod tests;
-mod text;
+mod songs;
 
-pub use answer::{Answer, ErrorNumber};
-pub use device::{Counting, Failing, Media, Sink, Source, Tally};
-pub use fail_at::{FailAt, FailurePoint};
+pub use answers::{Answer, ErrorNumber, SharedText, Text, number};
+pub use devices::{Counting, FailAt, Failing, FailurePoint, Media, ReadSeek, Sink, Source, Tally};
 pub use lines::{
-    Line, MAX_LINE, SplitFault, Splitter, any_cut, lines_make_the_stream, pieces_do_not_matter,
+    Line, MAX_LINE, MAX_WORDS, SplitFault, Splitter, WordsFault, any_cut, lines_make_the_stream,
+    one_reading, pieces_do_not_matter, some_reading, words,
 };
-pub use numbers::number;
-pub use quoting::{MAX_WORDS, WordsFault, one_reading, some_reading, words};
-pub use sequence::Sequence;
-pub use song::{Song, Tag, TagName};
-pub use text::{SharedText, Text};
+pub use songs::{Song, TAG_NAMES, Tag, TagName};

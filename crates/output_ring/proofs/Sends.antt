@@ -26,7 +26,7 @@ bytes_split (x ∷ xs) (suc written) torn h =
     let r = bytes_split xs written torn (omega arith) in
     rw (e, r) refl
 
--- a writer that stopped behind so many bytes of a hand stopped inside a frame of it
+-- a writer that stopped after so many bytes of a hand stopped inside a frame of it
 pub stops : (before after : Option (List ℕ)) (live : Live) (hand : List CutFrame) (bytes : List ℕ) (done : ℕ) → bytes ≡ bytes_of (heard live hand) → done < 4 * length (heard live hand) → Appends before after (take done bytes) → StopsInside before after live hand (done / 4) (done % 4)
 stops before after live hand bytes done e few p =
     let inside : done / 4 < length (heard live hand) = omega arith in

@@ -16,7 +16,7 @@ const NO_FATES: Fates = Fates {
     discarded: 0,
 };
 
-/// Pops frames into its hand, and gives each its fate. No call waits, and none but the making takes memory.
+/// Pops frames into its hand, and gives each its fate. No call waits, and only its making takes memory.
 #[derive(Drop)]
 pub struct Drainer {
     pub(crate) consumer: Consumer<CutFrame>,
@@ -40,7 +40,7 @@ impl Drainer {
     ghost use mathlib.Core.List.{IsPrefix};
     ghost use Rattle.std.specs.Prelude.{◌≡◌, ◌+◌, ◌-◌, ◌^◌, ◌<◌, ◌≤◌, [], ◌++◌, IfOk, IfSome, IsSome, MatchResult, ◌||◌, ◌↔◌, is_err, OnErr, length, true, false};
     ghost use Rattle.std.specs.Io.KnownBytes.{Appends};
-    ghost use Rattle.mpd_text.specs.Devices.{HasFailed};
+    ghost use Rattle.mpd_text.specs.Devices.Tally.{HasFailed};
     ghost use Rattle.output_ring.specs.Frames.{heard, bytes_of, StopsInside, fates, no_fates, no_totals, both, counted, totals_after, fates_in};
     ghost use Rattle.output_ring.specs.Rings.{taken_of, owed_of, fates_of, popped_of, came_of, hand_of, most_of, ring_of, totals_of, unreported_of, has_failed, AreEnds, AreEndsAfter, EndTook, end_owed, SameFeeder, SameDrainer};
 
@@ -91,7 +91,7 @@ impl Drainer {
         let popped = self.totals.written + self.totals.discarded + self.held as u64;
         let room = (self.slots.len() - self.held) as u64;
         let most = room.min(u64::MAX - popped) as usize;
-        let count = pop_behind(&mut self.consumer, &mut self.slots, self.held, most);
+        let count = pop_after(&mut self.consumer, &mut self.slots, self.held, most);
         self.held += count;
         count
     }
@@ -217,8 +217,8 @@ impl Drainer {
     }
 }
 
-// Pops up to `most` frames into the slots behind the first `held`, and says how many.
-fn pop_behind(
+// Pops up to `most` frames into the slots after the first `held`, and says how many.
+fn pop_after(
     consumer: &mut Consumer<CutFrame>,
     slots: &mut [CutFrame],
     held: usize,

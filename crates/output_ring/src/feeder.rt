@@ -10,7 +10,7 @@ use std::alloc::{AllocError, Global};
 /// The most frames of a block.
 pub const MOST_FRAMES: usize = 1024;
 
-/// Takes blocks of frames, and moves them into the ring as it has room. No call waits, and none but the making takes memory.
+/// Takes blocks of frames, and moves them into the ring as it has room. No call waits, and only its making takes memory.
 #[derive(Drop)]
 pub struct Feeder {
     pub(crate) producer: Producer<CutFrame>,
@@ -73,8 +73,8 @@ impl Feeder {
         ensures count { result ≤ length (owed_of self.old) }
         ensures ring { SameFeeder self.old self.new }
     {
-        let (front, _) = self.producer.push_partial_slice(&self.block[self.sent..]);
-        let moved = front.len();
+        let (sent, _) = self.producer.push_partial_slice(&self.block[self.sent..]);
+        let moved = sent.len();
         self.sent += moved;
         moved
     }

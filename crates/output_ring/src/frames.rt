@@ -19,8 +19,11 @@ pub struct CutFrame {
 pub struct Live {
     /// Frames of an earlier cut are discarded.
     pub cut: Cut,
+    /// Frames are written; otherwise they are discarded.
     pub enabled: bool,
+    /// The hand is kept.
     pub paused: bool,
+    /// The hand is kept, since nothing plays any more.
     pub ended: bool,
 }
 

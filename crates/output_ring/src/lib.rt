@@ -29,6 +29,3 @@ pub fn ring(alloc: Global, capacity: usize, hand: usize) -> Result<(Feeder, Drai
     let drainer = Drainer::new(alloc, consumer, hand)?;
     Ok((feeder, drainer))
 }
-
-#[cfg(test)]
-mod tests;

@@ -1,7 +1,7 @@
 //! The bytes of a hand on their way to a writer.
 ghost use Rattle.std.specs.Prelude.{◌≡◌, ◌+◌, ◌*◌, ◌<◌, ◌≤◌, ◌++◌, length, take, vec_len, vec_capacity};
 ghost use Rattle.std.specs.Io.KnownBytes.{Appends};
-ghost use Rattle.mpd_text.specs.Devices.{HasFailed, NoFewer};
+ghost use Rattle.mpd_text.specs.Devices.Tally.{HasFailed, NoFewer};
 ghost use Rattle.output_ring.specs.Frames.{heard, is_heard, bytes_of};
 
 use crate::frames::{CutFrame, Live};
@@ -9,7 +9,7 @@ use mpd_text::Sink;
 use pcm_mix::{Frame, to_bytes};
 use std::alloc::{AllocError, Global};
 
-// The writer failed behind so many frames, with so many bytes of the next.
+// The writer failed after so many frames, with so many bytes of the next.
 #[derive(Clone, Copy)]
 pub(crate) struct Torn {
     pub(crate) written: u64,
@@ -26,7 +26,7 @@ pub(crate) struct Outgoing {
 impl Outgoing {
     ghost use Rattle.std.specs.Prelude.{◌≡◌, ◌*◌, ◌≤◌, IfOk, OnErr, MatchResult, length, take};
     ghost use Rattle.std.specs.Io.KnownBytes.{Appends};
-    ghost use Rattle.mpd_text.specs.Devices.{HasFailed};
+    ghost use Rattle.mpd_text.specs.Devices.Tally.{HasFailed};
     ghost use Rattle.output_ring.specs.Frames.{bytes_of, heard, StopsInside};
     ghost use Rattle.output_ring.specs.Sending.{HasRoom, KeepsRoom};
 
@@ -52,7 +52,7 @@ impl Outgoing {
     {
         self.frames.clear();
         keep_heard(&mut self.frames, hand, live);
-        to_front(&self.frames, &mut self.bytes);
+        to_start(&self.frames, &mut self.bytes);
         self.frames.len()
     }
 
@@ -97,8 +97,8 @@ fn keep_heard(frames: &mut Vec<Frame>, hand: &[CutFrame], live: Live)
     }
 }
 
-// Lays out the frames at the front of the bytes.
-fn to_front(frames: &[Frame], bytes: &mut [u8])
+// Lays out the frames at the start of the bytes.
+fn to_start(frames: &[Frame], bytes: &mut [u8])
     requires { 4 * length frames.now ≤ length bytes.old }
     ensures bytes { take (4 * length frames.now) bytes.new ≡ bytes_of frames.now }
     ensures length { length bytes.new ≡ length bytes.old }

@@ -1,35 +1,35 @@
 -- A history that goes on.
 use Rattle.std.proofs.Common.{◌≡◌, ℕ, List, [], ◌∷◌, ◌++◌, refl, ap, sym, ◌∙◌}
-use Rattle.mpd_text.specs.Songs.{SongData}
+use Rattle.mpd_text.specs.Songs.Song.{SongData}
 use Rattle.partition.specs.declared.event.Event.{Event}
 use Rattle.partition.specs.declared.event.Happened.{Happened}
 use Rattle.partition.specs.declared.state.Limits.{Limits}
 use Rattle.partition.specs.Image.{Image, opening}
-use Rattle.partition.specs.Step.{next, told}
+use Rattle.partition.specs.Step.{next_image, told}
 use Rattle.partition.specs.History.{replay, AreTold}
 
 -- one more event is one more step
-pub replay-append : (i : Image) (hs : List Happened) (h : Happened) → replay i (hs ++ h ∷ []) ≡ next h.seat (replay i hs) h.event
+pub replay-append : (i : Image) (hs : List Happened) (h : Happened) → replay i (hs ++ h ∷ []) ≡ next_image h.seat (replay i hs) h.event
 replay-append i [] h = refl
-replay-append i (g ∷ gs) h = replay-append (next g.seat i g.event) gs h
+replay-append i (g ∷ gs) h = replay-append (next_image g.seat i g.event) gs h
 
 -- a history goes on by an event that was told rightly
 pub AreTold-append : (i : Image) (hs : List Happened) (h : Happened) → AreTold i hs → h.told ≡ told (replay i hs) h.event → AreTold i (hs ++ h ∷ [])
 AreTold-append i [] h all e = (e, tt)
-AreTold-append i (g ∷ gs) h all e = (all.0, AreTold-append (next g.seat i g.event) gs h all.1 e)
+AreTold-append i (g ∷ gs) h all e = (all.0, AreTold-append (next_image g.seat i g.event) gs h all.1 e)
 
 -- an event leaves the library
-pub next-songs : (seat : ℕ) (i : Image) (event : Event) → (next seat i event).shared.songs ≡ i.shared.songs
-unfolding next
+pub next-songs : (seat : ℕ) (i : Image) (event : Event) → (next_image seat i event).shared.songs ≡ i.shared.songs
+unfolding next_image
 next-songs seat i event = refl
 
 -- a player with its history goes on by one event
 pub goes_on : (limits : Limits) (songs songs' : List SongData) (i i' : Image) (hs hs' : List Happened) (h : Happened)
     → songs' ≡ songs → i ≡ replay (opening limits songs) hs → AreTold (opening limits songs) hs
-    → i' ≡ next h.seat i h.event → h.told ≡ told i h.event → hs' ≡ hs ++ h ∷ []
+    → i' ≡ next_image h.seat i h.event → h.told ≡ told i h.event → hs' ≡ hs ++ h ∷ []
     → (i' ≡ replay (opening limits songs') hs') × AreTold (opening limits songs') hs'
 goes_on limits songs songs' i i' hs hs' h same was rightly step tells more =
     rw (same, more) (
-      step ∙ ap (λ (j : Image). next h.seat j h.event) was ∙ sym (replay-append (opening limits songs) hs h),
+      step ∙ ap (λ (j : Image). next_image h.seat j h.event) was ∙ sym (replay-append (opening limits songs) hs h),
       AreTold-append (opening limits songs) hs h rightly (tells ∙ ap (λ (j : Image). told j h.event) was),
     )

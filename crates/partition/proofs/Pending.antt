@@ -7,9 +7,10 @@ use Rattle.idle_notes.specs.declared.subsystem.Subsystem.{Subsystem}
 use Rattle.idle_notes.specs.declared.subsystem.Subsystem.TheVariants.{Database, Update, StoredPlaylist, Playlist, Player, Mixer, Output, Options, Sticker, Subscription, Message}
 use Rattle.idle_notes.specs.Sets.{none, union, has}
 use Rattle.partition.specs.Legal.{ReadsPending}
+use Rattle.partition.proofs.Parts.{raised_differ}
 use Rattle.partition.specs.World.{Moment, raised_at, begins_anew, union_all, pending_for, NeverAnew, IsPending}
 
-has_union : (s t : Subsystems) (x : Subsystem) → has (union s t) x ≡ (has s x || has t x)
+pub has_union : (s t : Subsystems) (x : Subsystem) → has (union s t) x ≡ (has s x || has t x)
 has_union s t Database = refl
 has_union s t Update = refl
 has_union s t StoredPlaylist = refl
@@ -22,7 +23,7 @@ has_union s t Sticker = refl
 has_union s t Subscription = refl
 has_union s t Message = refl
 
-has_none : (x : Subsystem) → has none x ≡ false
+pub has_none : (x : Subsystem) → has none x ≡ false
 has_none Database = refl
 has_none Update = refl
 has_none StoredPlaylist = refl
@@ -86,7 +87,7 @@ module _ (number : ℕ) (x : Subsystem) where
       λ b. elim b as (λ b. begins_anew number m ≡ b → IsPending number x (m ∷ ms)) [
         | true ↦ λ e. (let clash : false ≡ true = sym (has_none x) ∙ sym (ap (λ s. has s x) (pending_more number m ms true e)) ∙ h in cc)
         | false ↦ λ e. elim (either _ _ (sym (joined m ms e) ∙ h)) [
-          | inl r ↦ record { later = []; moment = m; earlier = ms; order = refl; raised = r; since = (e, tt) }
+          | inl r ↦ record { later = []; moment = m; earlier = ms; order = refl; raised = (raised_differ m.before m.after x).0 r; since = (e, tt) }
           | inr r ↦ longer m ms e (there ms r)
         ]
       ] in
@@ -100,5 +101,5 @@ module _ (number : ℕ) (x : Subsystem) where
 pub reads_pending : ReadsPending
 reads_pending number x ms = (
   there number x ms,
-  λ p. ap (λ l. has (pending_for number l) x) p.order ∙ back number x p.later p.moment p.earlier p.raised p.since,
+  λ p. ap (λ l. has (pending_for number l) x) p.order ∙ back number x p.later p.moment p.earlier ((raised_differ p.moment.before p.moment.after x).1 p.raised) p.since,
 )

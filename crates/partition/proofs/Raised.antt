@@ -16,7 +16,7 @@ use Rattle.partition.specs.Clients.{clients_after, notices_after}
 use Rattle.partition.specs.Image.{Image, Turn, state_after, part_after}
 use Rattle.partition.specs.Step.{turn, speaker, raised_by, after_turn, told_by}
 
-differ-self : (b : Bool) → differ b b ≡ false
+pub differ-self : (b : Bool) → differ b b ≡ false
 differ-self true = refl
 differ-self false = refl
 

@@ -7,10 +7,10 @@ use Rattle.idle_notes.specs.declared.pending.Pending.{Pending}
 use Rattle.idle_notes.specs.declared.sets.Subsystems.{Subsystems}
 use Rattle.idle_notes.specs.Notes.{fresh, waits, cancelled}
 use Rattle.partition.specs.declared.event.Move.{Move}
-use Rattle.partition.specs.declared.event.Move.TheVariants.{Stay, Wait, Hear, Resume, Join}
+use Rattle.partition.specs.declared.event.Move.TheVariants.{Stay, Wait, Learn, Resume, Join}
 use Rattle.partition.specs.declared.state.Client.{Client}
 use Rattle.partition.specs.Answers.{Said}
-use Rattle.partition.specs.Clients.{hears, is_other, at, joined, moved, closes, staying, move_of, clients_after, AllAbove, Rising}
+use Rattle.partition.specs.Clients.{notified, is_other, at, joined, moved, closes, staying, move_of, clients_after, AllAbove, Rising}
 use Rattle.partition.specs.Image.{client_of}
 
 above_map : (f : Client → Client) → ((k : Client) → (f k).number ≡ k.number) → (n : ℕ) (ks : List Client) → AllAbove n ks → AllAbove n (map f ks)
@@ -97,7 +97,7 @@ at_keeps n f k = elim (k.number == n) as (λ b. (if b then record k { pending = 
 rising_moved : (n : ℕ) (move : Move) (ks : List Client) → Rising ks → Rising (moved n move ks)
 rising_moved n Stay ks r = r
 rising_moved n (Wait names) ks r = rising_map (at n (waits names)) (at_keeps n (waits names)) ks r
-rising_moved n Hear ks r = rising_map (at n (λ p. fresh)) (at_keeps n (λ p. fresh)) ks r
+rising_moved n Learn ks r = rising_map (at n (λ p. fresh)) (at_keeps n (λ p. fresh)) ks r
 rising_moved n Resume ks r = rising_map (at n cancelled) (at_keeps n cancelled) ks r
 rising_moved n Join ks r = rising_joined n ks r
 
@@ -107,5 +107,5 @@ rising_staying n said ks r =
 
 pub rising_after : (n : ℕ) (raised : Subsystems) (said : Said) (ks : List Client) → Rising ks → Rising (clients_after n raised said ks)
 rising_after n raised said ks r =
-    rising_moved n (move_of said) (map (hears raised) (staying n said ks))
-    (rising_map (hears raised) (λ k. refl) (staying n said ks) (rising_staying n said ks r))
+    rising_moved n (move_of said) (map (notified raised) (staying n said ks))
+    (rising_map (notified raised) (λ k. refl) (staying n said ks) (rising_staying n said ks r))

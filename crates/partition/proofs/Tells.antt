@@ -19,9 +19,9 @@ fewer_wait number (client ∷ clients) =
     elim (is_other number client) as (λ b. count_by is_waiting (if b then client ∷ filter (is_other number) clients else filter (is_other number) clients) ≤ count_by is_waiting (client ∷ clients))
     [ true ↦ (let same = one_more client (filter (is_other number) clients) in omega arith) | false ↦ omega arith ]
 
--- the room of a client and of those behind it
-pub room_behind : (clients : List Client) (i : ℕ) (d : Client) → i < length clients
+-- the room of a client and of those after it
+pub room_after : (clients : List Client) (i : ℕ) (d : Client) → i < length clients
     → count_by is_waiting (drop i clients) ≡ room_for (get_or clients i d) + count_by is_waiting (drop (i + 1) clients)
-room_behind clients i d l =
+room_after clients i d l =
     let next : drop i clients ≡ get_or clients i d ∷ drop (i + 1) clients = rw (add-one, drop-cons clients i d l) refl in
     ap (count_by is_waiting) next ∙ one_more (get_or clients i d) (drop (i + 1) clients)

@@ -5,7 +5,7 @@ use Rattle.std.proofs.Math.Nat.{mod-eq_of_lt}
 use Rattle.std.proofs.lemmas.Bool.Decides.{nat_tests}
 use Rattle.idle_notes.specs.declared.sets.Subsystems.{Subsystems}
 use Rattle.idle_notes.specs.Sets.{none, union}
-use Rattle.mpd_text.specs.Songs.{SongData}
+use Rattle.mpd_text.specs.Songs.Song.{SongData}
 use Rattle.song_queue.specs.declared.entry.Entry.{Entry}
 use Rattle.song_queue.specs.Laws.{Edit, queue_after}
 use Rattle.song_queue.specs.Past.{present, state_of}
@@ -17,21 +17,21 @@ use Rattle.partition.specs.declared.event.Happened.{Happened}
 use Rattle.partition.specs.declared.state.Client.{Client}
 use Rattle.partition.specs.declared.state.Controls.{Controls}
 use Rattle.partition.specs.declared.state.Limits.{Limits}
-use Rattle.partition.specs.Clients.{raised, hears, closes, Rising}
+use Rattle.partition.specs.Clients.{raised, notified, closes, Rising}
 use Rattle.partition.specs.History.{made_of, replay}
 use Rattle.partition.specs.Image.{Image, Turn, client_of, state_after, first_controls, opening}
 use Rattle.partition.specs.Legal.{ReplaysWorlds}
-use Rattle.partition.specs.Step.{turn, speaker, raised_by, after_turn, told_by, next}
-use Rattle.partition.specs.World.{Listener, Moment, Life, raised_at, is_there, begins_anew, pending_for, client_in, listener_of, image_of, past_after, world_after_turn, lived, step, life_from, opening_life}
+use Rattle.partition.specs.Step.{turn, speaker, raised_by, after_turn, told_by, next_image}
+use Rattle.partition.specs.World.{Listener, Moment, Life, raised_at, is_there, begins_anew, pending_for, client_in, listener_of, image_of, past_after, world_after_turn, lived, life_after_event, life_from, opening_life}
 use Rattle.partition.proofs.Counts.{made_of-more}
-use Rattle.partition.proofs.Heard.{Each, flagged, all_stand}
+use Rattle.partition.proofs.Notified.{Each, flagged, all_stand}
 use Rattle.partition.proofs.Pending.{pending_more}
 use Rattle.partition.proofs.Rises.{rising_after}
 
 abbrev state_at : Limits → List (List Entry) → QueueState
 state_at limits past = state_of limits.max_queue limits.max_version limits.max_id past
 
-some_past : (past : List (List Entry)) (edit : Option Edit) → 0 < length past → 0 < length (past_after past edit)
+pub some_past : (past : List (List Entry)) (edit : Option Edit) → 0 < length past → 0 < length (past_after past edit)
 some_past past None some = some
 some_past past (Some edit) some = length-after_event past (queue_after past edit) some
 
@@ -41,7 +41,7 @@ follows limits past None above some = refl
 follows limits past (Some edit) above some = sym (after_edit limits.max_queue limits.max_version limits.max_id (omega arith) past edit some)
 
 -- what an event raised by the worlds is what its turn raises
-same_raised : (limits : Limits) (past : List (List Entry)) (before after : Controls) (edit : Option Edit) → 1 ≤ limits.max_version → 0 < length past
+pub same_raised : (limits : Limits) (past : List (List Entry)) (before after : Controls) (edit : Option Edit) → 1 ≤ limits.max_version → 0 < length past
     → raised (record { queue = present past; controls = before }) (record { queue = present (past_after past edit); controls = after })
     ≡ raised (record { queue = queue_of (state_at limits past); controls = before }) (record { queue = queue_of (state_after (state_at limits past) edit); controls = after })
 same_raised limits past before after edit above some =
@@ -75,11 +75,11 @@ module _ (moments : List Moment) where
   with_flags there [] e = tt
   with_flags there (l ∷ ls) e = ((e.0, refl), with_flags there ls e.1)
 
-  absent : (r : Subsystems) (n : ℕ) (ls : List Listener) → client_of n (map (hears r) (map (client_in moments) ls)) ≡ None → among n ls ≡ false
+  absent : (r : Subsystems) (n : ℕ) (ls : List Listener) → client_of n (map (notified r) (map (client_in moments) ls)) ≡ None → among n ls ≡ false
   absent r n [] e = refl
   absent r n (l ∷ ls) e =
-      let rest : Option Client = client_of n (map (hears r) (map (client_in moments) ls)) in
-      let first : Client = hears r (client_in moments l) in
+      let rest : Option Client = client_of n (map (notified r) (map (client_in moments) ls)) in
+      let first : Client = notified r (client_in moments l) in
       let cases : (b : Bool) → (l.number == n) ≡ b → (b || among n ls) ≡ false =
       λ b. elim b as (λ b. (l.number == n) ≡ b → (b || among n ls) ≡ false) [
         | true ↦ λ t. (let found : (if l.number == n then Some first else rest) ≡ Some first = rw t refl in let clash : Some first ≡ None = sym found ∙ e in cc)
@@ -123,8 +123,8 @@ module _ (life : Life) (done : List Happened) (event : Event) (above : 1 ≤ lif
       i.clients rising (with_flags life.moments (λ n. is_there n life.world) life.world.clients (all_among life.moments life.world.clients))
       (closes t.said.answer.next) t.said.move grows (absent life.moments r (speaker event) life.world.clients))
 
-  pub image_of-step : (h : Happened) → h.event ≡ event → image_of (lived life i event t) (done ++ h ∷ []) ≡ next h.seat i event
-  unfolding next
+  pub image_of-step : (h : Happened) → h.event ≡ event → image_of (lived life i event t) (done ++ h ∷ []) ≡ next_image h.seat i event
+  unfolding next_image
   image_of-step h same =
       let all : List Client → QueueState → List ℕ → Image = λ k q made. record {
         part = record { queue = q; controls = t.controls };
@@ -144,15 +144,15 @@ from life done [] above some rising =
     (ap (image_of life) (sym (append-nil done)), subst (λ (l : List Happened). Rising (image_of life l).clients) (sym (append-nil done)) rising)
 from life done (h ∷ hs) above some rising =
     let t : Turn = turn (image_of life done) h.event in
-    let rest = from (step done life h.event) (done ++ h ∷ []) hs above (some_past life.world.past t.edit some)
+    let rest = from (life_after_event done life h.event) (done ++ h ∷ []) hs above (some_past life.world.past t.edit some)
     (rising-step life done h.event above some rising h) in
-    let joined : image_of (life_from (done ++ h ∷ []) (step done life h.event) hs) ((done ++ h ∷ []) ++ hs) ≡ image_of (life_from (done ++ h ∷ []) (step done life h.event) hs) (done ++ h ∷ hs) =
-    ap (image_of (life_from (done ++ h ∷ []) (step done life h.event) hs)) (append_assoc done (h ∷ []) hs) in (
+    let joined : image_of (life_from (done ++ h ∷ []) (life_after_event done life h.event) hs) ((done ++ h ∷ []) ++ hs) ≡ image_of (life_from (done ++ h ∷ []) (life_after_event done life h.event) hs) (done ++ h ∷ hs) =
+    ap (image_of (life_from (done ++ h ∷ []) (life_after_event done life h.event) hs)) (append_assoc done (h ∷ []) hs) in (
       ap (λ (i : Image). replay i hs) (sym (image_of-step life done h.event above some rising h refl)) ∙ rest.0 ∙ joined,
       subst (λ (i : Image). Rising i.clients) joined rest.1,
     )
 
-opens : (limits : Limits) (songs : List SongData) → 1 ≤ limits.max_version → opening limits songs ≡ image_of (opening_life limits songs) []
+pub opens : (limits : Limits) (songs : List SongData) → 1 ≤ limits.max_version → opening limits songs ≡ image_of (opening_life limits songs) []
 opens limits songs above =
     let zeroth : 1 ≡ 0 % limits.max_version + 1 = ap (λ n. n + 1) (sym (mod-eq_of_lt (let h : 0 < limits.max_version = omega arith in h))) in
     ap (λ (v : ℕ). record {

@@ -1,7 +1,7 @@
 -- The forms of arguments (MPD protocol reference, Requests).
 use Rattle.std.specs.Prelude.{◌≡◌, ℕ, ◌-◌, nat_le, Bool, true, false, List, [], ◌∷◌, length, take, ◌==◌, slice_index, Option, Some, None, Result, Ok, Err, if◌then◌else◌, codes}
 use Rattle.std.specs.Str.{bytes_eq}
-use Rattle.mpd_text.specs.Numbers.{number_of}
+use Rattle.mpd_text.specs.Answers.Number.{number_of}
 use Rattle.idle_notes.specs.declared.sets.Subsystems.{Subsystems}
 use Rattle.idle_notes.specs.declared.subsystem.Subsystem.{Subsystem}
 use Rattle.idle_notes.specs.Names.{subsystem_of}
@@ -9,7 +9,6 @@ use Rattle.idle_notes.specs.Sets.{none, all, with_one}
 use Rattle.partition.specs.declared.argument.Misread.{Misread}
 use Rattle.partition.specs.declared.argument.Misread.TheVariants.{WrongNumber, Bad, NoMemory}
 use Rattle.partition.specs.declared.argument.Uri.{Uri}
-use Rattle.partition.specs.declared.argument.Volume.{Volume}
 
 -- a URI, without one slash at its end
 abbrev pub uri_of : List ℕ → Option Uri
@@ -19,13 +18,16 @@ uri_of word = Some (record { 0 = if slice_index word (length word - 1) == 47 the
 abbrev pub switch_of : List ℕ → Option Bool
 switch_of word = if bytes_eq word (codes "1") then Some true else (if bytes_eq word (codes "0") then Some false else None)
 
-abbrev pub up_to_full : Option ℕ → Option Volume
-up_to_full None = None
-up_to_full (Some n) = if nat_le n 100 then Some (record { 0 = n }) else None
-
 -- a volume, 0 to 100
-abbrev pub volume_of : List ℕ → Option Volume
-volume_of word = up_to_full (number_of word)
+abbrev pub up_to_full : ℕ → Option ℕ
+up_to_full n = if nat_le n 100 then Some n else None
+
+abbrev pub volume_in : Option ℕ → Option ℕ
+volume_in None = None
+volume_in (Some n) = up_to_full n
+
+abbrev pub volume_of : List ℕ → Option ℕ
+volume_of word = volume_in (number_of word)
 
 -- what is given is this, unless memory ran out
 abbrev pub Gives : {A : Type 0} → Result A Misread → Result A Misread → Type 0

@@ -9,7 +9,7 @@ use Rattle.song_queue.specs.declared.entry.Entry.{Entry}
 use Rattle.song_queue.specs.Entries.{same_queue}
 use Rattle.song_queue.specs.State.{queue_of, differ}
 use Rattle.partition.specs.declared.event.Move.{Move}
-use Rattle.partition.specs.declared.event.Move.TheVariants.{Stay, Wait, Hear, Resume, Join}
+use Rattle.partition.specs.declared.event.Move.TheVariants.{Stay, Wait, Learn, Resume, Join}
 use Rattle.partition.specs.declared.event.Next.{Next}
 use Rattle.partition.specs.declared.event.Next.TheVariants.{Goes, Waits, Closes}
 use Rattle.partition.specs.declared.event.Notice.{Notice}
@@ -39,8 +39,8 @@ abbrev pub is_other : ℕ → Client → Bool
 is_other number client = not (client.number == number)
 
 -- what is pending for a client grows by what was raised; it is told what it waits for, and has then nothing pending
-abbrev pub hears : Subsystems → Client → Client
-hears raised client = record client { pending = settled (noted raised client.pending) }
+abbrev pub notified : Subsystems → Client → Client
+notified raised client = record client { pending = settled (noted raised client.pending) }
 
 abbrev pub notice_to : ℕ → Option Subsystems → List Notice
 notice_to number None = []
@@ -53,7 +53,7 @@ notice_for raised client = notice_to client.number (notice_of (noted raised clie
 abbrev pub at : ℕ → (Pending → Pending) → Client → Client
 at number change client = if client.number == number then record client { pending = change client.pending } else client
 
--- a client that is not there comes in front of the first with a greater number
+-- a client that is not there comes before the first with a greater number
 abbrev pub joined : ℕ → List Client → List Client
 joined number clients =
     if is_some (client_of number clients) then clients
@@ -62,7 +62,7 @@ joined number clients =
 abbrev pub moved : ℕ → Move → List Client → List Client
 moved number Stay clients = clients
 moved number (Wait names) clients = map (at number (waits names)) clients
-moved number Hear clients = map (at number (λ p. fresh)) clients
+moved number Learn clients = map (at number (λ p. fresh)) clients
 moved number Resume clients = map (at number cancelled) clients
 moved number Join clients = joined number clients
 
@@ -81,7 +81,7 @@ move_of said = if closes said.answer.next then Stay else said.move
 -- the clients after an event that comes from a client and raises these: those that stay hear of it, and then the client does
 -- what it does
 abbrev pub clients_after : ℕ → Subsystems → Said → List Client → List Client
-clients_after number raised said clients = moved number (move_of said) (map (hears raised) (staying number said clients))
+clients_after number raised said clients = moved number (move_of said) (map (notified raised) (staying number said clients))
 
 -- the notices of an event, by rising client
 abbrev pub notices_after : ℕ → Subsystems → Said → List Client → List Notice
@@ -92,7 +92,7 @@ abbrev pub AllAbove : ℕ → List Client → Type 0
 AllAbove number [] = Unit {0}
 AllAbove number (client ∷ clients) = (number < client.number) × AllAbove number clients
 
--- the clients stand by rising number
+-- the clients are in the order of their numbers
 abbrev pub Rising : List Client → Type 0
 Rising [] = Unit {0}
 Rising (client ∷ clients) = AllAbove client.number clients × Rising clients

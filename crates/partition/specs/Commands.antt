@@ -5,15 +5,15 @@ use Rattle.std.specs.List.{flat_map}
 use Rattle.idle_notes.specs.declared.sets.Subsystems.{Subsystems}
 use Rattle.idle_notes.specs.Names.{changed_lines}
 use Rattle.idle_notes.specs.Notes.{waits, notice_of}
-use Rattle.mpd_text.specs.Answers.{pair_line, ack_line, number_of}
-use Rattle.mpd_text.specs.Songs.{SongData}
-use Rattle.mpd_text.specs.declared.answer.ErrorNumber.{ErrorNumber}
-use Rattle.mpd_text.specs.declared.answer.ErrorNumber.TheVariants.{Argument, NoExist, PlaylistMax}
+use Rattle.mpd_text.specs.Answers.Answer.{pair_line, ack_line, number_of}
+use Rattle.mpd_text.specs.Songs.Song.{SongData}
+use Rattle.mpd_text.specs.declared.answers.answer.ErrorNumber.{ErrorNumber}
+use Rattle.mpd_text.specs.declared.answers.answer.ErrorNumber.TheVariants.{Argument, NoExist, PlaylistMax}
 use Rattle.song_db.specs.Library.{song_of}
 use Rattle.song_queue.specs.declared.entry.Entry.{Entry}
 use Rattle.song_queue.specs.State.{QueueState, queue_of, changed}
 use Rattle.song_queue.specs.Laws.{Edit, Insert, Remove, Swap}
-use Rattle.partition.specs.declared.event.Move.TheVariants.{Stay, Wait, Hear, Resume}
+use Rattle.partition.specs.declared.event.Move.TheVariants.{Stay, Wait, Learn, Resume}
 use Rattle.partition.specs.declared.event.Next.TheVariants.{Goes, Waits}
 use Rattle.partition.specs.declared.state.Client.{Client}
 use Rattle.partition.specs.declared.state.Controls.{Controls}
@@ -60,6 +60,10 @@ add_song part queue (Some song) =
 abbrev pub turn_add : Part → List SongData → List ℕ → Turn
 turn_add part songs uri = add_song part part.queue (song_of songs uri)
 
+-- all songs leave the queue
+abbrev pub turn_clear : Part → Turn
+turn_clear part = edits part (Remove 0 (length (queue_of part.queue)))
+
 -- the song at a place leaves the queue
 abbrev pub turn_delete : Part → ℕ → Turn
 turn_delete part place =
@@ -90,7 +94,7 @@ notice_text names = changed_lines names ++ okay
 -- a client that asks for what changed already is told at once; else it waits
 abbrev pub idles : Subsystems → Option Subsystems → Said
 idles named None = record { answer = record { text = []; next = Waits }; move = Wait named }
-idles named (Some names) = record { answer = record { text = notice_text names; next = Goes }; move = Hear }
+idles named (Some names) = record { answer = record { text = notice_text names; next = Goes }; move = Learn }
 
 abbrev pub turn_idle : Part → Client → Subsystems → Turn
 turn_idle part client named = only part (idles named (notice_of (waits named client.pending)))
@@ -114,7 +118,7 @@ status_text volume repeat version length =
 abbrev pub turn_status : Part → Turn
 turn_status part = says part (status_text part.controls.volume (digit part.controls.modes.repeat) part.queue.version (length (queue_of part.queue)))
 
--- a changed place and the id that stands there
+-- a changed place and the id of the entry there
 abbrev pub changed_row : ℕ × Entry → List ℕ
 changed_row row = pair_line (codes "cpos") (decimal row.0) ++ pair_line (codes "Id") (decimal row.1.id)
 

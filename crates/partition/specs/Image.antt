@@ -1,6 +1,6 @@
 -- What a command can read of a player, and what an event makes of it.
 use Rattle.std.specs.Prelude.{ℕ, ◌+◌, ◌==◌, false, List, [], ◌∷◌, Option, Some, None, slice_set, slice_index_or, if◌then◌else◌}
-use Rattle.mpd_text.specs.Songs.{SongData}
+use Rattle.mpd_text.specs.Songs.Song.{SongData}
 use Rattle.song_queue.specs.State.{QueueState, opened}
 use Rattle.song_queue.specs.Laws.{Edit, state_after_edit}
 use Rattle.partition.specs.declared.state.Client.{Client}
@@ -15,7 +15,7 @@ pub record Shared : Type 0 where
   pub songs : List SongData
   pub made : List ℕ
 
--- a player; its clients stand by rising number
+-- a player; its clients are in the order of their numbers
 pub record Image : Type 0 where
   pub part : Part
   pub shared : Shared
@@ -47,7 +47,7 @@ image_after i t = record i { part = part_after i.part t }
 abbrev pub counted : ℕ → Image → Image
 counted seat i = record i { shared = record i.shared { made = slice_set i.shared.made seat (slice_index_or i.shared.made seat 0 + 1) } }
 
--- the image that the concrete state stands for
+-- the image of the concrete state
 abbrev pub image_of_state : State → Image
 image_of_state s = record {
   part = s.part;

@@ -2,7 +2,7 @@
 use Rattle.std.specs.Prelude.{◌≡◌, ◌≢◌, ◌≤◌, ◌↔◌, ℕ, true, List, All, AllPairs}
 use Rattle.idle_notes.specs.declared.subsystem.Subsystem.{Subsystem}
 use Rattle.idle_notes.specs.Sets.{has}
-use Rattle.mpd_text.specs.Songs.{SongData}
+use Rattle.mpd_text.specs.Songs.Song.{SongData}
 use Rattle.song_queue.specs.State.{queue_of}
 use Rattle.partition.specs.declared.event.Happened.{Happened}
 use Rattle.partition.specs.declared.state.Client.{Client}
@@ -10,6 +10,7 @@ use Rattle.partition.specs.declared.state.Limits.{Limits}
 use Rattle.partition.specs.Clients.{Rising}
 use Rattle.partition.specs.History.{Chronicle, replay, AreTold}
 use Rattle.partition.specs.Image.{Image, opening}
+use Rattle.partition.specs.Notices.{Raises, Tells, EachMoment, AreHeard}
 use Rattle.partition.specs.World.{Life, Moment, IsPending, pending_for, image_of, life_after}
 
 abbrev pub limits_of : Image → Limits
@@ -23,19 +24,23 @@ life_of c = life_after (limits_of c.base) c.base.shared.songs c.window
 abbrev pub HasPending : List Moment → Client → Type 0
 HasPending moments client = (subsystem : Subsystem) → (has client.pending.changed subsystem ≡ true) ↔ IsPending client.number subsystem moments
 
--- The player was opened with some limits and songs; the state that stands is what can be read of the life after its
--- history, so each slot's stamp and mark are those of all past queues; each client's flags are its pending set; each reply
--- was the one of its place; ids are distinct; clients stand by rising number.
+-- The player was opened with some limits and songs; the present state is what can be read of the life after its
+-- history, so each slot's stamp and mark are those of all past queues; each client's flags are its pending set; each moment
+-- raised what differs between its worlds, and told whom it had to tell; each reply was the one of its place, and what was told
+-- with it is what its moment tells; ids are distinct; clients are in the order of their numbers.
 pub record IsPast (c : Chronicle) : Type 0 where
   pub opened : c.base ≡ opening (limits_of c.base) c.base.shared.songs
   pub world : c.present ≡ image_of (life_of c) c.window
   pub pending : All (HasPending (life_of c).moments) c.present.clients
+  pub raises : EachMoment (λ moment earlier. Raises moment) (life_of c).moments
+  pub tells : EachMoment Tells (life_of c).moments
   pub told : AreTold c.base c.window
+  pub heard : AreHeard (life_of c).moments c.window
   pub distinct : AllPairs (λ e f. e.id ≢ f.id) (queue_of c.present.part.queue)
   pub rising : Rising c.present.clients
 
 -- the images of the lives after a history, which remember every queue and every moment, are the replay's images, and their
--- clients stand by rising number
+-- clients are in the order of their numbers
 abbrev pub ReplaysWorlds : Type 0
 ReplaysWorlds = (limits : Limits) (songs : List SongData) (history : List Happened) → 1 ≤ limits.max_version
     → (replay (opening limits songs) history ≡ image_of (life_after limits songs history) history) × Rising (image_of (life_after limits songs history) history).clients

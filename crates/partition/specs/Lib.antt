@@ -7,7 +7,9 @@ pub mod Clients
 pub mod Rooms
 pub mod Commands
 pub mod Step
+pub mod Settled
 pub mod History
 pub mod World
+pub mod Notices
 pub mod Legal
 pub mod Invariant

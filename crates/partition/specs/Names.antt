@@ -2,10 +2,11 @@
 use Rattle.std.specs.Prelude.{ℕ, List, [], ◌∷◌, Option, codes, find}
 use Rattle.std.specs.Str.{bytes_eq}
 use Rattle.partition.specs.declared.name.Name.{Name}
-use Rattle.partition.specs.declared.name.Name.TheVariants.{Add, Delete, GetVol, Idle, NoIdle, Ping, PlChangesPosId, Repeat, SetVol, Status, Swap}
+use Rattle.partition.specs.declared.name.Name.TheVariants.{Add, Clear, Delete, GetVol, Idle, NoIdle, Ping, PlChangesPosId, Repeat, SetVol, Status, Swap}
 
 abbrev pub text_of : Name → List ℕ
 text_of Add = codes "add"
+text_of Clear = codes "clear"
 text_of Delete = codes "delete"
 text_of GetVol = codes "getvol"
 text_of Idle = codes "idle"
@@ -19,7 +20,7 @@ text_of Swap = codes "swap"
 
 -- all commands, in the byte order of their names
 abbrev pub all_names : List Name
-all_names = Add ∷ Delete ∷ GetVol ∷ Idle ∷ NoIdle ∷ Ping ∷ PlChangesPosId ∷ Repeat ∷ SetVol ∷ Status ∷ Swap ∷ []
+all_names = Add ∷ Clear ∷ Delete ∷ GetVol ∷ Idle ∷ NoIdle ∷ Ping ∷ PlChangesPosId ∷ Repeat ∷ SetVol ∷ Status ∷ Swap ∷ []
 
 -- the command of a name
 unfoldable pub name_of : List ℕ → Option Name

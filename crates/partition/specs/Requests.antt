@@ -1,25 +1,26 @@
 -- What a line asks for (MPD protocol reference, Requests and Failure responses; the texts are this profile's).
 use Rattle.std.specs.Prelude.{ℕ, List, [], ◌∷◌, ◌++◌, codes, Option, Some, None, Result, Ok, Err}
-use Rattle.mpd_text.specs.Numbers.{number_of}
-use Rattle.mpd_text.specs.Scan.{words_of}
-use Rattle.mpd_text.specs.declared.answer.ErrorNumber.{ErrorNumber}
-use Rattle.mpd_text.specs.declared.answer.ErrorNumber.TheVariants.{Argument, Unknown}
-use Rattle.mpd_text.specs.declared.quoting.WordsFault.{WordsFault}
-use Rattle.mpd_text.specs.declared.quoting.WordsFault.TheVariants.{BadUnquoted, NoClosingQuote, NoSpaceAfterQuote, TooMany, NoMemory as NoMemoryForWords}
+use Rattle.mpd_text.specs.Answers.Number.{number_of}
+use Rattle.mpd_text.specs.Lines.Scan.{words_of}
+use Rattle.mpd_text.specs.declared.answers.answer.ErrorNumber.{ErrorNumber}
+use Rattle.mpd_text.specs.declared.answers.answer.ErrorNumber.TheVariants.{Argument, Unknown}
+use Rattle.mpd_text.specs.declared.lines.quoting.WordsFault.{WordsFault}
+use Rattle.mpd_text.specs.declared.lines.quoting.WordsFault.TheVariants.{BadUnquoted, NoClosingQuote, NoSpaceAfterQuote, TooMany, NoMemory as NoMemoryForWords}
 use Rattle.partition.specs.Arguments.{uri_of, switch_of, volume_of, subsystems_of, map_ok, none_of, one_of, two_of}
 use Rattle.partition.specs.Names.{name_of, text_of}
 use Rattle.partition.specs.declared.argument.Misread.{Misread}
 use Rattle.partition.specs.declared.argument.Misread.TheVariants.{WrongNumber, Bad, NoMemory}
 use Rattle.partition.specs.declared.name.Name.{Name}
-use Rattle.partition.specs.declared.name.Name.TheVariants.{Add as name_add, Delete as name_delete, GetVol as name_getvol, Idle as name_idle, NoIdle as name_noidle, Ping as name_ping, PlChangesPosId as name_plchangesposid, Repeat as name_repeat, SetVol as name_setvol, Status as name_status, Swap as name_swap}
+use Rattle.partition.specs.declared.name.Name.TheVariants.{Add as name_add, Clear as name_clear, Delete as name_delete, GetVol as name_getvol, Idle as name_idle, NoIdle as name_noidle, Ping as name_ping, PlChangesPosId as name_plchangesposid, Repeat as name_repeat, SetVol as name_setvol, Status as name_status, Swap as name_swap}
 use Rattle.partition.specs.declared.command.Command.{Command}
-use Rattle.partition.specs.declared.command.Command.TheVariants.{Add, Delete, GetVol, Idle, NoIdle, Ping, PlChangesPosId, Repeat, SetVol, Status, Swap}
+use Rattle.partition.specs.declared.command.Command.TheVariants.{Add, Clear, Delete, GetVol, Idle, NoIdle, Ping, PlChangesPosId, Repeat, SetVol, Status, Swap}
 use Rattle.partition.specs.declared.command.Request.{Request}
 use Rattle.partition.specs.declared.command.Request.TheVariants.{Run, Refused}
 
 -- the arguments of each command
 unfoldable pub command_of : Name → List (List ℕ) → Result Command Misread
 command_of name_add words = map_ok Add (one_of uri_of words)
+command_of name_clear words = none_of Clear words
 command_of name_delete words = map_ok Delete (one_of number_of words)
 command_of name_getvol words = none_of GetVol words
 command_of name_idle words = map_ok Idle (subsystems_of words)
@@ -38,15 +39,15 @@ abbrev pub quoted : List ℕ → List ℕ → List ℕ
 quoted text word = text ++ (word ++ codes "\"")
 
 -- what is said of arguments that are not the command's
-abbrev pub told : List ℕ → Result Command Misread → Request
-told word (Ok command) = Run command
-told word (Err WrongNumber) = refuses Argument word (quoted (codes "wrong number of arguments for \"") word)
-told word (Err (Bad argument)) = refuses Argument word (quoted (codes "bad argument \"") argument)
-told word (Err NoMemory) = refuses Argument word []
+abbrev pub request_from : List ℕ → Result Command Misread → Request
+request_from word (Ok command) = Run command
+request_from word (Err WrongNumber) = refuses Argument word (quoted (codes "wrong number of arguments for \"") word)
+request_from word (Err (Bad argument)) = refuses Argument word (quoted (codes "bad argument \"") argument)
+request_from word (Err NoMemory) = refuses Argument word []
 
 abbrev pub of_name : Option Name → List ℕ → List (List ℕ) → Request
 of_name None word words = refuses Unknown [] (quoted (codes "unknown command \"") word)
-of_name (Some name) word words = told word (command_of name words)
+of_name (Some name) word words = request_from word (command_of name words)
 
 -- the command of the words of a line, or the first refusal: unknown, wrong number, first argument of a wrong form
 abbrev pub of_words : List (List ℕ) → Request
@@ -70,6 +71,7 @@ request_of line = fault_request (words_of line)
 
 abbrev pub name_of_command : Command → Name
 name_of_command (Add uri) = name_add
+name_of_command Clear = name_clear
 name_of_command (Delete place) = name_delete
 name_of_command GetVol = name_getvol
 name_of_command (Idle named) = name_idle

@@ -2,23 +2,24 @@
 use Rattle.std.specs.Prelude.{ℕ, Bool, true, false, not, ◌&&◌, [], List, Option, Some, None, is_some, length, nat_le, codes, if◌then◌else◌}
 use Rattle.idle_notes.specs.declared.sets.Subsystems.{Subsystems}
 use Rattle.partition.specs.declared.command.Command.{Command}
-use Rattle.partition.specs.declared.command.Command.TheVariants.{Add, Delete, GetVol, Idle, NoIdle, Ping, PlChangesPosId, Repeat, SetVol, Status, Swap}
+use Rattle.partition.specs.declared.command.Command.TheVariants.{Add, Clear, Delete, GetVol, Idle, NoIdle, Ping, PlChangesPosId, Repeat, SetVol, Status, Swap}
 use Rattle.partition.specs.declared.command.Request.{Request}
 use Rattle.partition.specs.declared.command.Request.TheVariants.{Run, Refused}
 use Rattle.partition.specs.declared.event.Event.{Event}
 use Rattle.partition.specs.declared.event.Event.TheVariants.{Connect, Disconnect, Line}
 use Rattle.partition.specs.declared.event.Move.TheVariants.{Stay, Join}
 use Rattle.partition.specs.declared.event.Next.TheVariants.{Goes, Closes}
-use Rattle.mpd_text.specs.Songs.{SongData}
+use Rattle.mpd_text.specs.Songs.Song.{SongData}
 use Rattle.partition.specs.declared.state.Client.{Client}
 use Rattle.partition.specs.declared.state.Part.{Part}
 use Rattle.partition.specs.Answers.{Told, Said}
 use Rattle.partition.specs.Clients.{parts_of, raised, clients_after, notices_after}
-use Rattle.partition.specs.Commands.{okay, goes_on, only, says, refuses, turn_add, turn_delete, turn_get_volume, turn_idle, turn_no_idle, turn_changes, turn_repeat, turn_set_volume, turn_status, turn_swap}
+use Rattle.partition.specs.Commands.{okay, goes_on, only, says, refuses, turn_add, turn_clear, turn_delete, turn_get_volume, turn_idle, turn_no_idle, turn_changes, turn_repeat, turn_set_volume, turn_status, turn_swap}
 use Rattle.partition.specs.Image.{Image, Turn, client_of, part_after, image_after, counted}
 
 abbrev pub turn_command : Part → List SongData → Client → Command → Turn
 turn_command part songs client (Add uri) = turn_add part songs uri.0
+turn_command part songs client Clear = turn_clear part
 turn_command part songs client (Delete place) = turn_delete part place
 turn_command part songs client GetVol = turn_get_volume part
 turn_command part songs client (Idle named) = turn_idle part client named
@@ -26,7 +27,7 @@ turn_command part songs client NoIdle = turn_no_idle part client
 turn_command part songs client Ping = says part okay
 turn_command part songs client (PlChangesPosId version) = turn_changes part version
 turn_command part songs client (Repeat on) = turn_repeat part on
-turn_command part songs client (SetVol volume) = turn_set_volume part volume.0
+turn_command part songs client (SetVol volume) = turn_set_volume part volume
 turn_command part songs client Status = turn_status part
 turn_command part songs client (Swap first second) = turn_swap part first second
 
@@ -81,8 +82,8 @@ abbrev pub after_turn : Image → Event → Turn → Image
 after_turn i event t = record (image_after i t) { clients = clients_after (speaker event) (raised_by i.part t) t.said i.clients }
 
 -- the image after an event of a seat
-unfoldable pub next : ℕ → Image → Event → Image
-next seat i event = counted seat (after_turn i event (turn i event))
+unfoldable pub next_image : ℕ → Image → Event → Image
+next_image seat i event = counted seat (after_turn i event (turn i event))
 
 -- what a turn makes clients hear
 abbrev pub told_by : Image → Event → Turn → Told

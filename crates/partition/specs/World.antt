@@ -1,17 +1,18 @@
 -- The plain data of a player of one thread, with every queue that it had, and everything that happened to it.
-use Rattle.std.specs.Prelude.{◌≡◌, ℕ, ◌==◌, Bool, true, false, not, ◌&&◌, ◌||◌, List, [], ◌∷◌, ◌++◌, Option, Some, None, map, take_while}
+use Rattle.std.specs.Prelude.{◌≡◌, ◌≢◌, ℕ, ◌==◌, Bool, true, false, not, ◌&&◌, ◌||◌, List, [], ◌∷◌, ◌++◌, Option, Some, None, map, take_while}
 use Rattle.std.specs.List.{list_any}
 use Rattle.idle_notes.specs.declared.sets.Subsystems.{Subsystems}
 use Rattle.idle_notes.specs.declared.subsystem.Subsystem.{Subsystem}
-use Rattle.idle_notes.specs.Sets.{none, union, has}
-use Rattle.mpd_text.specs.Songs.{SongData}
+use Rattle.idle_notes.specs.declared.subsystem.Subsystem.TheVariants.{Database, Update, StoredPlaylist, Playlist, Player, Mixer, Output, Options, Sticker, Subscription, Message}
+use Rattle.idle_notes.specs.Sets.{none, union}
+use Rattle.mpd_text.specs.Songs.Song.{SongData}
 use Rattle.song_queue.specs.declared.entry.Entry.{Entry}
 use Rattle.song_queue.specs.Past.{present, after_event, state_of}
 use Rattle.song_queue.specs.Laws.{Edit, queue_after}
 use Rattle.partition.specs.declared.event.Event.{Event}
 use Rattle.partition.specs.declared.event.Happened.{Happened}
 use Rattle.partition.specs.declared.event.Move.{Move}
-use Rattle.partition.specs.declared.event.Move.TheVariants.{Stay, Wait, Hear, Resume, Join}
+use Rattle.partition.specs.declared.event.Move.TheVariants.{Stay, Wait, Learn, Resume, Join}
 use Rattle.partition.specs.declared.event.Notice.{Notice}
 use Rattle.partition.specs.declared.state.Client.{Client}
 use Rattle.partition.specs.declared.state.Controls.{Controls}
@@ -50,6 +51,20 @@ pub record Life : Type 0 where
 abbrev pub parts_in : World → Parts
 parts_in w = record { queue = present w.past; controls = w.controls }
 
+-- the part of a player that a subsystem speaks of differs between two worlds
+abbrev pub PartDiffers : Subsystem → World → World → Type 0
+PartDiffers Database before after = ⊥
+PartDiffers Update before after = ⊥
+PartDiffers StoredPlaylist before after = ⊥
+PartDiffers Playlist before after = present before.past ≢ present after.past
+PartDiffers Player before after = ⊥
+PartDiffers Mixer before after = before.controls.volume ≢ after.controls.volume
+PartDiffers Output before after = ⊥
+PartDiffers Options before after = before.controls.modes ≢ after.controls.modes
+PartDiffers Sticker before after = ⊥
+PartDiffers Subscription before after = ⊥
+PartDiffers Message before after = ⊥
+
 -- what an event raised: the subsystems whose parts differ between the worlds before and after it
 abbrev pub raised_at : Moment → Subsystems
 raised_at m = raised (parts_in m.before) (parts_in m.after)
@@ -57,16 +72,16 @@ raised_at m = raised (parts_in m.before) (parts_in m.after)
 abbrev pub is_there : ℕ → World → Bool
 is_there number w = list_any (λ k. k.number == number) w.clients
 
-abbrev pub is_heard : Move → Bool
-is_heard Stay = false
-is_heard (Wait names) = false
-is_heard Hear = true
-is_heard Resume = false
-is_heard Join = false
+abbrev pub is_learning : Move → Bool
+is_learning Stay = false
+is_learning (Wait names) = false
+is_learning Learn = true
+is_learning Resume = false
+is_learning Join = false
 
--- a client was sent a notice: behind another's event, or as the answer to its own `idle`
+-- a client was sent a notice: after another's event, or as the answer to its own `idle`
 abbrev pub is_told : ℕ → Moment → Bool
-is_told number m = list_any (λ n. n.client == number) m.notices || ((number == speaker m.event) && is_heard (move_of m.turn.said))
+is_told number m = list_any (λ n. n.client == number) m.notices || ((number == speaker m.event) && is_learning (move_of m.turn.said))
 
 -- the client was not there before the event, or was sent a notice at it
 abbrev pub begins_anew : ℕ → Moment → Bool
@@ -89,14 +104,14 @@ abbrev pub NeverAnew : ℕ → List Moment → Type 0
 NeverAnew number [] = Unit {0}
 NeverAnew number (m ∷ ms) = (begins_anew number m ≡ false) × NeverAnew number ms
 
--- a subsystem is pending for a client where some event raised it, at which and since which the client was there and was
--- sent no notice
+-- a subsystem is pending for a client where its part differs between the worlds before and after some event, at which and
+-- since which the client was there and was sent no notice
 pub record IsPending (number : ℕ) (subsystem : Subsystem) (moments : List Moment) : Type 0 where
   pub later : List Moment
   pub moment : Moment
   pub earlier : List Moment
   pub order : moments ≡ later ++ moment ∷ earlier
-  pub raised : has (raised_at moment) subsystem ≡ true
+  pub raised : PartDiffers subsystem moment.before moment.after
   pub since : NeverAnew number (later ++ moment ∷ [])
 
 -- what commands can read of a client
@@ -137,13 +152,13 @@ lived life i event t =
     }
 
 -- one event in a life that these events led to
-abbrev pub step : List Happened → Life → Event → Life
-step history life event = lived life (image_of life history) event (turn (image_of life history) event)
+abbrev pub life_after_event : List Happened → Life → Event → Life
+life_after_event history life event = lived life (image_of life history) event (turn (image_of life history) event)
 
 -- a life that some events led to, after more
 abbrev pub life_from : List Happened → Life → List Happened → Life
 life_from done life [] = life
-life_from done life (h ∷ hs) = life_from (done ++ h ∷ []) (step done life h.event) hs
+life_from done life (h ∷ hs) = life_from (done ++ h ∷ []) (life_after_event done life h.event) hs
 
 -- a life in which nothing happened
 abbrev pub opening_life : Limits → List SongData → Life

@@ -1,10 +1,11 @@
 //! The arguments of commands, each with its form.
 ghost use Rattle.std.specs.Prelude.{◌≡◌, ℕ, List, [], ◌∷◌, Option, Some, None, Ok, IfOk, string_bytes, map};
-ghost use Rattle.mpd_text.specs.Numbers.{number_of};
+ghost use Rattle.mpd_text.specs.Answers.Number.{number_of};
 ghost use Rattle.idle_notes.specs.Names.{subsystem_of};
 ghost use Rattle.partition.specs.Arguments.{uri_of, switch_of, volume_of, Gives, argument_of, none_of, one_of, two_of, subsystems_of, with_word as with_word_lem};
 ghost use Rattle.partition.specs.declared.argument.Misread.TheVariants.{NoMemory};
 
+use crate::volume::Volume;
 use idle_notes::{Subsystem, Subsystems};
 use mpd_text::{Text, number};
 use std::alloc::{AllocError, Global};
@@ -55,17 +56,13 @@ impl Argument for bool {
     }
 }
 
-/// A volume, 0 to 100.
-#[derive(Clone, Copy, Debug, PartialEq, Eq)]
-pub struct Volume(pub u8);
-
 impl Argument for Volume {
     ghost read_gives = { volume_of };
 
     fn read(_alloc: Global, word: &str) -> Result<Option<Volume>, AllocError> {
         match number(word) {
-            Some(n) if n <= 100 => Ok(Some(Volume(n as u8))),
-            _ => Ok(None),
+            Some(n) => Ok(Volume::new(n)),
+            None => Ok(None),
         }
     }
 }

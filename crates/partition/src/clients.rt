@@ -2,11 +2,12 @@
 ghost use Rattle.std.specs.Prelude.{◌≡◌, ◌++◌, ◌+◌, ◌≤◌, ◌<◌, nat_lt, length, map, filter, count_by, is_some, vec_len, vec_capacity};
 ghost use Rattle.std.specs.List.{flat_map, position_or_len};
 ghost use Rattle.idle_notes.specs.Notes.{fresh, waits, cancelled};
-ghost use Rattle.partition.specs.Clients.{at as at_lem, hears, is_other, joined, moved, notice_for};
+ghost use Rattle.partition.specs.Clients.{at as at_lem, notified, is_other, joined, moved, notice_for};
 ghost use Rattle.partition.specs.Image.{client_of};
-ghost use Rattle.partition.specs.Rooms.{is_waiting, room_for};
+ghost use Rattle.partition.specs.Rooms.{is_waiting, listed, room_for, room_in};
 
 use crate::event::{Move, Notice};
+use crate::notices::Notices;
 use crate::state::Client;
 use idle_notes::{Pending, Subsystems};
 
@@ -40,16 +41,16 @@ pub(crate) fn leave(clients: &mut Vec<Client>, number: u32)
 }
 
 /// Lets what was raised join what is pending for each client; those that are told wait no more.
-pub(crate) fn hear_all(clients: &mut [Client], raised: Subsystems)
-    ensures { clients.new ≡ map (hears raised) clients.old }
+pub(crate) fn notify_all(clients: &mut [Client], raised: Subsystems)
+    ensures { clients.new ≡ map (notified raised) clients.old }
 {
     for client in clients.iter_mut() {
-        *client = heard(*client, raised);
+        *client = notify(*client, raised);
     }
 }
 
-fn heard(client: Client, raised: Subsystems) -> Client
-    ensures { result ≡ hears raised client }
+fn notify(client: Client, raised: Subsystems) -> Client
+    ensures { result ≡ notified raised client }
 {
     let mut pending = client.pending;
     pending.note(raised);
@@ -61,26 +62,27 @@ fn heard(client: Client, raised: Subsystems) -> Client
 }
 
 /// Lists the notices that these clients are sent where this is raised.
-#[tactic(auto, using(crate::proofs::Tells::room_behind))]
-pub(crate) fn list_notices(clients: &[Client], raised: Subsystems, notices: &mut Vec<Notice>)
-    requires { vec_len notices.old + count_by is_waiting clients.now ≤ vec_capacity notices.old }
-    ensures { notices.new.items ≡ notices.old.items ++ flat_map (notice_for raised) clients.now }
+#[tactic(auto, using(crate::proofs::Tells::room_after))]
+pub(crate) fn list_notices(clients: &[Client], raised: Subsystems, notices: &mut Notices)
+    requires { length (listed notices.old) + count_by is_waiting clients.now ≤ room_in notices.old }
+    ensures list { listed notices.new ≡ listed notices.old ++ flat_map (notice_for raised) clients.now }
+    ensures few { length (listed notices.new) ≤ length (listed notices.old) + count_by is_waiting clients.now }
 {
     for client in clients {
         list_notice(*client, raised, notices);
     }
 }
 
-fn list_notice(client: Client, raised: Subsystems, notices: &mut Vec<Notice>)
-    requires { vec_len notices.old + room_for client ≤ vec_capacity notices.old }
-    ensures items { notices.new.items ≡ notices.old.items ++ notice_for raised client }
-    ensures room { vec_capacity notices.old ≤ vec_capacity notices.new }
-    ensures len { vec_len notices.new ≤ vec_len notices.old + room_for client }
+fn list_notice(client: Client, raised: Subsystems, notices: &mut Notices)
+    requires { length (listed notices.old) + room_for client ≤ room_in notices.old }
+    ensures items { listed notices.new ≡ listed notices.old ++ notice_for raised client }
+    ensures room { room_in notices.old ≤ room_in notices.new }
+    ensures len { length (listed notices.new) ≤ length (listed notices.old) + room_for client }
 {
     let mut pending = client.pending;
     pending.note(raised);
     if let Some(names) = pending.notice() {
-        let _ = notices.push(Notice {
+        notices.push(Notice {
             client: client.number,
             names,
         });
@@ -88,14 +90,14 @@ fn list_notice(client: Client, raised: Subsystems, notices: &mut Vec<Notice>)
 }
 
 /// Lets a client do what its event asks for.
-pub(crate) fn make_move(clients: &mut Vec<Client>, number: u32, step: Move)
+pub(crate) fn make_move(clients: &mut Vec<Client>, number: u32, moves: Move)
     requires { vec_len clients.old < vec_capacity clients.old }
-    ensures { clients.new.items ≡ moved number step clients.old.items }
+    ensures { clients.new.items ≡ moved number moves clients.old.items }
 {
-    match step {
+    match moves {
         Move::Stay => {}
         Move::Wait(names) => begin_waiting(clients, number, names),
-        Move::Hear => clear(clients, number),
+        Move::Learn => refresh(clients, number),
         Move::Resume => resume(clients, number),
         Move::Join => join(clients, number),
     }
@@ -123,16 +125,16 @@ fn waiting_for(client: Client, number: u32, names: Subsystems) -> Client
     }
 }
 
-fn clear(clients: &mut [Client], number: u32)
+fn refresh(clients: &mut [Client], number: u32)
     ensures { clients.new ≡ map (at_lem number (λ p. fresh)) clients.old }
 {
     for client in clients.iter_mut() {
-        *client = cleared(*client, number);
+        *client = refreshed(*client, number);
     }
 }
 
 /// The client, with nothing pending where it is the one of the number.
-fn cleared(client: Client, number: u32) -> Client
+fn refreshed(client: Client, number: u32) -> Client
     ensures { result ≡ at_lem number (λ p. fresh) client }
 {
     if client.number == number {
@@ -167,7 +169,7 @@ fn resumed(client: Client, number: u32) -> Client
     }
 }
 
-/// A client comes, in front of the first with a greater number.
+/// A client comes, before the first with a greater number.
 fn join(clients: &mut Vec<Client>, number: u32)
     requires { vec_len clients.old < vec_capacity clients.old }
     ensures { clients.new.items ≡ joined number clients.old.items }
@@ -183,7 +185,7 @@ fn join(clients: &mut Vec<Client>, number: u32)
     let _ = clients.insert(place, client);
 }
 
-/// Where the first client with a greater number stands; the number of clients where none has.
+/// The place of the first client with a greater number; the number of clients where none has one.
 fn place_for(clients: &[Client], number: u32) -> usize
     ensures place { result ≡ position_or_len (λ client. nat_lt number client.number) clients.now }
     ensures within { result ≤ length clients.now }

@@ -1,11 +1,12 @@
 //! Commands, and the refusals that come before their effects.
 ghost use Rattle.std.specs.Prelude.{◌≡◌, ℕ, List, [], ◌∷◌, Option, Some, None, Ok, Err, IfOk, string_bytes, map};
 ghost use Rattle.partition.specs.Arguments.{Gives};
-ghost use Rattle.partition.specs.Requests.{command_of, told, of_words as of_words_lem, request_of, name_in};
+ghost use Rattle.partition.specs.Requests.{command_of, request_from, fault_text as fault_text_lem, of_words as of_words_lem, request_of, name_in};
 ghost use Rattle.partition.specs.declared.argument.Misread.TheVariants.{WrongNumber, Bad};
 
-use crate::argument::{Misread, Uri, Volume, none, one, subsystems, two};
+use crate::argument::{Misread, Uri, none, one, subsystems, two};
 use crate::name::Name;
+use crate::volume::Volume;
 use idle_notes::Subsystems;
 use mpd_text::{ErrorNumber, Text, WordsFault, words};
 use std::alloc::{AllocError, Global};
@@ -15,6 +16,8 @@ use std::alloc::{AllocError, Global};
 pub enum Command {
     /// Puts a song of the library at the end of the queue.
     Add(Uri),
+    /// Takes all songs out of the queue.
+    Clear,
     /// Takes the song at a place out of the queue.
     Delete(u32),
     GetVol,
@@ -56,6 +59,7 @@ fn read(alloc: Global, name: Name, words: &[String]) -> Result<Command, Misread>
 {
     match name {
         Name::Add => Ok(Command::Add(one(alloc, words)?)),
+        Name::Clear => none(words, Command::Clear),
         Name::Delete => Ok(Command::Delete(one(alloc, words)?)),
         Name::GetVol => none(words, Command::GetVol),
         Name::Idle => Ok(Command::Idle(subsystems(alloc, words)?)),
@@ -81,24 +85,8 @@ impl Request {
     {
         match words(alloc, line) {
             Ok(words) => Request::of_words(alloc, words.as_slice()),
-            Err(WordsFault::BadUnquoted) => {
-                refused(alloc, ErrorNumber::Argument, "", "bad unquoted argument")
-            }
-            Err(WordsFault::NoClosingQuote) => {
-                refused(alloc, ErrorNumber::Argument, "", "missing closing quote")
-            }
-            Err(WordsFault::NoSpaceAfterQuote) => {
-                refused(
-                    alloc,
-                    ErrorNumber::Argument,
-                    "",
-                    "missing space after quote",
-                )
-            }
-            Err(WordsFault::TooMany) => {
-                refused(alloc, ErrorNumber::Argument, "", "too many arguments")
-            }
             Err(WordsFault::NoMemory) => Err(AllocError),
+            Err(fault) => refused(alloc, ErrorNumber::Argument, "", fault_text(fault)),
         }
     }
 
@@ -108,6 +96,7 @@ impl Request {
     {
         match self {
             Request::Run(Command::Add(_)) => Name::Add.text(),
+            Request::Run(Command::Clear) => Name::Clear.text(),
             Request::Run(Command::Delete(_)) => Name::Delete.text(),
             Request::Run(Command::GetVol) => Name::GetVol.text(),
             Request::Run(Command::Idle(_)) => Name::Idle.text(),
@@ -144,15 +133,28 @@ impl Request {
     }
 }
 
+/// What is said of words that cannot be read.
+fn fault_text(fault: WordsFault) -> &'static str
+    ensures { result.now ≡ fault_text_lem fault }
+{
+    match fault {
+        WordsFault::BadUnquoted => "bad unquoted argument",
+        WordsFault::NoClosingQuote => "missing closing quote",
+        WordsFault::NoSpaceAfterQuote => "missing space after quote",
+        WordsFault::TooMany => "too many arguments",
+        WordsFault::NoMemory => "",
+    }
+}
+
 fn refuse_number(alloc: Global, command: &str) -> Result<Request, AllocError>
-    ensures { IfOk result (λ request. request ≡ told command.now (Err WrongNumber)) }
+    ensures { IfOk result (λ request. request ≡ request_from command.now (Err WrongNumber)) }
 {
     let text = format!(in alloc; "wrong number of arguments for \"{command}\"")?;
     refused(alloc, ErrorNumber::Argument, command, text.as_str())
 }
 
 fn refuse_argument(alloc: Global, command: &str, argument: &str) -> Result<Request, AllocError>
-    ensures { IfOk result (λ request. request ≡ told command.now (Err (Bad argument.now))) }
+    ensures { IfOk result (λ request. request ≡ request_from command.now (Err (Bad argument.now))) }
 {
     let text = format!(in alloc; "bad argument \"{argument}\"")?;
     refused(alloc, ErrorNumber::Argument, command, text.as_str())

@@ -3,6 +3,7 @@ ghost use Rattle.std.specs.Prelude.{◌≡◌, IfOk};
 ghost use Rattle.partition.specs.Answers.{Answer, Said, Told};
 
 use crate::command::Request;
+use crate::notices::Notices;
 use idle_notes::Subsystems;
 use mpd_text::SharedText;
 use std::alloc::AllocError;
@@ -37,7 +38,7 @@ pub enum Move {
     /// It waits for changes of these.
     Wait(Subsystems),
     /// It is told what changed, by the answer itself.
-    Hear,
+    Learn,
     /// It waits no more.
     Resume,
     /// It comes.
@@ -85,15 +86,16 @@ impl Reply {
 #[derive(Drop)]
 pub struct Outcome {
     pub(crate) reply: Reply,
-    pub(crate) notices: Vec<Notice>,
+    pub(crate) notices: Notices,
 }
 
 impl Model for Outcome {
     ghost use Rattle.partition.specs.Answers.{Told};
+    ghost use Rattle.partition.specs.Rooms.{listed};
 
     ghost Value = { Told };
 
-    ghost view = { λ o. record { answer = o.reply; notices = o.notices.items } };
+    ghost view = { λ o. record { answer = o.reply; notices = listed o.notices } };
 }
 
 impl Outcome {
@@ -108,7 +110,7 @@ impl Outcome {
     pub fn notices(&self) -> &[Notice]
         ensures { result.now ≡ self.now.notices }
     {
-        &self.notices
+        self.notices.as_slice()
     }
 }
 
@@ -120,34 +122,35 @@ pub struct Happened {
     pub told: Outcome,
 }
 
-/// A reply twice, over one text, one to hand out and one to keep; and what its client does.
+/// What an event answers, and what its client does. The reply is there twice, over one text: a second owner of the text has
+/// to be made before anything changes, since to make it can fail.
 #[derive(Drop)]
-pub(crate) struct Twin {
+pub(crate) struct Spoken {
     given: Reply,
     kept: Reply,
-    step: Move,
+    moves: Move,
 }
 
-impl Model for Twin {
+impl Model for Spoken {
     ghost use Rattle.std.specs.Prelude.{◌≡◌};
     ghost use Rattle.partition.specs.Answers.{Said};
 
     ghost Value = { Said };
 
-    ghost view = { λ t. record { answer = t.given; move = t.step } };
+    ghost view = { λ t. record { answer = t.given; move = t.moves } };
 
     ghost invariant = { λ t. t.kept ≡ t.given };
 }
 
-impl Twin {
-    pub(crate) fn of(text: SharedText, next: Next, step: Move) -> Result<Twin, AllocError>
-        ensures { IfOk result (λ twin. twin ≡ record { answer = record { text = text; next = next }; move = step }) }
+impl Spoken {
+    pub(crate) fn of(text: SharedText, next: Next, moves: Move) -> Result<Spoken, AllocError>
+        ensures { IfOk result (λ spoken. spoken ≡ record { answer = record { text = text; next = next }; move = moves }) }
     {
         let kept = text.clone()?;
-        Ok(Twin {
+        Ok(Spoken {
             given: Reply { text, next },
             kept: Reply { text: kept, next },
-            step,
+            moves,
         })
     }
 
@@ -157,18 +160,18 @@ impl Twin {
         self.given.next
     }
 
-    pub(crate) fn step(&self) -> Move
+    pub(crate) fn moves(&self) -> Move
         ensures { result ≡ self.now.move }
     {
-        self.step
+        self.moves
     }
 
     /// The reply to hand out, and the one to keep.
-    pub(crate) fn apart(self) -> (Reply, Reply)
+    pub(crate) fn into_replies(self) -> (Reply, Reply)
         ensures given { result.0 ≡ self.answer }
         ensures kept { result.1 ≡ self.answer }
     {
-        let Twin { given, kept, .. } = self;
+        let Spoken { given, kept, .. } = self;
         (given, kept)
     }
 }

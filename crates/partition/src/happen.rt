@@ -1,53 +1,62 @@
 //! One event after the other, each kept with what it made clients hear.
-ghost use Rattle.std.specs.Prelude.{◌≡◌, ◌<◌, ◌≤◌, ◌+◌, ◌++◌, ◌∷◌, [], count_by, vec_len, vec_capacity, IfOk, OnErr, OnOk, not, nat_eq, slice_index_or};
+ghost use Rattle.std.specs.Prelude.{◌≡◌, ◌<◌, ◌≤◌, ◌+◌, ◌-◌, ◌^◌, ◌++◌, ◌∷◌, [], length, map, vec_len, vec_capacity, IfOk, OnErr, OnOk, not, false, nat_eq, slice_index_or};
+ghost use Rattle.std.specs.List.{flat_map};
 ghost use Rattle.idle_notes.specs.Sets.{none};
-ghost use Rattle.partition.specs.Clients.{clients_after, closes as closes_lem, notices_after};
+ghost use Rattle.partition.specs.Clients.{clients_after, closes as closes_lem, notice_for, notices_after, notified};
 ghost use Rattle.partition.specs.Image.{image_of_state};
-ghost use Rattle.partition.specs.Rooms.{is_waiting};
-ghost use Rattle.partition.specs.Step.{after_turn, next, speaker as speaker_lem, told, told_by, turn};
+ghost use Rattle.partition.specs.Rooms.{listed, room_in};
+ghost use Rattle.partition.specs.Settled.{AllSettled, ChangesNothing, MayTell, RaisesNothing, most_notices};
+ghost use Rattle.partition.specs.Step.{after_turn, next_image, speaker as speaker_lem, told, told_by, turn};
 ghost use Rattle.song_queue.specs.State.{differ};
 
-use crate::clients::{hear_all, leave, list_notices, make_move, waiting};
-use crate::event::{Event, Happened, Next, Notice, Outcome, Twin};
-use crate::state::{Client, Controls, MAX_OWN, SEATS, State};
+use crate::clients::{leave, list_notices, make_move, notify_all, waiting};
+use crate::command::{Command, Request};
+use crate::event::{Event, Happened, Next, Outcome, Spoken};
+use crate::notices::Notices;
+use crate::state::{Client, Modes, Part, State};
 use crate::turns::take_turn;
 use idle_notes::Subsystems;
 use std::alloc::{AllocError, Global};
 
-/// What an event makes clients hear; the notices twice, once to hand out and once to keep.
+/// What an event made clients hear; the notices twice, to hand out and to keep.
 #[derive(Drop)]
-struct Spoken {
-    twin: Twin,
-    given: Vec<Notice>,
-    kept: Vec<Notice>,
+struct Applied {
+    spoken: Spoken,
+    given: Notices,
+    kept: Notices,
 }
 
 /// Runs one event and keeps it. It fails only for memory, and then changes nothing.
-#[tactic(auto, unfolding(crate::specs::Step::next, crate::specs::Step::told))]
-pub(crate) fn happen(
+#[tactic(auto, unfolding(crate::specs::Step::next_image, crate::specs::Step::told))]
+pub(crate) fn record_event(
     alloc: Global,
     state: &mut State,
     history: &mut Vec<Happened>,
     seat: u8,
     event: Event,
 ) -> Result<Outcome, AllocError>
-    requires seat { seat < SEATS }
-    requires count { slice_index_or state.old.made seat 0 < MAX_OWN }
-    ensures image { OnOk result (image_of_state state.new ≡ next seat (image_of_state state.old) event) }
+    requires seat { seat < 16 }
+    requires count { slice_index_or state.old.made seat 0 < 2 ^ 63 - 1 }
+    requires settled { AllSettled state.old.clients.items }
+    ensures image { OnOk result (image_of_state state.new ≡ next_image seat (image_of_state state.old) event) }
     ensures told { IfOk result (λ outcome. outcome ≡ told (image_of_state state.old) event) }
     ensures history { IfOk result (λ outcome. history.new.items ≡ history.old.items ++ record { seat = seat; event = event; told = outcome } ∷ []) }
     ensures unchanged { OnErr result (image_of_state state.new ≡ image_of_state state.old) }
     ensures unkept { OnErr result (history.new.items ≡ history.old.items) }
 {
     history.reserve(1)?;
-    let Spoken { twin, given, kept } = step(alloc, state, &event)?;
+    let Applied {
+        spoken,
+        given,
+        kept,
+    } = apply_event(alloc, state, &event)?;
     state.made[usize::from(seat)] += 1;
-    let (reply, copy) = twin.apart();
+    let (reply, kept_reply) = spoken.into_replies();
     let _ = history.push(Happened {
         seat,
         event,
         told: Outcome {
-            reply: copy,
+            reply: kept_reply,
             notices: kept,
         },
     });
@@ -58,87 +67,158 @@ pub(crate) fn happen(
 }
 
 /// Applies an event, all but the count of its seat. It fails only for memory, and then changes nothing.
-fn step(alloc: Global, state: &mut State, event: &Event) -> Result<Spoken, AllocError>
+fn apply_event(alloc: Global, state: &mut State, event: &Event) -> Result<Applied, AllocError>
+    requires settled { AllSettled state.old.clients.items }
     ensures image { OnOk result (image_of_state state.new ≡ after_turn (image_of_state state.old) event.now (turn (image_of_state state.old) event.now)) }
-    ensures answer { IfOk result (λ spoken. spoken.twin.answer ≡ (turn (image_of_state state.old) event.now).said.answer) }
-    ensures given { IfOk result (λ spoken. spoken.given.items ≡ (told_by (image_of_state state.old) event.now (turn (image_of_state state.old) event.now)).notices) }
-    ensures kept { IfOk result (λ spoken. spoken.kept.items ≡ (told_by (image_of_state state.old) event.now (turn (image_of_state state.old) event.now)).notices) }
+    ensures answer { IfOk result (λ applied. applied.spoken.answer ≡ (turn (image_of_state state.old) event.now).said.answer) }
+    ensures given { IfOk result (λ applied. listed applied.given ≡ (told_by (image_of_state state.old) event.now (turn (image_of_state state.old) event.now)).notices) }
+    ensures kept { IfOk result (λ applied. listed applied.kept ≡ (told_by (image_of_state state.old) event.now (turn (image_of_state state.old) event.now)).notices) }
     ensures err { OnErr result (image_of_state state.new ≡ image_of_state state.old) }
 {
     state.clients.reserve(1)?;
-    let room = waiting(&state.clients);
-    let mut given = Vec::with_capacity(alloc, room)?;
-    let mut kept = Vec::with_capacity(alloc, room)?;
-    let parity = state.part.queue.parity();
-    let controls = state.part.controls;
-    let twin = take_turn(alloc, &mut state.part, &state.songs, &state.clients, event)?;
-    let raised = changed_parts(
-        parity,
-        controls,
-        state.part.queue.parity(),
-        state.part.controls,
-    );
-    tell_clients(
-        &mut state.clients,
-        speaker(event),
-        raised,
-        &twin,
-        &mut given,
-        &mut kept,
-    );
-    Ok(Spoken { twin, given, kept })
+    let room = room_wanted(event, &state.clients);
+    let mut given = Notices::with_room(alloc, room)?;
+    let mut kept = Notices::with_room(alloc, room)?;
+    let before = signs_of(&state.part);
+    let spoken = take_turn(alloc, &mut state.part, &state.songs, &state.clients, event)?;
+    let raised = changed_parts(before, signs_of(&state.part));
+    let number = speaker(event);
+    tell_clients(&mut state.clients, number, raised, &spoken, &mut given);
+    kept.push_all(given.as_slice());
+    Ok(Applied {
+        spoken,
+        given: given.trimmed(),
+        kept: kept.trimmed(),
+    })
+}
+
+/// What tells, before an event and after it, whether a part of the player changed.
+#[derive(Clone, Copy)]
+struct Signs {
+    parity: bool,
+    volume: u8,
+    modes: Modes,
+}
+
+fn signs_of(part: &Part) -> Signs
+    ensures { result ≡ record { parity = part.now.queue.parity; volume = part.now.controls.volume; modes = part.now.controls.modes } }
+{
+    Signs {
+        parity: part.queue.parity(),
+        volume: part.controls.volume.percent(),
+        modes: part.controls.modes,
+    }
 }
 
 /// The subsystems whose parts differ: the queue, where its parity does; the volume; the modes.
-fn changed_parts(
-    parity: bool,
-    controls: Controls,
-    parity_after: bool,
-    controls_after: Controls,
-) -> Subsystems
+fn changed_parts(before: Signs, after: Signs) -> Subsystems
     ensures { result ≡ record none {
-      playlist = differ parity parity_after;
-      mixer = not (nat_eq controls.volume controls_after.volume);
-      options = differ controls.modes.repeat controls_after.modes.repeat;
+      playlist = differ before.parity after.parity;
+      mixer = not (nat_eq before.volume after.volume);
+      options = differ before.modes.repeat after.modes.repeat;
     } }
 {
     Subsystems {
-        playlist: parity != parity_after,
-        mixer: controls.volume != controls_after.volume,
-        options: controls.modes.repeat != controls_after.modes.repeat,
+        playlist: before.parity != after.parity,
+        mixer: before.volume != after.volume,
+        options: before.modes.repeat != after.modes.repeat,
         ..Subsystems::none()
     }
 }
 
-/// Tells the clients what was raised, and lets the one that the event comes from do what it does. The notices join both
-/// lists.
-#[tactic(auto, using(crate::proofs::Tells::fewer_wait))]
+/// How many notices an event can give at most. For one that cannot raise anything no client is looked at.
+#[tactic(auto, using(crate::proofs::Settled::no_room))]
+fn room_wanted(event: &Event, clients: &[Client]) -> usize
+    ensures { MayTell event.now clients.now result }
+{
+    if may_raise(event) {
+        waiting(clients)
+    } else {
+        0
+    }
+}
+
+/// Whether an event may change the queue, the volume or the modes.
+fn may_raise(event: &Event) -> bool
+    ensures { result ≡ false → RaisesNothing event.now }
+{
+    match event {
+        Event::Connect(_) | Event::Disconnect(_) => false,
+        Event::Line(_, request) => request_may_raise(request),
+    }
+}
+
+/// Whether what a client asks for may change them.
+fn request_may_raise(request: &Request) -> bool
+    ensures { result ≡ false → ChangesNothing request.now }
+{
+    match request {
+        Request::Run(command) => command_may_raise(command),
+        Request::Refused(_) => false,
+    }
+}
+
+/// Whether a command may change them; the others only read, or are about the client itself.
+#[tactic(auto, using(crate::proofs::Settled::reads_change))]
+fn command_may_raise(command: &Command) -> bool
+    ensures { result ≡ false → ChangesNothing (Request.Run command.now) }
+{
+    match command {
+        Command::Add(_)
+        | Command::Clear
+        | Command::Delete(_)
+        | Command::Repeat(_)
+        | Command::SetVol(_)
+        | Command::Swap(_, _) => true,
+        Command::GetVol
+        | Command::Idle(_)
+        | Command::NoIdle
+        | Command::Ping
+        | Command::PlChangesPosId(_)
+        | Command::Status => false,
+    }
+}
+
+/// Tells the clients what was raised, and lets the one that the event comes from do what it does. The notices join the list.
+#[tactic(auto, using(crate::proofs::Settled::fewer_wanted, crate::proofs::Settled::settled_filter))]
 fn tell_clients(
     clients: &mut Vec<Client>,
     number: u32,
     raised: Subsystems,
-    twin: &Twin,
-    given: &mut Vec<Notice>,
-    kept: &mut Vec<Notice>,
+    spoken: &Spoken,
+    notices: &mut Notices,
 )
     requires room { vec_len clients.old < vec_capacity clients.old }
-    requires given { vec_len given.old + count_by is_waiting clients.old.items ≤ vec_capacity given.old }
-    requires kept { vec_len kept.old + count_by is_waiting clients.old.items ≤ vec_capacity kept.old }
-    ensures clients { clients.new.items ≡ clients_after number raised twin.now clients.old.items }
-    ensures given { given.new.items ≡ given.old.items ++ notices_after number raised twin.now clients.old.items }
-    ensures kept { kept.new.items ≡ kept.old.items ++ notices_after number raised twin.now clients.old.items }
+    requires settled { AllSettled clients.old.items }
+    requires notices { length (listed notices.old) + most_notices raised clients.old.items ≤ room_in notices.old }
+    ensures clients { clients.new.items ≡ clients_after number raised spoken.now clients.old.items }
+    ensures notices { listed notices.new ≡ listed notices.old ++ notices_after number raised spoken.now clients.old.items }
+    ensures few { length (listed notices.new) ≤ length (listed notices.old) + most_notices raised clients.old.items }
 {
-    if closes(twin.next()) {
+    let closing = closes(spoken.next());
+    if closing {
         leave(clients, number);
-        list_notices(clients, raised, given);
-        list_notices(clients, raised, kept);
-        hear_all(clients, raised);
+    }
+    tell_all(clients, raised, notices);
+    if !closing {
+        make_move(clients, number, spoken.moves());
+    }
+}
+
+/// Tells the clients what was raised. Where nothing was, none is looked at: each was told already what it waits for.
+#[tactic(auto, using(crate::proofs::Settled::is_none, crate::proofs::Settled::same_clients, crate::proofs::Settled::no_notices))]
+fn tell_all(clients: &mut [Client], raised: Subsystems, notices: &mut Notices)
+    requires settled { AllSettled clients.old }
+    requires notices { length (listed notices.old) + most_notices raised clients.old ≤ room_in notices.old }
+    ensures clients { clients.new ≡ map (notified raised) clients.old }
+    ensures notices { listed notices.new ≡ listed notices.old ++ flat_map (notice_for raised) clients.old }
+    ensures few { length (listed notices.new) ≤ length (listed notices.old) + most_notices raised clients.old }
+{
+    if raised.is_empty() {
         return;
     }
-    list_notices(clients, raised, given);
-    list_notices(clients, raised, kept);
-    hear_all(clients, raised);
-    make_move(clients, number, twin.step());
+    list_notices(clients, raised, notices);
+    notify_all(clients, raised);
 }
 
 fn closes(next: Next) -> bool

@@ -8,16 +8,17 @@ mod event;
 mod happen;
 mod laws;
 mod name;
+mod notices;
 mod partition;
 mod state;
-#[cfg(test)]
-mod tests;
 mod turns;
+mod volume;
 
-pub use argument::{Uri, Volume};
+pub use argument::Uri;
 pub use command::{Ack, Command, Request};
 pub use event::{Event, Happened, Move, Next, Notice, Outcome, Reply};
 pub use laws::{reads_pending, replays_worlds};
 pub use name::{NAMES, Name};
 pub use partition::{Partition, PartitionFault};
-pub use state::{Client, Controls, Limits, MAX_CLIENTS, MAX_OWN, Modes, Part, SEATS};
+pub use state::{Client, Controls, Limits, MAX_CLIENTS, MAX_OWN, Modes, Part};
+pub use volume::Volume;

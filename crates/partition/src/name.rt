@@ -6,6 +6,7 @@ ghost use Rattle.partition.specs.Names.{text_of, name_of};
 #[derive(Clone, Copy, Debug, PartialEq, Eq)]
 pub enum Name {
     Add,
+    Clear,
     Delete,
     GetVol,
     Idle,
@@ -19,8 +20,9 @@ pub enum Name {
 }
 
 /// All commands.
-pub const NAMES: [Name; 11] = [
+pub const NAMES: [Name; 12] = [
     Name::Add,
+    Name::Clear,
     Name::Delete,
     Name::GetVol,
     Name::Idle,
@@ -47,6 +49,7 @@ impl Name {
     {
         match self {
             Name::Add => "add",
+            Name::Clear => "clear",
             Name::Delete => "delete",
             Name::GetVol => "getvol",
             Name::Idle => "idle",

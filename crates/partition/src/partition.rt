@@ -1,19 +1,22 @@
 //! The player with its history.
 ghost use Rattle.std.specs.Prelude.{◌≡◌, ◌≢◌, ◌↔◌, ◌++◌, ◌∷◌, ◌-◌, ◌^◌, ◌≤◌, ◌<◌, [], List, IfOk, OnErr, OnOk, IsErrOf, slice_index_or, is_some, All, AllPairs};
-ghost use Rattle.mpd_text.specs.Songs.{SongData};
+ghost use Rattle.mpd_text.specs.Songs.Song.{SongData};
 ghost use Rattle.song_queue.specs.State.{queue_of};
 ghost use Rattle.partition.specs.declared.event.Happened.{Happened};
 ghost use Rattle.partition.specs.declared.state.Limits.{Limits};
 ghost use Rattle.partition.specs.History.{replay, AreTold, own as own_of};
 ghost use Rattle.partition.specs.Image.{Image, image_of_state, opening, client_of};
 ghost use Rattle.partition.specs.Legal.{HasPending, IsPast, life_of};
-ghost use Rattle.partition.specs.Step.{next, told};
+ghost use Rattle.partition.specs.Notices.{AreHeard, EachMoment, Raises, Tells};
+ghost use Rattle.partition.specs.Settled.{AllSettled};
+ghost use Rattle.partition.specs.Step.{next_image, told};
 
 use crate::clients::find;
 use crate::event::{Event, Happened, Outcome};
-use crate::happen::happen;
+use crate::happen::record_event;
 use crate::laws::replays_worlds;
-use crate::state::{Client, Controls, Limits, MAX_OWN, Modes, Part, SEATS, State};
+use crate::state::{Client, Controls, Limits, MAX_OWN, Modes, Part, State};
+use crate::volume::Volume;
 use song_db::Db;
 use song_queue::Queue;
 use std::alloc::{AllocError, Global};
@@ -22,7 +25,7 @@ use std::marker::Model;
 /// Why an event was not applied.
 #[derive(Clone, Copy, Debug, PartialEq, Eq)]
 pub enum PartitionFault {
-    /// The seat made [`MAX_OWN`] events.
+    /// The seat made 2^63-1 events.
     AtLimit,
     /// A growth was refused.
     NoMemory,
@@ -67,7 +70,7 @@ impl Partition {
                 part: Part {
                     queue,
                     controls: Controls {
-                        volume: 100,
+                        volume: Volume::full(),
                         modes: Modes { repeat: false },
                     },
                 },
@@ -81,23 +84,24 @@ impl Partition {
 
     /// Applies an event of a seat, and keeps it with what it made clients hear.
     pub fn apply(&mut self, seat: u8, event: Event) -> Result<Outcome, PartitionFault>
-        requires { seat < SEATS }
+        requires { seat < 16 }
 
         // The event and its reply join the history, and the reply is the one of the player of one thread.
         ensures base { self.new.base ≡ self.old.base }
         ensures window { IfOk result (λ outcome. self.new.window ≡ self.old.window ++ record { seat = seat; event = event; told = outcome } ∷ []) }
         ensures told { IfOk result (λ outcome. outcome ≡ told self.old.present event) }
-        // The state that stands is that player's next one.
-        ensures present { OnOk result (self.new.present ≡ next seat self.old.present event) }
+        // The new state is that player's next one.
+        ensures present { OnOk result (self.new.present ≡ next_image seat self.old.present event) }
         ensures err { OnErr result (self.new ≡ self.old) }
-        ensures at_limit { IsErrOf result PartitionFault.AtLimit ↔ (MAX_OWN ≤ slice_index_or self.old.present.shared.made seat 0) }
+        ensures at_limit { IsErrOf result PartitionFault.AtLimit ↔ (2 ^ 63 - 1 ≤ slice_index_or self.old.present.shared.made seat 0) }
         ensures legal { IsPast self.old }
     {
         self.legal();
         if self.state.made[usize::from(seat)] >= MAX_OWN {
             return Err(PartitionFault::AtLimit);
         }
-        let Ok(outcome) = happen(self.alloc, &mut self.state, &mut self.history, seat, event) else {
+        let Ok(outcome) = record_event(self.alloc, &mut self.state, &mut self.history, seat, event)
+        else {
             return Err(PartitionFault::NoMemory);
         };
         Ok(outcome)
@@ -108,11 +112,17 @@ impl Partition {
         ensures window { result.now ≡ self.now.window }
         // Every reply is the one-thread player's at its place in the history.
         ensures told { AreTold self.now.base self.now.window }
-        // The state that stands is the replay's, and has the versions, stamps, marks and ids of the past queues.
+        // The present state is the replay's, and has the versions, stamps, marks and ids of the past queues.
         ensures present { self.now.present ≡ replay self.now.base self.now.window }
         ensures legal { IsPast self.now }
         // The flags of each client are its pending set: what changed since its connect or last notice.
         ensures pending { All (HasPending (life_of self.now).moments) self.now.present.clients }
+        // Each event raised the subsystems whose parts differ between the worlds before and after it.
+        ensures raises { EachMoment (λ moment earlier. Raises moment) (life_of self.now).moments }
+        // Each event told those that waited for what changed, by rising client, and nobody else.
+        ensures tells { EachMoment Tells (life_of self.now).moments }
+        // What is kept of each event is what was told at it.
+        ensures heard { AreHeard (life_of self.now).moments self.now.window }
         // Song ids are distinct.
         ensures distinct { AllPairs (λ e f. e.id ≢ f.id) (queue_of self.now.present.part.queue) }
     {
@@ -124,14 +134,16 @@ impl Partition {
     fn legal(&self)
         ensures legal { IsPast self.now }
         ensures replayed { self.now.present ≡ replay self.now.base self.now.window }
+        ensures settled { AllSettled self.now.present.clients }
     {
         replays_worlds();
-        let _valid = self.state.part.queue.len();
+        // A call that reads the queue brings what its type keeps of it: distinct ids.
+        let _distinct = self.state.part.queue.len();
     }
 
     /// How many events a seat made.
     pub fn own(&self, seat: u8) -> u64
-        requires { seat < SEATS }
+        requires { seat < 16 }
         ensures made { result ≡ slice_index_or self.now.present.shared.made seat 0 }
         ensures own { result ≡ own_of seat self.now.window }
     {
@@ -139,7 +151,7 @@ impl Partition {
         self.state.made[usize::from(seat)]
     }
 
-    /// The queue that stands.
+    /// The present queue.
     pub fn queue(&self) -> &Queue
         ensures { result.now ≡ self.now.present.part.queue }
     {
@@ -154,10 +166,10 @@ impl Partition {
     }
 
     /// What the player is set to.
-    pub fn controls(&self) -> Controls
-        ensures { result ≡ self.now.present.part.controls }
+    pub fn controls(&self) -> &Controls
+        ensures { result.now ≡ self.now.present.part.controls }
     {
-        self.state.part.controls
+        &self.state.part.controls
     }
 
     /// The clients that are connected, by rising number.

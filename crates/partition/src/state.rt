@@ -1,10 +1,8 @@
 //! The state of a player.
+use crate::volume::Volume;
 use idle_notes::Pending;
 use song_db::Db;
 use song_queue::Queue;
-
-/// How many seats there are, from which events come.
-pub const SEATS: usize = 16;
 
 /// The most clients that may be connected.
 pub const MAX_CLIENTS: usize = 64;
@@ -31,10 +29,9 @@ pub struct Modes {
 }
 
 /// What a player can be set to.
-#[derive(Clone, Copy, Debug, PartialEq, Eq)]
+#[derive(Drop)]
 pub struct Controls {
-    /// The volume, 0 to 100.
-    pub volume: u8,
+    pub volume: Volume,
     pub modes: Modes,
 }
 
@@ -52,7 +49,7 @@ pub struct Part {
     pub controls: Controls,
 }
 
-/// The state that stands.
+/// The present state.
 #[derive(Drop)]
 pub(crate) struct State {
     pub(crate) part: Part,

@@ -50,7 +50,7 @@ impl Channels {
     }
 }
 
-/// Fills the frames from the bytes of a WAVE file's data. Bytes behind the last frame are not looked at.
+/// Fills the frames from the bytes of a WAVE file's data. Bytes after the last frame are not read.
 pub fn from_bytes(bytes: &[u8], depth: Depth, channels: Channels, frames: &mut [Frame])
     requires { length frames.old * (width depth * count channels) ≤ length bytes.now }
     ensures { frames.new ≡ map (frame_at depth channels bytes.now) (range_with_len 0 (length frames.old)) }

@@ -12,6 +12,3 @@ pub use volume::gain;
 
 /// A left and a right sample of 16 bits.
 pub type Frame = [i16; 2];
-
-#[cfg(test)]
-mod tests;

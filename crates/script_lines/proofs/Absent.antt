@@ -4,7 +4,7 @@ use Rattle.std.specs.Prelude.{slice_index_or, Contains}
 use Rattle.std.proofs.lemmas.Bool.Decides.{nat_tests}
 use Rattle.script_lines.specs.Cuts.{has_byte}
 
--- it stands nowhere
+-- it is nowhere
 absent_at : (b : ℕ) (text : List ℕ) (k : ℕ) → has_byte b text ≡ false → k < length text → slice_index_or text k b ≡ b → ⊥
 absent_at b [] k lacks below is = absurd (omega arith)
 absent_at b (c ∷ cs) zero lacks below is = grind (arith, nat_tests)

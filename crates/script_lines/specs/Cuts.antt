@@ -2,14 +2,14 @@
 use Rattle.std.specs.Prelude.{ℕ, List, length, Bool, ◌==◌, nat_lt}
 use Rattle.std.specs.List.{position_or_len, before_first, after_first}
 
--- whether the byte stands in the text
+-- whether the byte is in the text
 abbrev pub has_byte : ℕ → List ℕ → Bool
 has_byte b text = nat_lt (position_or_len (λ c. c == b) text) (length text)
 
--- what stands before the first such byte: the whole text where there is none
+-- what is before the first such byte: the whole text where there is none
 abbrev pub before : ℕ → List ℕ → List ℕ
 before b text = before_first (λ c. c == b) text
 
--- what stands behind it: nothing where there is none
-abbrev pub behind : ℕ → List ℕ → List ℕ
-behind b text = after_first (λ c. c == b) text
+-- what is after it: nothing where there is none
+abbrev pub after : ℕ → List ℕ → List ℕ
+after b text = after_first (λ c. c == b) text

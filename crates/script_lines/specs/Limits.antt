@@ -1,7 +1,7 @@
 -- The limits that a script may lower (this profile's script and limits).
 use Rattle.std.specs.Prelude.{ℕ, List, [], ◌∷◌, codes, Option, Some, None, find, ◌&&◌, nat_le, if◌then◌else◌}
 use Rattle.std.specs.Str.{bytes_eq}
-use Rattle.mpd_text.specs.Numbers.{number_of}
+use Rattle.mpd_text.specs.Answers.Number.{number_of}
 use Rattle.script_lines.specs.declared.limit.LimitName.{LimitName}
 use Rattle.script_lines.specs.declared.limit.LimitName.TheVariants.{MaxQueue, MaxVersion, MaxId}
 

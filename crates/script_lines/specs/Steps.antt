@@ -2,8 +2,8 @@
 use Rattle.std.specs.Prelude.{ℕ, List, [], ◌∷◌, length, codes, Option, Some, None, Result, Ok, Err, Bool, not, ◌&&◌, nat_le, if◌then◌else◌}
 use Rattle.std.specs.List.{list_all}
 use Rattle.std.specs.Str.{bytes_eq}
-use Rattle.mpd_text.specs.Scan.{words_of}
-use Rattle.mpd_text.specs.declared.quoting.WordsFault.{WordsFault}
+use Rattle.mpd_text.specs.Lines.Scan.{words_of}
+use Rattle.mpd_text.specs.declared.lines.quoting.WordsFault.{WordsFault}
 use Rattle.script_lines.specs.Cuts.{has_byte}
 use Rattle.script_lines.specs.Limits.{limit_named, greatest_of, number_within}
 use Rattle.script_lines.specs.Tags.{is_tag, tags_of}
@@ -60,6 +60,6 @@ abbrev pub step_if_read : Result (List (List ℕ)) WordsFault → Option Step
 step_if_read (Ok words) = step_of_words words
 step_if_read (Err fault) = None
 
--- the step behind a step's head, or None where it is bad
+-- the step after a step's head, or None where it is bad
 unfoldable pub step_of : List ℕ → Option Step
 step_of rest = step_if_read (words_of rest)

@@ -6,8 +6,6 @@ mod limit;
 mod line;
 mod step;
 mod tag;
-#[cfg(test)]
-mod tests;
 
 pub use limit::{LimitName, MAX_ID, MAX_QUEUE, MAX_VERSION};
 pub use line::ScriptLine;

@@ -9,7 +9,7 @@ use crate::cut::cut;
 pub enum ScriptLine<'a> {
     /// A client's number, 1 to 9, and the line that it sends.
     Client(u32, &'a str),
-    /// What stands behind the exclamation mark of a step.
+    /// What follows the exclamation mark of a step.
     Step(&'a str),
     /// Neither.
     Bad,

@@ -1,6 +1,6 @@
 //! Steps of a script.
 ghost use Rattle.std.specs.Prelude.{◌≡◌, IfOk, map, string_bytes, Some, true};
-ghost use Rattle.mpd_text.specs.Cut.{HasNoNewline};
+ghost use Rattle.mpd_text.specs.Lines.Cut.{HasNoNewline};
 ghost use Rattle.script_lines.specs.Steps.{is_uri as is_uri_lem, song_with as song_with_lem, song_of, limit_of, gone_of, step_of_words, step_of};
 
 use crate::cut::has;
@@ -15,19 +15,19 @@ pub const MAX_CLIENT: u32 = 9;
 /// The greatest length of a song's URI, in bytes.
 pub const MAX_URI: usize = 1_024;
 
-/// A step that comes before the first line of a client, beside them, or behind it.
+/// A step that comes before the first line of a client, beside them, or after it.
 #[derive(Drop)]
 pub enum Step {
     /// A song for the library: its URI as written, its tags in the order of answers, its frames.
     Song(Song),
     /// A limit and its value, from 1 to its greatest.
     Limit(LimitName, u32),
-    /// A client, from 1 to 9, goes.
+    /// A client, from 1 to 9, leaves.
     Gone(u32),
 }
 
 impl Step {
-    /// The step that stands behind a step's head; `None` where it is bad: its words cannot be read, the first one is
+    /// The step that follows a step's head; `None` where it is bad: its words cannot be read, the first one is
     /// not `song`, `limit` or `gone`, or the others are not what it takes. `Err` where memory runs out.
     #[tactic(auto, unfolding(crate::specs::Steps::step_of))]
     pub fn of_line(alloc: Global, rest: &str) -> Result<Option<Step>, AllocError>

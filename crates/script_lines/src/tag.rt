@@ -2,36 +2,14 @@
 ghost use Rattle.std.specs.Prelude.{◌≡◌, ◌<◌, IfOk, map, string_bytes, Some, None, MatchOption, nat_le};
 ghost use Rattle.std.specs.Str.{str_eq_ignore_ascii_case};
 ghost use Rattle.std.specs.List.{list_all};
-ghost use Rattle.script_lines.specs.Tags.{tag_text, is_tag_of as is_tag_of_lem, is_tag as is_tag_lem, text_of as text_of_lem, counts as counts_lem, first_text as first_text_lem, tags_of as tags_of_lem};
+ghost use Rattle.script_lines.specs.Tags.{is_tag_of as is_tag_of_lem, is_tag as is_tag_lem, text_of as text_of_lem, counts as counts_lem, first_text as first_text_lem, tags_of as tags_of_lem};
 
 use crate::cut::{cut, has};
-use mpd_text::{Tag, TagName};
+use mpd_text::{TAG_NAMES, Tag, TagName};
 use std::alloc::{AllocError, Global};
 
 /// The greatest length of a tag's text, in bytes. A longer text is skipped.
 pub const MAX_TEXT: usize = 1_024;
-
-const TAGS: [TagName; 6] = [
-    TagName::Title,
-    TagName::Artist,
-    TagName::Album,
-    TagName::Date,
-    TagName::Genre,
-    TagName::Comment,
-];
-
-fn name_text(name: TagName) -> &'static str
-    ensures { result.now ≡ tag_text name }
-{
-    match name {
-        TagName::Title => "Title",
-        TagName::Artist => "Artist",
-        TagName::Album => "Album",
-        TagName::Date => "Date",
-        TagName::Genre => "Genre",
-        TagName::Comment => "Comment",
-    }
-}
 
 fn same_name(word: &str, name: &str) -> bool
     ensures { result ≡ str_eq_ignore_ascii_case word.now name.now }
@@ -39,22 +17,22 @@ fn same_name(word: &str, name: &str) -> bool
     word.eq_ignore_ascii_case(name)
 }
 
-/// Whether this tag's name stands before the first `=` of a word.
+/// Whether this tag's name is before the first `=` of a word.
 #[tactic(auto, unfolding(crate::specs::Tags::is_tag_of))]
 fn is_tag_of(name: TagName, word: &str) -> bool
     ensures { result ≡ is_tag_of_lem name word.now }
 {
-    has(word, '=') && same_name(cut(word, '=').0, name_text(name))
+    has(word, '=') && same_name(cut(word, '=').0, name.text())
 }
 
 #[tactic(auto, unfolding(crate::specs::Tags::is_tag))]
 fn is_tag(word: &str) -> bool
     ensures { result ≡ is_tag_lem word.now }
 {
-    TAGS.iter().any(|name| is_tag_of(*name, word))
+    TAG_NAMES.iter().any(|name| is_tag_of(*name, word))
 }
 
-/// The text of a tag: what stands behind the first `=`, up to its first zero byte.
+/// The text of a tag: what follows the first `=`, up to its first zero byte.
 fn text_of(word: &str) -> &str
     ensures { result.now ≡ text_of_lem word.now }
 {
@@ -91,7 +69,7 @@ pub(crate) fn tags_of(alloc: Global, words: &[String]) -> Result<Vec<Tag>, Alloc
     ensures { IfOk result (λ tags. tags.items ≡ tags_of_lem (map string_bytes words.now)) }
 {
     let mut tags = Vec::new(alloc);
-    for name in TAGS {
+    for name in TAG_NAMES {
         if let Some(text) = first_text(words, name) {
             tags.push(Tag::new(name, String::from_str(alloc, text)?))?;
         }

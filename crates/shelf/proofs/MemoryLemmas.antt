@@ -24,10 +24,10 @@ Stickers = BTreeMap (String Global) Texts
 
 -- the call is done, or nothing is changed
 pub turns_done : (old new after : Maps) → Same after new → Turns (memory_of old) (memory_of new) true after
-turns_done old new after same = record { clean = λ h. h; ours = λ h o. tt; done = λ h o. (refl, same); kept = λ h e. absurd (cc); stop = λ h m left. absurd left }
+turns_done old new after same = record { clean = λ h. h; counts = omega arith; stays_open = λ h o. inl o; ours = λ h o. tt; done = λ h o. (refl, same); kept = λ h e. absurd (cc); stop = λ h m left. absurd left }
 
 pub turns_kept : (old new after : Maps) → Same old new → Turns (memory_of old) (memory_of new) false after
-turns_kept old new after same = record { clean = λ h. h; ours = λ h o. tt; done = λ h e. absurd (cc); kept = λ h e o. same; stop = λ h m left. absurd left }
+turns_kept old new after same = record { clean = λ h. h; counts = omega arith; stays_open = λ h o. inl o; ours = λ h o. tt; done = λ h e. absurd (cc); kept = λ h e o. same; stop = λ h m left. absurd left }
 
 map_update : {X Y : Type 0} (f : X → Y) (g : List ℕ → Option X) (key other : List ℕ) (w : Option X)
     → option_map f (update bytes_eq g key w other) ≡ update bytes_eq (λ k. option_map f (g k)) key (option_map f w) other

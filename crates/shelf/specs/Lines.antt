@@ -19,7 +19,7 @@ ended uri = uri ++ newline ∷ []
 abbrev pub text_of : List (List ℕ) → List ℕ
 text_of uris = flat_map ended uris
 
--- a byte in front of the first line; what no newline ends is no line
+-- a byte before the first line; what no newline ends is no line
 abbrev pub before : ℕ → List (List ℕ) → List (List ℕ)
 before b [] = []
 before b (line ∷ lines) = (b ∷ line) ∷ lines

@@ -1,5 +1,5 @@
 -- Stored playlists and stickers as two maps, and what each call answers and leaves of them (MPD protocol reference, Stored playlists, Stickers).
-use Rattle.std.specs.Prelude.{◌≡◌, ◌⊎◌, ℕ, nat_lt, nat_le, Bool, false, not, ◌&&◌, ◌||◌, ◌==◌, if◌then◌else◌, List, length, map, Option, Some, None, is_some, IsSome, IsTrue, Result, Ok, Err, bytes_eq}
+use Rattle.std.specs.Prelude.{◌≡◌, ◌⊎◌, ℕ, ◌+◌, ◌-◌, ◌^◌, ◌≤◌, min, nat_lt, nat_le, Bool, false, not, ◌&&◌, ◌||◌, ◌==◌, if◌then◌else◌, List, length, map, Option, Some, None, is_some, IsSome, IsTrue, Result, Ok, Err, bytes_eq}
 use Rattle.std.specs.Map.{update, lookup}
 use Rattle.std.specs.List.{list_any}
 use Rattle.std.specs.List.Sorted.{IsStrictlySortedBy}
@@ -105,6 +105,8 @@ pub record Standing : Type 1 where
   pub IsOurs : Type 0
   -- no failure of the device has shut the store
   pub is_open : Bool
+  -- how many times the device has failed or refused, up to 2^64 - 1
+  pub faults : ℕ
   -- what an open after a stop at this moment may find
   pub MayLeave : Maps → Type 0
 
@@ -112,9 +114,15 @@ pub record Standing : Type 1 where
 abbrev pub Trusted : Standing → Standing → Type 0
 Trusted old new = new.IsClean × old.IsOurs
 
--- a call that is to turn the maps into `after`: it does, or changes nothing while the store is open; a stop during it leaves the maps from before it or after it
+-- the device failed or refused between the two, or so often before that it is counted no further
+abbrev pub DeviceFailed : Standing → Standing → Type 0
+DeviceFailed old new = min (old.faults + 1) (2 ^ 64 - 1) ≤ new.faults
+
+-- A call that is to turn the maps into `after`: it does, or changes nothing while the store is open. Only a failure of the device shuts the store. A stop during the call leaves the maps from before it or after it.
 pub record Turns (old new : Standing) (is_done : Bool) (after : Maps) : Type 0 where
   pub clean : new.IsClean → old.IsClean
+  pub counts : old.faults ≤ new.faults
+  pub stays_open : new.IsClean → IsTrue old.is_open → IsTrue new.is_open ⊎ DeviceFailed old new
   pub ours : Trusted old new → IsTrue new.is_open → new.IsOurs
   pub done : Trusted old new → IsTrue is_done → IsTrue new.is_open × Same after new.maps
   pub kept : Trusted old new → is_done ≡ false → IsTrue new.is_open → Same old.maps new.maps

@@ -21,7 +21,7 @@ stickers_in stickers uri name = text_in (get_by_text stickers uri) name
 
 -- memory returns what was written, and nothing of it is left after a stop
 abbrev pub memory_of : Maps → Standing
-memory_of maps = record { maps = maps; IsClean = Unit {0}; IsOurs = Unit {0}; is_open = true; MayLeave = λ m. ⊥ }
+memory_of maps = record { maps = maps; IsClean = Unit {0}; IsOurs = Unit {0}; is_open = true; faults = 0; MayLeave = λ m. ⊥ }
 
 abbrev pub memory_standing : Texts → BTreeMap (String Global) Texts → Standing
 memory_standing lists stickers = memory_of (record { lists = lists_in lists; stickers = stickers_in stickers })

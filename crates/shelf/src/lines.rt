@@ -18,7 +18,7 @@ pub fn text_of_lines(alloc: Global, uris: &[String]) -> Result<String, AllocErro
     Ok(text)
 }
 
-/// The lines of a text, without their newlines. What stands after the last newline is no line.
+/// The lines of a text, without their newlines. What comes after the last newline is no line.
 pub fn lines_of_text(alloc: Global, text: &str) -> Result<Vec<String>, AllocError>
     ensures { IfOk result (λ lines. map string_bytes lines.items ≡ lines_of text.now) }
 {

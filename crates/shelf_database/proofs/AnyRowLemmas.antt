@@ -1,5 +1,5 @@
 -- Where a query shows a row, one passes, and where it shows none, none passes.
-use Rattle.std.proofs.Common.{◌≡◌, inl, inr, ℕ, List, [], ◌∷◌, filter, find, length, slice_get, Bool, true, ◌&&◌, Some, None, option_map, is_some, IsSome, refl, sym, ap, subst, ◌∙◌, arith}
+use Rattle.std.proofs.Common.{◌≡◌, inl, inr, ℕ, List, [], ◌∷◌, filter, find, length, slice_get, Bool, true, ◌&&◌, Some, None, option_map, is_some, IsSome, refl, sym, ap, subst, ◌∙◌, arith, Option, false}
 use Rattle.std.proofs.lemmas.List.{length-map}
 use Rattle.std.specs.List.{list_all}
 use Rattle.std.proofs.lemmas.Bool.{cases_Bool, and_parts, and_from, true≢false}
@@ -15,6 +15,7 @@ use Rattle.sqlite_value.specs.declared.keys.Key.{Key}
 use Rattle.sqlite_rules.specs.Lists.{Has}
 use Rattle.sqlite_rules.proofs.ListLemmas.{has_filtered, has_got}
 use Rattle.shelf_database.specs.Tables.{has_text, maps_in}
+use Rattle.shelf_database.specs.Asks.{IsFirst}
 use Rattle.shelf_database.proofs.Statements.{over, equals, rising}
 use Rattle.shelf_database.proofs.ReadLemmas.{IsRead, answer_is, shows}
 use Rattle.shelf_database.proofs.DeleteLemmas.{map_has, has_permuted, filtered_has}
@@ -77,3 +78,12 @@ module _ (uri : List ℕ) (db : Database) (rows : List Row) (answer : IsAnswer (
   no_sticker_there first name =
       let none = none_shown (Text uri ∷ []) 3 (equals 1 0 ∷ []) (col 1 2 ∷ col 1 3 ∷ []) (rising 2) (has_text 1 uri) (one_test 1 uri) (filter (has_text 1 uri) (db.trees 3)) rows of_uri first in
       ap (option_map (λ r. bytes (column r 3))) (none_passes (λ r. has_text 1 uri r && has_text 2 name r) (has_text 1 uri) (db.trees 3) none (λ r is. (and_parts _ _ is).0))
+
+  -- the text of the first row is the name of one
+  pub any_there : (name : Option (List ℕ)) → IsFirst rows name → is_some name ≡ true → (name : List ℕ) × IsSome ((maps_in db.trees).stickers uri name)
+  any_there None first some = absurd (cc)
+  any_there (Some name) first some = (name, sticker_there first.0 name first.1 first.2)
+
+  pub none_there : (name : Option (List ℕ)) → IsFirst rows name → is_some name ≡ false → (other : List ℕ) → (maps_in db.trees).stickers uri other ≡ None
+  none_there None first none = no_sticker_there first
+  none_there (Some name) first none = absurd (cc)

@@ -43,7 +43,7 @@ abbrev pub IsWhole : List ℕ → Row → Type 0
 IsWhole = IsWholeIn shelf_schema
 
 -- no sum is made over one table that is not grouped
-no_sum : (params : Row) (tree : ℕ) (filter project : List Term) (order : List (Term × Key)) (db : Trees) → ProgramOverflows db params [] [] (over tree filter project order) → ⊥
+pub no_sum : (params : Row) (tree : ℕ) (filter project : List Term) (order : List (Term × Key)) (db : Trees) → ProgramOverflows db params [] [] (over tree filter project order) → ⊥
 no_sum params tree filter project order db (inl never) = never
 no_sum params tree filter project order db (inr some) = some.4
 
@@ -104,52 +104,59 @@ module _ (text : List ℕ) (query : Query) (names : List (List ℕ)) (reading : 
         | inr (inr limited) ↦ inr (inr limited.1)
       ]
 
+-- a query of the tables, which only a failure of the store refuses
+pub record Question (text : List ℕ) (params : Row) : Type 1 where
+  pub query : Query
+  pub names : List (List ℕ)
+  pub reading : Reading text query names
+  pub blamed : BlamesStore text params
+
+-- one of a table's rows, which sums nothing
+module _ (text : List ℕ) (params : Row) (tree : ℕ) (filter project : List Term) (order : List (Term × Key)) (names : List (List ℕ)) (reading : Reading text (over tree filter project order) names)
+    (whole : IsWhole text params) (typed : accepts_program shelf_schema [] (over tree filter project order) params ≡ true) where
+  abbrev pub asks : Question text params
+  asks = record { query = over tree filter project order; names = names; reading = reading; blamed = read_blamed text (over tree filter project order) names reading params whole typed (no_sum params tree filter project order) }
+
 -- ---- the queries
 
-asked_whole : IsWhole asked_text []
+pub number_whole : IsWhole asked_text []
 unfolding understood everything
-asked_whole = (refl, refl)
+number_whole = (refl, refl)
 
-pub query_blamed : BlamesStore asked_text []
-query_blamed = read_blamed asked_text (over 0 [] (col 1 2 ∷ []) []) _ asked_is [] asked_whole refl (no_sum [] 0 [] (col 1 2 ∷ []) [])
+abbrev pub number_asked : Question asked_text []
+number_asked = asks asked_text [] 0 [] (col 1 2 ∷ []) [] _ asked_is number_whole refl
 
-uris_whole : (name : List ℕ) → IsWhole uris_text (Text name ∷ [])
+pub uris_whole : (name : List ℕ) → IsWhole uris_text (Text name ∷ [])
 unfolding understood everything
 uris_whole name = (refl, refl)
 
-pub uris_blamed : (name : List ℕ) → BlamesStore uris_text (Text name ∷ [])
-uris_blamed name = read_blamed uris_text (over 1 (equals 1 0 ∷ []) (col 1 2 ∷ []) []) _ uris_is (Text name ∷ []) (uris_whole name) refl (no_sum (Text name ∷ []) 1 (equals 1 0 ∷ []) (col 1 2 ∷ []) [])
+abbrev pub uris_asked : (name : List ℕ) → Question uris_text (Text name ∷ [])
+uris_asked name = asks uris_text (Text name ∷ []) 1 (equals 1 0 ∷ []) (col 1 2 ∷ []) [] _ uris_is (uris_whole name) refl
 
-names_whole : IsWhole names_text []
+pub names_whole : IsWhole names_text []
 unfolding understood everything
 names_whole = (refl, refl)
 
-pub names_blamed : BlamesStore names_text []
-names_blamed = read_blamed names_text (over 1 [] (col 1 1 ∷ []) (rising 1)) _ names_are [] names_whole refl (no_sum [] 1 [] (col 1 1 ∷ []) (rising 1))
+abbrev pub names_asked : Question names_text []
+names_asked = asks names_text [] 1 [] (col 1 1 ∷ []) (rising 1) _ names_are names_whole refl
 
-value_whole : (uri name : List ℕ) → IsWhole value_text (Text uri ∷ Text name ∷ [])
+pub value_whole : (uri name : List ℕ) → IsWhole value_text (Text uri ∷ Text name ∷ [])
 unfolding understood everything
 value_whole uri name = (refl, refl)
 
-pub value_blamed : (uri name : List ℕ) → BlamesStore value_text (Text uri ∷ Text name ∷ [])
-value_blamed uri name =
-    read_blamed value_text (over 3 (equals 1 0 ∷ equals 2 1 ∷ []) (col 1 3 ∷ []) []) _ value_is (Text uri ∷ Text name ∷ []) (value_whole uri name) refl
-    (no_sum (Text uri ∷ Text name ∷ []) 3 (equals 1 0 ∷ equals 2 1 ∷ []) (col 1 3 ∷ []) [])
+abbrev pub value_asked : (uri name : List ℕ) → Question value_text (Text uri ∷ Text name ∷ [])
+value_asked uri name = asks value_text (Text uri ∷ Text name ∷ []) 3 (equals 1 0 ∷ equals 2 1 ∷ []) (col 1 3 ∷ []) [] _ value_is (value_whole uri name) refl
 
-of_uri_whole : (uri : List ℕ) → IsWhole of_uri_text (Text uri ∷ [])
+pub of_uri_whole : (uri : List ℕ) → IsWhole of_uri_text (Text uri ∷ [])
 unfolding understood everything
 of_uri_whole uri = (refl, refl)
 
-pub of_uri_blamed : (uri : List ℕ) → BlamesStore of_uri_text (Text uri ∷ [])
-of_uri_blamed uri =
-    read_blamed of_uri_text (over 3 (equals 1 0 ∷ []) (col 1 2 ∷ col 1 3 ∷ []) (rising 2)) _ of_uri_is (Text uri ∷ []) (of_uri_whole uri) refl
-    (no_sum (Text uri ∷ []) 3 (equals 1 0 ∷ []) (col 1 2 ∷ col 1 3 ∷ []) (rising 2))
+abbrev pub of_uri_asked : (uri : List ℕ) → Question of_uri_text (Text uri ∷ [])
+of_uri_asked uri = asks of_uri_text (Text uri ∷ []) 3 (equals 1 0 ∷ []) (col 1 2 ∷ col 1 3 ∷ []) (rising 2) _ of_uri_is (of_uri_whole uri) refl
 
-of_name_whole : (name : List ℕ) → IsWhole of_name_text (Text name ∷ [])
+pub of_name_whole : (name : List ℕ) → IsWhole of_name_text (Text name ∷ [])
 unfolding understood everything
 of_name_whole name = (refl, refl)
 
-pub of_name_blamed : (name : List ℕ) → BlamesStore of_name_text (Text name ∷ [])
-of_name_blamed name =
-    read_blamed of_name_text (over 3 (equals 2 0 ∷ []) (col 1 1 ∷ col 1 3 ∷ []) (rising 1)) _ of_name_is (Text name ∷ []) (of_name_whole name) refl
-    (no_sum (Text name ∷ []) 3 (equals 2 0 ∷ []) (col 1 1 ∷ col 1 3 ∷ []) (rising 1))
+abbrev pub of_name_asked : (name : List ℕ) → Question of_name_text (Text name ∷ [])
+of_name_asked name = asks of_name_text (Text name ∷ []) 3 (equals 2 0 ∷ []) (col 1 1 ∷ col 1 3 ∷ []) (rising 1) _ of_name_is (of_name_whole name) refl

@@ -2,9 +2,7 @@
 use Rattle.std.proofs.Common.{◌≡◌, ◌≢◌, inl, inr, ℕ, List, [], ◌∷◌, slice_get, Bool, true, ◌&&◌, Option, Some, None, Err, refl, subst, IsSome}
 use Rattle.std.specs.List.{list_all}
 use Rattle.sqlite.specs.declared.error.Error.{Error}
-use Rattle.sqlite.specs.declared.error.Error.TheVariants.{SqliteFailure}
 use Rattle.sqlite.specs.declared.error.ErrorCode.TheVariants as code
-use Rattle.sqlite.specs.declared.types.Value.{Value}
 use Rattle.sqlite.specs.declared.types.Value.TheVariants.{Text}
 use Rattle.sqlite.specs.Order.{Row}
 use Rattle.sqlite.specs.Tree.{IsTable}
@@ -13,21 +11,20 @@ use Rattle.sqlite.specs.Term.{Term, col, holds}
 use Rattle.sqlite.specs.Effect.{Database}
 use Rattle.sqlite.specs.Does.{Does}
 use Rattle.sqlite.specs.Listing.{understood}
-use Rattle.sqlite.specs.State.{State, Executes, mode_of}
+use Rattle.sqlite.specs.State.{State, mode_of}
 use Rattle.sqlite.proofs.Callers.{statement_of}
 use Rattle.sqlite_tied.specs.Compute.{everything}
 use Rattle.sqlite_rules.specs.Calls.{ids_of}
 use Rattle.sqlite_rules.proofs.ListLemmas.{has_got}
 use Rattle.sqlite_typing.specs.Types.{accepts_program}
 use Rattle.shelf_database.specs.Tables.{shelf_schema, placed_list, placed_sticker, has_text, IsReady}
-use Rattle.shelf_database.specs.Faults.{HasFailed}
-use Rattle.shelf_database.proofs.Statements.{over, equals, remove_text, remove_is, delete_text, delete_is, delete_all_text, delete_all_is}
+use Rattle.shelf_database.proofs.Statements.{over, equals, remove_text, delete_text, delete_all_text}
 use Rattle.shelf_database.proofs.TextLemmas.{one_test, two_tests}
 use Rattle.shelf_database.proofs.DeleteLemmas.{deletion}
 use Rattle.shelf_database.proofs.RefusalLemmas.{query_limited, unique_now, concludes_done}
 use Rattle.shelf_database.proofs.EditBlame.{taking_done}
-use Rattle.shelf_database.proofs.WriteBlame.{RefusedFor, write_blamed}
-use Rattle.shelf_database.proofs.BlameLemmas.{IsWhole, failed_alone}
+use Rattle.shelf_database.proofs.WriteBlame.{RefusedFor}
+use Rattle.shelf_database.proofs.BlameLemmas.{IsWhole}
 
 module _ (params : Row) (tree : ℕ) (terms : List Term) (test : Row → Bool) (tests : (row : Row) → list_all (holds (params ∷ row ∷ [])) terms ≡ test row) where
   deletion_refused : (at : ℕ) (table : Table) → slice_get shelf_schema.tables at ≡ Some table → accepts_program shelf_schema [] (over tree terms (col 1 0 ∷ []) []) params ≡ true
@@ -68,30 +65,16 @@ deletion_of_all_refused s uri ready stop h =
     let run : List ℕ = statement_of delete_all_text (understood shelf_schema delete_all_text) in
     inl (deletion_refused (Text uri ∷ []) 3 (equals 1 0 ∷ []) (has_text 1 uri) (one_test 1 uri) 2 placed_sticker refl refl s run ready ready.shelf.stickers.rise stop h)
 
--- ---- an error of a deletion
+-- ---- the statements and their values
 
-remove_whole : (name : List ℕ) → IsWhole remove_text (Text name ∷ [])
+pub remove_whole : (name : List ℕ) → IsWhole remove_text (Text name ∷ [])
 unfolding understood everything
 remove_whole name = (refl, refl)
 
-delete_whole : (uri name : List ℕ) → IsWhole delete_text (Text uri ∷ Text name ∷ [])
+pub delete_whole : (uri name : List ℕ) → IsWhole delete_text (Text uri ∷ Text name ∷ [])
 unfolding understood everything
 delete_whole uri name = (refl, refl)
 
-delete_all_whole : (uri : List ℕ) → IsWhole delete_all_text (Text uri ∷ [])
+pub delete_all_whole : (uri : List ℕ) → IsWhole delete_all_text (Text uri ∷ [])
 unfolding understood everything
 delete_all_whole uri = (refl, refl)
-
-pub removal_blamed : (old new : State) (name : List ℕ) (e : Error) → IsReady old → e ≢ SqliteFailure code.OutOfMemory → Executes remove_text (Text name ∷ []) old new (Err e) → HasFailed old new
-removal_blamed old new name e ready other h =
-    failed_alone old new (write_blamed old new remove_text (Text name ∷ []) (deletion (Text name ∷ []) 1 (equals 1 0 ∷ []) (has_text 1 name) (one_test 1 name) 1) remove_is tt (remove_whole name) ⊥ (removal_refused old name ready) e ready other h)
-
-pub deletion_blamed : (old new : State) (uri name : List ℕ) (e : Error) → IsReady old → e ≢ SqliteFailure code.OutOfMemory → Executes delete_text (Text uri ∷ Text name ∷ []) old new (Err e) → HasFailed old new
-deletion_blamed old new uri name e ready other h =
-    let params : List Value = Text uri ∷ Text name ∷ [] in
-    let command = deletion params 3 (equals 1 0 ∷ equals 2 1 ∷ []) (λ row. has_text 1 uri row && has_text 2 name row) (two_tests uri name) 2 in
-    failed_alone old new (write_blamed old new delete_text params command delete_is tt (delete_whole uri name) ⊥ (deletion_of_one_refused old uri name ready) e ready other h)
-
-pub deletion_of_all_blamed : (old new : State) (uri : List ℕ) (e : Error) → IsReady old → e ≢ SqliteFailure code.OutOfMemory → Executes delete_all_text (Text uri ∷ []) old new (Err e) → HasFailed old new
-deletion_of_all_blamed old new uri e ready other h =
-    failed_alone old new (write_blamed old new delete_all_text (Text uri ∷ []) (deletion (Text uri ∷ []) 3 (equals 1 0 ∷ []) (has_text 1 uri) (one_test 1 uri) 2) delete_all_is tt (delete_all_whole uri) ⊥ (deletion_of_all_refused old uri ready) e ready other h)

@@ -5,15 +5,15 @@ use Rattle.sqlite.specs.declared.types.Value.TheVariants.{Text}
 use Rattle.sqlite.specs.State.{State, HasCleanDisk}
 use Rattle.shelf.specs.declared.faults.ShelfFault.{ShelfFault}
 use Rattle.shelf.specs.declared.faults.ShelfFault.TheVariants.{NoSuchList, Exists, BadName, NoSticker, NoMemory, StoreFault}
-use Rattle.shelf.specs.Maps.{Answers, AnswersAll}
+use Rattle.shelf.specs.Maps.{Answers}
 use Rattle.shelf_database.specs.Tables.{IsReady, Reads}
 use Rattle.shelf_database.specs.Faults.{HasFailed}
 
--- a failure behind a query that showed its rows
-pub failed_behind : (old mid new : State) → Reads old mid → HasCleanDisk mid → IsReady old → HasFailed mid new → HasFailed old new
-failed_behind old mid new reads clean ready (inl more) = let low = reads.counts in inl (omega (arith, low, more))
-failed_behind old mid new reads clean ready (inr (inl shut)) = let opened = (reads.same clean ready).0.is_open in absurd (cc)
-failed_behind old mid new reads clean ready (inr (inr limited)) = inr (inr (subst IsSome reads.limit limited))
+-- a failure after a query that showed its rows
+pub failed_after : (old mid new : State) → Reads old mid → HasCleanDisk mid → IsReady old → HasFailed mid new → HasFailed old new
+failed_after old mid new reads clean ready (inl more) = let low = reads.counts in inl (omega (arith, low, more))
+failed_after old mid new reads clean ready (inr (inl shut)) = let opened = (reads.same clean ready).0.is_open in absurd (cc)
+failed_after old mid new reads clean ready (inr (inr limited)) = inr (inr (subst IsSome reads.limit limited))
 
 pub refused_so : (X : Type 0) (failed : Type 0) (refusal : Option ShelfFault) (fault : ShelfFault) → (fault ≡ NoMemory) ⊎ (fault ≡ StoreFault) → (fault ≡ StoreFault → failed) → Answers {X = X} failed refusal (Err fault)
 refused_so X failed refusal fault (inl is) why = subst (λ f. Answers {X = X} failed refusal (Err f)) (sym is) tt
@@ -27,10 +27,6 @@ answers_for weak failed refusal (Err BadName) why h = h
 answers_for weak failed refusal (Err NoSticker) why h = h
 answers_for weak failed refusal (Err StoreFault) why h = why h
 answers_for weak failed refusal (Err NoMemory) why h = h
-
-pub refused_all : (X : Type 0) (failed : Type 0) (named : List ℕ → Option (List ℕ)) (fault : ShelfFault) → (fault ≡ NoMemory) ⊎ (fault ≡ StoreFault) → (fault ≡ StoreFault → failed) → AnswersAll {X = X} failed named (Err fault)
-refused_all X failed named fault (inl is) why = subst (λ f. AnswersAll {X = X} failed named (Err f)) (sym is) tt
-refused_all X failed named fault (inr is) why = subst (λ f. AnswersAll {X = X} failed named (Err f)) (sym is) (why is)
 
 -- a column with a text is there
 pub within : (row : Row) (at : ℕ) (value : List ℕ) → column row at ≡ Text value → at < length row

@@ -1,5 +1,5 @@
 -- What a query by a whole key shows: the one row with the key, if there is one.
-use Rattle.std.proofs.Common.{◌≡◌, ℕ, List, [], ◌∷◌, map, find, length, slice_get, Bool, true, false, ◌&&◌, Some, None, Option, option_map, is_some, refl, ap, subst, ◌∙◌, arith}
+use Rattle.std.proofs.Common.{◌≡◌, ℕ, List, [], ◌∷◌, map, find, length, slice_get, Bool, false, ◌&&◌, Some, None, Option, option_map, is_some, refl, ap, subst, ◌∙◌, arith}
 use Rattle.std.specs.Option.{option_to_list}
 use Rattle.std.specs.List.{list_all}
 use Rattle.std.proofs.lemmas.List.Sorted.{length_permutation}
@@ -10,6 +10,7 @@ use Rattle.sqlite.specs.Query.{IsAnswer, Output}
 use Rattle.sqlite.specs.Program.{overlay}
 use Rattle.sqlite.specs.Effect.{Database}
 use Rattle.sqlite.proofs.Callers.{one_permutation}
+use Rattle.shelf_database.specs.Asks.{IsFirst}
 use Rattle.shelf_database.specs.Tables.{has_text, IsShelf}
 use Rattle.shelf_database.proofs.Statements.{over, equals}
 use Rattle.shelf_database.proofs.ReadLemmas.{IsRead, answer_is, shows}
@@ -46,7 +47,7 @@ sticker_shown uri name db rows is answer =
     (subst (λ found. IsRead (Text uri ∷ Text name ∷ []) 3 (equals 1 0 ∷ equals 2 1 ∷ []) (col 1 3 ∷ []) [] test (two_tests uri name) found rows) once read)
 
 -- the text of the first row is what was found
-pub first_text : (at : ℕ) (o : Option Row) (rows : List Row) (row : Row) (text : List ℕ) → rows ≡ shown_of at o → slice_get rows 0 ≡ Some row → column row 0 ≡ Text text → option_map (λ r. bytes (column r at)) o ≡ Some text
+first_text : (at : ℕ) (o : Option Row) (rows : List Row) (row : Row) (text : List ℕ) → rows ≡ shown_of at o → slice_get rows 0 ≡ Some row → column row 0 ≡ Text text → option_map (λ r. bytes (column r at)) o ≡ Some text
 first_text at None rows row text is first read = absurd (let f = rw is at first in cc)
 first_text at (Some r) rows row text is first read =
     let f : Some (column r at ∷ []) ≡ Some row = rw is at first in
@@ -54,19 +55,27 @@ first_text at (Some r) rows row text is first read =
     let text_is : column r at ≡ Text text = ap (λ x. column x 0) same ∙ read in
     ap Some (ap bytes text_is)
 
-pub none_found : (at : ℕ) (o : Option Row) (rows : List Row) → rows ≡ shown_of at o → slice_get rows 0 ≡ None → is_some o ≡ false
+none_found : (at : ℕ) (o : Option Row) (rows : List Row) → rows ≡ shown_of at o → slice_get rows 0 ≡ None → is_some o ≡ false
 none_found at None rows is first = refl
 none_found at (Some r) rows is first = absurd (let f = rw is at first in cc)
-
-pub some_found : (at : ℕ) (o : Option Row) (rows : List Row) (row : Row) → rows ≡ shown_of at o → slice_get rows 0 ≡ Some row → is_some o ≡ true
-some_found at None rows row is first = absurd (let f = rw is at first in cc)
-some_found at (Some r) rows row is first = refl
 
 pub mapped_some : {X Y : Type 0} (f : X → Y) (o : Option X) → is_some (option_map f o) ≡ is_some o
 mapped_some f None = refl
 mapped_some f (Some x) = refl
 
+none_from : {X : Type 0} (o : Option X) → is_some o ≡ false → o ≡ None
+none_from None none = refl
+none_from (Some x) none = absurd (cc)
+
 -- there is a first row where something was found
 pub first_found : (at : ℕ) (o : Option Row) (rows : List Row) → rows ≡ shown_of at o → is_some (slice_get rows 0) ≡ is_some o
 first_found at None rows is = rw is refl
 first_found at (Some r) rows is = rw is refl
+
+-- the text of the first row is what was found
+pub first_is : (at : ℕ) (o : Option Row) (rows : List Row) (text : Option (List ℕ)) → rows ≡ shown_of at o → IsFirst rows text → option_map (λ r. bytes (column r at)) o ≡ text
+first_is at o rows None is none = none_mapped (none_found at o rows is none)
+  where
+    none_mapped : is_some o ≡ false → option_map (λ r. bytes (column r at)) o ≡ None
+    none_mapped none = none_from (option_map (λ r. bytes (column r at)) o) (mapped_some (λ r. bytes (column r at)) o ∙ none)
+first_is at o rows (Some text) is first = first_text at o rows first.0 text is first.1 first.2

@@ -1,4 +1,5 @@
 pub mod AnyRowLemmas
+pub mod AskLemmas
 pub mod BlameLemmas
 pub mod DeleteBlame
 pub mod DeleteLemmas

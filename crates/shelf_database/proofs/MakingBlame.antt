@@ -66,12 +66,12 @@ later mid new P survives = (λ clean. omega (arith, survives.clean), survives.co
 pub later_then : (old mid new : State) → IsLater old mid → IsLater mid new → IsLater old new
 later_then old mid new first second = (λ clean. first.0 (second.0 clean), omega (arith, first.1, second.1))
 
--- a failure, and what is undone behind it
+-- a failure, and what is undone after it
 pub failed_sooner : (old mid new : State) → IsLater mid new → HasFailed old mid → HasFailed old new
 failed_sooner old mid new after (inl more) = let low = after.1 in inl (omega (arith, low, more))
 failed_sooner old mid new after (inr other) = inr other
 
--- a failure behind what was answered
+-- a failure after what was answered
 pub failed_later : (old mid new : State) (P : Trees → Type 0) → Survives old mid P → IsLater mid new → HasCleanDisk new → HasFailed mid new → HasFailed old new
 failed_later old mid new P survives after clean (inl more) = let low = survives.counts in inl (omega (arith, low, more))
 failed_later old mid new P survives after clean (inr (inl shut)) = elim (cases_Bool old.is_open) [
@@ -83,9 +83,9 @@ failed_later old mid new P survives after clean (inr (inl shut)) = elim (cases_B
 ]
 failed_later old mid new P survives after clean (inr (inr limited)) = inr (inr (subst IsSome survives.limit limited))
 
--- a step behind one that was done
-pub stopped_behind : (First Second : Database → Type 0) (old mid new : State) (e : Error) → Leads First Second old mid true → IsLater mid new → IsStopped Second mid new e → IsStopped First old new e
-stopped_behind First Second old mid new e leads after stops clean inside before other =
+-- a step after one that was done
+pub stopped_after : (First Second : Database → Type 0) (old mid new : State) (e : Error) → Leads First Second old mid true → IsLater mid new → IsStopped Second mid new e → IsStopped First old new e
+stopped_after First Second old mid new e leads after stops clean inside before other =
     let there = leads.done (after.0 clean) refl inside before in
     failed_later old mid new (λ _. ⊥) leads.survives after clean (stops clean there.0 there.1 other)
 

@@ -1,35 +1,111 @@
 -- What an open makes of a store without tables, and of one that has them.
-use Rattle.std.proofs.Common.{◌≡◌, ◌≢◌, inl, inr, ℕ, List, false, IsTrue, sym, ◌∙◌, arith}
+use Rattle.std.proofs.Common.{◌≡◌, ◌≢◌, ◌⊎◌, ◌≤◌, inl, inr, ℕ, pos, List, Bool, true, false, IsTrue, length, Some, Result, Ok, Err, OnOk, is_ok, refl, sym, ap, subst, ◌∙◌, arith}
 use Rattle.sqlite.specs.declared.error.Error.{Error}
+use Rattle.sqlite.specs.Disk.{MoreFaults}
 use Rattle.sqlite.specs.Order.{Row}
+use Rattle.sqlite.specs.Tree.{Trees}
 use Rattle.sqlite.specs.Query.{Query}
-use Rattle.sqlite.specs.Steps.{IsEmpty}
+use Rattle.sqlite.specs.Schema.{Schema}
+use Rattle.sqlite.specs.Effect.{Database}
+use Rattle.sqlite.specs.Store.{Ghosts}
+use Rattle.sqlite.specs.Held.{Held, state}
 use Rattle.sqlite.specs.State.{State, HasCleanDisk, Survives, FailsToQuery, CommitsShowing}
 use Rattle.shelf.specs.Maps.{Maps}
-use Rattle.shelf_database.specs.Tables.{no_schema, maps_in, IsReady}
-use Rattle.shelf_database.specs.Opens.{IsBlank, Holds, Opens}
+use Rattle.shelf_database.specs.Settled.{same_maps}
+use Rattle.shelf_database.specs.Tables.{no_schema, shelf_schema, maps_in, profile_number, IsReady, Reads}
+use Rattle.shelf_database.specs.Opens.{IsBlank, Holds, Leads, HasNothing, HasTables, IsLeft, Opens}
 use Rattle.shelf_database.proofs.Statements.{Reading}
-use Rattle.shelf_database.proofs.QueryLemmas.{failed_before, leaves_same}
-
--- a connection in memory that was just opened
-pub empty_is_blank : (s : State) → IsEmpty s → IsBlank s
-empty_is_blank s h = record { schema = h.2; sound = (h.1 h.0.is_open).0; settled = h.0.clean; autocommit = h.0.autocommit }
+use Rattle.shelf_database.proofs.QueryLemmas.{ready_same, failed_before, leaves_same}
 
 ready_holds : (s : State) (maps : Maps) → s.now.schema ≢ no_schema → Holds s maps → IsReady s × (maps ≡ maps_in s.now.trees)
 ready_holds s maps some (inl h) = absurd (some h.0.schema)
 ready_holds s maps some (inr h) = h
 
+blank_holds : (s : State) (maps : Maps) → s.now.schema ≡ no_schema → Holds s maps → IsBlank s
+blank_holds s maps none (inl h) = h.0
+blank_holds s maps none (inr h) = absurd (let no = ap (λ (s : Schema). length s.tables) (sym none ∙ h.0.shelf.schema) in cc)
+
+-- while a store is open, a stop leaves what it committed last
+abbrev pub Settles : State → Type 0
+Settles s = (trees : Trees) → IsTrue s.is_open → s.may_leave trees → trees ≡ s.committed.trees
+
+left_as_it_was : (s : State) (maps : Maps) → Settles s → Holds s maps → IsTrue s.is_open → (trees : Trees) → s.may_leave trees → trees ≡ s.now.trees
+left_as_it_was s maps settles (inl h) opened trees left = settles trees opened left ∙ ap (λ (d : Database). d.trees) (sym h.0.settled)
+left_as_it_was s maps settles (inr h) opened trees left = settles trees opened left ∙ ap (λ (d : Database). d.trees) (sym h.0.settled)
+
 -- ---- tables that are there
 
-pub opens_unread : (text : List ℕ) (query : Query) (names : List (List ℕ)) (reading : Reading text query names) (params : Row) (old new : State) (e : Error) → old.now.schema ≢ no_schema
+-- they were read, and have the number where the open is done
+pub opens_read : (old new : State) (is_done : Bool) → old.now.schema ≢ no_schema → Settles old → Reads old new
+    → (HasCleanDisk new → IsReady old → IsTrue is_done → profile_number old.now.trees ≡ Some (pos 1)) → Opens old new is_done
+opens_read old new is_done some settles reads number = record {
+  clean = reads.clean;
+  counts = reads.counts;
+  stays_open = reads.stays_open;
+  done = λ clean maps holds is.
+      let held = ready_holds old maps some holds in
+      let same = reads.same clean held.0 in
+      let now : new.now ≡ old.now = same.0.now_is in (
+        record { is_open = same.0.is_open; ready = ready_same old new held.0 same; number = ap (λ (d : Database). profile_number d.trees) now ∙ number clean held.0 is },
+        same_maps _ _ (held.1 ∙ ap (λ (d : Database). maps_in d.trees) (sym now)),
+      );
+  kept = λ clean maps holds is opened. (reads.same clean (ready_holds old maps some holds).0).0.now_is;
+  spared = λ clean ready opened. (reads.same clean ready).0.now_is;
+  stop = λ clean maps holds m left. inl (left.0, reads.leaves clean (ready_holds old maps some holds).0 left.0 left.1, left.2);
+  whole = λ clean opened maps holds trees left. inl (left_as_it_was old maps settles holds opened trees (reads.leaves clean (ready_holds old maps some holds).0 trees left));
+}
+
+pub opens_unread : (text : List ℕ) (query : Query) (names : List (List ℕ)) (reading : Reading text query names) (params : Row) (old new : State) (e : Error) → old.now.schema ≢ no_schema → Settles old
     → (HasCleanDisk new → FailsToQuery text params old new e) → Survives old new (CommitsShowing text params old) → Opens old new false
-opens_unread text query names reading params old new e some fails survives = record {
+opens_unread text query names reading params old new e some settles fails survives = record {
   clean = λ h. omega (arith, survives.clean);
+  counts = survives.counts;
+  stays_open = survives.closes;
   done = λ clean maps holds is. absurd (cc);
   kept = λ clean maps holds is opened. spared clean (ready_holds old maps some holds).0 opened;
   spared = spared;
-  stop = λ clean maps holds m left. inl (left.0, leaves_same text query names reading params old new survives clean (ready_holds old maps some holds).0 left.0 left.1, left.2);
+  stop = λ clean maps holds m left. inl (left.0, leaves clean (ready_holds old maps some holds).0 left.0 left.1, left.2);
+  whole = λ clean opened maps holds trees left. inl (left_as_it_was old maps settles holds opened trees (leaves clean (ready_holds old maps some holds).0 trees left));
 }
   where
+    leaves : HasCleanDisk new → IsReady old → (trees : Trees) → new.may_leave trees → old.may_leave trees
+    leaves = leaves_same text query names reading params old new survives
+
     spared : HasCleanDisk new → IsReady old → IsTrue new.is_open → new.now ≡ old.now
     spared clean ready opened = elim ((failed_before text query names reading params old new ready e (fails clean)).now opened) [ inl same ↦ same | inr undone ↦ undone ∙ sym ready.settled ]
+
+pub on_ok : {X E : Type 0} (r : Result X E) (P : Type 0) → IsTrue (is_ok r) → OnOk r P → P
+on_ok (Ok x) P is h = h
+on_ok (Err e) P is h = absurd (cc)
+
+-- ---- tables that are made in a transaction
+
+module _ {S : Type 0} (g : Ghosts S) (held begun : Held S) (begins : begun ≡ record held { in_transaction = true }) (filled new : State) (filling : Survives (state g begun) filled (λ _. ⊥))
+    (Ends : Trees → Type 0) (ending : Survives filled new Ends) where
+  filled_first : Survives (state g (record held { in_transaction = true })) filled (λ _. ⊥)
+  filled_first = subst (λ b. Survives (state g b) filled (λ _. ⊥)) begins filling
+
+  pub made_clean : HasCleanDisk new → HasCleanDisk filled
+  made_clean clean = omega (arith, clean, ending.clean)
+
+  pub made_counts : (state g held).faults ≤ new.faults
+  made_counts = let low = filled_first.counts in let up = ending.counts in omega (arith, low, up)
+
+  pub made_stays_open : HasCleanDisk new → IsTrue (state g held).is_open → IsTrue new.is_open ⊎ MoreFaults (state g held).faults new.faults
+  made_stays_open clean opened = elim (filled_first.closes (made_clean clean) opened) [
+    | inl still ↦ elim (ending.closes clean still) [ inl last ↦ inl last | inr more ↦ let low = filled_first.counts in inr (omega (arith, low, more)) ]
+    | inr more ↦ let up = ending.counts in inr (omega (arith, more, up))
+  ]
+
+  pub made_whole : Settles (state g held) → (state g held).now.schema ≡ no_schema → (HasCleanDisk new → IsBlank (state g held) → (trees : Trees) → Ends trees → HasTables (record { schema = shelf_schema; trees = trees }))
+      → HasCleanDisk new → IsTrue (state g held).is_open → (maps : Maps) → Holds (state g held) maps → (trees : Trees) → new.may_leave trees → IsLeft (state g held) trees
+  made_whole settles none has clean opened maps holds trees left = elim (ending.crash clean trees left) [
+    | inl before ↦ elim (filled_first.crash (made_clean clean) trees before) [ inl first ↦ inl (left_as_it_was (state g held) maps settles holds opened trees first) | inr never ↦ absurd never ]
+    | inr ends ↦ let blank = blank_holds (state g held) maps none holds in inr (blank, has clean blank trees ends)
+  ]
+
+  -- what a commit writes of the tables that were made
+  pub made_tables : Leads HasNothing HasTables (state g begun) filled true → HasCleanDisk new → IsBlank (state g held) → (trees : Trees) → trees ≡ filled.now.trees → HasTables (record { schema = shelf_schema; trees = trees })
+  made_tables leads clean blank trees is =
+      let has = (leads.done (made_clean clean) refl (ap (λ (b : Held S). b.in_transaction) begins) (subst (λ b. HasNothing (state g b).now) (sym begins) blank.schema)).1 in
+      subst (λ t. HasTables (record { schema = shelf_schema; trees = t })) (sym is) (subst (λ s. HasTables (record { schema = s; trees = filled.now.trees })) has.schema has)

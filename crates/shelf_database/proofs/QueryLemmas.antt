@@ -1,7 +1,8 @@
--- What a connection shows after a query, and a write behind it.
-use Rattle.std.proofs.Common.{◌≡◌, inl, inr, ℕ, List, [], Bool, false, sym, ap, subst, ◌∙◌, IsTrue, arith}
+-- What a connection shows after a query, and after a write that follows it.
+use Rattle.std.proofs.Common.{◌≡◌, ◌≤◌, ◌⊎◌, inl, inr, ℕ, List, [], Bool, false, sym, ap, subst, ◌∙◌, IsTrue, arith}
 use Rattle.sqlite.specs.declared.error.Error.{Error}
 use Rattle.sqlite.specs.declared.types.Value.TheVariants.{Null}
+use Rattle.sqlite.specs.Disk.{MoreFaults}
 use Rattle.sqlite.specs.Order.{Row}
 use Rattle.sqlite.specs.Tree.{Trees}
 use Rattle.sqlite.specs.Query.{Query, IsAnswer}
@@ -30,7 +31,7 @@ module _ (text : List ℕ) (query : Query) (names : List (List ℕ)) (reading : 
   pub answer_of : IsReady old → (rows : List Row) → Shown text params old new rows → IsAnswer query (overlay old.now.trees []) params rows
   answer_of ready rows h = (reads_as text params old new shelf_schema ready.shelf.schema _ reading.0 reading.2 reading.1 rows h).answer Null
 
-  shown_same : IsReady old → (rows : List Row) → Shown text params old new rows → IsUnchanged old new
+  pub shown_same : IsReady old → (rows : List Row) → Shown text params old new rows → IsUnchanged old new
   unfolding Shown
   shown_same ready rows h =
       let known = sym h.1.is ∙ ap (λ s. understood s text) ready.shelf.schema in
@@ -46,15 +47,6 @@ module _ (text : List ℕ) (query : Query) (names : List (List ℕ)) (reading : 
     | inr commits ↦ absurd (never_commits text params old db (plain_now ready) commits)
   ]
 
-  pub reads : (rows : List Row) → (HasCleanDisk new → Shown text params old new rows) → Survives old new (CommitsShowing text params old) → Reads old new
-  reads rows shown survives = record {
-    clean = λ h. omega (arith, survives.clean);
-    counts = survives.counts;
-    limit = survives.limit;
-    same = λ h ready. shown_same ready rows (shown h);
-    leaves = leaves_same survives;
-  }
-
   pub failed_before : IsReady old → (e : Error) → FailsToQuery text params old new e → IsAsBefore old new
   unfolding FailsToQuery
   failed_before ready e (inl h) = not_run old new text params e h
@@ -63,19 +55,21 @@ module _ (text : List ℕ) (query : Query) (names : List (List ℕ)) (reading : 
       let bare = subst IsPlain (sym known) reading.2 in
       unchanged_is old new (rw bare.0 at h.2).3
 
-  pub query_failed : (e : Error) (after : Maps) → (HasCleanDisk new → FailsToQuery text params old new e) → Survives old new (CommitsShowing text params old) → Turns (database_standing old) (database_standing new) false after
-  query_failed e after fails survives = record {
+  pub query_failed : (after : Maps) → (HasCleanDisk new → IsReady old → IsAsBefore old new) → Survives old new (CommitsShowing text params old) → Turns (database_standing old) (database_standing new) false after
+  query_failed after before survives = record {
     clean = λ h. omega (arith, survives.clean);
-    ours = λ trusted opened. let was = before trusted opened in record { is_open = opened; ready = was.0; number = ap (λ (d : Database). profile_number d.trees) was.1 ∙ trusted.1.number };
+    counts = survives.counts;
+    stays_open = survives.closes;
+    ours = λ trusted opened. let was = same_now trusted opened in record { is_open = opened; ready = was.0; number = ap (λ (d : Database). profile_number d.trees) was.1 ∙ trusted.1.number };
     done = λ trusted is. absurd (cc);
-    kept = λ trusted is opened. same_maps _ _ (ap (λ (d : Database). maps_in d.trees) (sym (before trusted opened).1));
+    kept = λ trusted is opened. same_maps _ _ (ap (λ (d : Database). maps_in d.trees) (sym (same_now trusted opened).1));
     stop = λ trusted m left. inl (left.0, leaves_same survives trusted.0 trusted.1.ready left.0 left.1, left.2);
   }
     where
-      before : Trusted (database_standing old) (database_standing new) → IsTrue new.is_open → IsReady new × (new.now ≡ old.now)
-      before trusted opened =
+      same_now : Trusted (database_standing old) (database_standing new) → IsTrue new.is_open → IsReady new × (new.now ≡ old.now)
+      same_now trusted opened =
           let ready = trusted.1.ready in
-          let was = failed_before ready e (fails trusted.0) in
+          let was = before trusted.0 ready in
           let now : new.now ≡ old.now = elim (was.now opened) [ inl same ↦ same | inr undone ↦ undone ∙ sym ready.settled ] in
           let mode : new.in_transaction ≡ false = elim was.mode [ inl same ↦ same ∙ ready.autocommit | inr ended ↦ ended ] in
           (record { shelf = subst IsShelf (sym now) ready.shelf; settled = now ∙ ready.settled ∙ sym (was.committed opened); autocommit = mode }, now)
@@ -83,25 +77,27 @@ module _ (text : List ℕ) (query : Query) (names : List (List ℕ)) (reading : 
 pub read_turns : (old new : State) (is_done : Bool) → Reads old new → Turns (database_standing old) (database_standing new) is_done (maps_in old.now.trees)
 read_turns old new is_done reads = record {
   clean = reads.clean;
+  counts = reads.counts;
+  stays_open = reads.stays_open;
   ours = λ trusted opened. own_same old new trusted.1 (reads.same trusted.0 trusted.1.ready);
   done = λ trusted is. let same = reads.same trusted.0 trusted.1.ready in (same.0.is_open, same_maps _ _ (ap (λ (d : Database). maps_in d.trees) (sym same.0.now_is)));
   kept = λ trusted is opened. let same = reads.same trusted.0 trusted.1.ready in same_maps _ _ (ap (λ (d : Database). maps_in d.trees) (sym same.0.now_is));
   stop = λ trusted m left. inl (left.0, reads.leaves trusted.0 trusted.1.ready left.0 left.1, left.2);
 }
 
--- refused after a query, whatever the call was to do
-pub refused_turns : (old new : State) (after : Maps) → Reads old new → Turns (database_standing old) (database_standing new) false after
-refused_turns old new after reads = let it = read_turns old new false reads in record {
-  clean = it.clean;
-  ours = it.ours;
-  done = λ trusted is. absurd (cc);
-  kept = it.kept;
-  stop = λ trusted m left. inl (left.0, reads.leaves trusted.0 trusted.1.ready left.0 left.1, left.2);
-}
+-- a store that a query left open, and what comes after leaves open, unless the disk failed
+pub open_through : (old mid new : State) → Reads old mid → (HasCleanDisk new → HasCleanDisk mid) → mid.faults ≤ new.faults → (HasCleanDisk new → IsTrue mid.is_open → IsTrue new.is_open ⊎ MoreFaults mid.faults new.faults)
+    → HasCleanDisk new → IsTrue old.is_open → IsTrue new.is_open ⊎ MoreFaults old.faults new.faults
+open_through old mid new reads sooner up after clean opened = elim (reads.stays_open (sooner clean) opened) [
+  | inl still ↦ elim (after clean still) [ inl last ↦ inl last | inr more ↦ let low = reads.counts in inr (omega (arith, low, more)) ]
+  | inr more ↦ inr (omega (arith, more, up))
+]
 
 pub read_then : (old mid new : State) (is_done : Bool) (after : Maps) → Reads old mid → Turns (database_standing mid) (database_standing new) is_done after → Turns (database_standing old) (database_standing new) is_done after
 read_then old mid new is_done after reads turns = record {
   clean = λ h. reads.clean (turns.clean h);
+  counts = let low = reads.counts in let up = turns.counts in omega (arith, low, up);
+  stays_open = open_through old mid new reads turns.clean turns.counts turns.stays_open;
   ours = λ trusted. turns.ours (trust trusted);
   done = λ trusted. turns.done (trust trusted);
   kept = λ trusted is opened. subst (λ (d : Database). Same (maps_in d.trees) (maps_in new.now.trees)) (same trusted).0.now_is (turns.kept (trust trusted) is opened);
@@ -121,6 +117,8 @@ read_then old mid new is_done after reads turns = record {
 pub read_then_by : (old mid new : State) (is_done : Bool) (f : Maps → Maps) → Reads old mid → Turns (database_standing mid) (database_standing new) is_done (f (maps_in mid.now.trees)) → Turns (database_standing old) (database_standing new) is_done (f (maps_in old.now.trees))
 read_then_by old mid new is_done f reads turns = let it = read_then old mid new is_done (f (maps_in mid.now.trees)) reads turns in record {
   clean = it.clean;
+  counts = it.counts;
+  stays_open = it.stays_open;
   ours = it.ours;
   done = λ trusted is. let made = it.done trusted is in (made.0, subst (λ (d : Database). Same (f (maps_in d.trees)) (maps_in new.now.trees)) (same trusted).0.now_is made.1);
   kept = it.kept;

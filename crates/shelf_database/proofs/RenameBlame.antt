@@ -30,7 +30,7 @@ use Rattle.shelf_database.proofs.RefusalLemmas.{query_limited, concludes_done}
 use Rattle.shelf_database.proofs.RenameEdit.{edit_for, edit_stopped}
 use Rattle.shelf_database.proofs.WriteBlame.{RefusedFor, write_blamed}
 use Rattle.shelf_database.proofs.BlameLemmas.{IsWhole}
-use Rattle.shelf_database.proofs.FaultLemmas.{failed_behind}
+use Rattle.shelf_database.proofs.FaultLemmas.{failed_after}
 use Rattle.shelf_database.proofs.QueryLemmas.{ready_same}
 
 abbrev asking : Program
@@ -81,7 +81,7 @@ rename_whole : (name new : List ℕ) → IsWhole rename_text (Text name ∷ Text
 unfolding understood everything
 rename_whole name new = (refl, refl)
 
--- ---- behind the two queries that say which of the names are there
+-- ---- after the two queries that say which of the names are there
 
 module _ (old mid late new : State) (name other : List ℕ) (first : Reads old mid) (second : Reads mid late) (clean : HasCleanDisk late) (ready : IsReady old)
     (there : is_some ((maps_in old.now.trees).lists name) ≡ true) (free : IsReady mid → is_some ((maps_in mid.now.trees).lists other) ≡ false) where
@@ -98,6 +98,6 @@ module _ (old mid late new : State) (name other : List ℕ) (first : Reads old m
       subst (λ (d : Database). find (has_text 1 other) (d.trees 1) ≡ None) (sym again.0.now_is) (row_missing (find (has_text 1 other) (mid.now.trees 1)) (free then_ready)) in
       let refused = rename_refused late name other late_ready row.0 found lacks in
       elim (write_blamed late new rename_text (Text name ∷ Text other ∷ []) renaming rename_is tt (rename_whole name other) _ refused e late_ready known ran) [
-        | inl failed ↦ inl (failed_behind old mid new first (second.clean clean) ready (failed_behind mid late new second clean then_ready failed))
+        | inl failed ↦ inl (failed_after old mid new first (second.clean clean) ready (failed_after mid late new second clean then_ready failed))
         | inr why ↦ inr (row.0, row.1, why)
       ]

@@ -1,5 +1,5 @@
 -- What a connection shows after a write that is one statement, whatever it answered, and what a stop during it leaves.
-use Rattle.std.proofs.Common.{◌≡◌, ◌⊎◌, inl, inr, ℕ, List, false, Ok, Err, Result, is_ok, refl, sym, ap, subst, ◌∙◌, IsTrue, arith, append-nil, None}
+use Rattle.std.proofs.Common.{◌≡◌, ◌⊎◌, inl, inr, ℕ, List, Bool, false, Ok, Err, Result, is_ok, refl, sym, ap, subst, ◌∙◌, IsTrue, arith, append-nil, None}
 use Rattle.std.proofs.lemmas.Bool.{cases_Bool}
 use Rattle.sqlite.specs.declared.error.Error.{Error}
 use Rattle.sqlite.specs.Order.{Row}
@@ -99,22 +99,28 @@ module _ (old new : State) (text : List ℕ) (params : Row) (command : Command) 
       let done = does ready write.1 write.2 write.3 write.4 in
       subst (λ trees. Same after (maps_in trees)) (sym write.5) done.1
 
-  pub write_turns : (r : Result ℕ Error) → (HasCleanDisk new → Executes text params old new r) → Survives old new (CommitsBy text params old) → Turns (database_standing old) (database_standing new) (is_ok r) after
-  write_turns (Ok count) ran survives = record {
+  -- done or refused
+  ready_since : (r : Result ℕ Error) → IsReady old → Executes text params old new r → IsTrue new.is_open → IsReady new × (profile_number new.now.trees ≡ profile_number old.now.trees)
+  ready_since (Ok count) ready h opened = let it = ready_after count ready h in (it.0, ap (number_of 2) it.3)
+  ready_since (Err e) ready h opened = let it = ready_before e ready h opened in (it.0, ap (λ (d : Database). profile_number d.trees) it.1)
+
+  when_done : (r : Result ℕ Error) → IsTrue (is_ok r) → IsReady old → Executes text params old new r → IsTrue new.is_open × Same after (maps_in new.now.trees)
+  when_done (Ok count) is ready h = let it = ready_after count ready h in (it.1, it.2)
+  when_done (Err e) is ready h = absurd (cc)
+
+  when_refused : (r : Result ℕ Error) → is_ok r ≡ false → IsReady old → Executes text params old new r → IsTrue new.is_open → Same (maps_in old.now.trees) (maps_in new.now.trees)
+  when_refused (Ok count) is ready h opened = absurd (cc)
+  when_refused (Err e) is ready h opened = same_maps _ _ (ap (λ (d : Database). maps_in d.trees) (sym (ready_before e ready h opened).1))
+
+  pub write_turns : (is_done : Bool) → (HasCleanDisk new → (r : Result ℕ Error) × (is_ok r ≡ is_done) × Executes text params old new r) → Survives old new (CommitsBy text params old)
+      → Turns (database_standing old) (database_standing new) is_done after
+  write_turns is_done ran survives = record {
     clean = λ clean. omega (arith, survives.clean);
-    ours = λ trusted opened. let it = ready_after count trusted.1.ready (ran trusted.0) in record { is_open = opened; ready = it.0; number = ap (number_of 2) it.3 ∙ trusted.1.number };
-    done = λ trusted is. let it = ready_after count trusted.1.ready (ran trusted.0) in (it.1, it.2);
-    kept = λ trusted never opened. absurd (cc);
-    stop = λ trusted m left. elim (survives.crash trusted.0 left.0 left.1) [
-      | inl before ↦ inl (left.0, before, left.2)
-      | inr commits ↦ inr (subst (Same after) (sym left.2) (left_after left.0 trusted.1.ready commits))
-    ];
-  }
-  write_turns (Err e) ran survives = record {
-    clean = λ clean. omega (arith, survives.clean);
-    ours = λ trusted opened. let it = ready_before e trusted.1.ready (ran trusted.0) opened in record { is_open = opened; ready = it.0; number = ap (λ (d : Database). profile_number d.trees) it.1 ∙ trusted.1.number };
-    done = λ trusted is. absurd (cc);
-    kept = λ trusted is opened. let same = (ready_before e trusted.1.ready (ran trusted.0) opened).1 in same_maps _ _ (ap (λ (d : Database). maps_in d.trees) (sym same));
+    counts = survives.counts;
+    stays_open = survives.closes;
+    ours = λ trusted opened. let h = ran trusted.0 in let it = ready_since h.0 trusted.1.ready h.2 opened in record { is_open = opened; ready = it.0; number = it.1 ∙ trusted.1.number };
+    done = λ trusted is. let h = ran trusted.0 in when_done h.0 (h.1 ∙ is) trusted.1.ready h.2;
+    kept = λ trusted is opened. let h = ran trusted.0 in when_refused h.0 (h.1 ∙ is) trusted.1.ready h.2 opened;
     stop = λ trusted m left. elim (survives.crash trusted.0 left.0 left.1) [
       | inl before ↦ inl (left.0, before, left.2)
       | inr commits ↦ inr (subst (Same after) (sym left.2) (left_after left.0 trusted.1.ready commits))

@@ -1,3 +1,4 @@
+pub mod Asks
 pub mod Faults
 pub mod Opens
 pub mod Settled

@@ -1,6 +1,8 @@
 -- What an open of a shelf makes of a connection.
-use Rattle.std.specs.Prelude.{◌≡◌, ◌≢◌, ◌⊎◌, ℕ, pos, Bool, false, List, [], codes, Some, IsTrue}
+use Rattle.std.specs.Prelude.{◌≡◌, ◌≢◌, ◌⊎◌, ◌≤◌, ℕ, pos, Bool, false, List, [], codes, Some, IsTrue}
+use Rattle.sqlite.specs.Disk.{MoreFaults}
 use Rattle.sqlite.specs.Order.{Row}
+use Rattle.sqlite.specs.Tree.{Trees}
 use Rattle.sqlite.specs.Schema.{Schema}
 use Rattle.sqlite.specs.Change.{created}
 use Rattle.sqlite.specs.Effect.{Database, IsDatabase}
@@ -12,7 +14,7 @@ use Rattle.shelf.specs.declared.faults.ShelfFault.{ShelfFault}
 use Rattle.shelf.specs.declared.faults.ShelfFault.TheVariants.{StoreFault}
 use Rattle.shelf.specs.Maps.{Maps, Same, no_maps}
 use Rattle.shelf_database.specs.Faults.{HasFailed}
-use Rattle.shelf_database.specs.Tables.{no_schema, shelf_schema, profile_table, list_table, maps_in, number_of, profile_number, IsReady, database_standing}
+use Rattle.shelf_database.specs.Tables.{no_schema, shelf_schema, profile_table, list_table, maps_in, number_of, profile_number, has_tables, IsReady, database_standing}
 
 -- a connection outside a transaction, over a database without tables
 pub record IsBlank (s : State) : Type 0 where
@@ -25,13 +27,28 @@ pub record IsBlank (s : State) : Type 0 where
 abbrev pub Holds : State → Maps → Type 0
 Holds s maps = (IsBlank s × (maps ≡ no_maps)) ⊎ (IsReady s × (maps ≡ maps_in s.now.trees))
 
--- The open shows the maps that were there, or changes nothing while the store is open; a stop during it leaves them too. Tables that are there are only read.
+-- the tables of a shelf, with no list and no sticker
+pub record HasTables (db : Database) : Type 0 where
+  pub schema : db.schema ≡ shelf_schema
+  pub sound : IsDatabase db
+  pub number : profile_number db.trees ≡ Some (pos 1)
+  pub lists : db.trees 1 ≡ []
+  pub stickers : db.trees 3 ≡ []
+
+-- what a stop leaves of a store that had these tables or none: the same, or, where it had none, all the tables with the number 1
+abbrev pub IsLeft : State → Trees → Type 0
+IsLeft old trees = (trees ≡ old.now.trees) ⊎ (IsBlank old × HasTables (record { schema = shelf_schema; trees = trees }))
+
+-- The open shows the maps that were there, or changes nothing while the store is open; a stop during it leaves them too. Tables that are there are only read. Only a failure of the disk shuts the store.
 pub record Opens (old new : State) (is_done : Bool) : Type 0 where
   pub clean : HasCleanDisk new → HasCleanDisk old
+  pub counts : old.faults ≤ new.faults
+  pub stays_open : HasCleanDisk new → IsTrue old.is_open → IsTrue new.is_open ⊎ MoreFaults old.faults new.faults
   pub done : HasCleanDisk new → (maps : Maps) → Holds old maps → IsTrue is_done → (database_standing new).IsOurs × Same maps (maps_in new.now.trees)
   pub kept : HasCleanDisk new → (maps : Maps) → Holds old maps → is_done ≡ false → IsTrue new.is_open → new.now ≡ old.now
   pub spared : HasCleanDisk new → IsReady old → IsTrue new.is_open → new.now ≡ old.now
   pub stop : HasCleanDisk new → (maps : Maps) → Holds old maps → (m : Maps) → (database_standing new).MayLeave m → (database_standing old).MayLeave m ⊎ Same maps m
+  pub whole : HasCleanDisk new → IsTrue old.is_open → (maps : Maps) → Holds old maps → (trees : Trees) → new.may_leave trees → IsLeft old trees
 
 -- Tables whose number is 1 are refused since the store failed, or for want of memory.
 abbrev pub IsUnread : State → State → ShelfFault → Type 0
@@ -45,11 +62,11 @@ abbrev pub IsOther : State → State → Type 0
 IsOther old new =
     ((e : Error) × (e ≢ SqliteFailure code.OutOfMemory) × FailsToQuery number_query [] old new e) ⊎ ((rows : List Row) × Shown number_query [] old new rows × (number_of 0 rows ≢ Some (pos 1)))
 
--- Why a shelf is refused with `StoreFault`: since the store failed, where it has no tables, or tables whose number is 1; for what it answers, where it has any.
+-- Why a shelf is refused with `StoreFault`: since the store failed, where it has no tables, or tables whose number is 1; where it has any, since they lack one of a shelf's, or for what it answers.
 pub record IsBlamed (old new : State) (fault : ShelfFault) : Type 0 where
   pub made : HasCleanDisk new → IsBlank old → fault ≡ StoreFault → HasFailed old new
   pub read : IsUnread old new fault
-  pub other : HasCleanDisk new → old.now.schema ≢ no_schema → old.in_transaction ≡ false → fault ≡ StoreFault → IsOther old new
+  pub other : HasCleanDisk new → old.now.schema ≢ no_schema → old.in_transaction ≡ false → fault ≡ StoreFault → (has_tables old.now.schema ≡ false) ⊎ IsOther old new
 
 -- ---- the tables, made one after another
 
@@ -80,11 +97,3 @@ HasNumber db = (db.schema ≡ profile_schema) × (profile_number db.trees ≡ So
 
 abbrev pub HasLists : Database → Type 0
 HasLists db = (db.schema ≡ list_schema) × (profile_number db.trees ≡ Some (pos 1)) × (db.trees 1 ≡ [])
-
--- the tables of a shelf, with no list and no sticker
-pub record HasTables (db : Database) : Type 0 where
-  pub schema : db.schema ≡ shelf_schema
-  pub sound : IsDatabase db
-  pub number : profile_number db.trees ≡ Some (pos 1)
-  pub lists : db.trees 1 ≡ []
-  pub stickers : db.trees 3 ≡ []

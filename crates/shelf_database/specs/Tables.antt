@@ -1,6 +1,6 @@
 -- The tables of a shelf in a database, and the two maps that they hold (this profile's tables of stored playlists and stickers).
-use Rattle.std.specs.Prelude.{true, false, Bool, ◌&&◌, [], ◌∷◌, Some, None, Option, option_map, find, codes, List, ℕ, ℤ, pos, IsTrue, ◌≡◌, ◌≤◌}
-use Rattle.std.specs.List.{AllByRecursion}
+use Rattle.std.specs.Prelude.{true, false, Bool, ◌&&◌, [], ◌∷◌, Some, None, Option, option_map, unwrap_or, slice_get, bytes_eq, find, codes, List, ℕ, ℤ, pos, IsTrue, ◌≡◌, ◌≤◌, ◌⊎◌}
+use Rattle.std.specs.List.{AllByRecursion, list_any}
 use Rattle.std.specs.Ordering.{is_eq}
 use Rattle.sqlite.specs.Collation.TheVariants.{Binary}
 use Rattle.sqlite.specs.declared.types.Value.{Value}
@@ -17,6 +17,7 @@ use Rattle.sqlite.specs.Schema.{Schema}
 use Rattle.sqlite.specs.Change.{created}
 use Rattle.sqlite.specs.Effect.{Database, IsDatabase}
 use Rattle.sqlite.specs.Kind.TheVariants.{Integer, Text}
+use Rattle.sqlite.specs.Disk.{MoreFaults}
 use Rattle.sqlite.specs.State.{State, HasCleanDisk, IsUnchanged}
 use Rattle.shelf.specs.Lines.{lines_of}
 use Rattle.shelf.specs.Maps.{Maps, Standing}
@@ -87,6 +88,28 @@ placed_list = record list_table { tree = 1 }
 abbrev pub placed_sticker : Table
 placed_sticker = record sticker_table { tree = 3 }
 
+-- a table of this name, with this primary key; a table's columns are counted from 1, and 0 is the number of a row
+abbrev pub is_keyed : List ℕ → List ℕ → Table → Bool
+is_keyed name primary table = bytes_eq table.name name && bytes_eq table.primary primary
+
+-- the column at this place, counted from 0, has this name
+abbrev pub has_column : Table → ℕ → List ℕ → Bool
+has_column table at name = unwrap_or (option_map (λ c. bytes_eq c.name name) (slice_get table.columns at)) false
+
+abbrev pub is_profile : Table → Bool
+is_profile table = is_keyed (codes "profile") (0 ∷ []) table && has_column table 0 (codes "one") && has_column table 1 (codes "number")
+
+abbrev pub is_list : Table → Bool
+is_list table = is_keyed (codes "list") (1 ∷ []) table && has_column table 0 (codes "name") && has_column table 1 (codes "uris")
+
+abbrev pub is_sticker : Table → Bool
+is_sticker table =
+    is_keyed (codes "sticker") (1 ∷ 2 ∷ []) table && has_column table 0 (codes "uri") && has_column table 1 (codes "name") && has_column table 2 (codes "value")
+
+-- a schema with the tables of a shelf, and perhaps with others, with indexes or with views
+abbrev pub has_tables : Schema → Bool
+has_tables schema = list_any is_profile schema.tables && list_any is_list schema.tables && list_any is_sticker schema.tables
+
 -- a row whose column has the text
 abbrev pub has_text : ℕ → List ℕ → Row → Bool
 has_text at text row = is_eq (value_cmp (column row at) (Words text))
@@ -143,6 +166,7 @@ pub record IsOwn (s : State) : Type 0 where
 pub record Reads (old new : State) : Type 0 where
   pub clean : HasCleanDisk new → HasCleanDisk old
   pub counts : old.faults ≤ new.faults
+  pub stays_open : HasCleanDisk new → IsTrue old.is_open → IsTrue new.is_open ⊎ MoreFaults old.faults new.faults
   pub limit : new.step_limit ≡ old.step_limit
   pub same : HasCleanDisk new → IsReady old → IsUnchanged old new
   pub leaves : HasCleanDisk new → IsReady old → (db : Trees) → new.may_leave db → old.may_leave db
@@ -154,5 +178,6 @@ database_standing s = record {
   IsClean = HasCleanDisk s;
   IsOurs = IsOwn s;
   is_open = s.is_open;
+  faults = s.faults;
   MayLeave = λ m. (trees : Trees) × s.may_leave trees × (m ≡ maps_in trees);
 }

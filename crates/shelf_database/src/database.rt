@@ -1,16 +1,18 @@
 //! A shelf over a database.
 
-ghost use Rattle.std.specs.Prelude.{◌≡◌, ◌⊎◌, List, ℕ, None, OnOk, OnErr, IfOk, IfErr, IsSome, is_some, true, false};
+ghost use Rattle.std.specs.Prelude.{◌≡◌, ◌⊎◌, List, ℕ, None, OnOk, OnErr, IfOk, IfErr, IsSome, IsTrue, is_some, true, false};
 ghost use Rattle.sqlite.specs.State.{HasCleanDisk};
 ghost use Rattle.shelf.specs.Maps.{Maps, Turns};
 ghost use Rattle.shelf.specs.Calls.{DeleteStickers};
 ghost use Rattle.sqlite.specs.Held.{state};
 ghost use Rattle.shelf.specs.declared.faults.ShelfFault.{ShelfFault};
-ghost use Rattle.shelf_database.specs.Tables.{database_standing, maps_in, IsReady, Reads};
+ghost use Rattle.shelf_database.specs.Tables.{no_schema, has_tables, database_standing, maps_in, IsReady, Reads};
 ghost use Rattle.shelf_database.specs.Opens.{Opens, IsBlamed};
 ghost use Rattle.shelf_database.specs.Settled.{settled_maps};
+ghost use Rattle.shelf_database.specs.Asks.{Refuses};
 ghost use Rattle.shelf_database.specs.Faults.{HasFailed, StoreFailed};
 
+use crate::asks::{ask, change, first_text};
 use crate::profile::make_ready;
 use crate::rows::{entries_of, texts_of};
 use shelf::{
@@ -38,8 +40,9 @@ pub(crate) fn fault(error: Error) -> ShelfFault
 
 impl<S: Alter + Drop> SqlShelf<S> {
     /// A shelf over the database of a connection outside a transaction. A database without tables gets those of the profile.
-    /// The connection comes back with `StoreFault` where making them or reading the profile's number is refused, or it is
-    /// another number.
+    /// One with some is taken where it has those of the profile, with the number 1; it may have more, in any order.
+    /// The connection comes back with `StoreFault` where it lacks one of them, where making them or reading the number is
+    /// refused, or where it is another number.
     pub fn over(
         alloc: Global,
         mut connection: Connection<S>,
@@ -49,6 +52,7 @@ impl<S: Alter + Drop> SqlShelf<S> {
         ensures named { IfErr result (λ left. (left.0 ≡ ShelfFault.NoMemory) ⊎ (left.0 ≡ ShelfFault.StoreFault)) }
         ensures blamed { IfErr result (λ left. IsBlamed (state S.Store connection) (state S.Store left.1) left.0) }
         ensures outside { OnOk result ((state S.Store connection).in_transaction ≡ false) }
+        ensures taken { OnOk result (((state S.Store connection).now.schema ≡ no_schema) ⊎ IsTrue (has_tables (state S.Store connection).now.schema)) }
     {
         match make_ready(&mut connection) {
             Ok(()) => Ok(SqlShelf { alloc, connection }),
@@ -72,14 +76,14 @@ impl<S: Alter + Drop> SqlShelf<S> {
 fn has_list<S: Alter>(connection: &mut Connection<S>, name: &str) -> Result<bool, ShelfFault>
     ensures reads { OnOk result (Reads (state S.Store connection.old) (state S.Store connection.new)) }
     ensures found { HasCleanDisk (state S.Store connection.new) → IsReady (state S.Store connection.old) → IfOk result (λ is_there. is_there ≡ is_some ((maps_in (state S.Store connection.old).now.trees).lists name.now)) }
-    ensures failed { (after : Maps) → OnErr result (Turns (database_standing (state S.Store connection.old)) (database_standing (state S.Store connection.new)) false after) }
-    ensures named { IfErr result (λ fault. (fault ≡ ShelfFault.NoMemory) ⊎ (fault ≡ ShelfFault.StoreFault)) }
-    ensures fault { HasCleanDisk (state S.Store connection.new) → IsReady (state S.Store connection.old) → IfErr result (λ fault. fault ≡ ShelfFault.StoreFault → HasFailed (state S.Store connection.old) (state S.Store connection.new)) }
+    ensures refused { IfErr result (Refuses (state S.Store connection.old) (state S.Store connection.new) (HasFailed (state S.Store connection.old) (state S.Store connection.new))) }
 {
-    match connection.query_all("SELECT uris FROM list WHERE name = ?1", params![name]) {
-        Ok(rows) => Ok(rows.first().is_some()),
-        Err(error) => Err(fault(error)),
-    }
+    let rows = ask(
+        connection,
+        "SELECT uris FROM list WHERE name = ?1",
+        params![name],
+    )?;
+    Ok(rows.first().is_some())
 }
 
 /// Whether the URI has a sticker of the name. A query that fails leaves the maps, whatever the call was to do.
@@ -90,17 +94,11 @@ fn has_sticker<S: Alter>(
 ) -> Result<bool, ShelfFault>
     ensures reads { OnOk result (Reads (state S.Store connection.old) (state S.Store connection.new)) }
     ensures found { HasCleanDisk (state S.Store connection.new) → IsReady (state S.Store connection.old) → IfOk result (λ is_there. is_there ≡ is_some ((maps_in (state S.Store connection.old).now.trees).stickers uri.now name.now)) }
-    ensures failed { (after : Maps) → OnErr result (Turns (database_standing (state S.Store connection.old)) (database_standing (state S.Store connection.new)) false after) }
-    ensures named { IfErr result (λ fault. (fault ≡ ShelfFault.NoMemory) ⊎ (fault ≡ ShelfFault.StoreFault)) }
-    ensures fault { HasCleanDisk (state S.Store connection.new) → IsReady (state S.Store connection.old) → IfErr result (λ fault. fault ≡ ShelfFault.StoreFault → HasFailed (state S.Store connection.old) (state S.Store connection.new)) }
+    ensures refused { IfErr result (Refuses (state S.Store connection.old) (state S.Store connection.new) (HasFailed (state S.Store connection.old) (state S.Store connection.new))) }
 {
-    match connection.query_all(
-        "SELECT value FROM sticker WHERE uri = ?1 AND name = ?2",
-        params![uri, name],
-    ) {
-        Ok(rows) => Ok(rows.first().is_some()),
-        Err(error) => Err(fault(error)),
-    }
+    let find = "SELECT value FROM sticker WHERE uri = ?1 AND name = ?2";
+    let rows = ask(connection, find, params![uri, name])?;
+    Ok(rows.first().is_some())
 }
 
 /// Whether the URI has a sticker. A query that fails, or a name that is no text, leaves the maps, whatever the call was to do.
@@ -108,22 +106,11 @@ fn has_stickers<S: Alter>(connection: &mut Connection<S>, uri: &str) -> Result<b
     ensures reads { OnOk result (Reads (state S.Store connection.old) (state S.Store connection.new)) }
     ensures found { HasCleanDisk (state S.Store connection.new) → IsReady (state S.Store connection.old) → IfOk result (λ is_there. is_there ≡ true → (name : List ℕ) × IsSome ((maps_in (state S.Store connection.old).now.trees).stickers uri.now name)) }
     ensures missing { HasCleanDisk (state S.Store connection.new) → IsReady (state S.Store connection.old) → IfOk result (λ is_there. is_there ≡ false → (name : List ℕ) → (maps_in (state S.Store connection.old).now.trees).stickers uri.now name ≡ None) }
-    ensures failed { (after : Maps) → OnErr result (Turns (database_standing (state S.Store connection.old)) (database_standing (state S.Store connection.new)) false after) }
-    ensures named { IfErr result (λ fault. (fault ≡ ShelfFault.NoMemory) ⊎ (fault ≡ ShelfFault.StoreFault)) }
-    ensures fault { HasCleanDisk (state S.Store connection.new) → IsReady (state S.Store connection.old) → IfErr result (λ fault. fault ≡ ShelfFault.StoreFault → StoreFailed (state S.Store connection.old) (state S.Store connection.new) (DeleteStickers uri.now)) }
+    ensures refused { IfErr result (Refuses (state S.Store connection.old) (state S.Store connection.new) (StoreFailed (state S.Store connection.old) (state S.Store connection.new) (DeleteStickers uri.now))) }
 {
     let find = "SELECT name, value FROM sticker WHERE uri = ?1 ORDER BY name";
-    let rows = match connection.query_all(find, params![uri]) {
-        Ok(rows) => rows,
-        Err(error) => return Err(fault(error)),
-    };
-    let Some(row) = rows.first() else {
-        return Ok(false);
-    };
-    match row.get::<String>(0) {
-        Ok(_) => Ok(true),
-        Err(error) => Err(fault(error)),
-    }
+    let name = first_text(connection, find, params![uri])?;
+    Ok(name.is_some())
 }
 
 impl<S: Alter + Drop> Shelf for SqlShelf<S> {
@@ -134,29 +121,19 @@ impl<S: Alter + Drop> Shelf for SqlShelf<S> {
     ghost settled = { λ s m clean ours opened left. settled_maps _ m (λ is_open trees left. S.Store.settled s.connection.store trees is_open left) ours.ready opened left };
 
     fn lists(&mut self) -> Result<Vec<String>, ShelfFault> {
-        match self
-            .connection
-            .query_all("SELECT name FROM list ORDER BY name", &[])
-        {
-            Ok(rows) => texts_of(self.alloc, &rows),
-            Err(error) => Err(fault(error)),
-        }
+        let rows = ask(
+            &mut self.connection,
+            "SELECT name FROM list ORDER BY name",
+            &[],
+        )?;
+        texts_of(self.alloc, &rows)
     }
 
     fn list(&mut self, name: &str) -> Result<Vec<String>, ShelfFault> {
-        let rows = match self
-            .connection
-            .query_all("SELECT uris FROM list WHERE name = ?1", params![name])
-        {
-            Ok(rows) => rows,
-            Err(error) => return Err(fault(error)),
-        };
-        let Some(row) = rows.first() else {
-            return Err(ShelfFault::NoSuchList);
-        };
-        match row.get::<String>(0) {
-            Ok(text) => Ok(lines_of_text(self.alloc, text.as_str())?),
-            Err(error) => Err(fault(error)),
+        let find = "SELECT uris FROM list WHERE name = ?1";
+        match first_text(&mut self.connection, find, params![name])? {
+            Some(text) => Ok(lines_of_text(self.alloc, text.as_str())?),
+            None => Err(ShelfFault::NoSuchList),
         }
     }
 
@@ -166,10 +143,7 @@ impl<S: Alter + Drop> Shelf for SqlShelf<S> {
         }
         let text = text_of_lines(self.alloc, uris)?;
         let put = "INSERT OR REPLACE INTO list (name, uris) VALUES (?1, ?2)";
-        match self.connection.execute(put, params![name, text.as_str()]) {
-            Ok(_) => Ok(()),
-            Err(error) => Err(fault(error)),
-        }
+        change(&mut self.connection, put, params![name, text.as_str()])
     }
 
     fn create(&mut self, name: &str, uris: &[String]) -> Result<(), ShelfFault> {
@@ -189,40 +163,23 @@ impl<S: Alter + Drop> Shelf for SqlShelf<S> {
         if !is_list_name(new_name) {
             return Err(ShelfFault::BadName);
         }
-        match self.connection.execute(
-            "UPDATE list SET name = ?2 WHERE name = ?1",
-            params![name, new_name],
-        ) {
-            Ok(_) => Ok(()),
-            Err(error) => Err(fault(error)),
-        }
+        let rename = "UPDATE list SET name = ?2 WHERE name = ?1";
+        change(&mut self.connection, rename, params![name, new_name])
     }
 
     fn remove(&mut self, name: &str) -> Result<(), ShelfFault> {
         if !has_list(&mut self.connection, name)? {
             return Err(ShelfFault::NoSuchList);
         }
-        match self
-            .connection
-            .execute("DELETE FROM list WHERE name = ?1", params![name])
-        {
-            Ok(_) => Ok(()),
-            Err(error) => Err(fault(error)),
-        }
+        let remove = "DELETE FROM list WHERE name = ?1";
+        change(&mut self.connection, remove, params![name])
     }
 
     fn sticker(&mut self, uri: &str, name: &str) -> Result<String, ShelfFault> {
         let find = "SELECT value FROM sticker WHERE uri = ?1 AND name = ?2";
-        let rows = match self.connection.query_all(find, params![uri, name]) {
-            Ok(rows) => rows,
-            Err(error) => return Err(fault(error)),
-        };
-        let Some(row) = rows.first() else {
-            return Err(ShelfFault::NoSticker);
-        };
-        match row.get::<String>(0) {
-            Ok(value) => Ok(value),
-            Err(error) => Err(fault(error)),
+        match first_text(&mut self.connection, find, params![uri, name])? {
+            Some(value) => Ok(value),
+            None => Err(ShelfFault::NoSticker),
         }
     }
 
@@ -231,10 +188,7 @@ impl<S: Alter + Drop> Shelf for SqlShelf<S> {
             return Err(ShelfFault::BadName);
         }
         let set = "INSERT OR REPLACE INTO sticker (uri, name, value) VALUES (?1, ?2, ?3)";
-        match self.connection.execute(set, params![uri, name, value]) {
-            Ok(_) => Ok(()),
-            Err(error) => Err(fault(error)),
-        }
+        change(&mut self.connection, set, params![uri, name, value])
     }
 
     fn delete_sticker(&mut self, uri: &str, name: &str) -> Result<(), ShelfFault> {
@@ -242,42 +196,26 @@ impl<S: Alter + Drop> Shelf for SqlShelf<S> {
             return Err(ShelfFault::NoSticker);
         }
         let delete = "DELETE FROM sticker WHERE uri = ?1 AND name = ?2";
-        match self.connection.execute(delete, params![uri, name]) {
-            Ok(_) => Ok(()),
-            Err(error) => Err(fault(error)),
-        }
+        change(&mut self.connection, delete, params![uri, name])
     }
 
     fn delete_stickers(&mut self, uri: &str) -> Result<(), ShelfFault> {
         if !has_stickers(&mut self.connection, uri)? {
             return Err(ShelfFault::NoSticker);
         }
-        match self
-            .connection
-            .execute("DELETE FROM sticker WHERE uri = ?1", params![uri])
-        {
-            Ok(_) => Ok(()),
-            Err(error) => Err(fault(error)),
-        }
+        let delete = "DELETE FROM sticker WHERE uri = ?1";
+        change(&mut self.connection, delete, params![uri])
     }
 
     fn stickers_of(&mut self, uri: &str) -> Result<Vec<Entry>, ShelfFault> {
-        match self.connection.query_all(
-            "SELECT name, value FROM sticker WHERE uri = ?1 ORDER BY name",
-            params![uri],
-        ) {
-            Ok(rows) => entries_of(self.alloc, &rows),
-            Err(error) => Err(fault(error)),
-        }
+        let find = "SELECT name, value FROM sticker WHERE uri = ?1 ORDER BY name";
+        let rows = ask(&mut self.connection, find, params![uri])?;
+        entries_of(self.alloc, &rows)
     }
 
     fn find_stickers(&mut self, name: &str) -> Result<Vec<Entry>, ShelfFault> {
-        match self.connection.query_all(
-            "SELECT uri, value FROM sticker WHERE name = ?1 ORDER BY uri",
-            params![name],
-        ) {
-            Ok(rows) => entries_of(self.alloc, &rows),
-            Err(error) => Err(fault(error)),
-        }
+        let find = "SELECT uri, value FROM sticker WHERE name = ?1 ORDER BY uri";
+        let rows = ask(&mut self.connection, find, params![name])?;
+        entries_of(self.alloc, &rows)
     }
 }

@@ -1,8 +1,10 @@
 //! A shelf over a database.
 #![tactic(auto)]
 
+mod asks;
 mod database;
 mod profile;
 mod rows;
+mod tables;
 
 pub use database::SqlShelf;

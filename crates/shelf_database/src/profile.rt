@@ -4,11 +4,12 @@ ghost use Rattle.std.specs.Prelude.{◌≡◌, ◌≢◌, ◌⊎◌, ◌↔◌, 
 ghost use Rattle.sqlite.specs.Held.{state};
 ghost use Rattle.sqlite.specs.State.{HasCleanDisk, Shown};
 ghost use Rattle.shelf.specs.declared.faults.ShelfFault.{ShelfFault};
-ghost use Rattle.shelf_database.specs.Tables.{no_schema, number_of, profile_number, IsReady, Reads};
+ghost use Rattle.shelf_database.specs.Tables.{no_schema, number_of, profile_number, has_tables, IsReady, Reads};
 ghost use Rattle.shelf_database.specs.Faults.{HasFailed};
 ghost use Rattle.shelf_database.specs.Opens.{Opens, IsBlamed, IsUnread, IsOther, number_query, IsBlank, IsStopped, Leads, HasNothing, HasProfile, HasNumber, HasLists, HasTables};
 
 use crate::database::fault;
+use crate::tables::are_tables;
 use shelf::ShelfFault;
 use sqlite::{Alter, Connection, Error, ErrorCode, Row, Transaction};
 
@@ -18,12 +19,13 @@ pub(crate) fn make_ready<S: Alter>(connection: &mut Connection<S>) -> Result<(),
     ensures named { IfErr result (λ fault. (fault ≡ ShelfFault.NoMemory) ⊎ (fault ≡ ShelfFault.StoreFault)) }
     ensures blamed { IfErr result (IsBlamed (state S.Store connection.old) (state S.Store connection.new)) }
     ensures outside { OnOk result ((state S.Store connection.old).in_transaction ≡ false) }
+    ensures taken { OnOk result (((state S.Store connection.old).now.schema ≡ no_schema) ⊎ IsTrue (has_tables (state S.Store connection.old).now.schema)) }
 {
     if !connection.is_autocommit() {
         return Err(ShelfFault::StoreFault);
     }
     if !is_blank(connection) {
-        return read_number(connection);
+        return read_profile(connection);
     }
     match make_tables(connection) {
         Ok(()) => Ok(()),
@@ -37,6 +39,20 @@ fn is_blank<S: Alter>(connection: &Connection<S>) -> bool
 {
     let schema = connection.schema();
     schema.tables.is_empty() && schema.indexes.is_empty() && schema.views.is_empty()
+}
+
+/// Looks for the tables, and reads the number of the profile.
+fn read_profile<S: Alter>(connection: &mut Connection<S>) -> Result<(), ShelfFault>
+    ensures opens { (state S.Store connection.old).now.schema ≢ no_schema → Opens (state S.Store connection.old) (state S.Store connection.new) (is_ok result) }
+    ensures named { IfErr result (λ fault. (fault ≡ ShelfFault.NoMemory) ⊎ (fault ≡ ShelfFault.StoreFault)) }
+    ensures blamed { IfErr result (IsUnread (state S.Store connection.old) (state S.Store connection.new)) }
+    ensures other { HasCleanDisk (state S.Store connection.new) → IfErr result (λ fault. fault ≡ ShelfFault.StoreFault → (has_tables (state S.Store connection.old).now.schema ≡ false) ⊎ IsOther (state S.Store connection.old) (state S.Store connection.new)) }
+    ensures taken { OnOk result (IsTrue (has_tables (state S.Store connection.old).now.schema)) }
+{
+    if !are_tables(connection.schema()) {
+        return Err(ShelfFault::StoreFault);
+    }
+    read_number(connection)
 }
 
 /// Reads the number of the profile, which has to be 1.
@@ -98,7 +114,7 @@ fn make_tables<S: Alter>(connection: &mut Connection<S>) -> Result<(), Error>
     transaction.commit()
 }
 
-/// The number stands before the other tables, which leave it as it is.
+/// The number is noted before the other tables are made, which leave it as it is.
 fn fill<S: Alter>(transaction: &mut Transaction<'_, S>) -> Result<(), Error>
     ensures same_reference { transaction.new.conn.ghost_name ≡ transaction.old.conn.ghost_name }
     ensures leads { Leads HasNothing HasTables (state S.Store transaction.old.conn.now) (state S.Store transaction.new.conn.now) (is_ok result) }

@@ -15,7 +15,7 @@ use sqlite::Row;
 use std::alloc::Global;
 
 /// The text in a column.
-fn text_at(row: &Row, at: usize) -> Result<String, ShelfFault>
+pub(crate) fn text_at(row: &Row, at: usize) -> Result<String, ShelfFault>
     ensures text { IfOk result (λ text. column row.now at ≡ Text (string_bytes text)) }
     ensures named { IfErr result (λ fault. (fault ≡ ShelfFault.NoMemory) ⊎ (fault ≡ ShelfFault.StoreFault)) }
     ensures fault { IfErr result (λ fault. fault ≡ ShelfFault.StoreFault → IsNoText (column row.now at)) }

@@ -32,8 +32,23 @@ fn names_rise_by_bytes(rt: HostRuntime) -> Result<(), Fail> {
 }
 
 #[test]
-fn long_names_and_lists_are_kept(rt: HostRuntime) -> Result<(), Fail> {
-    playlists::long_names_and_lists_are_kept(rt.alloc(), &mut opened(rt.alloc())?)
+fn names_of_255_bytes_are_taken(rt: HostRuntime) -> Result<(), Fail> {
+    playlists::names_of_255_bytes_are_taken(rt.alloc(), &mut opened(rt.alloc())?)
+}
+
+#[test]
+fn names_of_256_bytes_are_refused(rt: HostRuntime) -> Result<(), Fail> {
+    playlists::names_of_256_bytes_are_refused(rt.alloc(), &mut opened(rt.alloc())?)
+}
+
+#[test]
+fn long_uris_come_back(rt: HostRuntime) -> Result<(), Fail> {
+    playlists::long_uris_come_back(rt.alloc(), &mut opened(rt.alloc())?)
+}
+
+#[test]
+fn the_longest_list_is_kept(rt: HostRuntime) -> Result<(), Fail> {
+    playlists::the_longest_list_is_kept(rt.alloc(), &mut opened(rt.alloc())?)
 }
 
 #[test]
@@ -49,6 +64,11 @@ fn stickers_rise_by_bytes(rt: HostRuntime) -> Result<(), Fail> {
 #[test]
 fn any_text_comes_back(rt: HostRuntime) -> Result<(), Fail> {
     stickers::any_text_comes_back(&mut opened(rt.alloc())?)
+}
+
+#[test]
+fn long_stickers_come_back(rt: HostRuntime) -> Result<(), Fail> {
+    stickers::long_stickers_come_back(rt.alloc(), &mut opened(rt.alloc())?)
 }
 
 /// A database in memory that these statements were run on.
@@ -68,6 +88,24 @@ fn other_tables_are_refused(rt: HostRuntime) -> Result<(), Fail> {
         (true, "UPDATE profile SET number = 2"),
         (true, "DELETE FROM profile"),
         (false, "CREATE TABLE other (a INTEGER)"),
+        (
+            false,
+            "CREATE TABLE profile (one INTEGER PRIMARY KEY, number INTEGER); INSERT INTO profile VALUES (1, 1)",
+        ),
+        (true, "DROP TABLE list"),
+        (true, "DROP TABLE sticker"),
+        (
+            true,
+            "DROP TABLE list; CREATE TABLE lists (name TEXT NOT NULL PRIMARY KEY, uris TEXT NOT NULL)",
+        ),
+        (
+            true,
+            "DROP TABLE list; CREATE TABLE list (name TEXT NOT NULL PRIMARY KEY, text TEXT NOT NULL)",
+        ),
+        (
+            true,
+            "DROP TABLE sticker; CREATE TABLE sticker (uri TEXT NOT NULL PRIMARY KEY, name TEXT NOT NULL, value TEXT NOT NULL)",
+        ),
         (false, "BEGIN"),
     ];
     for (is_shelf, statements) in refused {
@@ -81,4 +119,30 @@ fn other_tables_are_refused(rt: HostRuntime) -> Result<(), Fail> {
         SqlShelf::over(rt.alloc(), again).is_ok(),
         "the profile's own number",
     )
+}
+
+/// The profile's tables, made in another order.
+const OTHER_ORDER: &str =
+    "CREATE TABLE sticker (uri TEXT NOT NULL, name TEXT NOT NULL, value TEXT NOT NULL, PRIMARY KEY (uri, name));
+    CREATE TABLE list (name TEXT NOT NULL PRIMARY KEY, uris TEXT NOT NULL);
+    CREATE TABLE profile (one INTEGER PRIMARY KEY CHECK (one = 1), number INTEGER NOT NULL);
+    INSERT INTO profile (one, number) VALUES (1, 1)";
+
+#[test]
+fn tables_in_another_order_are_taken(rt: HostRuntime) -> Result<(), Fail> {
+    let taken = [
+        (false, OTHER_ORDER),
+        (true, "CREATE INDEX by_value ON sticker (value)"),
+        (true, "CREATE TABLE other (a INTEGER)"),
+    ];
+    for (is_shelf, statements) in taken {
+        match SqlShelf::over(rt.alloc(), after(rt.alloc(), is_shelf, statements)?) {
+            Ok(mut shelf) => {
+                playlists::a_list_is_kept_and_renamed(rt.alloc(), &mut shelf)?;
+                stickers::stickers_rise_by_bytes(&mut shelf)?;
+            }
+            Err(_) => return Err(Fail::new(statements)),
+        }
+    }
+    Ok(())
 }

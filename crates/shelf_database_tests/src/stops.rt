@@ -268,9 +268,9 @@ fn stops_in(alloc: Global, call: Call, side: Side) -> Result<Stops, Fail> {
 
 /// How many calls each step makes of the file, as the sources of the port's log say.
 ///
-/// A commit calls the log six times: zeros behind the place of its frames, the frames before and behind their gate, a sync, the gate,
+/// A commit calls the log six times: zeros after the place of its frames, the frames before and after their gate, a sync, the gate,
 /// a sync. It does not call the database. A close writes each page of the log, sets the length of the database and syncs it; of the
-/// log it tests each frame and reads it, shuts the header's gate and syncs, and then writes the header before and behind the gate,
+/// log it tests each frame and reads it, shuts the header's gate and syncs, and then writes the header before and after the gate,
 /// syncs, writes the gate, syncs and cuts the file: eight calls beside those of the frames. The log has the pages of one commit: the
 /// schema, three tables and the indexes of two of them, or else a table and its index.
 fn wanted(call: Call, side: Side) -> Stops {

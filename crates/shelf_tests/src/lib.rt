@@ -1,5 +1,5 @@
 //! Tests of a shelf of any kind, and those of the shelf in memory. Each answers an error in place of stopping, so that the tests of
-//! other shelves can stand on this crate.
+//! other shelves can use this crate.
 #![tactic(auto)]
 
 #[cfg(test)]

@@ -21,8 +21,23 @@ fn names_rise_by_bytes(rt: HostRuntime) -> Result<(), Fail> {
 }
 
 #[test]
-fn long_names_and_lists_are_kept(rt: HostRuntime) -> Result<(), Fail> {
-    playlists::long_names_and_lists_are_kept(rt.alloc(), &mut MemShelf::new(rt.alloc()))
+fn names_of_255_bytes_are_taken(rt: HostRuntime) -> Result<(), Fail> {
+    playlists::names_of_255_bytes_are_taken(rt.alloc(), &mut MemShelf::new(rt.alloc()))
+}
+
+#[test]
+fn names_of_256_bytes_are_refused(rt: HostRuntime) -> Result<(), Fail> {
+    playlists::names_of_256_bytes_are_refused(rt.alloc(), &mut MemShelf::new(rt.alloc()))
+}
+
+#[test]
+fn long_uris_come_back(rt: HostRuntime) -> Result<(), Fail> {
+    playlists::long_uris_come_back(rt.alloc(), &mut MemShelf::new(rt.alloc()))
+}
+
+#[test]
+fn the_longest_list_is_kept(rt: HostRuntime) -> Result<(), Fail> {
+    playlists::the_longest_list_is_kept(rt.alloc(), &mut MemShelf::new(rt.alloc()))
 }
 
 #[test]
@@ -38,6 +53,11 @@ fn stickers_rise_by_bytes(rt: HostRuntime) -> Result<(), Fail> {
 #[test]
 fn any_text_comes_back(rt: HostRuntime) -> Result<(), Fail> {
     stickers::any_text_comes_back(&mut MemShelf::new(rt.alloc()))
+}
+
+#[test]
+fn long_stickers_come_back(rt: HostRuntime) -> Result<(), Fail> {
+    stickers::long_stickers_come_back(rt.alloc(), &mut MemShelf::new(rt.alloc()))
 }
 
 #[test]

@@ -145,43 +145,85 @@ pub fn names_rise_by_bytes<S: Shelf>(alloc: Global, shelf: &mut S) -> Result<(),
     has_uris(shelf, "B", &["a.wav", "b.wav"], "the other list")
 }
 
-fn numbered(alloc: Global, count: u32) -> Result<Vec<String>, Fail> {
+/// A text of this many bytes, all of them the letter.
+pub fn repeated(alloc: Global, letter: char, bytes: u32) -> Result<String, Fail> {
+    let mut text = String::new(alloc);
+    for _ in 0..bytes {
+        text.push(letter)?;
+    }
+    Ok(text)
+}
+
+/// So many URIs, told apart by a number of five digits before so many equal bytes.
+fn numbered(alloc: Global, count: u32, more: u32) -> Result<Vec<String>, Fail> {
+    let rest = repeated(alloc, 'u', more)?;
     let mut uris = Vec::new(alloc);
     for number in 0..count {
-        uris.push(format!(in alloc; "folder/{number}.wav")?)?;
+        uris.push(format!(in alloc; "{number:05}{rest}")?)?;
     }
     Ok(uris)
 }
 
-/// `n` this many times.
-fn long_name(alloc: Global, bytes: u32) -> Result<String, Fail> {
-    let mut name = String::new(alloc);
-    for _ in 0..bytes {
-        name.push('n')?;
-    }
-    Ok(name)
+/// A name of 255 bytes is created, put, renamed, read and removed.
+pub fn names_of_255_bytes_are_taken<S: Shelf>(alloc: Global, shelf: &mut S) -> Result<(), Fail> {
+    let name = repeated(alloc, 'n', 255)?;
+    let other = repeated(alloc, 'o', 255)?;
+    let first = texts(alloc, &["a.wav"])?;
+    let second = texts(alloc, &["b.wav"])?;
+    keep(shelf, name.as_str(), &first, true)?;
+    keep(shelf, name.as_str(), &second, false)?;
+    shelf.rename(name.as_str(), other.as_str())?;
+    has_names(shelf, &[other.as_str()], "a name of 255 bytes")?;
+    has_uris(shelf, other.as_str(), &["b.wav"], "the list of a long name")?;
+    shelf.remove(other.as_str())?;
+    has_names(shelf, &[], "the names after a remove")
 }
 
-/// A name of 255 bytes and a list of 16,384 URIs are kept, and a name of 256 bytes is not.
-pub fn long_names_and_lists_are_kept<S: Shelf>(alloc: Global, shelf: &mut S) -> Result<(), Fail> {
-    let name = long_name(alloc, 255)?;
-    let longer = long_name(alloc, 256)?;
-    let uris = numbered(alloc, 16_384)?;
-    keep(shelf, name.as_str(), &uris, true)?;
-    let found = shelf.list(name.as_str())?;
-    wants(
-        found.len() == 16_384 && found == uris,
-        "a list of 16,384 URIs",
-    )?;
+/// A name of 256 bytes is refused by the calls that would put it on the shelf, and is missing for the others.
+pub fn names_of_256_bytes_are_refused<S: Shelf>(alloc: Global, shelf: &mut S) -> Result<(), Fail> {
+    let name = repeated(alloc, 'n', 256)?;
+    let name = name.as_str();
+    let uris = texts(alloc, &["a.wav"])?;
+    keep(shelf, "x", &uris, true)?;
+    for is_new in [true, false] {
+        wants_fault(
+            keep(shelf, name, &uris, is_new),
+            ShelfFault::BadName,
+            "a name of 256 bytes",
+        )?;
+    }
     wants_fault(
-        shelf.rename("missing", longer.as_str()),
-        ShelfFault::NoSuchList,
-        "a rename of no list",
-    )?;
-    wants_fault(
-        keep(shelf, longer.as_str(), &[], true),
+        shelf.rename("x", name),
         ShelfFault::BadName,
-        "a name of 256 bytes",
+        "a rename to 256 bytes",
     )?;
-    has_names(shelf, &[name.as_str()], "a name of 255 bytes")
+    for answer in [shelf.rename(name, "y"), shelf.remove(name)] {
+        wants_fault(answer, ShelfFault::NoSuchList, "no list of 256 bytes")?;
+    }
+    has_names(shelf, &["x"], "the names after the refusals")
+}
+
+/// The URIs come back under a name, and under another after a rename.
+fn come_back<S: Shelf>(shelf: &mut S, uris: &[String], words: &str) -> Result<(), Fail> {
+    keep(shelf, "x", uris, true)?;
+    wants(shelf.list("x")?.as_slice() == uris, words)?;
+    shelf.rename("x", "y")?;
+    wants(shelf.list("y")?.as_slice() == uris, words)
+}
+
+/// A list of 16,384 URIs comes back.
+pub fn the_longest_list_is_kept<S: Shelf>(alloc: Global, shelf: &mut S) -> Result<(), Fail> {
+    let uris = numbered(alloc, 16_384, 8)?;
+    wants(uris.len() == 16_384, "16,384 URIs")?;
+    come_back(shelf, &uris, "a list of 16,384 URIs")
+}
+
+/// URIs of 1,024 bytes come back.
+pub fn long_uris_come_back<S: Shelf>(alloc: Global, shelf: &mut S) -> Result<(), Fail> {
+    let uris = numbered(alloc, 300, 1_019)?;
+    wants(
+        uris.iter().all(|uri| uri.len() == 1_024),
+        "URIs of 1,024 bytes",
+    )?;
+    come_back(shelf, &uris, "a list of long URIs")
 }

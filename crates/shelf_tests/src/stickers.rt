@@ -1,7 +1,8 @@
 //! What a shelf of any kind answers about stickers.
 
-use crate::playlists::{wants, wants_fault};
+use crate::playlists::{repeated, wants, wants_fault};
 use shelf::{Entry, Shelf, ShelfFault};
+use std::alloc::Global;
 use std::test::Fail;
 
 fn entries_are(found: &[Entry], expected: &[(&str, &str)], words: &str) -> Result<(), Fail> {
@@ -147,4 +148,22 @@ pub fn any_text_comes_back<S: Shelf>(shelf: &mut S) -> Result<(), Fail> {
         )?;
     }
     Ok(())
+}
+
+/// A URI of 1,024 bytes, a name of 1,024 bytes and texts of 4,096 bytes, of one more and of a million come back from each call that
+/// shows a sticker.
+pub fn long_stickers_come_back<S: Shelf>(alloc: Global, shelf: &mut S) -> Result<(), Fail> {
+    let uri = repeated(alloc, 'u', 1_024)?;
+    let name = repeated(alloc, 'n', 1_024)?;
+    let (uri, name) = (uri.as_str(), name.as_str());
+    for bytes in [4_096, 4_097, 1_000_000] {
+        let value = repeated(alloc, 'v', bytes)?;
+        let value = value.as_str();
+        shelf.set_sticker(uri, name, value)?;
+        has_sticker(shelf, uri, name, value, "a long sticker")?;
+        finds(shelf, name, &[(uri, value)], "the URI of a long sticker")?;
+        has_stickers(shelf, uri, &[(name, value)], "the stickers of a long URI")?;
+    }
+    shelf.delete_sticker(uri, name)?;
+    has_stickers(shelf, uri, &[], "a long sticker that was deleted")
 }

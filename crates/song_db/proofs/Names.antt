@@ -11,7 +11,7 @@ use Rattle.std.proofs.lemmas.Bool.{cond-true, cond-false, cases_Bool, or_parts}
 use Rattle.std.proofs.lemmas.List.Elements.{All-contains_itself}
 use Rattle.std.proofs.lemmas.List.Sorted.{All-permutation, sum_by-IsPermutation, IsPermutation-sym}
 use Rattle.std.proofs.lemmas.List.Sums.{sum_by-cons}
-use Rattle.mpd_text.specs.Songs.{SongData}
+use Rattle.mpd_text.specs.Songs.Song.{SongData}
 use Rattle.song_db.specs.Library.{by_uri, same_uri, is_twice_named, are_twins_beside, InByteOrder, with_song, in_byte_order}
 use Rattle.song_db.proofs.Order.{order, same-is, differ, one_way, before_from, tail, head, cons, All-cons, All-tail, same_songs}
 

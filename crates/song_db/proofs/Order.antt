@@ -6,7 +6,7 @@ use Rattle.std.specs.Cmp.{IsTotalOrder}
 use Rattle.std.specs.Cmp.Lexicographic.{on_texts, texts_ties}
 use Rattle.std.specs.declared.cmp.Ordering.{Ordering}
 use Rattle.std.specs.declared.cmp.Ordering.TheVariants.{Less, Equal, Greater}
-use Rattle.mpd_text.specs.Songs.{SongData}
+use Rattle.mpd_text.specs.Songs.Song.{SongData}
 use Rattle.song_db.specs.Library.{by_uri, same_uri, InByteOrder}
 
 pub order : IsTotalOrder by_uri
@@ -25,7 +25,7 @@ not_both o less other = let e : true ≡ false = ap is_lt (other ∙ ap ordering
 pub one_way : (a b : SongData) → by_uri a b ≡ Less → by_uri b a ≡ Less → ⊥
 one_way a b ab ba = not_both (by_uri b a) ba (sym ab ∙ order.antisymm a b)
 
--- a song that is not after another, and has another URI, stands before it
+-- a song that is not after another, and has another URI, is before it
 pub before_from : (a b : SongData) → is_lt (by_uri b a) ≡ false → same_uri a.uri b.uri ≡ false → by_uri a b ≡ Less
 before_from a b low other = turned (by_uri b a) (by_uri a b) (order.antisymm a b) low (sym (same-is a b) ∙ other)
   where

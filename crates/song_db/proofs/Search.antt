@@ -9,7 +9,7 @@ use Rattle.std.specs.declared.cmp.Ordering.{Ordering}
 use Rattle.std.specs.declared.cmp.Ordering.TheVariants.{Less, Equal, Greater}
 use Rattle.std.proofs.lemmas.Cmp.{alike_right}
 use Rattle.std.proofs.lemmas.Bool.{cond-true, cond-false, cases_lt, cases_eq}
-use Rattle.mpd_text.specs.Songs.{SongData}
+use Rattle.mpd_text.specs.Songs.Song.{SongData}
 use Rattle.song_db.specs.Library.{by_uri, same_uri, InByteOrder, song_of}
 use Rattle.song_db.proofs.Order.{order, tail, head}
 

@@ -6,7 +6,7 @@ use Rattle.std.specs.Cmp.Lexicographic.{slice_cmp}
 use Rattle.std.specs.declared.cmp.Ordering.{Ordering}
 use Rattle.std.specs.declared.cmp.Ordering.TheVariants.{Less}
 use lib.Pointwise.{pointwise}
-use Rattle.mpd_text.specs.Songs.{SongData}
+use Rattle.mpd_text.specs.Songs.Song.{SongData}
 
 -- whether two URIs are one, byte by byte
 abbrev pub same_uri : List ℕ → List ℕ → Bool
@@ -17,17 +17,17 @@ abbrev pub is_twice_named : List SongData → Bool
 is_twice_named [] = false
 is_twice_named (song ∷ songs) = list_any (λ other. same_uri song.uri other.uri) songs || is_twice_named songs
 
--- whether two songs that stand side by side have one URI
+-- whether two songs side by side have one URI
 abbrev pub are_twins_beside : List SongData → Bool
 are_twins_beside [] = false
 are_twins_beside (a ∷ []) = false
 are_twins_beside (a ∷ b ∷ songs) = same_uri a.uri b.uri || are_twins_beside (b ∷ songs)
 
--- how two songs stand to each other: by the bytes of their URIs
+-- the order of two songs: by the bytes of their URIs
 abbrev pub by_uri : SongData → SongData → Ordering
 by_uri a b = slice_cmp nat_cmp a.uri b.uri
 
--- each song stands before all that follow it, so no two have one URI
+-- each song is before all that follow it, so no two have one URI
 abbrev pub InByteOrder : List SongData → Type 0
 InByteOrder songs = AllPairs (λ a b. by_uri a b ≡ Less) songs
 

@@ -42,7 +42,7 @@ pub struct Db {
 
 impl Model for Db {
     ghost use Rattle.std.specs.Prelude.{List};
-    ghost use Rattle.mpd_text.specs.Songs.{SongData};
+    ghost use Rattle.mpd_text.specs.Songs.Song.{SongData};
     ghost use Rattle.song_db.specs.Library.{IsLibrary};
 
     ghost Value = { List SongData };
@@ -59,7 +59,7 @@ impl Db {
         ensures permutation { IfOk result (λ db. IsPermutation songs.items db) }
         ensures library { IfOk result (λ db. IsLibrary db) }
         ensures twice_named { IsErrOf result DbFault.TwiceNamed ↔ IsTrue (is_twice_named songs.items) }
-        ensures too_many { IsErrOf result DbFault.TooMany ↔ ((is_twice_named songs.items ≡ false) × (MAX_SONGS < vec_len songs)) }
+        ensures too_many { IsErrOf result DbFault.TooMany ↔ ((is_twice_named songs.items ≡ false) × (100000 < vec_len songs)) }
     {
         let mut songs = songs;
         if sort_finds_twins(&mut songs) {
@@ -106,7 +106,7 @@ impl Db {
     }
 }
 
-/// Where the song with a URI stands.
+/// The place of the song with a URI.
 fn place_of(songs: &[SharedSong], uri: &str) -> Option<usize>
     requires { InByteOrder songs.now }
     ensures found { IfSome result (λ place. slice_get songs.now place ≡ song_of songs.now uri.now) }
@@ -118,7 +118,7 @@ fn place_of(songs: &[SharedSong], uri: &str) -> Option<usize>
         .ok()
 }
 
-/// Puts songs in byte order of URI, and says whether two have one.
+/// Puts songs in byte order of URI, and says whether two of them have the same one.
 fn sort_finds_twins(songs: &mut Vec<Song>) -> bool
     ensures twice_named { result ≡ is_twice_named songs.old.items }
     ensures order { OnFalse result (songs.new.items ≡ in_byte_order songs.old.items) }
@@ -130,18 +130,18 @@ fn sort_finds_twins(songs: &mut Vec<Song>) -> bool
     has_twins(songs)
 }
 
-/// Whether two neighbours have one URI.
+/// Whether two songs side by side have one URI.
 fn has_twins(songs: &[Song]) -> bool
     ensures { result ≡ are_twins_beside songs.now }
 {
     let mut rest = songs;
-    while let [first, behind @ ..] = rest {
-        if let [second, ..] = behind {
+    while let [first, others @ ..] = rest {
+        if let [second, ..] = others {
             if first.uri() == second.uri() {
                 return true;
             }
         }
-        rest = behind;
+        rest = others;
     }
     false
 }

@@ -3,8 +3,6 @@
 
 mod db;
 mod shared_song;
-#[cfg(test)]
-mod tests;
 
 pub use db::{Db, DbFault, MAX_SONGS};
 pub use shared_song::SharedSong;

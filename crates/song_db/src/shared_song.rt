@@ -6,7 +6,7 @@ use std::alloc::{AllocError, Global};
 use std::marker::Model;
 use std::sync::Arc;
 
-/// A song behind a handle: a clone holds the same song, and no text is copied.
+/// A handle to a song: a clone holds the same song, and no text is copied.
 #[derive(Drop)]
 pub struct SharedSong {
     song: Arc<Song, Global>,
@@ -14,7 +14,7 @@ pub struct SharedSong {
 
 impl Model for SharedSong {
     ghost use Rattle.std.specs.Arc.{arc_value};
-    ghost use Rattle.mpd_text.specs.Songs.{SongData};
+    ghost use Rattle.mpd_text.specs.Songs.Song.{SongData};
 
     ghost Value = { SongData };
 
@@ -22,6 +22,7 @@ impl Model for SharedSong {
 }
 
 impl SharedSong {
+    /// The first handle to a song.
     pub fn new(alloc: Global, song: Song) -> Result<SharedSong, AllocError>
         ensures { IfOk result (λ shared. shared ≡ song) }
     {
@@ -29,6 +30,7 @@ impl SharedSong {
         Ok(SharedSong { song })
     }
 
+    /// The song.
     pub fn song(&self) -> &Song
         ensures { result.now ≡ self.now }
     {

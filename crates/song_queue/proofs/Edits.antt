@@ -7,7 +7,7 @@ use Rattle.std.proofs.lemmas.List.{take-append-drop, get_or_append_left, get_or-
 use Rattle.std.proofs.lemmas.List.Elements.{All-get_or, All-append, All-take, All-drop}
 use Rattle.song_queue.specs.declared.entry.Entry.{Entry}
 use Rattle.song_queue.specs.declared.entry.Slot.{Slot}
-use Rattle.mpd_text.specs.Songs.{SongData}
+use Rattle.mpd_text.specs.Songs.Song.{SongData}
 use Rattle.song_queue.specs.Entries.{same_entry, same_queue, entries_for, row_of, rows_at}
 use Rattle.song_queue.specs.State.{QueueState, IsQueue, restamped, kept, written, entries_of, queue_of, edited, wraps, next_version, inserted, removed, is_changed, changed}
 use Rattle.song_queue.proofs.Same.{same_entry-true, same_queue-refl, same_queue-true, same_queue-other}

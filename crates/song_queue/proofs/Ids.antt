@@ -3,7 +3,7 @@ use Rattle.std.proofs.Common.{◌≡◌, ◌≢◌, ℕ, ◌+◌, ◌<◌, ◌�
 use Rattle.std.proofs.lemmas.Bool.{cond-true, cond-false, cases_Bool}
 use Rattle.std.proofs.lemmas.List.Elements.{All-append, All-take, All-drop}
 use Rattle.song_queue.specs.declared.entry.Entry.{Entry}
-use Rattle.mpd_text.specs.Songs.{SongData}
+use Rattle.mpd_text.specs.Songs.Song.{SongData}
 use Rattle.song_queue.specs.Entries.{entries_for, same_queue}
 use Rattle.song_queue.specs.Past.{present, after_event, greatest_in, greatest_id}
 use Rattle.song_queue.specs.Laws.{Edit, Insert, Remove, Swap, FitsIn, AllFitIn, queue_after, past_after, Lacks, IdsNeverReturn, IdsAreDistinct, PastsKeepQueues}

@@ -4,7 +4,7 @@ use Rattle.std.specs.List.{enumerate_from, drop-map}
 use Rattle.std.proofs.lemmas.List.{take-append-le, drop-append-le, drop_at, take_at, map-append, length-take-le, drop-drop}
 use Rattle.song_queue.specs.declared.entry.Entry.{Entry}
 use Rattle.song_queue.specs.declared.entry.Slot.{Slot}
-use Rattle.mpd_text.specs.Songs.{SongData}
+use Rattle.mpd_text.specs.Songs.Song.{SongData}
 use Rattle.song_queue.specs.Entries.{entries_for}
 use Rattle.song_queue.specs.State.{kept, written, entries_of}
 

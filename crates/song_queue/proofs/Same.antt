@@ -2,11 +2,11 @@
 use Rattle.std.proofs.Common.{◌≡◌, ◌≢◌, Bool, true, false, ◌&&◌, List, [], ◌∷◌, Some, None, Option, refl, ap, eqb, arith}
 use Rattle.std.proofs.lemmas.Bool.{and_parts, and_from, eq-eqb, eqb-true, ne_eqb, false_from_ne_true, and_left}
 use lib.Pointwise.{pointwise}
-use Rattle.mpd_text.specs.declared.song.TagName.{TagName}
-use Rattle.mpd_text.specs.declared.song.TagName.TheVariants.{Title, Artist, Album, Date, Genre, Comment}
 use Rattle.song_queue.specs.declared.entry.Entry.{Entry}
-use Rattle.mpd_text.specs.Songs.{TagData, SongData}
-use Rattle.song_queue.specs.Entries.{same_tag, same_song, tag_number}
+use Rattle.mpd_text.specs.Songs.Song.{TagData, SongData}
+use Rattle.mpd_text.specs.Songs.Tags.{tag_number}
+use Rattle.mpd_text.proofs.TagNumbers.{tag_number-inj}
+use Rattle.song_queue.specs.Entries.{same_tag, same_song}
 use Rattle.song_queue.specs.Entries.{same_entry, same_queue, same_slot}
 
 pub pointwise-refl : {A : Type 0} (E : A → A → Bool) → ((x : A) → E x x ≡ true) → (xs : List A) → pointwise E xs xs ≡ true
@@ -19,15 +19,6 @@ pointwise-true E h [] (y ∷ ys) t = cc
 pointwise-true E h (x ∷ xs) [] t = cc
 pointwise-true E h (x ∷ xs) (y ∷ ys) t =
     let p = and_parts (E x y) (pointwise E xs ys) t in λ i. h x y p.0 i ∷ pointwise-true E h xs ys p.1 i
-
-pub tag_number-inj : (a b : TagName) → tag_number a ≡ tag_number b → a ≡ b
-tag_number-inj Title Title e = refl
-tag_number-inj Artist Artist e = refl
-tag_number-inj Album Album e = refl
-tag_number-inj Date Date e = refl
-tag_number-inj Genre Genre e = refl
-tag_number-inj Comment Comment e = refl
-tag_number-inj _ _ e = absurd (omega arith)
 
 pub same_tag-refl : (a : TagData) → same_tag a a ≡ true
 same_tag-refl a = and_from _ _ (eq-eqb (tag_number a.name) _ refl) (pointwise-refl eqb (λ x. eq-eqb x x refl) a.text)

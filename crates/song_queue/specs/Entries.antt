@@ -2,19 +2,9 @@
 use Rattle.std.specs.Prelude.{ℕ, Bool, true, false, ◌==◌, ◌&&◌, if◌then◌else◌, List, [], ◌∷◌, ◌++◌, length, take, map, Option, Some, None, slice_get, slice_set, fold}
 use Rattle.std.specs.List.{enumerate_from}
 use lib.Pointwise.{pointwise}
-use Rattle.mpd_text.specs.declared.song.TagName.{TagName}
-use Rattle.mpd_text.specs.declared.song.TagName.TheVariants.{Title, Artist, Album, Date, Genre, Comment}
-use Rattle.mpd_text.specs.Songs.{SongData, TagData}
+use Rattle.mpd_text.specs.Songs.Song.{SongData, TagData}
+use Rattle.mpd_text.specs.Songs.Tags.{tag_number}
 use Rattle.song_queue.specs.declared.entry.Entry.{Entry}
-
--- a number for each tag, by which tags are told apart
-abbrev pub tag_number : TagName → ℕ
-tag_number Title = 0
-tag_number Artist = 1
-tag_number Album = 2
-tag_number Date = 3
-tag_number Genre = 4
-tag_number Comment = 5
 
 -- whether two tags are one: the name and the text
 abbrev pub same_tag : TagData → TagData → Bool

@@ -1,6 +1,6 @@
 -- Laws of the definitions, over every list of edits (this profile's, from the MPD protocol reference, The queue).
 use Rattle.std.specs.Prelude.{ℕ, ◌≡◌, ◌≢◌, ◌+◌, ◌<◌, ◌≤◌, not, List, [], ◌∷◌, ◌++◌, length, take, drop, swap, All, AllPairs}
-use Rattle.mpd_text.specs.Songs.{SongData}
+use Rattle.mpd_text.specs.Songs.Song.{SongData}
 use Rattle.song_queue.specs.declared.entry.Entry.{Entry}
 use Rattle.song_queue.specs.Entries.{same_queue, entries_for, patch, rows_at}
 use Rattle.song_queue.specs.Past.{present, number, version_of, after_event, greatest_id, state_of}

@@ -3,3 +3,4 @@ pub mod Past
 pub mod State
 pub mod Laws
 pub mod Rows
+pub mod Fields

@@ -59,7 +59,7 @@ stamp max_version past slot = version_of max_version (last_change past slot)
 abbrev pub is_marked : ℕ → List (List Entry) → ℕ → Bool
 is_marked max_version past slot = nat_lt 0 (last_wrap max_version past) && nat_le (last_change past slot) (last_wrap max_version past)
 
--- what stands in the slots, with their stamps and marks
+-- what is in the slots, with their stamps and marks
 abbrev pub slots_of : ℕ → List (List Entry) → List Slot
 slots_of max_version past = map (λ p. record { entry = p.1; stamp = stamp max_version past p.0; marked = is_marked max_version past p.0 }) (enumerate_from 0 (present past))
 

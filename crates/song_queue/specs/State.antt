@@ -3,7 +3,7 @@
 use Rattle.std.specs.Prelude.{ℕ, zero, suc, ◌≢◌, ◌+◌, ◌≤◌, Bool, false, not, ◌||◌, nat_lt, ◌==◌, if◌then◌else◌, List, [], ◌∷◌, ◌++◌, length, take, drop, map, filter, swap, All, AllPairs, Option, position}
 use Rattle.std.specs.Bool.{beq}
 use Rattle.std.specs.List.{enumerate_from}
-use Rattle.mpd_text.specs.Songs.{SongData}
+use Rattle.mpd_text.specs.Songs.Song.{SongData}
 use Rattle.song_queue.specs.declared.entry.Entry.{Entry}
 use Rattle.song_queue.specs.declared.entry.Slot.{Slot}
 use Rattle.song_queue.specs.Entries.{same_entry, same_queue, entries_for}
@@ -69,7 +69,7 @@ removed q start end = edited q (take start (queue_of q) ++ drop end (queue_of q)
 abbrev pub swapped : QueueState → ℕ → ℕ → QueueState
 swapped q a b = edited q (swap (queue_of q) a b)
 
--- where the entry with an id stands
+-- the place of the entry with an id
 abbrev pub position_of : QueueState → ℕ → Option ℕ
 position_of q id = position (λ s. s.entry.id == id) q.slots
 

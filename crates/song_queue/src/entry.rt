@@ -1,4 +1,4 @@
-//! What stands in the queue.
+//! What the queue holds.
 
 use song_db::SharedSong;
 
@@ -10,7 +10,7 @@ pub struct Entry {
     pub priority: u8,
 }
 
-/// An entry, with the version at which it came to stand in its slot, and whether its slot is shown to every client.
+/// An entry, with the version at which it came into its slot, and whether its slot is shown to every client.
 #[derive(Drop)]
 pub struct Slot {
     pub entry: Entry,

@@ -5,8 +5,6 @@ mod entry;
 mod laws;
 mod queue;
 mod slots;
-#[cfg(test)]
-mod tests;
 
 pub use entry::{Entry, Slot};
 pub use laws::{

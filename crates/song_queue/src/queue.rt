@@ -51,13 +51,14 @@ pub struct Queue {
 }
 
 impl Model for Queue {
+    ghost use Rattle.song_queue.specs.Fields.{state_in};
     ghost use Rattle.song_queue.specs.State.{QueueState, IsQueue};
 
     ghost Value = { QueueState };
 
-    ghost view = { λ q. record { slots = q.slots.items; version = q.version; greatest_id = q.greatest_id; max_len = q.max_len; max_version = q.max_version; max_id = q.max_id; parity = q.parity } };
+    ghost view = { state_in };
 
-    ghost invariant = { λ q. IsQueue (record { slots = q.slots.items; version = q.version; greatest_id = q.greatest_id; max_len = q.max_len; max_version = q.max_version; max_id = q.max_id; parity = q.parity }) };
+    ghost invariant = { λ q. IsQueue (state_in q) };
 }
 
 impl Queue {
@@ -112,7 +113,7 @@ impl Queue {
         }
     }
 
-    /// Where the entry with an id stands.
+    /// The place of the entry with an id.
     pub fn position_of(&self, id: u32) -> Option<usize>
         ensures { result ≡ position_of self.now id }
     {

@@ -63,7 +63,7 @@ pub fn new_slots(
     Ok(slots)
 }
 
-/// Puts slots in at a place. They and all behind them are written, and those before them kept.
+/// Puts slots in at a place. They and all after them are written, and those before them kept.
 pub fn put_in(
     slots: &mut Vec<Slot>,
     at: usize,
@@ -83,7 +83,7 @@ pub fn put_in(
     Ok(())
 }
 
-/// Takes the slots from `start` up to `end` out. All behind them are written, and those before them kept.
+/// Takes the slots from `start` up to `end` out. All after them are written, and those before them kept.
 pub fn take_out(slots: &mut Vec<Slot>, start: usize, end: usize, version: u32, wraps: bool)
     requires order { start ≤ end }
     requires within { end ≤ vec_len slots.old }
@@ -144,7 +144,7 @@ fn restamp(slots: &mut [Slot], from: usize, version: u32, wraps: bool)
     write_all(back, version, wraps);
 }
 
-/// Marks slots where versions begin anew. Else none is touched, so an edit behind them costs nothing for them.
+/// Marks slots where versions begin anew. Else none is touched, so an edit after them costs nothing for them.
 fn keep_all(slots: &mut [Slot], wraps: bool)
     ensures { slots.new ≡ map (kept wraps) slots.old }
 {

@@ -26,9 +26,9 @@ pub reads_more : (old mid new : Option (List ℕ)) (got room n : ℕ) (buf part 
 reads_more old mid new got room n buf part h k before read =
     subst (Consumes old new) (sym (longer got room n buf part h k)) (consumes_more old mid new (take got buf) (take n part) before read)
 
--- the front of a filled buffer
-pub front_is : (room n len : ℕ) (buf xs : List ℕ) → length buf ≡ room → take n buf ≡ take (length buf) xs → take (min n len) buf ≡ take room (take len xs)
-front_is room n len buf xs h e =
+-- the start of a filled buffer
+pub start_is : (room n len : ℕ) (buf xs : List ℕ) → length buf ≡ room → take n buf ≡ take (length buf) xs → take (min n len) buf ≡ take room (take len xs)
+start_is room n len buf xs h e =
     ap (λ k. take k buf) (omega arith) ∙ sym (take_both len n buf) ∙ ap (take len) (e ∙ ap (λ k. take k xs) h) ∙ take_both len room xs
     ∙ ap (λ k. take k xs) (omega arith) ∙ sym (take_both room len xs)
 

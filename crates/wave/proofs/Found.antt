@@ -53,10 +53,10 @@ prefix_step : (b : Bool) (k short long : ℕ) → short ≡ min k long → cond 
 prefix_step true k short long h = omega arith
 prefix_step false k short long h = omega arith
 
-prefix_of_front : (p : ℕ → Bool) (k : ℕ) (xs : List ℕ) → prefix_len p (take k xs) ≡ min k (prefix_len p xs)
-prefix_of_front p zero xs = omega arith
-prefix_of_front p (suc k) [] = omega arith
-prefix_of_front p (suc k) (x ∷ xs) = prefix_step (p x) k _ _ (prefix_of_front p k xs)
+prefix_of_start : (p : ℕ → Bool) (k : ℕ) (xs : List ℕ) → prefix_len p (take k xs) ≡ min k (prefix_len p xs)
+prefix_of_start p zero xs = omega arith
+prefix_of_start p (suc k) [] = omega arith
+prefix_of_start p (suc k) (x ∷ xs) = prefix_step (p x) k _ _ (prefix_of_start p k xs)
 
 too_long : (text : List ℕ) → 1024 < length text → counts text ≡ false
 too_long text h =
@@ -76,24 +76,24 @@ no_text_is content text e f =
 length_of_text : (content : List ℕ) → length (text_of content) ≡ position_or_len (λ byte. byte == 0) content
 length_of_text content = length-prefix_len (λ byte. not (byte == 0)) content
 
-front_of_text : (content : List ℕ) (k : ℕ) → text_of (take k content) ≡ take (min k (position_or_len (λ byte. byte == 0) content)) content
-front_of_text content k =
+start_of_text : (content : List ℕ) (k : ℕ) → text_of (take k content) ≡ take (min k (position_or_len (λ byte. byte == 0) content)) content
+start_of_text content k =
     let n = position_or_len (λ byte. byte == 0) content in
-    ap (λ m. take m (take k content)) (prefix_of_front (λ byte. not (byte == 0)) k content) ∙ take-take (min k n) k content (omega arith)
+    ap (λ m. take m (take k content)) (prefix_of_start (λ byte. not (byte == 0)) k content) ∙ take-take (min k n) k content (omega arith)
 
-short_front : (k n : ℕ) (content : List ℕ) → n < k → take (min k n) content ≡ take n content
-short_front k n content h = ap (λ m. take m content) (omega arith)
+short_start : (k n : ℕ) (content : List ℕ) → n < k → take (min k n) content ≡ take n content
+short_start k n content h = ap (λ m. take m content) (omega arith)
 
-long_front : (k n : ℕ) (content : List ℕ) → k ≤ n → n ≤ length content → 1024 < k → 1024 < length (take (min k n) content)
-long_front k n content h l g = simp length-take (omega arith)
+long_start : (k n : ℕ) (content : List ℕ) → k ≤ n → n ≤ length content → 1024 < k → 1024 < length (take (min k n) content)
+long_start k n content h l g = simp length-take (omega arith)
 
-pub text_of_front : (content : List ℕ) → text_in (take 1025 content) ≡ text_in content
-text_of_front content =
+pub text_of_start : (content : List ℕ) → text_in (take 1025 content) ≡ text_in content
+text_of_start content =
     let n = position_or_len (λ byte. byte == 0) content in
     by_lt n 1025
-    (λ short. ap (λ text. cond (counts text) (Some text) None) (front_of_text content 1025 ∙ short_front 1025 n content short))
+    (λ short. ap (λ text. cond (counts text) (Some text) None) (start_of_text content 1025 ∙ short_start 1025 n content short))
     (λ long.
     let within : n ≤ length content = prefix_len-le-length (λ byte. not (byte == 0)) content in
     let first : 1024 < length (text_of content) = rw (length_of_text content) (omega arith) in
-    no_text_is (take 1025 content) _ (too_long _ (long_front 1025 n content long within (omega arith))) (sym (front_of_text content 1025))
+    no_text_is (take 1025 content) _ (too_long _ (long_start 1025 n content long within (omega arith))) (sym (start_of_text content 1025))
     ∙ sym (no_text_is content (text_of content) (too_long (text_of content) first) refl))

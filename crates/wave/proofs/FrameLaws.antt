@@ -35,8 +35,8 @@ by_test : {P : Type 0} (a b : ℕ) (t : Bool) → ltb a b ≡ t → (a < b → P
 by_test a b true e f g = f (ltb-true a b e)
 by_test a b false e f g = g (ltb-false a b e)
 
-from_front : (w f t b d : ℕ) → 0 < b → (d + f) * b ≤ t → t < (d + f + 1) * b → min (w * b) (t - f * b) / b ≡ min w d
-from_front w f t b d h low high =
+from_start : (w f t b d : ℕ) → 0 < b → (d + f) * b ≤ t → t < (d + f + 1) * b → min (w * b) (t - f * b) / b ≡ min w d
+from_start w f t b d h low high =
     by_test d w (ltb d w) refl
     (λ less.
     let e : min w d ≡ d = omega arith in
@@ -56,7 +56,7 @@ from_any w f t b n h low high =
     rw e (div_is _ b 0 (omega arith) (omega arith)))
     (λ within.
     let e : n ≡ (n - f) + f = omega arith in
-    from_front w f t b (n - f) h (rw (← e) low) (rw (← e) high))
+    from_start w f t b (n - f) h (rw (← e) low) (rw (← e) high))
 
 -- how many whole frames a read of w frames from frame f on gets, where the data has t bytes
 pub whole_frames : (w f t b : ℕ) → 0 < b → min (w * b) (t - f * b) / b ≡ min w (t / b - f)

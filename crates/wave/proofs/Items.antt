@@ -4,19 +4,19 @@ use Rattle.std.proofs.lemmas.List.{drop-drop, drop-take}
 use Rattle.std.specs.Option.{option_or}
 use Rattle.std.specs.Str.{bytes_eq}
 use Rattle.std.proofs.lemmas.Slice.Eq.{bytes_eq-Decides}
-use Rattle.mpd_text.specs.declared.song.TagName.{TagName}
-use Rattle.mpd_text.specs.declared.song.TagName.TheVariants.{Title, Artist, Album, Date, Genre, Comment}
+use Rattle.mpd_text.specs.declared.songs.song.TagName.{TagName}
+use Rattle.mpd_text.specs.declared.songs.song.TagName.TheVariants.{Title, Artist, Album, Date, Genre, Comment}
 use Rattle.wave.specs.declared.tag.Texts.{Texts}
 use Rattle.wave.specs.declared.part.Part.{Part}
 use Rattle.wave.specs.Chunks.{Chunk, chunks}
 use Rattle.wave.specs.Parts.{content_of, chunk_of, chunks_within, StartsWith}
 use Rattle.wave.specs.Texts.{is_whole, is_info, items, identifier, text_of, counts, gives, first_text}
 use Rattle.wave.specs.Found.{text_in, put, joined}
-use Rattle.wave.proofs.Filling.{front_is}
-use Rattle.wave.proofs.Found.{text_of_front, and_false}
+use Rattle.wave.proofs.Filling.{start_is}
+use Rattle.wave.proofs.Found.{text_of_start, and_false}
 
 pub text_read : (n len place : ℕ) (buf bytes : List ℕ) → length buf ≡ 1025 → take n buf ≡ take (length buf) (drop place bytes) → text_in (take (min n len) buf) ≡ text_in (take len (drop place bytes))
-text_read n len place buf bytes h e = ap text_in (front_is 1025 n len buf (drop place bytes) h e) ∙ text_of_front (take len (drop place bytes))
+text_read n len place buf bytes h e = ap text_in (start_is 1025 n len buf (drop place bytes) h e) ∙ text_of_start (take len (drop place bytes))
 
 abbrev made : (a b c d e f : Option (List ℕ)) → Texts
 made a b c d e f = record { title = a; artist = b; album = c; date = d; genre = e; comment = f }
@@ -77,10 +77,10 @@ items_of_list chunk more e = ap (λ b. cond b (chunks (drop 4 chunk.content)) []
 pub list_taken : (bytes : List ℕ) (at end : ℕ) (part : Part) (found : Option Part) (b : Bool) (texts next meaning : Texts) → joined texts (items (chunks_within bytes at end)) ≡ meaning
     → StartsWith bytes at end found → found ≡ Some part → b ≡ is_info (chunk_of bytes part) → b ≡ true
     → ((more : List Chunk) → joined next more ≡ joined texts (chunks_within bytes (part.place + 4) (part.place + part.len) ++ more))
-    → joined next (items (chunks_within bytes part.behind end)) ≡ meaning
+    → joined next (items (chunks_within bytes part.next end)) ≡ meaning
 list_taken bytes at end part found b texts next meaning goes starts e i t read =
     let here = (subst (StartsWith bytes at end) e starts).0 in
-    read (items (chunks_within bytes part.behind end))
-    ∙ ap (λ list. joined texts (list ++ items (chunks_within bytes part.behind end))) (within_list bytes part)
-    ∙ ap (joined texts) (sym (items_of_list (chunk_of bytes part) (chunks_within bytes part.behind end) (sym i ∙ t)))
+    read (items (chunks_within bytes part.next end))
+    ∙ ap (λ list. joined texts (list ++ items (chunks_within bytes part.next end))) (within_list bytes part)
+    ∙ ap (joined texts) (sym (items_of_list (chunk_of bytes part) (chunks_within bytes part.next end) (sym i ∙ t)))
     ∙ ap (λ parts. joined texts (items parts)) (sym here) ∙ goes

@@ -2,20 +2,21 @@
 use Rattle.std.proofs.Common.{ℕ, ◌/◌, ◌≡◌, List, [], ◌++◌, length, take, drop, true, false, refl, subst, sym, ap, ◌∙◌, arith, Option, Some, None, Result, Ok, Err}
 use Rattle.std.specs.List.{cons_option}
 use Rattle.std.proofs.lemmas.List.{take_all}
-use Rattle.mpd_text.specs.Songs.{TagData}
+use Rattle.mpd_text.specs.Songs.Song.{TagData}
 use Rattle.wave.specs.declared.fault.WaveFault.{WaveFault}
 use Rattle.wave.specs.declared.fault.WaveFault.TheVariants.{NotRiff, NoFormat, Unsupported, NoData, ReadFault, NoMemory}
 use Rattle.wave.specs.declared.format.Layout.{Layout}
 use Rattle.wave.specs.declared.head.Head.{Head}
 use Rattle.wave.specs.Chunks.{Chunk, chunks}
 use Rattle.wave.specs.Formats.{block}
-use Rattle.wave.specs.Texts.{items, tags_of, tag_with, first_text}
-use Rattle.mpd_text.specs.declared.song.TagName.TheVariants.{Title, Artist, Album, Date, Genre, Comment}
+use Rattle.wave.specs.Texts.{items, tags_of, first_text}
+use Rattle.mpd_text.specs.Songs.Tags.{tag_with}
+use Rattle.mpd_text.specs.declared.songs.song.TagName.TheVariants.{Title, Artist, Album, Date, Genre, Comment}
 use Rattle.wave.specs.Waves.{Sound, with_tags, is_riff, sound_of, wave_of}
 use Rattle.wave.specs.Parts.{chunks_within}
 use Rattle.wave.specs.Found.{no_texts, joined, shown, listed}
 use Rattle.wave.specs.Heads.{Refuses}
-use Rattle.wave.specs.Meanings.{MeansWave, MeansBehind}
+use Rattle.wave.specs.Meanings.{MeansWave, MeansChunks}
 use Rattle.wave.proofs.FrameLaws.{samples_whole}
 
 pub not_riff : (rate : ℕ) (bytes : List ℕ) → is_riff (take 12 bytes) ≡ false → wave_of rate bytes ≡ Err NotRiff
@@ -38,14 +39,14 @@ refuses NoData tags sound h = ap (with_tags tags) h
 refuses ReadFault tags sound h = tt
 refuses NoMemory tags sound h = tt
 
-means : (rate : ℕ) (bytes : List ℕ) (parts : List Chunk) (result : Result Head WaveFault) → MeansBehind rate bytes parts result → MeansWave bytes result (with_tags (tags_of (items parts)) (sound_of rate parts))
+means : (rate : ℕ) (bytes : List ℕ) (parts : List Chunk) (result : Result Head WaveFault) → MeansChunks rate bytes parts result → MeansWave bytes result (with_tags (tags_of (items parts)) (sound_of rate parts))
 means rate bytes parts (Ok head) h = h
 means rate bytes parts (Err fault) h = refuses fault (tags_of (items parts)) (sound_of rate parts) h
 
-pub means_wave : (rate end : ℕ) (bytes : List ℕ) (result : Result Head WaveFault) → end ≡ length bytes → is_riff (take 12 bytes) ≡ true → MeansBehind rate bytes (chunks_within bytes 12 end) result → MeansWave bytes result (wave_of rate bytes)
+pub means_wave : (rate end : ℕ) (bytes : List ℕ) (result : Result Head WaveFault) → end ≡ length bytes → is_riff (take 12 bytes) ≡ true → MeansChunks rate bytes (chunks_within bytes 12 end) result → MeansWave bytes result (wave_of rate bytes)
 means_wave rate end bytes result size e h =
     subst (MeansWave bytes result) (sym (riff rate bytes e))
-    (means rate bytes (chunks (drop 12 bytes)) result (subst (λ parts. MeansBehind rate bytes parts result) (all_within bytes end size) h))
+    (means rate bytes (chunks (drop 12 bytes)) result (subst (λ parts. MeansChunks rate bytes parts result) (all_within bytes end size) h))
 
 -- the tags of the texts that were found
 shown_on : (x : Option TagData) (xs : List TagData) → shown x ++ xs ≡ cons_option x xs
@@ -68,7 +69,7 @@ listed_are found =
 pub head_is : (rate : ℕ) (bytes : List ℕ) (parts : List Chunk) (head : Head) (layout : Layout) (place len : ℕ) (tags : List TagData)
     → sound_of rate parts ≡ Ok (record { layout = layout; samples = take len (drop place bytes) }) → length (take len (drop place bytes)) ≡ len
     → head.tags.items ≡ tags → tags ≡ tags_of (items parts) → head.layout ≡ layout → head.frames ≡ len / block layout → head.place ≡ place
-    → MeansBehind rate bytes parts (Ok head)
+    → MeansChunks rate bytes parts (Ok head)
 head_is rate bytes parts head layout place len tags s long ht t hl hf hp =
     let whole = samples_whole layout place len bytes long in
     rw (ht ∙ t, hl, hf, hp) (ap (with_tags (tags_of (items parts))) s ∙ ap (λ frames. Ok (record { layout = layout; tags = tags_of (items parts); frames = frames })) (sym whole.0), whole.1)

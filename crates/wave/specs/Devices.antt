@@ -1,15 +1,15 @@
 -- What calls ask of a device (this profile's).
 use Rattle.std.specs.Prelude.{◌≡◌, ℕ, ◌+◌, ◌-◌, ◌^◌, ◌≤◌, ◌⊎◌, List, length, take, drop}
-use Rattle.mpd_text.specs.declared.device.Tally.{Tally}
-use Rattle.mpd_text.specs.Devices.{HasFailed}
+use Rattle.mpd_text.specs.declared.devices.tally.Tally.{Tally}
+use Rattle.mpd_text.specs.Devices.Tally.{HasFailed}
 use Rattle.wave.specs.declared.fault.WaveFault.{WaveFault}
 use Rattle.wave.specs.declared.fault.WaveFault.TheVariants.{NotRiff, NoFormat, Unsupported, NoData, ReadFault, NoMemory}
 
--- the front of the buffer holds the bytes from a place on: as many as it has room for, or all there are
+-- the start of the buffer holds the bytes from a place on: as many as it has room for, or all there are
 abbrev pub FillsFrom : List ℕ → ℕ → ℕ → List ℕ → Type 0
 FillsFrom bytes at n buf = take n buf ≡ take (length buf) (drop at bytes)
 
--- the device was called 2 ^ 32 times since, or its count stands at its greatest value
+-- the device was called 2 ^ 32 times since, or its count is at its greatest value
 abbrev pub CalledTooOften : Tally → Tally → Type 0
 CalledTooOften old new = (old.calls + 2 ^ 32 ≤ new.calls) ⊎ (new.calls ≡ 2 ^ 64 - 1)
 

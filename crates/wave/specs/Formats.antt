@@ -38,7 +38,7 @@ aligned align (Some depth) (Some channels) = if align == width depth * count cha
 aligned align (Some depth) None = None
 aligned align None channels = None
 
--- The layout that a format's content gives, where it is played at this rate. At 0 stands the tag, at 2 the number
+-- The layout that a format's content gives, where it is played at this rate. At 0 is the tag, at 2 the number
 -- of channels, at 4 the rate, at 12 the block align, at 14 the bits of a sample.
 unfoldable pub layout_of : ℕ → List ℕ → Option Layout
 layout_of rate content =

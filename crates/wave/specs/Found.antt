@@ -1,12 +1,13 @@
 -- The texts that are found while chunks are read.
 use Rattle.std.specs.Prelude.{ℕ, List, [], ◌∷◌, ◌++◌, Option, Some, None, if◌then◌else◌}
 use Rattle.std.specs.Option.{option_or}
-use Rattle.mpd_text.specs.Songs.{TagData}
-use Rattle.mpd_text.specs.declared.song.TagName.{TagName}
-use Rattle.mpd_text.specs.declared.song.TagName.TheVariants.{Title, Artist, Album, Date, Genre, Comment}
+use Rattle.mpd_text.specs.Songs.Song.{TagData}
+use Rattle.mpd_text.specs.declared.songs.song.TagName.{TagName}
+use Rattle.mpd_text.specs.declared.songs.song.TagName.TheVariants.{Title, Artist, Album, Date, Genre, Comment}
 use Rattle.wave.specs.declared.tag.Texts.{Texts}
 use Rattle.wave.specs.Chunks.{Chunk}
-use Rattle.wave.specs.Texts.{text_of, counts, first_text, tag_with}
+use Rattle.wave.specs.Texts.{text_of, counts, first_text}
+use Rattle.mpd_text.specs.Songs.Tags.{tag_with}
 
 -- the text of a content, if it is not skipped
 abbrev pub text_in : List ℕ → Option (List ℕ)

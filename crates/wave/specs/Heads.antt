@@ -16,10 +16,10 @@ Refuses NoData meaning = meaning ≡ Err NoData
 Refuses ReadFault meaning = ⊤
 Refuses NoMemory meaning = ⊤
 
--- the sound of chunks behind those that gave a layout, or gave none
-unfoldable pub sound_behind : ℕ → Option Layout → List Chunk → Result Sound WaveFault
-sound_behind rate None parts = sound_of rate parts
-sound_behind rate (Some layout) parts = with_layout (Some layout) (data_of parts)
+-- the sound of chunks after those that gave a layout, or gave none
+unfoldable pub sound_after : ℕ → Option Layout → List Chunk → Result Sound WaveFault
+sound_after rate None parts = sound_of rate parts
+sound_after rate (Some layout) parts = with_layout (Some layout) (data_of parts)
 
 -- the fault where no chunk is left
 abbrev pub missing : Option Layout → WaveFault

@@ -20,7 +20,7 @@ abbrev pub MeansWave : List ℕ → Result Head WaveFault → Result Wave WaveFa
 MeansWave bytes (Ok head) meaning = (meaning ≡ Ok (wave_in bytes head)) × (length (frames_in bytes head) ≡ head.frames)
 MeansWave bytes (Err fault) meaning = Refuses fault meaning
 
--- the same of the chunks behind the first twelve bytes
-abbrev pub MeansBehind : ℕ → List ℕ → List Chunk → Result Head WaveFault → Type 0
-MeansBehind rate bytes parts (Ok head) = MeansWave bytes (Ok head) (with_tags (tags_of (items parts)) (sound_of rate parts))
-MeansBehind rate bytes parts (Err fault) = Refuses fault (sound_of rate parts)
+-- the same of the chunks after the first twelve bytes
+abbrev pub MeansChunks : ℕ → List ℕ → List Chunk → Result Head WaveFault → Type 0
+MeansChunks rate bytes parts (Ok head) = MeansWave bytes (Ok head) (with_tags (tags_of (items parts)) (sound_of rate parts))
+MeansChunks rate bytes parts (Err fault) = Refuses fault (sound_of rate parts)

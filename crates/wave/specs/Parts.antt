@@ -2,11 +2,11 @@
 use Rattle.std.specs.Prelude.{◌≡◌, ℕ, ◌<◌, ◌≤◌, List, [], ◌∷◌, length, take, drop, Option, Some, None, MatchOption}
 use Rattle.wave.specs.declared.part.Header.{Header}
 use Rattle.wave.specs.declared.part.Part.{Part}
-use Rattle.wave.specs.Chunks.{Chunk, chunks, front_size}
+use Rattle.wave.specs.Chunks.{Chunk, chunks, first_size}
 
--- the header that stands at the front of the bytes, or there is none
+-- the header at the start of the bytes, or there is none
 abbrev pub IsHeader : List ℕ → Option Header → Type 0
-IsHeader bytes found = MatchOption found (length bytes < 8) (λ header. (8 ≤ length bytes) × (header.name ≡ take 4 bytes) × (header.size ≡ front_size bytes))
+IsHeader bytes found = MatchOption found (length bytes < 8) (λ header. (8 ≤ length bytes) × (header.name ≡ take 4 bytes) × (header.size ≡ first_size bytes))
 
 -- what is there of a chunk's content
 abbrev pub content_of : List ℕ → Part → List ℕ
@@ -23,4 +23,4 @@ chunks_within bytes at end = chunks (drop at (take end bytes))
 abbrev pub StartsWith : List ℕ → ℕ → ℕ → Option Part → Type 0
 StartsWith bytes at end None = chunks_within bytes at end ≡ []
 StartsWith bytes at end (Some part) =
-    (chunks_within bytes at end ≡ chunk_of bytes part ∷ chunks_within bytes part.behind end) × (length (content_of bytes part) ≡ part.len)
+    (chunks_within bytes at end ≡ chunk_of bytes part ∷ chunks_within bytes part.next end) × (length (content_of bytes part) ≡ part.len)

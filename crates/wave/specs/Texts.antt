@@ -3,9 +3,10 @@
 use Rattle.std.specs.Prelude.{ℕ, List, [], ◌∷◌, length, take, drop, Bool, ◌&&◌, ◌==◌, nat_le, if◌then◌else◌, Option, Some, None, codes}
 use Rattle.std.specs.List.{flat_map, filter_map, list_all, before_first}
 use Rattle.std.specs.Str.{is_utf8, bytes_eq}
-use Rattle.mpd_text.specs.Songs.{TagData}
-use Rattle.mpd_text.specs.declared.song.TagName.{TagName}
-use Rattle.mpd_text.specs.declared.song.TagName.TheVariants.{Title, Artist, Album, Date, Genre, Comment}
+use Rattle.mpd_text.specs.Songs.Song.{TagData}
+use Rattle.mpd_text.specs.Songs.Tags.{tag_names, tag_with}
+use Rattle.mpd_text.specs.declared.songs.song.TagName.{TagName}
+use Rattle.mpd_text.specs.declared.songs.song.TagName.TheVariants.{Title, Artist, Album, Date, Genre, Comment}
 use Rattle.wave.specs.Chunks.{Chunk, chunks}
 
 -- nothing of the content is cut off
@@ -16,7 +17,7 @@ is_whole chunk = length chunk.content == chunk.size
 abbrev pub is_info : Chunk → Bool
 is_info chunk = bytes_eq chunk.name (codes "LIST") && is_whole chunk && bytes_eq (take 4 chunk.content) (codes "INFO")
 
--- the chunks within the lists of texts, each list behind the other
+-- the chunks within the lists of texts, each list after the other
 abbrev pub items : List Chunk → List Chunk
 items parts = flat_map (λ part. if is_info part then chunks (drop 4 part.content) else []) parts
 
@@ -45,13 +46,6 @@ gives name item = bytes_eq item.name (identifier name) && is_whole item && count
 abbrev pub first_text : TagName → List Chunk → Option (List ℕ)
 first_text name [] = None
 first_text name (item ∷ more) = if gives name item then Some (text_of item.content) else first_text name more
-
-abbrev pub tag_with : TagName → Option (List ℕ) → Option TagData
-tag_with name None = None
-tag_with name (Some text) = Some (record { name = name; text = text })
-
-abbrev pub tag_names : List TagName
-tag_names = Title ∷ Artist ∷ Album ∷ Date ∷ Genre ∷ Comment ∷ []
 
 -- the tags that the chunks of lists give, in the order of answers
 abbrev pub tags_of : List Chunk → List TagData

@@ -2,7 +2,7 @@
 -- File Format). What is refused, and in which order, is this profile's.
 use Rattle.std.specs.Prelude.{ℕ, List, [], ◌∷◌, length, take, drop, Bool, ◌&&◌, nat_le, if◌then◌else◌, Option, Some, None, Result, Ok, Err, codes, slice_range, ℤ}
 use Rattle.std.specs.Str.{bytes_eq}
-use Rattle.mpd_text.specs.Songs.{TagData}
+use Rattle.mpd_text.specs.Songs.Song.{TagData}
 use Rattle.wave.specs.declared.fault.WaveFault.{WaveFault}
 use Rattle.wave.specs.declared.fault.WaveFault.TheVariants.{NotRiff, NoFormat, Unsupported, NoData}
 use Rattle.wave.specs.declared.format.Layout.{Layout}
@@ -19,7 +19,7 @@ is_data chunk = bytes_eq chunk.name (codes "data")
 abbrev pub is_format : Chunk → Bool
 is_format chunk = bytes_eq chunk.name (codes "fmt ") && is_whole chunk
 
--- the content of the first whole format, as far as it counts, if it stands in front of all data
+-- the content of the first whole format, as far as it counts, if it comes before all data
 abbrev pub format_of : List Chunk → Option (List ℕ)
 format_of [] = None
 format_of (chunk ∷ more) = if is_data chunk then None else (if is_format chunk then Some (take 40 chunk.content) else format_of more)

@@ -1,7 +1,7 @@
 //! Reads of a device at a place, with an end to how often it is called.
 ghost use Rattle.std.specs.Prelude.{◌≡◌, ℕ, ◌+◌, ◌-◌, ◌^◌, ◌≤◌, ◌<◌, List, Some, length, min, take, drop, IfSome, IfOk, OnErr};
 ghost use Rattle.std.specs.Io.KnownBytes.{Consumes, IsAtEnd};
-ghost use Rattle.mpd_text.specs.Devices.{NoFewer};
+ghost use Rattle.mpd_text.specs.Devices.Tally.{NoFewer};
 ghost use Rattle.wave.specs.Devices.{FillsFrom, Ends, KeepsTo};
 
 use crate::fault::Unread;
@@ -69,7 +69,7 @@ fn seek<M: Media>(media: &mut M, limit: u64, at: u64) -> Result<(), Unread>
     }
 }
 
-/// Reads from where the device stands, until the buffer is full or its bytes end.
+/// Reads from the device's place on, until the buffer is full or its bytes end.
 fn fill<M: Media>(media: &mut M, limit: u64, buf: &mut [u8]) -> Result<usize, Unread>
     ensures bound { IfOk result (λ n. n ≤ length buf.new) }
     ensures bytes { IfOk result (λ n. Consumes (M.remaining media.old) (M.remaining media.new) (take n buf.new)) }

@@ -9,7 +9,7 @@ use std::alloc::{AllocError, AllocFailed};
 pub enum WaveFault {
     /// The first twelve bytes are not those of a RIFF WAVE file.
     NotRiff,
-    /// No whole format stands in front of the data, or there is neither.
+    /// No whole format comes before the data, or there is neither.
     NoFormat,
     /// The format is not PCM of 8, 16 or 24 bits in one or two channels at the rate that was asked for.
     Unsupported,

@@ -60,7 +60,7 @@ impl Head {
         tags
     }
 
-    /// Where the first frame begins, in bytes from the front of the file.
+    /// Where the first frame begins, in bytes from the start of the file.
     pub fn place(&self) -> u64
         ensures { result ≡ self.now.place }
     {

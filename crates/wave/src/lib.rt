@@ -10,8 +10,6 @@ mod reader;
 mod reading;
 mod samples;
 mod tag;
-#[cfg(test)]
-mod tests;
 mod texts;
 
 pub use device::MAX_CALLS;

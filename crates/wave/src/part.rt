@@ -1,6 +1,6 @@
 //! Chunks, and where they lie.
 ghost use Rattle.std.specs.Prelude.{◌≡◌, ◌==◌, ℕ, ◌+◌, ◌≤◌, ◌<◌, List, Some, length, take, drop, IfSome, IfOk, OnErr};
-ghost use Rattle.mpd_text.specs.Devices.{NoFewer};
+ghost use Rattle.mpd_text.specs.Devices.Tally.{NoFewer};
 ghost use Rattle.wave.specs.Chunks.{Chunk, AreChunks, chunks};
 ghost use Rattle.wave.specs.Devices.{Ends, KeepsTo};
 ghost use Rattle.wave.specs.Parts.{IsHeader, StartsWith};
@@ -9,7 +9,7 @@ use crate::device::read_at;
 use crate::fault::Unread;
 use mpd_text::Media;
 
-/// The name and size in front of a content.
+/// The name and size before a content.
 #[derive(Clone, Copy)]
 pub(crate) struct Header {
     pub(crate) name: [u8; 4],
@@ -26,8 +26,8 @@ pub(crate) struct Part {
     pub(crate) place: u64,
     /// How many bytes of the content are there.
     pub(crate) len: u64,
-    /// Where the chunk behind it begins.
-    pub(crate) behind: u64,
+    /// Where the next chunk begins.
+    pub(crate) next: u64,
 }
 
 impl Part {
@@ -58,7 +58,7 @@ fn part_of(header: Header, at: u64, end: u64) -> Part
     requires { at + 8 ≤ end }
     ensures starts { (bytes : List ℕ) → end ≤ length bytes → IsHeader (take 8 (drop at bytes)) (Some header) → StartsWith bytes at end (Some result) }
     ensures within { result.place + result.len ≤ end }
-    ensures onward { at < result.behind }
+    ensures onward { at < result.next }
 {
     let Header { name, size } = header;
     let place = at + 8;
@@ -68,7 +68,7 @@ fn part_of(header: Header, at: u64, end: u64) -> Part
         size,
         place,
         len: long.min(end - place),
-        behind: place.saturating_add(long + long % 2),
+        next: place.saturating_add(long + long % 2),
     }
 }
 
@@ -82,7 +82,7 @@ pub(crate) fn chunk_at<M: Media>(
     requires { IfSome (M.all_bytes media.old) (λ bytes. end ≤ length bytes) }
     ensures value { IfSome (M.all_bytes media.old) (λ bytes. IfOk result (StartsWith bytes at end)) }
     ensures within { IfOk result (λ found. IfSome found (λ part. part.place + part.len ≤ end)) }
-    ensures onward { IfOk result (λ found. IfSome found (λ part. (at < part.behind) × (at < end))) }
+    ensures onward { IfOk result (λ found. IfSome found (λ part. (at < part.next) × (at < end))) }
     ensures stays { M.all_bytes media.new ≡ M.all_bytes media.old }
     ensures ends { OnErr result (Ends limit (M.tally media.old) (M.tally media.new)) }
     ensures keeps { KeepsTo limit (M.tally media.old) (M.tally media.new) }

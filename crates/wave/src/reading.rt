@@ -1,10 +1,10 @@
 //! Heads, read from files.
 ghost use Rattle.std.specs.Prelude.{length, ◌≡◌, ◌⊎◌, ◌≤◌, ◌+◌, ◌/◌, ◌^◌, ◌<◌, take, IfSome, IfOk, OnErr, IsErrOf};
-ghost use Rattle.mpd_text.specs.Devices.{NoFewer, HasFailed};
+ghost use Rattle.mpd_text.specs.Devices.Tally.{NoFewer, HasFailed};
 ghost use Rattle.wave.specs.Devices.{Ends, KeepsTo, CalledTooOften};
 ghost use Rattle.wave.specs.Formats.{block};
 ghost use Rattle.wave.specs.Waves.{is_riff, wave_of};
-ghost use Rattle.wave.specs.Meanings.{MeansWave, MeansBehind};
+ghost use Rattle.wave.specs.Meanings.{MeansWave, MeansChunks};
 ghost use Rattle.wave.specs.Parts.{chunks_within};
 
 use crate::device::{last_call, read_at, size};
@@ -17,12 +17,12 @@ use std::alloc::Global;
 
 /// Reads the head of a file that is to be played at this rate, in frames a second.
 ///
-/// The whole file is walked through, chunk by chunk, since tags may stand behind the data. The refusals are those
+/// The whole file is walked through, chunk by chunk, since tags may come after the data. The refusals are those
 /// of the bytes, in the order of [`WaveFault`]; `ReadFault` and `NoMemory` say nothing of them.
 pub fn read_head<M: Media>(alloc: Global, media: &mut M, rate: u32) -> Result<Head, WaveFault>
     // The head is what the whole bytes mean, and each refusal is the one that they mean.
     ensures value { IfSome (M.all_bytes media.old) (λ bytes. MeansWave bytes result (wave_of rate bytes)) }
-    // A fault of the device comes only where it failed, or was called too often, or its count stands at its greatest value.
+    // A fault of the device comes only where it failed, or was called too often, or its count is at its greatest value.
     ensures read_fault { IsErrOf result WaveFault.ReadFault → HasFailed (M.tally media.old) (M.tally media.new) ⊎ CalledTooOften (M.tally media.old) (M.tally media.new) }
     ensures few_calls { (M.tally media.new).calls ≤ (M.tally media.old).calls + 2 ^ 32 }
     ensures stays { M.all_bytes media.new ≡ M.all_bytes media.old }
@@ -33,11 +33,11 @@ pub fn read_head<M: Media>(alloc: Global, media: &mut M, rate: u32) -> Result<He
     if !is_riff_at(media, limit)? {
         return Err(WaveFault::NotRiff);
     }
-    head_behind(alloc, media, limit, end, rate)
+    head_of_chunks(alloc, media, limit, end, rate)
 }
 
-/// Reads the head from the chunks behind the first twelve bytes, of a file of this many bytes.
-fn head_behind<M: Media>(
+/// Reads the head from the chunks after the first twelve bytes, of a file of this many bytes.
+fn head_of_chunks<M: Media>(
     alloc: Global,
     media: &mut M,
     limit: u64,
@@ -45,7 +45,7 @@ fn head_behind<M: Media>(
     rate: u32,
 ) -> Result<Head, WaveFault>
     requires { IfSome (M.all_bytes media.old) (λ bytes. end ≤ length bytes) }
-    ensures value { IfSome (M.all_bytes media.old) (λ bytes. MeansBehind rate bytes (chunks_within bytes 12 end) result) }
+    ensures value { IfSome (M.all_bytes media.old) (λ bytes. MeansChunks rate bytes (chunks_within bytes 12 end) result) }
     ensures ends { IsErrOf result WaveFault.ReadFault → Ends limit (M.tally media.old) (M.tally media.new) }
     ensures stays { M.all_bytes media.new ≡ M.all_bytes media.old }
     ensures keeps { KeepsTo limit (M.tally media.old) (M.tally media.new) }
@@ -65,9 +65,9 @@ fn is_riff_at<M: Media>(media: &mut M, limit: u64) -> Result<bool, Unread>
     ensures keeps { KeepsTo limit (M.tally media.old) (M.tally media.new) }
     ensures calm { NoFewer (M.tally media.old) (M.tally media.new) }
 {
-    let mut front = [0u8; 12];
-    let n = read_at(media, limit, 0, &mut front)?;
-    Ok(is_riff(&front[..n]))
+    let mut start = [0u8; 12];
+    let n = read_at(media, limit, 0, &mut start)?;
+    Ok(is_riff(&start[..n]))
 }
 
 fn is_riff(bytes: &[u8]) -> bool

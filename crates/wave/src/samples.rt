@@ -1,13 +1,13 @@
 //! Where the samples of a file lie.
 ghost use Rattle.std.specs.Prelude.{◌≡◌, ◌==◌, ◌&&◌, ℕ, ◌≤◌, ◌+◌, List, ◌∷◌, length, take, true, false, IfErr, IfSome, IfOk, OnErr, IsErrOf, MatchResult, codes, is_none};
 ghost use Rattle.std.specs.Str.{bytes_eq};
-ghost use Rattle.mpd_text.specs.Devices.{NoFewer};
+ghost use Rattle.mpd_text.specs.Devices.Tally.{NoFewer};
 ghost use Rattle.wave.specs.Chunks.{Chunk};
 ghost use Rattle.wave.specs.Formats.{layout_of};
 ghost use Rattle.wave.specs.Waves.{sound_of};
 ghost use Rattle.wave.specs.Devices.{Ends, KeepsTo};
 ghost use Rattle.wave.specs.Parts.{content_of, chunk_of, chunks_within};
-ghost use Rattle.wave.specs.Heads.{Refuses, MeansSound, sound_behind, missing};
+ghost use Rattle.wave.specs.Heads.{Refuses, MeansSound, sound_after, missing};
 
 use crate::device::read_at;
 use crate::fault::{Unread, WaveFault};
@@ -45,8 +45,8 @@ pub(crate) fn find_samples<M: Media>(
         if part.name == *b"data" {
             return samples_in(part, layout);
         }
-        layout = layout_behind(media, limit, part, layout, rate)?;
-        at = part.behind;
+        layout = layout_after(media, limit, part, layout, rate)?;
+        at = part.next;
     }
     Err(missing(layout))
 }
@@ -61,11 +61,11 @@ fn missing(layout: Option<Layout>) -> WaveFault
     }
 }
 
-/// The samples of the first data, behind the chunks that gave a layout or none.
+/// The samples of the first data, after the chunks that gave a layout or none.
 fn samples_in(part: Part, layout: Option<Layout>) -> Result<Samples, WaveFault>
     requires { bytes_eq part.name (codes "data") ≡ true }
     ensures value { (bytes : List ℕ) (rate : ℕ) (more : List Chunk) → length (content_of bytes part) ≡ part.len
-        → MeansSound bytes result (sound_behind rate layout (chunk_of bytes part ∷ more)) }
+        → MeansSound bytes result (sound_after rate layout (chunk_of bytes part ∷ more)) }
     ensures place { IfOk result (λ found. (found.place ≡ part.place) × (found.len ≡ part.len)) }
     ensures fault { IfErr result (λ fault. fault ≡ WaveFault.NoFormat) }
 {
@@ -79,15 +79,15 @@ fn samples_in(part: Part, layout: Option<Layout>) -> Result<Samples, WaveFault>
     }
 }
 
-/// Whether a chunk is a whole format, with none in front of it.
+/// Whether a chunk is a whole format, with none before it.
 fn is_first_format(part: Part, layout: Option<Layout>) -> bool
     ensures { result ≡ (is_none layout && (bytes_eq part.name (codes "fmt ") && (part.len == part.size))) }
 {
     layout.is_none() && part.name == *b"fmt " && part.is_whole()
 }
 
-/// The layout that is known behind a chunk which is no data.
-fn layout_behind<M: Media>(
+/// The layout that is known after a chunk that is no data.
+fn layout_after<M: Media>(
     media: &mut M,
     limit: u64,
     part: Part,
@@ -97,8 +97,8 @@ fn layout_behind<M: Media>(
     requires chunk { bytes_eq part.name (codes "data") ≡ false }
     requires known { IfSome (M.all_bytes media.old) (λ bytes. length (content_of bytes part) ≡ part.len) }
     ensures value { IfSome (M.all_bytes media.old) (λ bytes. (more : List Chunk) → MatchResult result
-        (λ next. sound_behind rate layout (chunk_of bytes part ∷ more) ≡ sound_behind rate next more)
-        (λ fault. Refuses fault (sound_behind rate layout (chunk_of bytes part ∷ more)))) }
+        (λ next. sound_after rate layout (chunk_of bytes part ∷ more) ≡ sound_after rate next more)
+        (λ fault. Refuses fault (sound_after rate layout (chunk_of bytes part ∷ more)))) }
     ensures fault { IsErrOf result WaveFault.NoMemory → ⊥ }
     ensures ends { IsErrOf result WaveFault.ReadFault → Ends limit (M.tally media.old) (M.tally media.new) }
     ensures stays { M.all_bytes media.new ≡ M.all_bytes media.old }

@@ -1,8 +1,9 @@
 //! Texts, and the tags that they give.
 ghost use Rattle.std.specs.Prelude.{◌≡◌, ◌==◌, ◌++◌, Some, None, true, false, IfOk, OnOk, MatchOption, nat_le};
 ghost use Rattle.std.specs.Str.{bytes_eq};
-ghost use Rattle.mpd_text.specs.declared.song.TagName.{TagName};
-ghost use Rattle.wave.specs.Texts.{identifier, text_of, counts, tag_with};
+ghost use Rattle.mpd_text.specs.declared.songs.song.TagName.{TagName};
+ghost use Rattle.wave.specs.Texts.{identifier, text_of, counts};
+ghost use Rattle.mpd_text.specs.Songs.Tags.{tag_with};
 ghost use Rattle.std.specs.List.{list_all, position};
 ghost use Rattle.wave.specs.Found.{text_in, no_texts, put, listed, shown};
 

@@ -1,7 +1,7 @@
 //! The texts in the lists of a file.
 ghost use Rattle.std.specs.Prelude.{◌≡◌, ◌==◌, ◌&&◌, nat_le, codes, ◌≤◌, ◌<◌, ◌^◌, ◌+◌, List, ◌∷◌, ◌++◌, true, length, IfSome, IfOk, IfErr, OnErr};
 ghost use Rattle.std.specs.Str.{bytes_eq};
-ghost use Rattle.mpd_text.specs.Devices.{NoFewer};
+ghost use Rattle.mpd_text.specs.Devices.Tally.{NoFewer};
 ghost use Rattle.wave.specs.Chunks.{Chunk};
 ghost use Rattle.wave.specs.Texts.{is_info, items};
 ghost use Rattle.wave.specs.Devices.{Ends, KeepsTo, IsOutside};
@@ -35,7 +35,7 @@ pub(crate) fn read_texts<M: Media>(
         if is_list(media, limit, part)? {
             texts = read_list(alloc, media, limit, part, texts)?;
         }
-        at = part.behind;
+        at = part.next;
     }
     Ok(texts)
 }
@@ -87,7 +87,7 @@ fn read_list<M: Media>(
     let mut at = list.place + 4;
     while let Some(item) = chunk_at(media, limit, at, end)? {
         texts = take_item(alloc, media, limit, item, texts)?;
-        at = item.behind;
+        at = item.next;
     }
     Ok(texts)
 }

@@ -1,6 +1,6 @@
-//! Runs worked script sessions, the files `*.row` of the folder in which it stands, and compares what they print.
+//! Runs worked script sessions, the files `*.row` of the folder that it runs in, and compares what they print.
 //!
-//! A row file has lines `# TEXT`, `since:`, `until:`, `again:` (all passed over), input lines `> LINE`, and behind each the
+//! A row file has lines `# TEXT`, `since:`, `until:`, `again:` (all passed over), input lines `> LINE`, and after each the
 //! lines that it prints: `< LINE` exactly, or `<~ LINE`, a line that the answer has among others. `>e` and `<e` are the
 //! same with escapes: `\r`, `\t`, `\\`, `\xHH`, and `\{TEXT*N}` for a text N times.
 #![tactic(auto)]

@@ -10,7 +10,7 @@ use std::str::Lines;
 enum Kind {
     /// The next line is this one.
     Exact,
-    /// The answer has this line; other lines may stand before it.
+    /// The answer has this line; other lines may come before it.
     Has,
 }
 
@@ -20,7 +20,7 @@ pub struct Wanted {
     kind: Kind,
     /// The client whose answer it is; no byte of a client at a step.
     speaker: u8,
-    /// How many input lines stand before it.
+    /// How many input lines come before it.
     step: u64,
     text: Vec<u8>,
 }
@@ -93,7 +93,7 @@ fn is_passed_over(line: &str) -> bool {
         || line.starts_with("again: ")
 }
 
-/// The bytes behind one of two marks, the second of which has escapes.
+/// The bytes after one of two marks, the second of which has escapes.
 fn read_line(
     alloc: Global,
     line: &str,
@@ -114,11 +114,11 @@ fn unescaped(alloc: Global, text: &str) -> Result<Option<Vec<u8>>, AllocError> {
     let mut bytes = Vec::new(alloc);
     let mut rest = text;
     for _ in 0..=text.len() {
-        let Some((front, behind)) = rest.split_once('\\') else {
+        let Some((front, after)) = rest.split_once('\\') else {
             break;
         };
         bytes.extend_from_slice(front.as_bytes())?;
-        let Some(more) = push_escape(&mut bytes, behind)? else {
+        let Some(more) = push_escape(&mut bytes, after)? else {
             return Ok(None);
         };
         rest = more;
@@ -127,7 +127,7 @@ fn unescaped(alloc: Global, text: &str) -> Result<Option<Vec<u8>>, AllocError> {
     Ok(Some(bytes))
 }
 
-/// Appends what one escape stands for, and gives the text behind it.
+/// Appends what one escape means, and gives the text after it.
 fn push_escape<'a>(bytes: &mut Vec<u8>, text: &'a str) -> Result<Option<&'a str>, AllocError> {
     let mut characters = text.chars();
     match characters.next() {
@@ -161,9 +161,9 @@ fn hex(digit: Option<char>) -> Option<u8>
     }
 }
 
-/// Appends the text of `TEXT*N}` N times, and gives the text behind it.
+/// Appends the text of `TEXT*N}` N times, and gives the text after it.
 fn push_repeated<'a>(bytes: &mut Vec<u8>, text: &'a str) -> Result<Option<&'a str>, AllocError> {
-    let Some((inside, behind)) = text.split_once('}') else {
+    let Some((inside, after)) = text.split_once('}') else {
         return Ok(None);
     };
     let Some((repeated, count)) = inside.split_once('*') else {
@@ -175,7 +175,7 @@ fn push_repeated<'a>(bytes: &mut Vec<u8>, text: &'a str) -> Result<Option<&'a st
     for _ in 0..count {
         bytes.extend_from_slice(repeated.as_bytes())?;
     }
-    Ok(Some(behind))
+    Ok(Some(after))
 }
 
 /// How many lines were wanted, if the output is as wanted.

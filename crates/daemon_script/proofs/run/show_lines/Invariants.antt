@@ -1,5 +1,5 @@
 use Rattle.std.proofs.Common.{take}
-use Rattle.mpd_text.specs.Lines.{views}
+use Rattle.mpd_text.specs.Lines.Split.{views}
 use Rattle.daemon_script.specs.Pieces.{ShowsLines}
 use Rattle.daemon_script.proofs.run.show_lines.Given as goal
 

@@ -1,12 +1,13 @@
-use Rattle.std.proofs.Common.{◌≡◌, ◌≤◌, ◌+◌, ◌++◌, take, drop, count_by, vec_len, vec_capacity}
+use Rattle.std.proofs.Common.{◌≡◌, ◌≤◌, ◌+◌, ◌++◌, length, take, drop, count_by}
 use Rattle.std.specs.List.{flat_map}
 use Rattle.partition.specs.Clients.{notice_for}
-use Rattle.partition.specs.Rooms.{is_waiting}
+use Rattle.partition.specs.Rooms.{is_waiting, listed, room_in}
 use Rattle.partition.proofs.clients.list_notices.Given as goal
 
 abbrev pub invariant-loop-client : goal.invariant-loop-client
 invariant-loop-client l =
     record {
-      listed : l.notices.items ≡ l.initial.notices.items ++ flat_map (notice_for l.raised) (take l.client-index l.clients);
-      room : vec_len l.notices + count_by is_waiting (drop l.client-index l.clients) ≤ vec_capacity l.notices;
+      list : listed l.notices ≡ listed l.initial.notices ++ flat_map (notice_for l.raised) (take l.client-index l.clients);
+      room : length (listed l.notices) + count_by is_waiting (drop l.client-index l.clients) ≤ room_in l.notices;
+      few : length (listed l.notices) + count_by is_waiting (drop l.client-index l.clients) ≤ length (listed l.initial.notices) + count_by is_waiting l.clients;
     }

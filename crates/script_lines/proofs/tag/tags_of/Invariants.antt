@@ -1,6 +1,7 @@
 use Rattle.std.proofs.Common.{◌≡◌, ◌++◌, map, string_bytes, drop}
 use Rattle.std.specs.List.{filter_map}
-use Rattle.script_lines.specs.Tags.{first_text, tag_with, tag_names, tags_of}
+use Rattle.mpd_text.specs.Songs.Tags.{tag_with, tag_names}
+use Rattle.script_lines.specs.Tags.{first_text, tags_of}
 use Rattle.script_lines.proofs.tag.tags_of.Given as goal
 
 -- the tags so far, and those of the names that are left

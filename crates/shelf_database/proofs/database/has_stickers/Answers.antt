@@ -1,89 +1,38 @@
-use Rattle.std.proofs.Common.{◌≡◌, List, [], ◌∷◌, Some, None, slice_get, string_bytes, rules, inl, inr}
-use Rattle.sqlite.specs.declared.types.Value.{Value}
-use Rattle.sqlite.specs.declared.types.Value.TheVariants.{Text}
-use Rattle.sqlite.specs.Order.{column}
-use Rattle.sqlite.specs.Term.{col}
+use Rattle.std.proofs.Common.{◌≡◌, true, false, is_some, option_map, string_bytes, rules, ◌∙◌}
 use Rattle.sqlite.specs.Held.{state}
-use Rattle.shelf_database.specs.Tables.{Reads}
-use Rattle.shelf_database.specs.Faults.{IsNoText}
-use Rattle.shelf_database.proofs.Statements.{of_uri_text, of_uri_is, over, equals, rising}
-use Rattle.shelf_database.proofs.AnyRowLemmas.{sticker_there, no_sticker_there}
-use Rattle.shelf_database.proofs.BlameLemmas.{of_uri_blamed}
-use Rattle.shelf_database.proofs.LacksLemmas.{first_lacks, of_uri_unnamed}
-use Rattle.shelf_database.proofs.QueryLemmas.{reads, answer_of, query_failed, refused_turns}
-use Rattle.shelf_database.proofs.FaultLemmas.{within}
+use Rattle.shelf.specs.Calls.{DeleteStickers}
+use Rattle.shelf_database.specs.Faults.{CannotDo}
+use Rattle.shelf_database.proofs.AnyRowLemmas.{any_there, none_there}
+use Rattle.shelf_database.proofs.AskLemmas.{handed_on, text_reads, text_refuses, asked_answer}
+use Rattle.shelf_database.proofs.BlameLemmas.{of_uri_asked}
+use Rattle.shelf_database.proofs.FoundLemmas.{mapped_some}
+use Rattle.shelf_database.proofs.LacksLemmas.{of_uri_unnamed}
 use Rattle.shelf_database.proofs.database.has_stickers.Goals as goal
 
-pub returns-in-Err-clause-failed : goal.returns-in-Err-clause-failed
-returns-in-Err-clause-failed g c = λ after.
+pub returns-in_err-name-clause-refused : goal.returns-in_err-name-clause-refused
+returns-in_err-name-clause-refused g c =
     let old = state g.S.Store c.args.connection.now in
-    let new = state g.S.Store c.query_all.new.self in
-    let params : List Value = Text c.args.uri.now ∷ [] in
-    let query = over 3 (equals 1 0 ∷ []) (col 1 2 ∷ col 1 3 ∷ []) (rising 2) in
-    query_failed of_uri_text query _ of_uri_is params old new c.in-Err.error after (λ clean. rw c.params-to_sql.ensures at (c.in-Err.ensures.err clean)) (rw c.params-to_sql.ensures at c.in-Err.ensures.survives)
+    let new = state g.S.Store c.first_text.new.connection in
+    rw (handed_on c.from_residual.result _ c.from_residual.ensures.1) (text_refuses _ _ (of_uri_asked c.args.uri.now) old new (rw c.params-to_sql.ensures at c.first_text.ensures.survives) (CannotDo old.now.trees (DeleteStickers c.args.uri.now)) c.in_err-name.field-0.0
+    (λ rows answer lacks. of_uri_unnamed old.now.trees rows c.args.uri.now answer lacks) (rw c.params-to_sql.ensures at c.in_err-name.ensures.refused))
 
-pub returns-in_default-clause-reads : goal.returns-in_default-clause-reads
-returns-in_default-clause-reads g c =
-    let old = state g.S.Store c.args.connection.now in
-    let new = state g.S.Store c.query_all.new.self in
-    let params : List Value = Text c.args.uri.now ∷ [] in
-    let query = over 3 (equals 1 0 ∷ []) (col 1 2 ∷ col 1 3 ∷ []) (rising 2) in
-    reads of_uri_text query _ of_uri_is params old new c.in-Ok.rows.items (λ clean. rw c.params-to_sql.ensures at (c.in-Ok.ensures.ok clean)) (rw c.params-to_sql.ensures at c.in-Ok.ensures.survives)
+pub returns-clause-reads : goal.returns-clause-reads
+returns-clause-reads g c =
+    text_reads _ _ (of_uri_asked c.args.uri.now) (state g.S.Store c.args.connection.now) (state g.S.Store c.first_text.new.connection) (rw c.params-to_sql.ensures at c.first_text.ensures.survives)
+    (λ clean. let h = (rw c.params-to_sql.ensures at c.in_ok-name.ensures.shown) clean in (h.0, h.1))
 
-pub returns-in_default-clause-missing : goal.returns-in_default-clause-missing
-returns-in_default-clause-missing g c = λ clean ready is.
+pub returns-clause-found : goal.returns-clause-found
+returns-clause-found g c = λ clean ready is.
     let old = state g.S.Store c.args.connection.now in
-    let new = state g.S.Store c.query_all.new.self in
-    let params : List Value = Text c.args.uri.now ∷ [] in
-    let query = over 3 (equals 1 0 ∷ []) (col 1 2 ∷ col 1 3 ∷ []) (rising 2) in
-    let first : slice_get c.in-Ok.rows.items 0 ≡ None = search rules in
-    no_sticker_there c.args.uri.now old.now c.in-Ok.rows.items (answer_of of_uri_text query _ of_uri_is params old new ready c.in-Ok.rows.items (rw c.params-to_sql.ensures at (c.in-Ok.ensures.ok clean))) first
+    let h = (rw c.params-to_sql.ensures at c.in_ok-name.ensures.shown) clean in
+    let answer = asked_answer _ _ (of_uri_asked c.args.uri.now) old (state g.S.Store c.first_text.new.connection) (rw c.params-to_sql.ensures at c.first_text.ensures.survives) h.0 ready h.1 in
+    let some : is_some c.in_ok-name.name ≡ true = search (rules, is) in
+    any_there c.args.uri.now old.now h.0 answer (option_map string_bytes c.in_ok-name.name) h.2 (mapped_some string_bytes c.in_ok-name.name ∙ some)
 
-pub returns-in-Ok-get-clause-reads : goal.returns-in-Ok-get-clause-reads
-returns-in-Ok-get-clause-reads g c =
+pub returns-clause-missing : goal.returns-clause-missing
+returns-clause-missing g c = λ clean ready is.
     let old = state g.S.Store c.args.connection.now in
-    let new = state g.S.Store c.query_all.new.self in
-    let params : List Value = Text c.args.uri.now ∷ [] in
-    let query = over 3 (equals 1 0 ∷ []) (col 1 2 ∷ col 1 3 ∷ []) (rising 2) in
-    reads of_uri_text query _ of_uri_is params old new c.in-Ok.rows.items (λ clean. rw c.params-to_sql.ensures at (c.in-Ok.ensures.ok clean)) (rw c.params-to_sql.ensures at c.in-Ok.ensures.survives)
-
-pub returns-in-Ok-get-clause-found : goal.returns-in-Ok-get-clause-found
-returns-in-Ok-get-clause-found g c = λ clean ready is.
-    let old = state g.S.Store c.args.connection.now in
-    let new = state g.S.Store c.query_all.new.self in
-    let params : List Value = Text c.args.uri.now ∷ [] in
-    let query = over 3 (equals 1 0 ∷ []) (col 1 2 ∷ col 1 3 ∷ []) (rising 2) in
-    let first : slice_get c.in-Ok.rows.items 0 ≡ Some c.in-Some.row.now = search rules in
-    let name = string_bytes c.in-Ok-get.field-0 in (
-      name,
-      sticker_there c.args.uri.now old.now c.in-Ok.rows.items (answer_of of_uri_text query _ of_uri_is params old new ready c.in-Ok.rows.items (rw c.params-to_sql.ensures at (c.in-Ok.ensures.ok clean)))
-          c.in-Some.row.now name first c.in-Ok-get.ensures.ok.1,
-    )
-
-pub returns-clause-failed : goal.returns-clause-failed
-returns-clause-failed g c = λ after.
-    let old = state g.S.Store c.args.connection.now in
-    let new = state g.S.Store c.query_all.new.self in
-    let params : List Value = Text c.args.uri.now ∷ [] in
-    let query = over 3 (equals 1 0 ∷ []) (col 1 2 ∷ col 1 3 ∷ []) (rising 2) in
-    let read : Reads old new = reads of_uri_text query _ of_uri_is params old new c.in-Ok.rows.items (λ clean. rw c.params-to_sql.ensures at (c.in-Ok.ensures.ok clean)) (rw c.params-to_sql.ensures at c.in-Ok.ensures.survives) in
-    refused_turns old new after read
-
-pub returns-in-Err-clause-fault : goal.returns-in-Err-clause-fault
-returns-in-Err-clause-fault g c = λ clean ready is.
-    let old = state g.S.Store c.args.connection.now in
-    let new = state g.S.Store c.query_all.new.self in
-    inl (of_uri_blamed c.args.uri.now old new c.in-Err.error ready (λ memory. let none = c.fault.ensures.memory memory in cc) (rw c.params-to_sql.ensures at (c.in-Err.ensures.err clean)))
-
-pub returns-clause-fault : goal.returns-clause-fault
-returns-clause-fault g c = λ clean ready is.
-    let old = state g.S.Store c.args.connection.now in
-    let new = state g.S.Store c.query_all.new.self in
-    let params : List Value = Text c.args.uri.now ∷ [] in
-    let query = over 3 (equals 1 0 ∷ []) (col 1 2 ∷ col 1 3 ∷ []) (rising 2) in
-    let rows = c.in-Ok.rows.items in
-    let answer = answer_of of_uri_text query _ of_uri_is params old new ready rows (rw c.params-to_sql.ensures at (c.in-Ok.ensures.ok clean)) in
-    let first : slice_get rows 0 ≡ Some c.in-Some.row.now = search rules in
-    let lacks : IsNoText (column c.in-Some.row.now 0) = λ value text utf8.
-    c.in-Err-get.ensures.kind (λ memory. let other = c.fault-in-Err-get.ensures.memory memory in cc) (within c.in-Some.row.now 0 value text) (value, text, utf8) in
-    inr (of_uri_unnamed old.now.trees rows c.args.uri.now answer (first_lacks rows c.in-Some.row.now first lacks))
+    let h = (rw c.params-to_sql.ensures at c.in_ok-name.ensures.shown) clean in
+    let answer = asked_answer _ _ (of_uri_asked c.args.uri.now) old (state g.S.Store c.first_text.new.connection) (rw c.params-to_sql.ensures at c.first_text.ensures.survives) h.0 ready h.1 in
+    let none : is_some c.in_ok-name.name ≡ false = search (rules, is) in
+    none_there c.args.uri.now old.now h.0 answer (option_map string_bytes c.in_ok-name.name) h.2 (mapped_some string_bytes c.in_ok-name.name ∙ none)

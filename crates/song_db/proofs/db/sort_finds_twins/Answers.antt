@@ -4,7 +4,7 @@ use Rattle.std.proofs.lemmas.List.MinMax.{ranks_by}
 use Rattle.std.proofs.lemmas.Cmp.{nat_list_cmp_total}
 use Rattle.std.specs.Ordering.{is_lt}
 use Rattle.std.specs.List.Sorted.{IsSortedBy}
-use Rattle.mpd_text.specs.Songs.{SongData}
+use Rattle.mpd_text.specs.Songs.Song.{SongData}
 use Rattle.song_db.specs.Library.{by_uri, are_twins_beside}
 use Rattle.song_db.proofs.Names.{twins-is, order-by, rises-by}
 use Rattle.song_db.proofs.db.sort_finds_twins.Goals as goal

@@ -11,6 +11,6 @@ returns-then-not-branch-clause-value g c =
 pub returns-clause-value : goal.returns-clause-value
 returns-clause-value g c =
     let found = rw c.in_ok-end.ensures.stays at c.in_ok-is_riff_at.ensures.value in
-    let behind = rw (c.in_ok-is_riff_at.ensures.stays, c.in_ok-end.ensures.stays) at c.head_behind.ensures.value in
+    let chunks = rw (c.in_ok-is_riff_at.ensures.stays, c.in_ok-end.ensures.stays) at c.head_of_chunks.ensures.value in
     known_map3 (g.M.Media.all_bytes c.args.media.now) (λ bytes size is means.
-    means_wave c.args.rate c.in_ok-end.end bytes c.head_behind.result size (sym is ∙ c.if-not-branch.false) means) c.in_ok-end.ensures.value found behind
+    means_wave c.args.rate c.in_ok-end.end bytes c.head_of_chunks.result size (sym is ∙ c.if-not-branch.false) means) c.in_ok-end.ensures.value found chunks

@@ -1,8 +1,11 @@
 use Rattle.std.proofs.Common.{◌≡◌, ◌∙◌, refl, sym, subst}
 use Rattle.partition.specs.Clients.{Rising}
-use Rattle.partition.specs.Image.{Image, image_of_state}
+use Rattle.partition.specs.Image.{Image, image_of_state, opening}
+use Rattle.partition.specs.Settled.{AllSettled}
 use Rattle.partition.specs.World.{Life, image_of, life_after}
 use Rattle.partition.proofs.Flags.{flags_stand}
+use Rattle.partition.proofs.Lives.{all_raise, all_tell, all_heard}
+use Rattle.partition.proofs.Settled.{replay_settled}
 use Rattle.partition.proofs.partition.Partition.legal.Goals as goal
 
 pub returns-clause-legal : goal.returns-clause-legal
@@ -16,7 +19,16 @@ returns-clause-legal c =
       opened = refl;
       world = world;
       pending = flags_stand life p.history.items (image_of_state p.state) world;
+      raises = all_raise p.limits p.state.songs p.history.items c.self.invariant.version;
+      tells = all_tell p.limits p.state.songs p.history.items c.self.invariant.version;
       told = c.self.invariant.told;
-      distinct = c.len-valid.ensures.valid.distinct;
+      heard = all_heard p.limits p.state.songs p.history.items c.self.invariant.version c.self.invariant.told;
+      distinct = c.len-distinct.ensures.valid.distinct;
       rising = subst (λ (i : Image). Rising i.clients) (sym world) law.1;
     })
+
+pub returns-clause-settled : goal.returns-clause-settled
+returns-clause-settled c =
+    let p = c.self.inside in
+    rw (← c.self.view_is)
+    (subst (λ (i : Image). AllSettled i.clients) (sym c.self.invariant.present) (replay_settled p.history.items (opening p.limits p.state.songs) tt tt))

@@ -1,130 +1,81 @@
-use Rattle.std.proofs.Common.{◌≡◌, List, [], ◌∷◌, Some, None, Option, true, false, find, slice_get, is_some, option_map, string_bytes, rules, refl, sym, ap, subst, ◌∙◌, is_ok, IsTrue, inl, inr}
-use Rattle.sqlite.specs.declared.types.Value.{Value}
-use Rattle.sqlite.specs.declared.types.Value.TheVariants.{Text}
-use Rattle.sqlite.specs.Order.{Row, column, bytes}
-use Rattle.sqlite.specs.Term.{col}
+use Rattle.std.proofs.Common.{◌≡◌, ◌&&◌, Some, None, true, false, find, is_ok, option_map, string_bytes, rules, refl, sym, ap, subst, ◌∙◌, IsTrue}
+use Rattle.sqlite.specs.Order.{column, bytes}
 use Rattle.sqlite.specs.Held.{state}
+use Rattle.shelf.specs.Calls.{ListOf}
+use Rattle.shelf.specs.Maps.{refusal_of_list}
 use Rattle.shelf.specs.Lines.{lines_of, are_single_lines}
 use Rattle.shelf.proofs.LineLemmas.{lines_are_single}
-use Rattle.shelf.specs.Calls.{ListOf}
-use Rattle.shelf_database.specs.Tables.{maps_in, has_text, Reads}
-use Rattle.shelf_database.proofs.Statements.{uris_text, uris_is, over, equals}
-use Rattle.shelf_database.proofs.FoundLemmas.{shown_of, list_shown, first_text, none_found, some_found, mapped_some}
-use Rattle.shelf_database.proofs.QueryLemmas.{reads, answer_of, query_failed, read_turns}
-use Rattle.shelf_database.specs.Faults.{IsNoText, StoreFailed}
-use Rattle.shelf_database.proofs.FaultLemmas.{refused_so, within}
-use Rattle.shelf_database.proofs.BlameLemmas.{uris_blamed}
-use Rattle.shelf_database.proofs.LacksLemmas.{first_lacks, uris_lack}
+use Rattle.shelf_database.specs.Faults.{CannotDo, StoreFailed}
+use Rattle.shelf_database.specs.Tables.{maps_in, has_text}
+use Rattle.shelf_database.proofs.AskLemmas.{handed_on, text_reads, text_refuses, asked_answer, refused_answers}
+use Rattle.shelf_database.proofs.BlameLemmas.{uris_asked}
+use Rattle.shelf_database.proofs.FoundLemmas.{list_shown, first_is}
+use Rattle.shelf_database.proofs.LacksLemmas.{uris_lack}
+use Rattle.shelf_database.proofs.QueryLemmas.{read_turns}
 use Rattle.shelf_database.proofs.database.SqlShelfShelf.list.Goals as goal
 
-pub returns-in-Err-clause-turns : goal.returns-in-Err-clause-turns
-returns-in-Err-clause-turns g c =
+pub returns-in_err-text-clause-turns : goal.returns-in_err-text-clause-turns
+returns-in_err-text-clause-turns g c =
     let old = state g.S.Store c.args.self.now.connection in
-    let new = state g.S.Store c.query_all.new.self in
-    let params : List Value = Text c.args.name.now ∷ [] in
-    let query = over 1 (equals 1 0 ∷ []) (col 1 2 ∷ []) [] in
-    query_failed uris_text query _ uris_is params old new c.in-Err.error (maps_in old.now.trees)
-    (λ clean. rw c.params-to_sql.ensures at (c.in-Err.ensures.err clean)) (rw c.params-to_sql.ensures at c.in-Err.ensures.survives)
+    let new = state g.S.Store c.first_text.new.connection in
+    let refuses = text_refuses _ _ (uris_asked c.args.name.now) old new (rw c.params-to_sql.ensures at c.first_text.ensures.survives) (CannotDo old.now.trees (ListOf c.args.name.now)) c.in_err-text.field-0.0 (λ rows answer lacks. uris_lack old.now.trees rows c.args.name.now answer lacks) (rw c.params-to_sql.ensures at c.in_err-text.ensures.refused) in
+    rw (handed_on c.from_residual.result _ c.from_residual.ensures.1) (refuses.turns _)
 
-pub returns-in_default-clause-turns : goal.returns-in_default-clause-turns
-returns-in_default-clause-turns g c =
+pub returns-in_err-text-clause-answers : goal.returns-in_err-text-clause-answers
+returns-in_err-text-clause-answers g c = λ trusted.
     let old = state g.S.Store c.args.self.now.connection in
-    let new = state g.S.Store c.query_all.new.self in
-    let params : List Value = Text c.args.name.now ∷ [] in
-    let query = over 1 (equals 1 0 ∷ []) (col 1 2 ∷ []) [] in
-    let read : Reads old new = reads uris_text query _ uris_is params old new c.in-Ok.rows.items
-    (λ clean. rw c.params-to_sql.ensures at (c.in-Ok.ensures.ok clean)) (rw c.params-to_sql.ensures at c.in-Ok.ensures.survives) in
-    read_turns old new false read
+    let new = state g.S.Store c.first_text.new.connection in
+    let refuses = text_refuses _ _ (uris_asked c.args.name.now) old new (rw c.params-to_sql.ensures at c.first_text.ensures.survives) (CannotDo old.now.trees (ListOf c.args.name.now)) c.in_err-text.field-0.0 (λ rows answer lacks. uris_lack old.now.trees rows c.args.name.now answer lacks) (rw c.params-to_sql.ensures at c.in_err-text.ensures.refused) in
+    rw (handed_on c.from_residual.result _ c.from_residual.ensures.1) (refused_answers (Unit {0}) old new (StoreFailed old new (ListOf c.args.name.now)) (StoreFailed old new (ListOf c.args.name.now)) (refusal_of_list (maps_in old.now.trees) c.args.name.now) c.in_err-text.field-0.0 (λ why. why) refuses trusted)
 
-pub returns-in_default-clause-answers : goal.returns-in_default-clause-answers
-returns-in_default-clause-answers g c = λ trusted.
+pub returns-in_ok-lines_of_text-in-Some-clause-turns : goal.returns-in_ok-lines_of_text-in-Some-clause-turns
+returns-in_ok-lines_of_text-in-Some-clause-turns g c =
     let old = state g.S.Store c.args.self.now.connection in
-    let new = state g.S.Store c.query_all.new.self in
-    let params : List Value = Text c.args.name.now ∷ [] in
-    let query = over 1 (equals 1 0 ∷ []) (col 1 2 ∷ []) [] in
-    let found : Option Row = find (has_text 1 c.args.name.now) (old.now.trees 1) in
-    let rows : c.in-Ok.rows.items ≡ shown_of 2 found = list_shown c.args.name.now old.now c.in-Ok.rows.items trusted.1.ready.shelf
-    (answer_of uris_text query _ uris_is params old new trusted.1.ready c.in-Ok.rows.items (rw c.params-to_sql.ensures at (c.in-Ok.ensures.ok trusted.0))) in
-    let first : slice_get c.in-Ok.rows.items 0 ≡ None = search rules in
-    let none : is_some (option_map lines_of (option_map (λ row. bytes (column row 2)) found)) ≡ false = mapped_some lines_of (option_map (λ row. bytes (column row 2)) found) ∙ mapped_some (λ row. bytes (column row 2)) found ∙ none_found 2 found c.in-Ok.rows.items rows first in
-    rw none refl
+    let new = state g.S.Store c.first_text.new.connection in
+    read_turns old new true (text_reads _ _ (uris_asked c.args.name.now) old new (rw c.params-to_sql.ensures at c.first_text.ensures.survives) (λ clean. let h = (rw c.params-to_sql.ensures at c.in_ok-text.ensures.shown) clean in (h.0, h.1)))
 
-pub returns-in-Ok-get-clause-turns : goal.returns-in-Ok-get-clause-turns
-returns-in-Ok-get-clause-turns g c =
+pub returns-in-None-clause-turns : goal.returns-in-None-clause-turns
+returns-in-None-clause-turns g c =
     let old = state g.S.Store c.args.self.now.connection in
-    let new = state g.S.Store c.query_all.new.self in
-    let params : List Value = Text c.args.name.now ∷ [] in
-    let query = over 1 (equals 1 0 ∷ []) (col 1 2 ∷ []) [] in
-    let read : Reads old new = reads uris_text query _ uris_is params old new c.in-Ok.rows.items
-    (λ clean. rw c.params-to_sql.ensures at (c.in-Ok.ensures.ok clean)) (rw c.params-to_sql.ensures at c.in-Ok.ensures.survives) in
-    read_turns old new true read
+    let new = state g.S.Store c.first_text.new.connection in
+    read_turns old new false (text_reads _ _ (uris_asked c.args.name.now) old new (rw c.params-to_sql.ensures at c.first_text.ensures.survives) (λ clean. let h = (rw c.params-to_sql.ensures at c.in_ok-text.ensures.shown) clean in (h.0, h.1)))
 
-pub returns-in-Ok-get-clause-answers : goal.returns-in-Ok-get-clause-answers
-returns-in-Ok-get-clause-answers g c = λ trusted.
+pub returns-in-None-clause-answers : goal.returns-in-None-clause-answers
+returns-in-None-clause-answers g c = λ trusted.
     let old = state g.S.Store c.args.self.now.connection in
-    let new = state g.S.Store c.query_all.new.self in
-    let params : List Value = Text c.args.name.now ∷ [] in
-    let query = over 1 (equals 1 0 ∷ []) (col 1 2 ∷ []) [] in
-    let found : Option Row = find (has_text 1 c.args.name.now) (old.now.trees 1) in
-    let rows : c.in-Ok.rows.items ≡ shown_of 2 found = list_shown c.args.name.now old.now c.in-Ok.rows.items trusted.1.ready.shelf
-    (answer_of uris_text query _ uris_is params old new trusted.1.ready c.in-Ok.rows.items (rw c.params-to_sql.ensures at (c.in-Ok.ensures.ok trusted.0))) in
-    let first : slice_get c.in-Ok.rows.items 0 ≡ Some c.in-Some.row.now = search rules in
-    let some : is_some (option_map lines_of (option_map (λ row. bytes (column row 2)) found)) ≡ true = mapped_some lines_of (option_map (λ row. bytes (column row 2)) found) ∙ mapped_some (λ row. bytes (column row 2)) found ∙ some_found 2 found c.in-Ok.rows.items c.in-Some.row.now rows first in
-    rw some refl
+    let new = state g.S.Store c.first_text.new.connection in
+    let h = (rw c.params-to_sql.ensures at c.in_ok-text.ensures.shown) trusted.0 in
+    let rows = list_shown c.args.name.now old.now h.0 trusted.1.ready.shelf (asked_answer _ _ (uris_asked c.args.name.now) old new (rw c.params-to_sql.ensures at c.first_text.ensures.survives) h.0 trusted.1.ready h.1) in
+    let none : c.in_ok-text.field-0 ≡ None = search rules in
+    let missing : option_map (λ r. bytes (column r 2)) (find (has_text 1 c.args.name.now) (old.now.trees 1)) ≡ None = first_is 2 (find (has_text 1 c.args.name.now) (old.now.trees 1)) h.0 _ rows h.2 ∙ ap (option_map string_bytes) none in
+    rw missing refl
 
-pub returns-clause-turns : goal.returns-clause-turns
-returns-clause-turns g c =
+pub returns-in_ok-lines_of_text-in-Some-clause-answers : goal.returns-in_ok-lines_of_text-in-Some-clause-answers
+returns-in_ok-lines_of_text-in-Some-clause-answers g c = λ trusted.
     let old = state g.S.Store c.args.self.now.connection in
-    let new = state g.S.Store c.query_all.new.self in
-    let params : List Value = Text c.args.name.now ∷ [] in
-    let query = over 1 (equals 1 0 ∷ []) (col 1 2 ∷ []) [] in
-    let read : Reads old new = reads uris_text query _ uris_is params old new c.in-Ok.rows.items
-    (λ clean. rw c.params-to_sql.ensures at (c.in-Ok.ensures.ok clean)) (rw c.params-to_sql.ensures at c.in-Ok.ensures.survives) in
-    read_turns old new false read
+    let new = state g.S.Store c.first_text.new.connection in
+    let h = (rw c.params-to_sql.ensures at c.in_ok-text.ensures.shown) trusted.0 in
+    let rows = list_shown c.args.name.now old.now h.0 trusted.1.ready.shelf (asked_answer _ _ (uris_asked c.args.name.now) old new (rw c.params-to_sql.ensures at c.first_text.ensures.survives) h.0 trusted.1.ready h.1) in
+    let some : c.in_ok-text.field-0 ≡ Some c.in-Some.text = search rules in
+    let there : option_map (λ r. bytes (column r 2)) (find (has_text 1 c.args.name.now) (old.now.trees 1)) ≡ Some (string_bytes c.in-Some.text) = first_is 2 (find (has_text 1 c.args.name.now) (old.now.trees 1)) h.0 _ rows h.2 ∙ ap (option_map string_bytes) some in
+    rw there refl
 
-pub returns-in_err-lines_of_text-in-Ok-get-clause-turns : goal.returns-in_err-lines_of_text-in-Ok-get-clause-turns
-returns-in_err-lines_of_text-in-Ok-get-clause-turns g c =
+pub returns-in_ok-lines_of_text-in-Some-clause-uris : goal.returns-in_ok-lines_of_text-in-Some-clause-uris
+returns-in_ok-lines_of_text-in-Some-clause-uris g c = λ trusted.
     let old = state g.S.Store c.args.self.now.connection in
-    let new = state g.S.Store c.query_all.new.self in
-    let params : List Value = Text c.args.name.now ∷ [] in
-    let query = over 1 (equals 1 0 ∷ []) (col 1 2 ∷ []) [] in
-    let read : Reads old new = reads uris_text query _ uris_is params old new c.in-Ok.rows.items
-    (λ clean. rw c.params-to_sql.ensures at (c.in-Ok.ensures.ok clean)) (rw c.params-to_sql.ensures at c.in-Ok.ensures.survives) in
-    read_turns old new (is_ok c.from_residual.result) read
+    let new = state g.S.Store c.first_text.new.connection in
+    let h = (rw c.params-to_sql.ensures at c.in_ok-text.ensures.shown) trusted.0 in
+    let rows = list_shown c.args.name.now old.now h.0 trusted.1.ready.shelf (asked_answer _ _ (uris_asked c.args.name.now) old new (rw c.params-to_sql.ensures at c.first_text.ensures.survives) h.0 trusted.1.ready h.1) in
+    let some : c.in_ok-text.field-0 ≡ Some c.in-Some.text = search rules in
+    let there : option_map (λ r. bytes (column r 2)) (find (has_text 1 c.args.name.now) (old.now.trees 1)) ≡ Some (string_bytes c.in-Some.text) = first_is 2 (find (has_text 1 c.args.name.now) (old.now.trees 1)) h.0 _ rows h.2 ∙ ap (option_map string_bytes) some in
+    ap (option_map lines_of) there ∙ ap Some (sym (c.in_ok-lines_of_text-in-Some.ensures ∙ ap lines_of c.as_str.ensures.value))
 
-pub returns-in-Ok-get-clause-lines : goal.returns-in-Ok-get-clause-lines
-returns-in-Ok-get-clause-lines g c = subst (λ lines. IsTrue (are_single_lines lines)) (sym c.in_ok-lines_of_text-in-Ok-get.ensures) (lines_are_single _)
+pub returns-in_ok-lines_of_text-in-Some-clause-lines : goal.returns-in_ok-lines_of_text-in-Some-clause-lines
+returns-in_ok-lines_of_text-in-Some-clause-lines g c = subst (λ lines. IsTrue (are_single_lines lines)) (sym c.in_ok-lines_of_text-in-Some.ensures) (lines_are_single _)
 
-pub returns-in-Ok-get-clause-uris : goal.returns-in-Ok-get-clause-uris
-returns-in-Ok-get-clause-uris g c = λ trusted.
+pub returns-in_err-lines_of_text-in-Some-clause-turns : goal.returns-in_err-lines_of_text-in-Some-clause-turns
+returns-in_err-lines_of_text-in-Some-clause-turns g c =
     let old = state g.S.Store c.args.self.now.connection in
-    let new = state g.S.Store c.query_all.new.self in
-    let params : List Value = Text c.args.name.now ∷ [] in
-    let query = over 1 (equals 1 0 ∷ []) (col 1 2 ∷ []) [] in
-    let found : Option Row = find (has_text 1 c.args.name.now) (old.now.trees 1) in
-    let rows : c.in-Ok.rows.items ≡ shown_of 2 found = list_shown c.args.name.now old.now c.in-Ok.rows.items trusted.1.ready.shelf
-    (answer_of uris_text query _ uris_is params old new trusted.1.ready c.in-Ok.rows.items (rw c.params-to_sql.ensures at (c.in-Ok.ensures.ok trusted.0))) in
-    let first : slice_get c.in-Ok.rows.items 0 ≡ Some c.in-Some.row.now = search rules in
-    let text = first_text 2 found c.in-Ok.rows.items c.in-Some.row.now (string_bytes c.in-Ok-get.text) rows first c.in-Ok-get.ensures.ok.1 in
-    ap (option_map lines_of) text ∙ ap Some (sym (c.in_ok-lines_of_text-in-Ok-get.ensures ∙ ap lines_of c.as_str.ensures.value))
-
-pub returns-clause-answers : goal.returns-clause-answers
-returns-clause-answers g c = λ trusted.
-    let old = state g.S.Store c.args.self.now.connection in
-    let new = state g.S.Store c.query_all.new.self in
-    let params : List Value = Text c.args.name.now ∷ [] in
-    let query = over 1 (equals 1 0 ∷ []) (col 1 2 ∷ []) [] in
-    let rows = c.in-Ok.rows.items in
-    let answer = answer_of uris_text query _ uris_is params old new trusted.1.ready rows (rw c.params-to_sql.ensures at (c.in-Ok.ensures.ok trusted.0)) in
-    let first : slice_get rows 0 ≡ Some c.in-Some.row.now = search rules in
-    refused_so (Unit {0}) (StoreFailed old new (ListOf c.args.name.now)) _ c.fault-in-Err-get.result c.fault-in-Err-get.ensures.named (λ is.
-    let lacks : IsNoText (column c.in-Some.row.now 0) = λ value text utf8.
-    c.in-Err-get.ensures.kind (λ memory. let other = c.fault-in-Err-get.ensures.memory memory in cc) (within c.in-Some.row.now 0 value text) (value, text, utf8) in
-    inr (uris_lack old.now.trees rows c.args.name.now answer (first_lacks rows c.in-Some.row.now first lacks)))
-
-pub returns-in-Err-clause-answers : goal.returns-in-Err-clause-answers
-returns-in-Err-clause-answers g c = λ trusted.
-    let old = state g.S.Store c.args.self.now.connection in
-    let new = state g.S.Store c.query_all.new.self in
-    refused_so (Unit {0}) (StoreFailed old new (ListOf c.args.name.now)) _ c.fault.result c.fault.ensures.named (λ is.
-    inl (uris_blamed c.args.name.now old new c.in-Err.error trusted.1.ready (λ memory. let none = c.fault.ensures.memory memory in cc) (rw c.params-to_sql.ensures at (c.in-Err.ensures.err trusted.0))))
+    let new = state g.S.Store c.first_text.new.connection in
+    let failed : is_ok c.from_residual-in_err-lines_of_text-in-Some.result ≡ false = search rules in
+    rw failed (read_turns old new false (text_reads _ _ (uris_asked c.args.name.now) old new (rw c.params-to_sql.ensures at c.first_text.ensures.survives) (λ clean. let h = (rw c.params-to_sql.ensures at c.in_ok-text.ensures.shown) clean in (h.0, h.1))))

@@ -1,4 +1,4 @@
-use Rattle.std.proofs.Common.{◌≡◌, ◌≢◌, ◌⊎◌, ℕ, List, [], ◌∷◌, Some, map, string_bytes, refl, ap, subst, ◌∙◌, Ok, Err}
+use Rattle.std.proofs.Common.{◌≡◌, ◌⊎◌, ℕ, List, [], ◌∷◌, Some, map, string_bytes, refl, ap, subst, ◌∙◌, rules}
 use Rattle.sqlite.specs.declared.types.Value.{Value}
 use Rattle.sqlite.specs.declared.types.Value.TheVariants.{Int, Text}
 use Rattle.sqlite.specs.Source.TheVariants.{Values}
@@ -7,52 +7,36 @@ use Rattle.sqlite.specs.Command.TheVariants.{InsertOr}
 use Rattle.sqlite.specs.Held.{state}
 use Rattle.sqlite.specs.Edit.{next_rowid}
 use Rattle.sqlite.specs.Listing.{understood}
-use Rattle.sqlite.specs.declared.error.Error.TheVariants.{SqliteFailure}
-use Rattle.sqlite.specs.declared.error.ErrorCode.TheVariants as code
 use Rattle.sqlite_schema.specs.declared.command.Conflict.TheVariants.{Replace}
 use Rattle.sqlite_tied.specs.Compute.{everything}
 use Rattle.shelf.specs.Lines.{lines_of}
-use Rattle.shelf.specs.Maps.{with_list}
+use Rattle.shelf.specs.Maps.{with_list, refusal_of_put}
 use Rattle.shelf.specs.Calls.{Put}
 use Rattle.shelf.proofs.LineLemmas.{lines_back}
 use Rattle.shelf_database.specs.Tables.{maps_in, IsReady}
 use Rattle.shelf_database.specs.Faults.{HasFailed, IsUnstorable, StoreFailed}
-use Rattle.shelf_database.proofs.Statements.{put_text, put_is}
-use Rattle.shelf_database.proofs.PutListLemmas.{puts_list, list_values}
-use Rattle.shelf_database.proofs.FaultLemmas.{refused_so}
-use Rattle.shelf_database.proofs.PutBlame.{put_refused}
-use Rattle.shelf_database.proofs.WriteBlame.{write_blamed}
+use Rattle.shelf_database.proofs.AskLemmas.{change_turns, change_blames, answers_done}
 use Rattle.shelf_database.proofs.BlameLemmas.{IsWhole}
-use Rattle.shelf_database.proofs.WriteLemmas.{DoesSo, write_turns}
+use Rattle.shelf_database.proofs.PutBlame.{put_refused}
+use Rattle.shelf_database.proofs.PutListLemmas.{puts_list, list_values}
+use Rattle.shelf_database.proofs.Statements.{put_text, put_is}
+use Rattle.shelf_database.proofs.WriteLemmas.{DoesSo}
 use Rattle.shelf_database.proofs.database.SqlShelfShelf.put.Goals as goal
 
-pub returns-in-Ok-clause-turns : goal.returns-in-Ok-clause-turns
-returns-in-Ok-clause-turns g c =
-    let old = state g.S.Store c.args.self.now.connection in
-    let new = state g.S.Store c.execute.new.self in
-    let text = string_bytes c.in_ok-text.text in
-    let uris = map string_bytes c.args.uris.now in
-    let back : lines_of text ≡ uris = ap lines_of c.in_ok-text.ensures ∙ lines_back uris c.requires in
-    let params : List Value = Text c.args.name.now ∷ Text text ∷ [] in
-    let does : IsReady old → DoesSo old put_text params (InsertOr 1 Replace (Values list_values 3) []) (with_list (maps_in old.now.trees) c.args.name.now (Some uris)) =
-    λ ready. subst (λ lines. DoesSo old put_text params (InsertOr 1 Replace (Values list_values 3) []) (with_list (maps_in old.now.trees) c.args.name.now (Some lines))) back (puts_list old c.args.name.now text ready) in
-    write_turns old new put_text params (InsertOr 1 Replace (Values list_values 3) []) put_is tt (with_list (maps_in old.now.trees) c.args.name.now (Some uris)) does (Ok c.in-Ok.field-0)
-    (λ clean. rw (c.params-to_sql.ensures, c.params-to_sql-2.ensures, c.as_str.ensures.value) at (c.in-Ok.ensures.runs clean))
-    (rw (c.params-to_sql.ensures, c.params-to_sql-2.ensures, c.as_str.ensures.value) at c.in-Ok.ensures.survives)
+abbrev command : Command
+command = InsertOr 1 Replace (Values list_values 3) []
 
 pub returns-clause-turns : goal.returns-clause-turns
 returns-clause-turns g c =
     let old = state g.S.Store c.args.self.now.connection in
-    let new = state g.S.Store c.execute.new.self in
     let text = string_bytes c.in_ok-text.text in
     let uris = map string_bytes c.args.uris.now in
     let back : lines_of text ≡ uris = ap lines_of c.in_ok-text.ensures ∙ lines_back uris c.requires in
     let params : List Value = Text c.args.name.now ∷ Text text ∷ [] in
-    let does : IsReady old → DoesSo old put_text params (InsertOr 1 Replace (Values list_values 3) []) (with_list (maps_in old.now.trees) c.args.name.now (Some uris)) =
-    λ ready. subst (λ lines. DoesSo old put_text params (InsertOr 1 Replace (Values list_values 3) []) (with_list (maps_in old.now.trees) c.args.name.now (Some lines))) back (puts_list old c.args.name.now text ready) in
-    write_turns old new put_text params (InsertOr 1 Replace (Values list_values 3) []) put_is tt (with_list (maps_in old.now.trees) c.args.name.now (Some uris)) does (Err c.in-Err.error)
-    (λ clean. rw (c.params-to_sql.ensures, c.params-to_sql-2.ensures, c.as_str.ensures.value) at (c.in-Err.ensures.runs clean))
-    (rw (c.params-to_sql.ensures, c.params-to_sql-2.ensures, c.as_str.ensures.value) at c.in-Err.ensures.survives)
+    let does : IsReady old → DoesSo old put_text params command (with_list (maps_in old.now.trees) c.args.name.now (Some uris)) =
+    λ ready. subst (λ lines. DoesSo old put_text params command (with_list (maps_in old.now.trees) c.args.name.now (Some lines))) back (puts_list old c.args.name.now text ready) in
+    change_turns put_text params command put_is tt old (state g.S.Store c.change.new.connection) c.change.result (rw (c.params-to_sql.ensures, c.params-to_sql-2.ensures, c.as_str.ensures.value) at c.change.ensures.ran) _ does
+    (rw (c.params-to_sql.ensures, c.params-to_sql-2.ensures, c.as_str.ensures.value) at c.change.ensures.survives)
 
 put_whole : (name text : List ℕ) → IsWhole put_text (Text name ∷ Text text ∷ [])
 unfolding understood everything
@@ -61,15 +45,10 @@ put_whole name text = (refl, refl)
 pub returns-clause-answers : goal.returns-clause-answers
 returns-clause-answers g c = λ trusted.
     let old = state g.S.Store c.args.self.now.connection in
-    let new = state g.S.Store c.execute.new.self in
+    let new = state g.S.Store c.change.new.connection in
     let name = c.args.name.now in
-    let uris = map string_bytes c.args.uris.now in
     let text = string_bytes c.in_ok-text.text in
-    let params : List Value = Text name ∷ Text text ∷ [] in
-    let command : Command = InsertOr 1 Replace (Values list_values 3) [] in
-    let failed : Type 0 = StoreFailed old new (Put name uris) in
-    refused_so (Unit {0}) failed _ c.fault.result c.fault.ensures.named (λ is.
-    let other : c.in-Err.error ≢ SqliteFailure code.OutOfMemory = λ memory. absurd (let named = c.fault.ensures.memory memory in cc) in
-    let blamed = write_blamed old new put_text params command put_is tt (put_whole name text) _ (put_refused old name text trusted.1.ready) c.in-Err.error trusted.1.ready other
-    (rw (c.params-to_sql.ensures, c.params-to_sql-2.ensures, c.as_str.ensures.value) at (c.in-Err.ensures.runs trusted.0)) in
-    subst (λ t. HasFailed old new ⊎ IsUnstorable (Int (next_rowid (old.now.trees 1)) ∷ Text name ∷ Text t ∷ [])) c.in_ok-text.ensures blamed)
+    let failed : Type 0 = StoreFailed old new (Put name (map string_bytes c.args.uris.now)) in
+    answers_done failed (refusal_of_put name) c.change.result (search rules)
+    (change_blames put_text (Text name ∷ Text text ∷ []) command put_is tt old new c.change.result (rw (c.params-to_sql.ensures, c.params-to_sql-2.ensures, c.as_str.ensures.value) at c.change.ensures.ran) _ failed (put_whole name text)
+    (put_refused old name text trusted.1.ready) trusted.1.ready trusted.0 (λ why. subst (λ t. HasFailed old new ⊎ IsUnstorable (Int (next_rowid (old.now.trees 1)) ∷ Text name ∷ Text t ∷ [])) c.in_ok-text.ensures why))

@@ -1,11 +1,12 @@
 use Rattle.std.proofs.Common.{◌≡◌, ◌≤◌, length, ap, sym, subst, ◌∙◌, arith}
 use Rattle.song_queue.specs.State.{QueueState, IsQueue, inserted}
 use Rattle.song_queue.proofs.Edits.{IsQueue-inserted, inserted-is, inserted-nothing}
+use Rattle.song_queue.specs.Fields.{state_in}
 use Rattle.song_queue.proofs.queue.Queue.insert.Goals as goal
 
 pub returns-then-count-eq0-clause-ok : goal.returns-then-count-eq0-clause-ok
 returns-then-count-eq0-clause-ok c =
-    let q : QueueState = record { slots = c.self.inside.slots.items; version = c.self.inside.version; greatest_id = c.self.inside.greatest_id; max_len = c.self.inside.max_len; max_version = c.self.inside.max_version; max_id = c.self.inside.max_id; parity = c.self.inside.parity } in
+    let q : QueueState = state_in c.self.inside in
     let within : c.args.at ≤ length q.slots = omega arith in
     let none : length c.args.songs.items ≡ 0 = omega arith in
     let P : QueueState → Type 0 = λ x. x ≡ inserted x c.args.at c.args.songs.items in
@@ -13,7 +14,7 @@ returns-then-count-eq0-clause-ok c =
 
 pub invariant_of-self-2 : goal.invariant_of-self-2
 invariant_of-self-2 c =
-    let q : QueueState = record { slots = c.self.inside.slots.items; version = c.self.inside.version; greatest_id = c.self.inside.greatest_id; max_len = c.self.inside.max_len; max_version = c.self.inside.max_version; max_id = c.self.inside.max_id; parity = c.self.inside.parity } in
+    let q : QueueState = state_in c.self.inside in
     let within : c.args.at ≤ length q.slots = omega arith in
     let count : c.len-count.result ≡ length c.args.songs.items = omega arith in
     subst IsQueue (sym (inserted-is q c.self.invariant c.args.at c.args.songs.items within c.version_after-version.result.0 c.len-count.result c.version_after-version.result.1 c.in_ok-added.added.items c.put_in.new.slots.items
@@ -22,7 +23,7 @@ invariant_of-self-2 c =
 
 pub returns-clause-ok : goal.returns-clause-ok
 returns-clause-ok c =
-    let q : QueueState = record { slots = c.self.inside.slots.items; version = c.self.inside.version; greatest_id = c.self.inside.greatest_id; max_len = c.self.inside.max_len; max_version = c.self.inside.max_version; max_id = c.self.inside.max_id; parity = c.self.inside.parity } in
+    let q : QueueState = state_in c.self.inside in
     let within : c.args.at ≤ length q.slots = omega arith in
     let count : c.len-count.result ≡ length c.args.songs.items = omega arith in
     inserted-is q c.self.invariant c.args.at c.args.songs.items within c.version_after-version.result.0 c.len-count.result c.version_after-version.result.1 c.in_ok-added.added.items c.put_in.new.slots.items

@@ -2,6 +2,7 @@ use Rattle.std.proofs.Common.{◌≡◌, ℕ, ◌≤◌, Bool, false, length, ap
 use Rattle.std.specs.Bool.{OnFalse}
 use Rattle.song_queue.specs.State.{QueueState, removed}
 use Rattle.song_queue.proofs.Edits.{IsQueue-left, removed-is, removed-nothing}
+use Rattle.song_queue.specs.Fields.{state_in}
 use Rattle.song_queue.proofs.queue.Queue.remove.Goals as goal
 
 pub returns-then-start-end-clause-ok : goal.returns-then-start-end-clause-ok
@@ -12,7 +13,7 @@ inside start end len outside inner within = subst (λ (b : Bool). OnFalse b ((st
 
 pub invariant_of-self : goal.invariant_of-self
 invariant_of-self c =
-    let q : QueueState = record { slots = c.self.inside.slots.items; version = c.self.inside.version; greatest_id = c.self.inside.greatest_id; max_len = c.self.inside.max_len; max_version = c.self.inside.max_version; max_id = c.self.inside.max_id; parity = c.self.inside.parity } in
+    let q : QueueState = state_in c.self.inside in
     let lies = inside c.args.range.start c.args.range.end c.len.result c.lies_outside.result c.if-lies_outside.false c.lies_outside.ensures.within in
     let order : c.args.range.start ≤ c.args.range.end = lies.0 in
     let fits : c.args.range.end ≤ c.len.result = lies.1 in
@@ -22,7 +23,7 @@ invariant_of-self c =
 
 pub returns-clause-ok : goal.returns-clause-ok
 returns-clause-ok c =
-    let q : QueueState = record { slots = c.self.inside.slots.items; version = c.self.inside.version; greatest_id = c.self.inside.greatest_id; max_len = c.self.inside.max_len; max_version = c.self.inside.max_version; max_id = c.self.inside.max_id; parity = c.self.inside.parity } in
+    let q : QueueState = state_in c.self.inside in
     let lies = inside c.args.range.start c.args.range.end c.len.result c.lies_outside.result c.if-lies_outside.false c.lies_outside.ensures.within in
     let order : c.args.range.start ≤ c.args.range.end = lies.0 in
     let fits : c.args.range.end ≤ c.len.result = lies.1 in

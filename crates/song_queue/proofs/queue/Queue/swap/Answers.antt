@@ -4,17 +4,18 @@ use Rattle.std.specs.Prelude.{swap}
 use Rattle.song_queue.specs.declared.entry.Slot.{Slot}
 use Rattle.song_queue.specs.State.{QueueState, IsQueue, swapped, write_at, kept}
 use Rattle.song_queue.proofs.Swaps.{IsQueue-swapped, swapped-is, swapped-same}
+use Rattle.song_queue.specs.Fields.{state_in}
 use Rattle.song_queue.proofs.queue.Queue.swap.Goals as goal
 
 pub returns-then-a-b-clause-ok : goal.returns-then-a-b-clause-ok
 returns-then-a-b-clause-ok c =
-    let q : QueueState = record { slots = c.self.inside.slots.items; version = c.self.inside.version; greatest_id = c.self.inside.greatest_id; max_len = c.self.inside.max_len; max_version = c.self.inside.max_version; max_id = c.self.inside.max_id; parity = c.self.inside.parity } in
+    let q : QueueState = state_in c.self.inside in
     let P : QueueState → Type 0 = λ x. x ≡ swapped x c.args.a c.args.b in
     subst P c.self.view_is (sym (swapped-same q c.self.invariant c.args.a c.args.b (omega arith) (omega arith) (omega arith)))
 
 pub invariant_of-self : goal.invariant_of-self
 invariant_of-self c =
-    let q : QueueState = record { slots = c.self.inside.slots.items; version = c.self.inside.version; greatest_id = c.self.inside.greatest_id; max_len = c.self.inside.max_len; max_version = c.self.inside.max_version; max_id = c.self.inside.max_id; parity = c.self.inside.parity } in
+    let q : QueueState = state_in c.self.inside in
     let la : c.args.a < length q.slots = omega arith in
     let lb : c.args.b < length q.slots = omega arith in
     let w = c.version_after-version.result.1 in
@@ -25,7 +26,7 @@ invariant_of-self c =
 
 pub returns-clause-ok : goal.returns-clause-ok
 returns-clause-ok c =
-    let q : QueueState = record { slots = c.self.inside.slots.items; version = c.self.inside.version; greatest_id = c.self.inside.greatest_id; max_len = c.self.inside.max_len; max_version = c.self.inside.max_version; max_id = c.self.inside.max_id; parity = c.self.inside.parity } in
+    let q : QueueState = state_in c.self.inside in
     let la : c.args.a < length q.slots = omega arith in
     let lb : c.args.b < length q.slots = omega arith in
     let w = c.version_after-version.result.1 in

@@ -1,0 +1,233 @@
+-- Scripts over two kinds of player that agree.
+use Rattle.std.proofs.Common.{◌≡◌, ℕ, ◌≤◌, Bool, true, false, List, [], ◌∷◌, ◌++◌, Option, None, Some, refl, sym, ap, subst, ◌∙◌, if◌then◌else◌}
+use Rattle.std.specs.Prelude.{◌&&◌, is_some, not, nat_lt, length}
+use Rattle.mpd_text.specs.Songs.Song.{SongData}
+use Rattle.song_db.specs.Library.{in_byte_order}
+use Rattle.script_lines.specs.Lines.{LineData, ClientLine, StepLine, BadLine, script_line_of}
+use Rattle.script_lines.specs.Steps.{step_of}
+use Rattle.script_lines.specs.declared.limit.LimitName.{LimitName}
+use Rattle.script_lines.specs.declared.limit.LimitName.TheVariants.{MaxQueue, MaxVersion, MaxId}
+use Rattle.script_lines.specs.declared.step.Step.{Step}
+use Rattle.script_lines.specs.declared.step.Step.TheVariants.{Song, Limit, Gone}
+use Rattle.partition.specs.Answers.{Told}
+use Rattle.partition.specs.Requests.{request_of}
+use Rattle.partition.specs.declared.command.Request.{Request}
+use Rattle.partition.specs.declared.event.Event.{Event}
+use Rattle.partition.specs.declared.event.Event.TheVariants.{Connect, Disconnect, Line}
+use Rattle.partition.specs.declared.partition.PartitionFault.{PartitionFault}
+use Rattle.partition.specs.declared.state.Limits.{Limits}
+use Rattle.daemon_script.specs.declared.memory.Memory.{Memory}
+use Rattle.daemon_script.specs.declared.memory.Memory.TheVariants.{Ample, NoneToConnect, NoneToRead, NoneToRun}
+use Rattle.daemon_script.specs.Kinds.{PlayerKind}
+use Rattle.daemon_script.specs.Output.{Run, script_after, text_of}
+use Rattle.daemon_script.specs.Script.{ScriptData, Shown, LineRun, bad, collects, lowers, limits_with, has_uri, told_for, notices_for, fault_of, connects, sent_off, sends_off, shown_step, step_line, request_run, line_run, connect_run, line_after, client_run, shown_client, shown_kind, shown_of}
+use Rattle.daemon_script.proofs.Ranges.{limit_at_least_one}
+
+-- two kinds agree: a relation of their players holds at the opening and is kept by events, and related players answer alike
+pub record Agree {P Q : Type 0} (m : PlayerKind P) (n : PlayerKind Q) (R : P → Q → Type 0) : Type 0 where
+  pub opens : (limits : Limits) (songs : List SongData) → 1 ≤ limits.max_version → R (m.opens limits songs) (n.opens limits songs)
+  pub there : (p : P) (q : Q) (number : ℕ) → R p q → m.is_there number p ≡ n.is_there number q
+  pub made : (p : P) (q : Q) → R p q → m.made p ≡ n.made q
+  pub after : (p : P) (q : Q) (event : Event) → R p q → R (m.after p event) (n.after q event)
+  pub told : (p : P) (q : Q) (event : Event) → R p q → m.told p event ≡ n.told q event
+
+module _ {P Q : Type 0} (R : P → Q → Type 0) where
+  abbrev pub SamePlayer : Option P → Option Q → Type 0
+  SamePlayer None None = Unit {0}
+  SamePlayer None (Some q) = ⊥
+  SamePlayer (Some p) None = ⊥
+  SamePlayer (Some p) (Some q) = R p q
+
+  pub record SameScript (s : ScriptData P) (t : ScriptData Q) : Type 0 where
+    pub limits : s.limits ≡ t.limits
+    pub songs : s.songs ≡ t.songs
+    pub above : 1 ≤ s.limits.max_version
+    pub player : SamePlayer s.player t.player
+
+  pub record SameShown (a : Shown P) (b : Shown Q) : Type 0 where
+    pub script : SameScript a.script b.script
+    pub text : a.text ≡ b.text
+
+  record SameRun (a : LineRun P) (b : LineRun Q) : Type 0 where
+    pub player : R a.player b.player
+    pub text : a.text ≡ b.text
+    pub connected : a.connected ≡ b.connected
+
+  -- a script with another player
+  abbrev over : ScriptData P → Option Q → ScriptData Q
+  over s q = record { limits = s.limits; songs = s.songs; player = q }
+
+  same_some : (p : Option P) (q : Option Q) → SamePlayer p q → is_some p ≡ is_some q
+  same_some None None r = refl
+  same_some None (Some q) r = absurd r
+  same_some (Some p) None r = absurd r
+  same_some (Some p) (Some q) r = refl
+
+  same : (s : ScriptData P) (q : Option Q) → 1 ≤ s.limits.max_version → SamePlayer s.player q → SameScript s (over s q)
+  same s q above r = record { limits = refl; songs = refl; above = above; player = r }
+
+  shows_same : (text : List ℕ) (s : ScriptData P) (q : Option Q) → 1 ≤ s.limits.max_version → SamePlayer s.player q
+      → SameShown (record { script = s; text = text }) (record { script = over s q; text = text })
+  shows_same text s q above r = record { script = same s q above r; text = refl }
+
+  either : (c : Bool) (a b : Shown P) (x y : Shown Q) → SameShown a x → SameShown b y → SameShown (if c then a else b) (if c then x else y)
+  either true a b x y h k = h
+  either false a b x y h k = k
+
+  collects_same : (s : ScriptData P) (q : Option Q) (song : SongData) → 1 ≤ s.limits.max_version → SamePlayer s.player q
+      → SameShown (collects s song) (collects (over s q) song)
+  collects_same s q song above r =
+      either (nat_lt (length s.songs) 100000 && not (has_uri song.uri s.songs)) _ _ _ _
+      (shows_same [] (record s { songs = s.songs ++ song ∷ [] }) q above r) (shows_same _ s q above r)
+
+  above_with : (limits : Limits) (name : LimitName) (number : ℕ) → 1 ≤ limits.max_version → 1 ≤ number → 1 ≤ (limits_with limits name number).max_version
+  above_with limits MaxQueue number above most = above
+  above_with limits MaxVersion number above most = most
+  above_with limits MaxId number above most = above
+
+  lowers_same : (s : ScriptData P) (q : Option Q) (name : LimitName) (number : ℕ) → 1 ≤ s.limits.max_version → 1 ≤ number → SamePlayer s.player q
+      → SameShown (lowers s name number) (lowers (over s q) name number)
+  lowers_same s q name number above most r =
+      subst (λ (c : Bool). SameShown (lowers s name number) (if c then bad (over s q) else record { script = record (over s q) { limits = limits_with s.limits name number }; text = [] }))
+      (same_some s.player q r)
+      (either (is_some s.player) _ _ _ _ (shows_same _ s q above r)
+      (shows_same [] (record s { limits = limits_with s.limits name number }) q (above_with s.limits name number above most) r))
+
+module _ {P Q : Type 0} (m : PlayerKind P) (n : PlayerKind Q) (R : P → Q → Type 0) (agree : Agree m n R) where
+  request_same : (p : P) (q : Q) (number : ℕ) (request : Request) (fault : Option PartitionFault) → R p q
+      → SameRun R (request_run m p number request fault) (request_run n q number request fault)
+  request_same p q number request (Some fault) r = record { player = r; text = refl; connected = refl }
+  request_same p q number request None r =
+      record { player = agree.after p q (Line number request) r; text = ap (told_for number) (agree.told p q (Line number request) r); connected = refl }
+
+  -- a request that runs or is refused, by how many events there were
+  counted_same : (p : P) (q : Q) (number : ℕ) (line : List ℕ) (ample : Bool) → R p q
+      → SameRun R (request_run m p number (request_of line) (fault_of ample (m.made p))) (request_run n q number (request_of line) (fault_of ample (n.made q)))
+  counted_same p q number line ample r =
+      subst (λ (made : ℕ). SameRun R (request_run m p number (request_of line) (fault_of ample (m.made p))) (request_run n q number (request_of line) (fault_of ample made)))
+      (agree.made p q r) (request_same p q number (request_of line) (fault_of ample (m.made p)) r)
+
+  line_same : (p : P) (q : Q) (number : ℕ) (line : List ℕ) (memory : Memory) → R p q → SameRun R (line_run m p number line memory) (line_run n q number line memory)
+  line_same p q number line Ample r = counted_same p q number line true r
+  line_same p q number line NoneToConnect r = counted_same p q number line true r
+  line_same p q number line NoneToRead r = record { player = r; text = refl; connected = refl }
+  line_same p q number line NoneToRun r = counted_same p q number line false r
+
+  new_same : (p : P) (q : Q) (number : ℕ) (line : List ℕ) (memory : Memory) (fault : Option PartitionFault) → R p q
+      → SameRun R (line_after m (connect_run m p number fault) number line memory) (line_after n (connect_run n q number fault) number line memory)
+  new_same p q number line memory (Some fault) r = record { player = r; text = refl; connected = refl }
+  new_same p q number line memory None r =
+      let ran = line_same (m.after p (Connect number)) (n.after q (Connect number)) number line memory (agree.after p q (Connect number) r) in
+      record {
+        player = ran.player;
+        text = ap (λ (t : Told). told_for number t ++ (line_run m (m.after p (Connect number)) number line memory).text) (agree.told p q (Connect number) r)
+            ∙ ap (λ (t : List ℕ). told_for number (n.told q (Connect number)) ++ t) ran.text;
+        connected = ran.connected;
+      }
+
+  client_if : (there : Bool) (p : P) (q : Q) (number : ℕ) (line : List ℕ) (memory : Memory) (fault : Option PartitionFault) → R p q
+      → SameRun R (if there then line_run m p number line memory else line_after m (connect_run m p number fault) number line memory)
+      (if there then line_run n q number line memory else line_after n (connect_run n q number fault) number line memory)
+  client_if true p q number line memory fault r = line_same p q number line memory r
+  client_if false p q number line memory fault r = new_same p q number line memory fault r
+
+  client_same : (p : P) (q : Q) (number : ℕ) (line : List ℕ) (memory : Memory) → R p q → SameRun R (client_run m p number line memory) (client_run n q number line memory)
+  unfolding client_run
+  client_same p q number line memory r =
+      subst (λ (there : Bool). SameRun R (client_run m p number line memory)
+      (if there then line_run n q number line memory else line_after n (connect_run n q number (fault_of (connects memory) (n.made q))) number line memory)) (agree.there p q number r)
+      (subst (λ (made : ℕ). SameRun R (client_run m p number line memory)
+      (if m.is_there number p then line_run n q number line memory else line_after n (connect_run n q number (fault_of (connects memory) made)) number line memory)) (agree.made p q r)
+      (client_if (m.is_there number p) p q number line memory (fault_of (connects memory) (m.made p)) r))
+
+  sent_same : (s : ScriptData P) (p : P) (q : Q) (number : ℕ) (fault : Option PartitionFault) → 1 ≤ s.limits.max_version → SamePlayer R s.player (Some q) → R p q
+      → SameShown R (sent_off m s p number fault) (sent_off n (over R s (Some q)) q number fault)
+  sent_same s p q number (Some fault) above has r = shows_same R _ s (Some q) above has
+  sent_same s p q number None above has r =
+      record {
+        script = same R (record s { player = Some (m.after p (Disconnect number)) }) (Some (n.after q (Disconnect number))) above (agree.after p q (Disconnect number) r);
+        text = ap (λ (t : Told). notices_for t.notices) (agree.told p q (Disconnect number) r);
+      }
+
+  -- by the player that is there
+  sends_same : (limits : Limits) (songs : List SongData) (p : Option P) (q : Option Q) (number : ℕ) → 1 ≤ limits.max_version → SamePlayer R p q
+      → SameShown R (sends_off m (record { limits = limits; songs = songs; player = p }) p number) (sends_off n (record { limits = limits; songs = songs; player = q }) q number)
+  sends_same limits songs None None number above r = shows_same R _ (record { limits = limits; songs = songs; player = None }) None above r
+  sends_same limits songs None (Some q) number above r = absurd r
+  sends_same limits songs (Some p) None number above r = absurd r
+  sends_same limits songs (Some p) (Some q) number above r =
+      let s : ScriptData P = record { limits = limits; songs = songs; player = Some p } in
+      subst (λ (made : ℕ). SameShown R (sent_off m s p number (fault_of true (m.made p))) (sent_off n (over R s (Some q)) q number (fault_of true made)))
+      (agree.made p q r) (sent_same s p q number (fault_of true (m.made p)) above r r)
+
+  step_same : (s : ScriptData P) (q : Option Q) (rest : List ℕ) (step : Option Step) → step_of rest ≡ step → 1 ≤ s.limits.max_version → SamePlayer R s.player q
+      → SameShown R (shown_step m s step) (shown_step n (over R s q) step)
+  step_same s q rest None e above r = shows_same R _ s q above r
+  step_same s q rest (Some (Song song)) e above r = collects_same R s q song above r
+  step_same s q rest (Some (Limit name number)) e above r = lowers_same R s q name number above (limit_at_least_one rest name number (sym e)) r
+  step_same s q rest (Some (Gone number)) e above r = sends_same s.limits s.songs s.player q number above r
+
+  step_line_same : (s : ScriptData P) (q : Option Q) (rest : List ℕ) (memory : Memory) → 1 ≤ s.limits.max_version → SamePlayer R s.player q
+      → SameShown R (step_line m s rest memory) (step_line n (over R s q) rest memory)
+  step_line_same s q rest Ample above r = step_same s q rest (step_of rest) refl above r
+  step_line_same s q rest NoneToConnect above r = shows_same R _ s q above r
+  step_line_same s q rest NoneToRead above r = shows_same R _ s q above r
+  step_line_same s q rest NoneToRun above r = shows_same R _ s q above r
+
+  -- the player that a first client line opened is kept where the client connected
+  kept_if : (connected : Bool) (s : ScriptData P) (p : P) (q : Q) → 1 ≤ s.limits.max_version → SamePlayer R s.player None → R p q
+      → SameScript R (if connected then record s { player = Some p } else s) (if connected then record (over R s None) { player = Some q } else over R s None)
+  kept_if true s p q above none r = same R (record s { player = Some p }) (Some q) above r
+  kept_if false s p q above none r = same R s None above none
+
+  first_same : (s : ScriptData P) (a : LineRun P) (b : LineRun Q) → 1 ≤ s.limits.max_version → SamePlayer R s.player None → SameRun R a b
+      → SameScript R (if a.connected then record s { player = Some a.player } else s) (if b.connected then record (over R s None) { player = Some b.player } else over R s None)
+  first_same s a b above none ran =
+      subst (λ (c : Bool). SameScript R (if a.connected then record s { player = Some a.player } else s) (if c then record (over R s None) { player = Some b.player } else over R s None))
+      ran.connected (kept_if a.connected s a.player b.player above none ran.player)
+
+  client_line_same : (limits : Limits) (songs : List SongData) (p : Option P) (q : Option Q) (number : ℕ) (line : List ℕ) (memory : Memory) → 1 ≤ limits.max_version → SamePlayer R p q
+      → SameShown R (shown_client m (record { limits = limits; songs = songs; player = p }) p number line memory)
+      (shown_client n (record { limits = limits; songs = songs; player = q }) q number line memory)
+  client_line_same limits songs None None number line memory above r =
+      let ran = client_same (m.opens limits (in_byte_order songs)) (n.opens limits (in_byte_order songs)) number line memory (agree.opens limits (in_byte_order songs) above) in
+      record { script = first_same (record { limits = limits; songs = songs; player = None }) _ _ above r ran; text = ran.text }
+  client_line_same limits songs None (Some q) number line memory above r = absurd r
+  client_line_same limits songs (Some p) None number line memory above r = absurd r
+  client_line_same limits songs (Some p) (Some q) number line memory above r =
+      let ran = client_same p q number line memory r in
+      record {
+        script = same R (record { limits = limits; songs = songs; player = Some (client_run m p number line memory).player }) (Some (client_run n q number line memory).player) above ran.player;
+        text = ran.text;
+      }
+
+  kind_same : (s : ScriptData P) (q : Option Q) (line : LineData) (memory : Memory) → 1 ≤ s.limits.max_version → SamePlayer R s.player q
+      → SameShown R (shown_kind m s line memory) (shown_kind n (over R s q) line memory)
+  kind_same s q (ClientLine number line) memory above r = client_line_same s.limits s.songs s.player q number line memory above r
+  kind_same s q (StepLine rest) memory above r = step_line_same s q rest memory above r
+  kind_same s q BadLine memory above r = shows_same R _ s q above r
+
+  over_same : (s : ScriptData P) (q : Option Q) (line : Option (List ℕ)) (memory : Memory) → 1 ≤ s.limits.max_version → SamePlayer R s.player q
+      → SameShown R (shown_of m s line memory) (shown_of n (over R s q) line memory)
+  unfolding shown_of
+  over_same s q None memory above r = shows_same R _ s q above r
+  over_same s q (Some line) memory above r = kind_same s q (script_line_of line) memory above r
+
+  line_shown_same : (s : ScriptData P) (t : ScriptData Q) (line : Option (List ℕ)) (memory : Memory) → SameScript R s t
+      → SameShown R (shown_of m s line memory) (shown_of n t line memory)
+  line_shown_same s t line memory both =
+      subst (λ (limits : Limits). SameShown R (shown_of m s line memory) (shown_of n (record { limits = limits; songs = t.songs; player = t.player }) line memory)) both.limits
+      (subst (λ (songs : List SongData). SameShown R (shown_of m s line memory) (shown_of n (record { limits = s.limits; songs = songs; player = t.player }) line memory)) both.songs
+      (over_same s t.player line memory both.above both.player))
+
+  -- scripts that are the same print the same, and stay so
+  pub runs_same : (s : ScriptData P) (t : ScriptData Q) (run : Run) → SameScript R s t
+      → (text_of m s run ≡ text_of n t run) × SameScript R (script_after m s run) (script_after n t run)
+  unfolding text_of script_after
+  runs_same s t [] both = (refl, both)
+  runs_same s t (l ∷ ls) both =
+      let one = line_shown_same s t l.0 l.1 both in
+      let rest = runs_same (shown_of m s l.0 l.1).script (shown_of n t l.0 l.1).script ls one.script in (
+        ap (λ (x : List ℕ). x ++ text_of m (shown_of m s l.0 l.1).script ls) one.text ∙ ap (λ (x : List ℕ). (shown_of n t l.0 l.1).text ++ x) rest.0,
+        rest.1,
+      )

@@ -1,0 +1,105 @@
+-- What commands read of a player, and its life, agree.
+use Rattle.std.proofs.Common.{◌≡◌, ℕ, ◌≤◌, ◌==◌, Bool, true, false, List, [], ◌∷◌, ◌++◌, map, Option, None, Some, refl, sym, ap, ◌∙◌, arith, append_assoc, append-nil, if◌then◌else◌}
+use Rattle.std.specs.Prelude.{is_some, option_map, ◌||◌}
+use Rattle.std.specs.List.{list_any}
+use Rattle.mpd_text.specs.Songs.Song.{SongData}
+use Rattle.partition.specs.History.{replay}
+use Rattle.partition.specs.Image.{Image, opening, client_of}
+use Rattle.partition.specs.Legal.{ReplaysWorlds}
+use Rattle.partition.specs.Step.{next_image, told}
+use Rattle.partition.specs.World.{Life, Listener, Moment, client_in, image_of, life_after_event, life_from, life_after, opening_life}
+use Rattle.partition.specs.declared.event.Event.{Event}
+use Rattle.partition.specs.declared.event.Happened.{Happened}
+use Rattle.partition.specs.declared.state.Client.{Client}
+use Rattle.partition.specs.declared.state.Limits.{Limits}
+use Rattle.daemon_script.specs.Kinds.{Lived, images, lives, lived_after, told_at, seen}
+use Rattle.daemon_script.specs.Output.{RunsAreLived, seen_script}
+use Rattle.daemon_script.specs.Script.{ScriptData, opening_script}
+use Rattle.daemon_script.proofs.Alike.{Agree, SamePlayer, SameScript, runs_same}
+
+-- a life from an opening
+pub record FromOpening (lived : Lived) : Type 0 where
+  pub limits : Limits
+  pub songs : List SongData
+  pub above : 1 ≤ limits.max_version
+  pub is : lived.life ≡ life_after limits songs lived.history
+
+-- an image is what is seen of a life from an opening
+abbrev pub Shows : Image → Lived → Type 0
+Shows i lived = (i ≡ seen lived) × FromOpening lived
+
+replay-append : (i : Image) (hs : List Happened) (h : Happened) → replay i (hs ++ h ∷ []) ≡ next_image h.seat (replay i hs) h.event
+replay-append i [] h = refl
+replay-append i (x ∷ xs) h = replay-append (next_image x.seat i x.event) xs h
+
+life_from-append : (done : List Happened) (life : Life) (hs : List Happened) (h : Happened)
+    → life_from done life (hs ++ h ∷ []) ≡ life_after_event (done ++ hs) (life_from done life hs) h.event
+life_from-append done life [] h = ap (λ (d : List Happened). life_after_event d life h.event) (sym (append-nil done))
+life_from-append done life (x ∷ xs) h =
+    life_from-append (done ++ x ∷ []) (life_after_event done life x.event) xs h
+    ∙ ap (λ (d : List Happened). life_after_event d (life_from (done ++ x ∷ []) (life_after_event done life x.event) xs) h.event) (append_assoc done (x ∷ []) xs)
+
+among : (moments : List Moment) (number : ℕ) (listeners : List Listener)
+    → is_some (client_of number (map (client_in moments) listeners)) ≡ list_any (λ (k : Listener). k.number == number) listeners
+among moments number [] = refl
+among moments number (k ∷ ks) =
+    let rest : Option Client = client_of number (map (client_in moments) ks) in
+    let cases : (b : Bool) → is_some (if b then Some (client_in moments k) else rest) ≡ (b || list_any (λ (l : Listener). l.number == number) ks) =
+    λ b. elim b as (λ b. is_some (if b then Some (client_in moments k) else rest) ≡ (b || list_any (λ (l : Listener). l.number == number) ks)) [
+      | true ↦ refl
+      | false ↦ among moments number ks
+    ] in
+    cases (k.number == number)
+
+module _ (law : ReplaysWorlds) where
+  opens : (limits : Limits) (songs : List SongData) → 1 ≤ limits.max_version → Shows (opening limits songs) (record { life = opening_life limits songs; history = [] })
+  opens limits songs above = ((law limits songs [] above).0, record { limits = limits; songs = songs; above = above; is = refl })
+
+  -- the event that a life keeps
+  abbrev last : Lived → Event → Happened
+  last lived event = record { seat = 0; event = event; told = told_at (life_after_event lived.history lived.life event).moments }
+
+  after_is : (lived : Lived) (event : Event) (from : FromOpening lived) → (lived_after lived event).life ≡ life_after from.limits from.songs (lived_after lived event).history
+  after_is lived event from =
+      ap (λ (life : Life). life_after_event lived.history life event) from.is
+      ∙ sym (life_from-append [] (opening_life from.limits from.songs) lived.history (last lived event))
+
+  seen_is : (lived : Lived) (from : FromOpening lived) → seen lived ≡ replay (opening from.limits from.songs) lived.history
+  seen_is lived from = ap (λ (life : Life). image_of life lived.history) from.is ∙ sym (law from.limits from.songs lived.history from.above).0
+
+  from_after : (lived : Lived) (event : Event) → FromOpening lived → FromOpening (lived_after lived event)
+  from_after lived event from = record { limits = from.limits; songs = from.songs; above = from.above; is = after_is lived event from }
+
+  after_seen : (lived : Lived) (event : Event) → FromOpening lived → next_image 0 (seen lived) event ≡ seen (lived_after lived event)
+  unfolding from_after
+  after_seen lived event from =
+      ap (λ (i : Image). next_image 0 i event) (seen_is lived from)
+      ∙ sym (replay-append (opening from.limits from.songs) lived.history (last lived event))
+      ∙ sym (seen_is (lived_after lived event) (from_after lived event from))
+
+  told_seen : (lived : Lived) (event : Event) → told (seen lived) event ≡ told_at (lived_after lived event).life.moments
+  unfolding told
+  told_seen lived event = refl
+
+  agree : Agree images lives Shows
+  agree = record {
+    opens = opens;
+    there = λ i lived number shows. ap (λ (x : Image). is_some (client_of number x.clients)) shows.0 ∙ among lived.life.moments number lived.life.world.clients;
+    made = λ i lived shows. ap images.made shows.0;
+    after = λ i lived event shows. (ap (λ (x : Image). next_image 0 x event) shows.0 ∙ after_seen lived event shows.1, from_after lived event shows.1);
+    told = λ i lived event shows. ap (λ (x : Image). told x event) shows.0 ∙ told_seen lived event;
+  }
+
+  player_seen : (p : Option Image) (q : Option Lived) → SamePlayer Shows p q → p ≡ option_map seen q
+  player_seen None None same = refl
+  player_seen None (Some q) same = absurd same
+  player_seen (Some p) None same = absurd same
+  player_seen (Some p) (Some q) same = ap Some same.0
+
+  script_seen : (s : ScriptData Image) (t : ScriptData Lived) → SameScript Shows s t → s ≡ seen_script t
+  script_seen s t same = λ i. record { limits = same.limits i; songs = same.songs i; player = player_seen s.player t.player same.player i }
+
+  pub runs_are_lived : RunsAreLived
+  runs_are_lived run =
+      let both = runs_same images lives Shows agree opening_script opening_script run (record { limits = refl; songs = refl; above = omega arith; player = tt }) in
+      (both.0, script_seen _ _ both.1)

@@ -1,0 +1,61 @@
+-- Two kinds of player: one that has what commands read, and one that has its whole past.
+use Rattle.std.specs.Prelude.{ℕ, Bool, List, [], ◌∷◌, ◌++◌, is_some, slice_index_or}
+use Rattle.mpd_text.specs.Songs.Song.{SongData}
+use Rattle.partition.specs.Answers.{Told}
+use Rattle.partition.specs.History.{own}
+use Rattle.partition.specs.Image.{Image, opening, client_of}
+use Rattle.partition.specs.Step.{next_image, told}
+use Rattle.partition.specs.World.{Life, Moment, is_there, image_of, life_after_event, opening_life}
+use Rattle.partition.specs.declared.event.Event.{Event}
+use Rattle.partition.specs.declared.event.Happened.{Happened}
+use Rattle.partition.specs.declared.event.Next.TheVariants.{Goes}
+use Rattle.partition.specs.declared.state.Limits.{Limits}
+
+-- what a script asks of a player: to be opened over a library, whether a client is there, how many events it had, and what
+-- an event makes of it and makes clients hear
+pub record PlayerKind (P : Type 0) : Type 0 where
+  pub opens : Limits → List SongData → P
+  pub is_there : ℕ → P → Bool
+  pub made : P → ℕ
+  pub after : P → Event → P
+  pub told : P → Event → Told
+
+-- a player is what commands read: its queue has stamps and marks, and its clients have flags. All events are of seat 0
+abbrev pub images : PlayerKind Image
+images = record {
+  opens = λ limits songs. opening limits songs;
+  is_there = λ number i. is_some (client_of number i.clients);
+  made = λ i. slice_index_or i.shared.made 0 0;
+  after = λ i event. next_image 0 i event;
+  told = λ i event. told i event;
+}
+
+-- a life, and what happened in it
+pub record Lived : Type 0 where
+  pub life : Life
+  pub history : List Happened
+
+-- what the latest of these moments made clients hear
+abbrev pub told_at : List Moment → Told
+told_at [] = record { answer = record { text = []; next = Goes }; notices = [] }
+told_at (moment ∷ moments) = record { answer = moment.turn.said.answer; notices = moment.notices }
+
+abbrev pub lived_after : Lived → Event → Lived
+lived_after lived event =
+    let life = life_after_event lived.history lived.life event in
+    record { life = life; history = lived.history ++ record { seat = 0; event = event; told = told_at life.moments } ∷ [] }
+
+-- a player is its life: every queue that it had, and every moment, at which clients hear what is said to them. All events
+-- are of seat 0
+abbrev pub lives : PlayerKind Lived
+lives = record {
+  opens = λ limits songs. record { life = opening_life limits songs; history = [] };
+  is_there = λ number lived. is_there number lived.life.world;
+  made = λ lived. own 0 lived.history;
+  after = lived_after;
+  told = λ lived event. told_at (lived_after lived event).life.moments;
+}
+
+-- what commands read of a life
+abbrev pub seen : Lived → Image
+seen lived = image_of lived.life lived.history

@@ -1,0 +1,33 @@
+-- Pairs of words, read one after another: how the call gets to what the list means.
+use Rattle.std.specs.Prelude.{List, [], ◌∷◌, ℕ, Option, Some, None, Result, Ok, Err}
+use Rattle.filters.specs.declared.expression.Test.{Test}
+use Rattle.filters.specs.declared.pairs.Pair.{Pair}
+use Rattle.filters.specs.declared.place.Named.{Named}
+use Rattle.filters.specs.declared.place.Named.TheVariants.{Field as NamedField, Base as NamedBase}
+use Rattle.filters.specs.declared.reading.FilterFault.{FilterFault}
+use Rattle.filters.specs.declared.reading.FilterFault.TheVariants.{UnknownTag}
+use Rattle.filters.specs.Expressions.{Expression, Compare, Under, Both}
+use Rattle.filters.specs.Machine.{named_of}
+
+abbrev pub compared : Test → List ℕ → List ℕ → Option Named → Result Expression FilterFault
+compared test word text None = Err (UnknownTag word)
+compared test word text (Some (NamedField field)) = Ok (Compare field test text)
+compared test word text (Some NamedBase) = Ok (Under text)
+
+-- what one pair asks for
+unfoldable pub pair_of : Test → Pair → Result Expression FilterFault
+pair_of test pair = compared test pair.name pair.text (named_of pair.name)
+
+abbrev pub and_then : Result Expression FilterFault → (Expression → Result Expression FilterFault) → Result Expression FilterFault
+and_then (Ok e) more = more e
+and_then (Err fault) more = Err fault
+
+-- an expression and all of these pairs, or the first pair from the left that names nothing
+unfoldable pub joined_with : Test → Expression → List Pair → Result Expression FilterFault
+joined_with test e [] = Ok e
+joined_with test e (pair ∷ pairs) = and_then (pair_of test pair) (λ f. joined_with test (Both e f) pairs)
+
+-- all of these pairs
+unfoldable pub pairs_of : Test → List Pair → Result Expression FilterFault
+pairs_of test [] = Ok (Under [])
+pairs_of test (pair ∷ pairs) = and_then (pair_of test pair) (λ e. joined_with test e pairs)

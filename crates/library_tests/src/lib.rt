@@ -1,0 +1,9 @@
+//! Tests of the song library, of filters over songs, and of the reading of WAVE files.
+#![tactic(auto)]
+
+#[cfg(test)]
+mod filter_texts;
+#[cfg(test)]
+mod song_library;
+#[cfg(test)]
+mod wave_files;

@@ -1,9 +1,0 @@
-use Rattle.std.proofs.Common.{◌≤◌, ◌-◌, take, drop, length}
-use Rattle.mpd_text.specs.Cut.{HasNoNewline}
-use Rattle.mpd_text.proofs.lines.newline_from.Given as goal
-
-abbrev pub invariant-loop-i : goal.invariant-loop-i
-invariant-loop-i l = record { behind : l.start ≤ l.i; within : l.i ≤ length l.bytes; none : HasNoNewline (take (l.i - l.start) (drop l.start l.bytes)) }
-
-abbrev pub decreases-loop-i : goal.decreases-loop-i
-decreases-loop-i l = length l.bytes - l.i

@@ -1,5 +1,0 @@
-use Rattle.mpd_text.proofs.ScanGrammar.{is_read}
-use Rattle.mpd_text.proofs.quoting.some_reading.Goals as goal
-
-pub returns : goal.returns
-returns c = is_read

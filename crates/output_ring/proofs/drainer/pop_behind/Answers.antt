@@ -1,7 +1,0 @@
-use Rattle.std.proofs.Common.{◌+◌, ◌-◌, arith}
-use Rattle.output_ring.proofs.Lists.{part_stays}
-use Rattle.output_ring.proofs.drainer.pop_behind.Goals as goal
-
-pub returns-clause-hand : goal.returns-clause-hand
-returns-clause-hand c =
-    part_stays c.args.held (c.args.held + c.args.most - c.args.held) c.pop_partial_slice.result c.args.slots.now c.pop_partial_slice.new.slice (omega (arith, c.requires))

@@ -1,0 +1,213 @@
+-- The flags after an event are what is pending with one more moment.
+use Rattle.std.proofs.Common.{◌≡◌, ℕ, zero, suc, ◌<◌, ◌==◌, Bool, true, false, not, ◌&&◌, ◌||◌, List, [], ◌∷◌, Option, Some, None, is_some, map, refl, ap, sym, ◌∙◌, arith, if◌then◌else◌}
+use Rattle.std.specs.Prelude.{filter, insert, nat_lt}
+use Rattle.std.specs.List.{flat_map, list_any, position_or_len}
+use Rattle.std.proofs.lemmas.Bool.Decides.{nat_tests}
+use Rattle.std.proofs.lemmas.List.Folds.{list_any-append}
+use Rattle.idle_notes.specs.declared.pending.Pending.{Pending}
+use Rattle.idle_notes.specs.declared.sets.Subsystems.{Subsystems}
+use Rattle.idle_notes.specs.Sets.{none, union, is_nonempty}
+use Rattle.idle_notes.specs.Notes.{fresh, noted, waits, cancelled, due}
+use Rattle.partition.specs.declared.event.Move.{Move}
+use Rattle.partition.specs.declared.event.Move.TheVariants.{Stay, Wait, Learn, Resume, Join}
+use Rattle.partition.specs.declared.event.Notice.{Notice}
+use Rattle.partition.specs.declared.state.Client.{Client}
+use Rattle.partition.specs.Clients.{notified, is_other, at, joined, moved, notice_to, notice_for, AllAbove, Rising}
+use Rattle.partition.specs.Image.{client_of}
+use Rattle.partition.specs.World.{is_learning}
+use Rattle.partition.proofs.Rises.{at_keeps, rising_filter}
+
+-- each client has this
+abbrev pub Each : (Client → Type 0) → List Client → Type 0
+Each P [] = Unit {0}
+Each P (k ∷ ks) = P k × Each P ks
+
+pub each_filter : (P : Client → Type 0) (p : Client → Bool) (ks : List Client) → Each P ks → Each P (filter p ks)
+each_filter P p [] e = tt
+each_filter P p (k ∷ ks) e =
+    elim (p k) as (λ b. Each P (if b then k ∷ filter p ks else filter p ks)) [ true ↦ (e.0, each_filter P p ks e.1) | false ↦ each_filter P p ks e.1 ]
+
+module _ (raised : Subsystems) where
+  -- whether a client is told
+  abbrev pub told : Client → Bool
+  told k = is_nonempty (due (noted raised k.pending))
+
+  -- whether a client of this number is named among the notices to some
+  abbrev pub named : ℕ → List Client → Bool
+  named n ks = list_any (λ x. x.client == n) (flat_map (notice_for raised) ks)
+
+  named_one : (n : ℕ) (k : Client) → list_any (λ x. x.client == n) (notice_for raised k) ≡ (told k && (k.number == n))
+  named_one n k =
+      elim (told k) as (λ b. list_any (λ x. x.client == n) (notice_to k.number (if b then Some (due (noted raised k.pending)) else None)) ≡ (b && (k.number == n)))
+      [ true ↦ elim (k.number == n) as (λ c. (c || false) ≡ c) [ true ↦ refl | false ↦ refl ] | false ↦ refl ]
+
+  named_more : (n : ℕ) (k : Client) (ks : List Client) → named n (k ∷ ks) ≡ ((told k && (k.number == n)) || named n ks)
+  named_more n k ks =
+      list_any-append (λ (x : Notice). x.client == n) (notice_for raised k) (flat_map (notice_for raised) ks) ∙ ap (λ b. b || named n ks) (named_one n k)
+
+  both_false : (b : Bool) → (b && false) ≡ false
+  both_false true = refl
+  both_false false = refl
+
+  both_true : (b : Bool) → ((b && true) || false) ≡ b
+  both_true true = refl
+  both_true false = refl
+
+  unnamed : (n : ℕ) (ks : List Client) → AllAbove n ks → named n ks ≡ false
+  unnamed n [] above = refl
+  unnamed n (k ∷ ks) above =
+      let less : n < k.number = above.0 in
+      let other : (k.number == n) ≡ false = grind (arith, nat_tests) in
+      named_more n k ks ∙ ap (λ b. (told k && b) || named n ks) other ∙ ap (λ b. b || named n ks) (both_false (told k)) ∙ unnamed n ks above.1
+
+  -- one more client in front names none of those behind it
+  shifted : (k : Client) (all ks : List Client) → AllAbove k.number ks → Each (λ x. named x.number all ≡ told x) ks
+      → Each (λ x. named x.number (k ∷ all) ≡ told x) ks
+  shifted k all [] above e = tt
+  shifted k all (x ∷ xs) above e =
+      let less : k.number < x.number = above.0 in
+      let other : (k.number == x.number) ≡ false = grind (arith, nat_tests) in (
+        named_more x.number k all ∙ ap (λ b. (told k && b) || named x.number all) other ∙ ap (λ b. b || named x.number all) (both_false (told k)) ∙ e.0,
+        shifted k all xs above.1 e.1,
+      )
+
+  -- by rising numbers a client is named among the notices exactly where it is told
+  pub named_are_told : (ks : List Client) → Rising ks → Each (λ x. named x.number ks ≡ told x) ks
+  named_are_told [] r = tt
+  named_are_told (k ∷ ks) r =
+      let same : (k.number == k.number) ≡ true = grind (arith, nat_tests) in (
+        named_more k.number k ks ∙ ap (λ b. (told k && b) || named k.number ks) same ∙ ap (λ b. (told k && true) || b) (unnamed k.number ks r.0) ∙ both_true (told k),
+        shifted k ks ks r.0 (named_are_told ks r.1),
+      )
+
+-- a client with these flags
+abbrev pub flagged : (ℕ → Subsystems) → Client → Client
+flagged flag k = record k { pending = record k.pending { changed = flag k.number } }
+
+pub unchanged : (flag : ℕ → Subsystems) (k : Client) → flag k.number ≡ k.pending.changed → flagged flag k ≡ k
+unchanged flag k e = ap (λ (s : Subsystems). record k { pending = record k.pending { changed = s } }) e
+
+module _ (raised : Subsystems) (flag after : ℕ → Subsystems) (there : ℕ → Bool) (speaker : ℕ) where
+  -- what a client's flags are after an event by which it begins anew or not
+  abbrev pub grown : ℕ → Bool → Subsystems
+  grown n anew = if anew then none else union (flag n) raised
+
+  -- the client was there, and its flags were right
+  abbrev pub Right : Client → Type 0
+  Right k = (there k.number ≡ true) × (k.pending.changed ≡ flag k.number)
+
+  abbrev pub anew : List Client → Bool → ℕ → Bool
+  anew ks heard n = not (there n) || (named raised n ks || ((n == speaker) && heard))
+
+  quiet : (d s : Bool) (f : Subsystems) (p : Pending) → p.changed ≡ f
+      → (if d || (s && false) then none else union f raised) ≡ (if d then fresh else noted raised p).changed
+  quiet true s f p e = refl
+  quiet false true f p e = ap (λ x. union x raised) (sym e)
+  quiet false false f p e = ap (λ x. union x raised) (sym e)
+
+  told_now : (d s : Bool) (f : Subsystems) (p : Pending) → p.changed ≡ f
+      → (if d || (s && true) then none else union f raised) ≡ (if s then fresh else (if d then fresh else noted raised p)).changed
+  told_now true true f p e = refl
+  told_now true false f p e = refl
+  told_now false true f p e = refl
+  told_now false false f p e = ap (λ x. union x raised) (sym e)
+
+  module _ (heard : Bool) (ks : List Client) (is : (n : ℕ) → after n ≡ grown n (anew ks heard n)) where
+    -- the flags of a client that is there, by whether it is told
+    after_there : (k : Client) → Right k → named raised k.number ks ≡ told raised k
+        → after k.number ≡ grown k.number (told raised k || ((k.number == speaker) && heard))
+    after_there k right names =
+        is k.number ∙ ap (λ b. grown k.number (not b || (named raised k.number ks || ((k.number == speaker) && heard)))) right.0
+        ∙ ap (λ b. grown k.number (b || ((k.number == speaker) && heard))) names
+
+  -- each client of some is left as it is by its flags, once it has heard and made a move
+  module _ (change : Client → Client) (heard : Bool) (ks : List Client) (is : (n : ℕ) → after n ≡ grown n (anew ks heard n))
+      (keeps : (k : Client) → (change (notified raised k)).number ≡ k.number)
+      (flags : (k : Client) → k.pending.changed ≡ flag k.number
+      → grown k.number (told raised k || ((k.number == speaker) && heard)) ≡ (change (notified raised k)).pending.changed) where
+    pub each_unchanged : (xs : List Client) → Each Right xs → Each (λ x. named raised x.number ks ≡ told raised x) xs
+        → Each (λ k. flagged after k ≡ k) (map change (map (notified raised) xs))
+    each_unchanged [] right names = tt
+    each_unchanged (x ∷ xs) right names = (
+      unchanged after (change (notified raised x)) (ap after (keeps x) ∙ after_there heard ks is x right.0 names.0 ∙ flags x right.0.1),
+      each_unchanged xs right.1 names.1,
+    )
+
+  same_number : (change : Pending → Pending) (k : Client) → (at speaker change (notified raised k)).number ≡ k.number
+  same_number change k = at_keeps speaker change (notified raised k)
+
+  same_flags : (change : Pending → Pending) → ((p : Pending) → (change p).changed ≡ p.changed) → (k : Client) → (at speaker change k).pending.changed ≡ k.pending.changed
+  same_flags change same k =
+      elim (k.number == speaker) as (λ b. (if b then record k { pending = change k.pending } else k).pending.changed ≡ k.pending.changed)
+      [ true ↦ same k.pending | false ↦ refl ]
+
+  cleared : (k : Client) → (if k.number == speaker then fresh else k.pending).changed ≡ (at speaker (λ p. fresh) k).pending.changed
+  cleared k =
+      elim (k.number == speaker) as (λ b. (if b then fresh else k.pending).changed ≡ (if b then record k { pending = fresh } else k).pending.changed)
+      [ true ↦ refl | false ↦ refl ]
+
+  identical : (P : Client → Type 0) (xs : List Client) → Each P (map (λ k. k) xs) → Each P xs
+  identical P [] e = tt
+  identical P (x ∷ xs) e = (e.0, identical P xs e.1)
+
+  module _ (ks : List Client) (rising : Rising ks) (right : Each Right ks) where
+    abbrev names : Each (λ x. named raised x.number ks ≡ told raised x) ks
+    names = named_are_told raised ks rising
+
+    pub stays : ((n : ℕ) → after n ≡ grown n (anew ks false n)) → Each (λ k. flagged after k ≡ k) (map (notified raised) ks)
+    stays is =
+        identical (λ k. flagged after k ≡ k) (map (notified raised) ks)
+        (each_unchanged (λ k. k) false ks is (λ k. refl) (λ k e. quiet (told raised k) (k.number == speaker) (flag k.number) k.pending e) ks right names)
+
+    pub keeps_flags : (change : Pending → Pending) → ((p : Pending) → (change p).changed ≡ p.changed) → ((n : ℕ) → after n ≡ grown n (anew ks false n))
+        → Each (λ k. flagged after k ≡ k) (map (at speaker change) (map (notified raised) ks))
+    keeps_flags change same is =
+        each_unchanged (at speaker change) false ks is (same_number change)
+        (λ k e. quiet (told raised k) (k.number == speaker) (flag k.number) k.pending e ∙ sym (same_flags change same (notified raised k))) ks right names
+
+    pub clears : ((n : ℕ) → after n ≡ grown n (anew ks true n)) → Each (λ k. flagged after k ≡ k) (map (at speaker (λ p. fresh)) (map (notified raised) ks))
+    clears is =
+        each_unchanged (at speaker (λ p. fresh)) true ks is (same_number (λ p. fresh))
+        (λ k e. told_now (told raised k) (k.number == speaker) (flag k.number) k.pending e ∙ cleared (notified raised k)) ks right names
+
+    each_insert : (P : Client → Type 0) (xs : List Client) (i : ℕ) (x : Client) → Each P xs → P x → Each P (insert xs i x)
+    each_insert P [] zero x e p = (p, tt)
+    each_insert P [] (suc i) x e p = (p, tt)
+    each_insert P (y ∷ ys) zero x e p = (p, e)
+    each_insert P (y ∷ ys) (suc i) x e p = (e.0, each_insert P ys i x e.1 p)
+
+    pub joins : ((n : ℕ) → after n ≡ grown n (anew ks false n)) → (client_of speaker (map (notified raised) ks) ≡ None → there speaker ≡ false)
+        → Each (λ k. flagged after k ≡ k) (joined speaker (map (notified raised) ks))
+    joins is absent =
+        let heard : List Client = map (notified raised) ks in
+        let new : Client = record { number = speaker; pending = fresh } in
+        let place : ℕ = position_or_len (λ k. nat_lt speaker k.number) heard in
+        let cases : (o : Option Client) → client_of speaker heard ≡ o → Each (λ k. flagged after k ≡ k) (if is_some o then heard else insert heard place new) =
+        λ o. elim o as (λ o. client_of speaker heard ≡ o → Each (λ k. flagged after k ≡ k) (if is_some o then heard else insert heard place new)) [
+          | None ↦ λ e.
+              let none_yet : after speaker ≡ none =
+              is speaker ∙ ap (λ b. grown speaker (not b || (named raised speaker ks || ((speaker == speaker) && false)))) (absent e) in
+              each_insert (λ k. flagged after k ≡ k) heard place new (stays is) (unchanged after new none_yet)
+          | Some k ↦ λ e. stays is
+        ] in
+        cases (client_of speaker heard) refl
+
+  -- whatever move the client makes
+  pub each_stands : (ks : List Client) → Rising ks → Each Right ks → (move : Move)
+      → ((n : ℕ) → after n ≡ grown n (anew ks (is_learning move) n))
+      → (client_of speaker (map (notified raised) ks) ≡ None → there speaker ≡ false)
+      → Each (λ k. flagged after k ≡ k) (moved speaker move (map (notified raised) ks))
+  each_stands ks rising right Stay is absent = stays ks rising right is
+  each_stands ks rising right (Wait names) is absent = keeps_flags ks rising right (waits names) (λ p. refl) is
+  each_stands ks rising right Learn is absent = clears ks rising right is
+  each_stands ks rising right Resume is absent = keeps_flags ks rising right cancelled (λ p. refl) is
+  each_stands ks rising right Join is absent = joins ks rising right is absent
+
+  -- of a client that is closed, or makes a move
+  pub all_stand : (ks : List Client) → Rising ks → Each Right ks → (closed : Bool) (move : Move)
+      → ((n : ℕ) → after n ≡ grown n (anew (if closed then filter (is_other speaker) ks else ks) (is_learning (if closed then Stay else move)) n))
+      → (client_of speaker (map (notified raised) ks) ≡ None → there speaker ≡ false)
+      → Each (λ k. flagged after k ≡ k) (moved speaker (if closed then Stay else move) (map (notified raised) (if closed then filter (is_other speaker) ks else ks)))
+  all_stand ks rising right true move is absent =
+      stays (filter (is_other speaker) ks) (rising_filter (is_other speaker) ks rising) (each_filter Right (is_other speaker) ks right) is
+  all_stand ks rising right false move is absent = each_stands ks rising right move is absent

@@ -1,0 +1,203 @@
+-- Which clients are sent a notice, and what becomes of each.
+use Rattle.std.proofs.Common.{◌≡◌, inl, inr, ℕ, ◌<◌, ◌==◌, Bool, true, false, not, List, [], ◌∷◌, ◌++◌, Some, None, is_some, map, refl, ap, sym, subst, ◌∙◌, arith, if◌then◌else◌}
+use Rattle.std.specs.Prelude.{filter, insert, nat_lt}
+use Rattle.std.specs.List.{flat_map, position_or_len}
+use Rattle.std.proofs.lemmas.Bool.{eq-eqb, eqb-true}
+use Rattle.std.proofs.lemmas.Bool.Decides.{nat_tests}
+use Rattle.idle_notes.specs.declared.sets.Subsystems.{Subsystems}
+use Rattle.idle_notes.specs.Sets.{is_nonempty}
+use Rattle.idle_notes.specs.Notes.{fresh, noted, waits, cancelled, due}
+use Rattle.mpd_text.specs.Songs.Song.{SongData}
+use Rattle.partition.specs.declared.command.Command.TheVariants.{Add, Clear, Delete, GetVol, Idle, NoIdle, Ping, PlChangesPosId, Repeat, SetVol, Status, Swap}
+use Rattle.partition.specs.declared.command.Request.{Request}
+use Rattle.partition.specs.declared.command.Request.TheVariants.{Run, Refused}
+use Rattle.partition.specs.declared.event.Event.{Event}
+use Rattle.partition.specs.declared.event.Event.TheVariants.{Connect, Disconnect, Line}
+use Rattle.partition.specs.declared.event.Move.{Move}
+use Rattle.partition.specs.declared.event.Move.TheVariants.{Stay, Wait, Learn, Resume, Join}
+use Rattle.partition.specs.declared.event.Notice.{Notice}
+use Rattle.partition.specs.declared.state.Client.{Client}
+use Rattle.partition.specs.declared.state.Part.{Part}
+use Rattle.partition.specs.Answers.{Said}
+use Rattle.partition.specs.Clients.{notified, is_other, at, moved, notice_to, notice_for, notices_after, clients_after, staying, move_of, closes, AllAbove, Rising}
+use Rattle.partition.specs.Image.{client_of}
+use Rattle.partition.specs.Step.{turn_of, turn_line, speaker}
+use Rattle.partition.specs.Notices.{IsIn, AllBeyond, NoticesRise}
+use Rattle.partition.proofs.Members.{in_filter, of_filter, in_insert, in_map, of_map, in_flat_map, of_flat_map}
+use Rattle.partition.proofs.Rises.{at_keeps}
+
+above_in : (n : ℕ) (k : Client) (ks : List Client) → AllAbove n ks → IsIn k ks → n < k.number
+above_in n k [] a e = absurd e
+above_in n k (c ∷ cs) a (inl e) = subst (λ (x : Client). n < x.number) e a.0
+above_in n k (c ∷ cs) a (inr e) = above_in n k cs a.1 e
+
+-- by rising numbers a client is found by its own
+pub found : (k : Client) (ks : List Client) → Rising ks → IsIn k ks → client_of k.number ks ≡ Some k
+found k [] r e = absurd e
+found k (c ∷ cs) r (inl e) =
+    let same : (c.number == k.number) ≡ true = eq-eqb c.number k.number (ap (λ (x : Client). x.number) e) in
+    rw same (ap Some e)
+found k (c ∷ cs) r (inr e) =
+    let less : c.number < k.number = above_in c.number k cs r.0 e in
+    let other : (c.number == k.number) ≡ false = grind (arith, nat_tests) in
+    rw other (found k cs r.1 e)
+
+line_moves : (part : Part) (songs : List SongData) (k : Client) (named names : Subsystems) (request : Request) → k.pending.waiting ≡ Some named
+    → move_of (turn_line part songs (Some k) request).said ≡ Wait names → ⊥
+line_moves part songs k named names (Run (Add uri)) w m = (let n = rw w at m in cc)
+line_moves part songs k named names (Run Clear) w m = (let n = rw w at m in cc)
+line_moves part songs k named names (Run (Delete place)) w m = (let n = rw w at m in cc)
+line_moves part songs k named names (Run GetVol) w m = (let n = rw w at m in cc)
+line_moves part songs k named names (Run (Idle more)) w m = (let n = rw w at m in cc)
+line_moves part songs k named names (Run NoIdle) w m = (let n = rw w at m in cc)
+line_moves part songs k named names (Run Ping) w m = (let n = rw w at m in cc)
+line_moves part songs k named names (Run (PlChangesPosId version)) w m = (let n = rw w at m in cc)
+line_moves part songs k named names (Run (Repeat on)) w m = (let n = rw w at m in cc)
+line_moves part songs k named names (Run (SetVol volume)) w m = (let n = rw w at m in cc)
+line_moves part songs k named names (Run Status) w m = (let n = rw w at m in cc)
+line_moves part songs k named names (Run (Swap first second)) w m = (let n = rw w at m in cc)
+line_moves part songs k named names (Refused ack) w m = (let n = rw w at m in cc)
+
+-- a client that waits does not begin to wait
+pub waiter_moves : (part : Part) (songs : List SongData) (ks : List Client) (event : Event) (k : Client) (named names : Subsystems)
+    → client_of (speaker event) ks ≡ Some k → k.pending.waiting ≡ Some named → move_of (turn_of part songs ks event).said ≡ Wait names → ⊥
+waiter_moves part songs ks (Connect number) k named names e w m = (let n = rw e at m in cc)
+waiter_moves part songs ks (Disconnect number) k named names e w m = cc
+waiter_moves part songs ks (Line number request) k named names e w m = line_moves part songs k named names request w (rw e at m)
+
+module _ (n : ℕ) (r : Subsystems) where
+  -- what of a client's named set changed
+  abbrev pub news : Client → Subsystems
+  news k = due (noted r k.pending)
+
+  one_notice : (k : Client) (number : ℕ) (names : Subsystems) → IsIn (record { client = number; names = names }) (notice_for r k)
+      → (is_nonempty (news k) ≡ true) × (k.number ≡ number) × (news k ≡ names)
+  one_notice k number names =
+      let wanted : Notice = record { client = number; names = names } in
+      let Goal : Type 0 = (is_nonempty (news k) ≡ true) × (k.number ≡ number) × (news k ≡ names) in
+      let cases : (b : Bool) → is_nonempty (news k) ≡ b → IsIn wanted (notice_to k.number (if b then Some (news k) else None)) → Goal =
+      λ b. elim b as (λ b. is_nonempty (news k) ≡ b → IsIn wanted (notice_to k.number (if b then Some (news k) else None)) → Goal) [
+        | true ↦ λ e h. elim h [ inl same ↦ (e, ap (λ (x : Notice). x.client) same, ap (λ (x : Notice). x.names) same) | inr none ↦ absurd none ]
+        | false ↦ λ e h. absurd h
+      ] in
+      cases (is_nonempty (news k)) refl
+
+  one_sent : (k : Client) → is_nonempty (news k) ≡ true → IsIn (record { client = k.number; names = news k }) (notice_for r k)
+  one_sent k e = rw e (inl refl)
+
+  beyond : (a : ℕ) (ks : List Client) → AllAbove a ks → AllBeyond a (flat_map (notice_for r) ks)
+  beyond a [] all = tt
+  beyond a (k ∷ ks) all =
+      elim (is_nonempty (news k)) as (λ b. AllBeyond a (notice_to k.number (if b then Some (news k) else None) ++ flat_map (notice_for r) ks))
+      [ true ↦ (all.0, beyond a ks all.1) | false ↦ beyond a ks all.1 ]
+
+  -- notices to clients by rising number rise
+  pub notices_rise : (ks : List Client) → Rising ks → NoticesRise (flat_map (notice_for r) ks)
+  notices_rise [] rising = tt
+  notices_rise (k ∷ ks) rising =
+      elim (is_nonempty (news k)) as (λ b. NoticesRise (notice_to k.number (if b then Some (news k) else None) ++ flat_map (notice_for r) ks))
+      [ true ↦ (beyond k.number ks rising.0, notices_rise ks rising.1) | false ↦ notices_rise ks rising.1 ]
+
+  -- what a move makes of one client
+  abbrev pub does : Move → Client → Client
+  does Stay k = k
+  does (Wait names) k = at n (waits names) k
+  does Learn k = at n (λ p. fresh) k
+  does Resume k = at n cancelled k
+  does Join k = k
+
+  pub does_keeps : (move : Move) (k : Client) → (does move k).number ≡ k.number
+  does_keeps Stay k = refl
+  does_keeps (Wait names) k = at_keeps n (waits names) k
+  does_keeps Learn k = at_keeps n (λ p. fresh) k
+  does_keeps Resume k = at_keeps n cancelled k
+  does_keeps Join k = refl
+
+  pub does_other : (move : Move) (k : Client) → (k.number == n) ≡ false → does move k ≡ k
+  does_other Stay k e = refl
+  does_other (Wait names) k e = rw e refl
+  does_other Learn k e = rw e refl
+  does_other Resume k e = rw e refl
+  does_other Join k e = refl
+
+  -- a client that does not wait goes on so, unless it is the one that begins to wait
+  pub does_none : (move : Move) (k : Client) → k.pending.waiting ≡ None → ((names : Subsystems) → move ≡ Wait names → k.number ≡ n → ⊥)
+      → (does move k).pending.waiting ≡ None
+  does_none Stay k w free = w
+  does_none (Wait names) k w free =
+      let cases : (b : Bool) → (k.number == n) ≡ b → (if b then record k { pending = waits names k.pending } else k).pending.waiting ≡ None =
+      λ b. elim b as (λ b. (k.number == n) ≡ b → (if b then record k { pending = waits names k.pending } else k).pending.waiting ≡ None)
+      [ true ↦ λ e. absurd (free names refl (eqb-true k.number n e)) | false ↦ λ e. w ] in
+      cases (k.number == n) refl
+  does_none Learn k w free =
+      elim (k.number == n) as (λ b. (if b then record k { pending = fresh } else k).pending.waiting ≡ None) [ true ↦ refl | false ↦ w ]
+  does_none Resume k w free =
+      elim (k.number == n) as (λ b. (if b then record k { pending = cancelled k.pending } else k).pending.waiting ≡ None) [ true ↦ refl | false ↦ w ]
+  does_none Join k w free = w
+
+  pub does_wait : (names : Subsystems) (k : Client) → k.number ≡ n → (does (Wait names) k).pending.waiting ≡ Some names
+  does_wait names k e = (let same : (k.number == n) ≡ true = eq-eqb k.number n e in rw same refl)
+
+  moved_in : (move : Move) (k : Client) (ks : List Client) → IsIn k ks → IsIn (does move k) (moved n move ks)
+  moved_in Stay k ks e = e
+  moved_in (Wait names) k ks e = in_map (at n (waits names)) k ks e
+  moved_in Learn k ks e = in_map (at n (λ p. fresh)) k ks e
+  moved_in Resume k ks e = in_map (at n cancelled) k ks e
+  moved_in Join k ks e =
+      let place : ℕ = position_or_len (λ c. nat_lt n c.number) ks in
+      elim (is_some (client_of n ks)) as (λ b. IsIn k (if b then ks else insert ks place (record { number = n; pending = fresh })))
+      [ true ↦ e | false ↦ in_insert k ks place (record { number = n; pending = fresh }) e ]
+
+  -- a client that does not wait goes on so as it hears, and one that is told waits no more
+  pub notified_none : (k : Client) → k.pending.waiting ≡ None → (notified r k).pending.waiting ≡ None
+  notified_none k w = elim (is_nonempty (news k)) as (λ b. (if b then fresh else noted r k.pending).waiting ≡ None) [ true ↦ refl | false ↦ w ]
+
+  pub told_none : (k : Client) → is_nonempty (news k) ≡ true → (notified r k).pending.waiting ≡ None
+  told_none k e = rw e refl
+
+  pub untold_waits : (k : Client) → is_nonempty (news k) ≡ false → (notified r k).pending.waiting ≡ k.pending.waiting
+  untold_waits k e = rw e refl
+
+  module _ (said : Said) (ks : List Client) where
+    abbrev pub kept : List Client
+    kept = staying n said ks
+
+    pub of_sent : (number : ℕ) (names : Subsystems) → IsIn (record { client = number; names = names }) (notices_after n r said ks)
+        → (k : Client) × IsIn k kept × (is_nonempty (news k) ≡ true) × (k.number ≡ number) × (news k ≡ names)
+    of_sent number names e =
+        let from = of_flat_map (notice_for r) (record { client = number; names = names }) kept e in
+        let one = one_notice from.0 number names from.2 in
+        (from.0, from.1, one.0, one.1, one.2)
+
+    pub is_sent : (k : Client) → IsIn k kept → is_nonempty (news k) ≡ true → IsIn (record { client = k.number; names = news k }) (notices_after n r said ks)
+    is_sent k e t = in_flat_map (notice_for r) k (record { client = k.number; names = news k }) kept e (one_sent k t)
+
+    pub kept_was : (k : Client) → IsIn k kept → IsIn k ks
+    kept_was k =
+        elim (closes said.answer.next) as (λ b. IsIn k (if b then filter (is_other n) ks else ks) → IsIn k ks)
+        [ true ↦ λ e. (of_filter (is_other n) k ks e).0 | false ↦ λ e. e ]
+
+    pub others_kept : (k : Client) → IsIn k ks → (k.number == n) ≡ false → IsIn k kept
+    others_kept k e other =
+        elim (closes said.answer.next) as (λ b. IsIn k (if b then filter (is_other n) ks else ks))
+        [ true ↦ in_filter (is_other n) k ks e (ap not other) | false ↦ e ]
+
+    pub open_kept : (k : Client) → IsIn k ks → closes said.answer.next ≡ false → IsIn k kept
+    open_kept k e goes = rw goes e
+
+    -- where each client that stays is after the event
+    pub lands : (k : Client) → IsIn k kept → IsIn (does (move_of said) (notified r k)) (clients_after n r said ks)
+    lands k e = moved_in (move_of said) (notified r k) (map (notified r) kept) (in_map (notified r) k kept e)
+
+    -- a client whose number is there after the event stayed
+    pub there_kept : (k after : Client) → IsIn k ks → IsIn after (clients_after n r said ks) → after.number ≡ k.number → IsIn k kept
+    there_kept k after e =
+        elim (closes said.answer.next) as (λ b. IsIn after (moved n (if b then Stay else said.move) (map (notified r) (if b then filter (is_other n) ks else ks)))
+        → after.number ≡ k.number → IsIn k (if b then filter (is_other n) ks else ks)) [
+          | true ↦ λ h same.
+              let from = of_map (notified r) after (filter (is_other n) ks) h in
+              let was = of_filter (is_other n) from.0 ks from.1 in
+              let number : from.0.number ≡ k.number = ap (λ (c : Client). c.number) from.2 ∙ same in
+              in_filter (is_other n) k ks e (ap (λ (x : ℕ). not (x == n)) (sym number) ∙ was.1)
+          | false ↦ λ h same. e
+        ]

@@ -1,0 +1,293 @@
+-- The clients of every player are settled, so that an event that raises nothing leaves them as they are and tells none.
+use Rattle.std.proofs.Common.{◌≡◌, ◌⊎◌, inl, inr, ℕ, zero, suc, ◌==◌, ◌≤◌, Bool, true, false, not, ◌&&◌, ◌||◌, nat_lt, List, [], ◌∷◌, ◌++◌, Option, Some, None, is_some, map, refl, ap, sym, subst, ◌∙◌, arith, if◌then◌else◌}
+use Rattle.std.specs.Prelude.{filter, insert, count_by}
+use Rattle.std.specs.List.{flat_map, position_or_len}
+use Rattle.std.proofs.lemmas.Bool.{eq-eqb, eqb-true}
+use Rattle.idle_notes.specs.declared.pending.Pending.{Pending}
+use Rattle.idle_notes.specs.declared.sets.Subsystems.{Subsystems}
+use Rattle.idle_notes.specs.Sets.{none, union, meet, is_nonempty}
+use Rattle.idle_notes.specs.Notes.{fresh, noted, waits, cancelled, due, settled, notice_of}
+use Rattle.mpd_text.specs.Songs.Song.{SongData}
+use Rattle.song_queue.proofs.Same.{same_queue-refl}
+use Rattle.song_queue.specs.State.{queue_of}
+use Rattle.partition.specs.declared.command.Command.{Command}
+use Rattle.partition.specs.declared.command.Command.TheVariants.{GetVol, Idle, NoIdle, Ping, PlChangesPosId, Status}
+use Rattle.partition.specs.declared.command.Ack.{Ack}
+use Rattle.partition.specs.declared.command.Request.{Request}
+use Rattle.partition.specs.declared.command.Request.TheVariants.{Run, Refused}
+use Rattle.partition.specs.declared.event.Event.{Event}
+use Rattle.partition.specs.declared.event.Event.TheVariants.{Connect, Disconnect, Line}
+use Rattle.partition.specs.declared.event.Happened.{Happened}
+use Rattle.partition.specs.declared.event.Move.{Move}
+use Rattle.partition.specs.declared.event.Move.TheVariants.{Stay, Wait, Learn, Resume, Join}
+use Rattle.partition.specs.declared.state.Client.{Client}
+use Rattle.partition.specs.declared.state.Part.{Part}
+use Rattle.partition.specs.Answers.{Said}
+use Rattle.partition.specs.Clients.{notified, notice_for, notice_to, is_other, at, joined, moved, staying, move_of, clients_after, Rising}
+use Rattle.partition.specs.Commands.{only, goes_on, refusal, idles, turn_idle}
+use Rattle.partition.specs.History.{replay}
+use Rattle.partition.specs.Image.{Image, Turn, client_of}
+use Rattle.partition.specs.Notices.{IsIn}
+use Rattle.partition.specs.Rooms.{is_waiting}
+use Rattle.partition.specs.Settled.{IsSettled, AllSettled, RaisesNothing, ChangesNothing, MayTell, most_notices}
+use Rattle.partition.specs.Step.{turn, turn_of, turn_line, turn_request, turn_command, turned_away, said_to_new, ends_waiting, speaker, raised_by, next_image}
+use Rattle.partition.proofs.Asking.{quiet_unwaiting, IsAsking, kind_of}
+use Rattle.partition.proofs.Raised.{differ-self}
+use Rattle.partition.proofs.Rises.{rising_after}
+use Rattle.partition.proofs.Sends.{found}
+use Rattle.partition.proofs.Tells.{fewer_wait}
+
+or_false : (b : Bool) → (b || false) ≡ b
+or_false true = refl
+or_false false = refl
+
+union_none : (s : Subsystems) → union s none ≡ s
+union_none s = λ i. record {
+  database = or_false s.database i;
+  update = or_false s.update i;
+  stored_playlist = or_false s.stored_playlist i;
+  playlist = or_false s.playlist i;
+  player = or_false s.player i;
+  mixer = or_false s.mixer i;
+  output = or_false s.output i;
+  options = or_false s.options i;
+  sticker = or_false s.sticker i;
+  subscription = or_false s.subscription i;
+  message = or_false s.message i;
+}
+
+-- what leaves the queue and the controls as they are raises nothing
+pub only_raises : (part : Part) (said : Said) → raised_by part (only part said) ≡ none
+only_raises part said = λ i. record none {
+  playlist = not (same_queue-refl (queue_of part.queue) i);
+  mixer = not (eq-eqb part.controls.volume part.controls.volume refl i);
+  options = differ-self part.controls.modes.repeat i;
+}
+
+-- a client that heard is settled
+notified_settled : (r : Subsystems) (k : Client) → IsSettled (notified r k)
+notified_settled r k =
+    let p : Pending = noted r k.pending in
+    let cases : (b : Bool) → is_nonempty (due p) ≡ b → is_nonempty (due (if b then fresh else p)) ≡ false =
+    λ b. elim b as (λ b. is_nonempty (due p) ≡ b → is_nonempty (due (if b then fresh else p)) ≡ false) [ true ↦ λ e. refl | false ↦ λ e. e ] in
+    cases (is_nonempty (due p)) refl
+
+all_notified : (r : Subsystems) (ks : List Client) → AllSettled (map (notified r) ks)
+all_notified r [] = tt
+all_notified r (k ∷ ks) = (notified_settled r k, all_notified r ks)
+
+settled_map : (f : Client → Client) → ((k : Client) → IsSettled k → IsSettled (f k)) → (ks : List Client) → AllSettled ks → AllSettled (map f ks)
+settled_map f keeps [] all = tt
+settled_map f keeps (k ∷ ks) all = (keeps k all.0, settled_map f keeps ks all.1)
+
+pub settled_filter : (p : Client → Bool) (ks : List Client) → AllSettled ks → AllSettled (filter p ks)
+settled_filter p [] all = tt
+settled_filter p (k ∷ ks) all =
+    elim (p k) as (λ b. AllSettled (if b then k ∷ filter p ks else filter p ks)) [ true ↦ (all.0, settled_filter p ks all.1) | false ↦ settled_filter p ks all.1 ]
+
+settled_insert : (ks : List Client) (place : ℕ) (k : Client) → AllSettled ks → IsSettled k → AllSettled (insert ks place k)
+settled_insert [] zero k all one = (one, tt)
+settled_insert [] (suc place) k all one = (one, tt)
+settled_insert (c ∷ cs) zero k all one = (one, all)
+settled_insert (c ∷ cs) (suc place) k all one = (all.0, settled_insert cs place k all.1 one)
+
+at_settled : (n : ℕ) (change : Pending → Pending) → ((p : Pending) → is_nonempty (due (change p)) ≡ false) → (k : Client) → IsSettled k → IsSettled (at n change k)
+at_settled n change makes k one =
+    elim (k.number == n) as (λ b. is_nonempty (due (if b then record k { pending = change k.pending } else k).pending) ≡ false) [ true ↦ makes k.pending | false ↦ one ]
+
+settled_joined : (n : ℕ) (ks : List Client) → AllSettled ks → AllSettled (joined n ks)
+settled_joined n ks all =
+    let place : ℕ = position_or_len (λ c. nat_lt n c.number) ks in
+    let new : Client = record { number = n; pending = fresh } in
+    elim (is_some (client_of n ks)) as (λ b. AllSettled (if b then ks else insert ks place new)) [ true ↦ all | false ↦ settled_insert ks place new all refl ]
+
+-- a move other than to wait keeps each settled
+settled_moved : (n : ℕ) (move : Move) (ks : List Client) → ((names : Subsystems) → move ≡ Wait names → AllSettled (map (at n (waits names)) ks))
+    → AllSettled ks → AllSettled (moved n move ks)
+settled_moved n Stay ks waiting all = all
+settled_moved n (Wait names) ks waiting all = waiting names refl
+settled_moved n Learn ks waiting all = settled_map (at n (λ p. fresh)) (at_settled n (λ p. fresh) (λ p. refl)) ks all
+settled_moved n Resume ks waiting all = settled_map (at n cancelled) (at_settled n cancelled (λ p. refl)) ks all
+settled_moved n Join ks waiting all = settled_joined n ks all
+
+-- a client for which nothing of a set is pending may wait for it, once it has heard of nothing
+nothing_due : (p : Pending) (named : Subsystems) → is_nonempty (meet p.changed named) ≡ false → is_nonempty (meet (settled (noted none p)).changed named) ≡ false
+nothing_due p named e =
+    elim (is_nonempty (due (noted none p))) as (λ b. is_nonempty (meet (if b then fresh else noted none p).changed named) ≡ false)
+    [ true ↦ refl | false ↦ ap (λ (s : Subsystems). is_nonempty (meet s named)) (union_none p.changed) ∙ e ]
+
+one_waits : (n : ℕ) (named : Subsystems) (client : Client) (ks : List Client) → Rising ks → client_of n ks ≡ Some client
+    → is_nonempty (meet client.pending.changed named) ≡ false → (k : Client) → IsIn k ks → IsSettled (at n (waits named) (notified none k))
+one_waits n named client ks rising is nothing k among =
+    let heard : Client = notified none k in
+    let cases : (b : Bool) → (k.number == n) ≡ b → is_nonempty (due (if b then record heard { pending = waits named heard.pending } else heard).pending) ≡ false =
+    λ b. elim b as (λ b. (k.number == n) ≡ b → is_nonempty (due (if b then record heard { pending = waits named heard.pending } else heard).pending) ≡ false) [
+      | true ↦ λ e.
+          let both : Some k ≡ Some client = sym (found k ks rising among) ∙ ap (λ (x : ℕ). client_of x ks) (eqb-true k.number n e) ∙ is in
+          let same : k ≡ client = cc in
+          nothing_due k.pending named (ap (λ (c : Client). is_nonempty (meet c.pending.changed named)) same ∙ nothing)
+      | false ↦ λ e. notified_settled none k
+    ] in
+    cases (k.number == n) refl
+
+all_in : (f g : Client → Client) (ks : List Client) → ((k : Client) → IsIn k ks → IsSettled (f (g k))) → AllSettled (map f (map g ks))
+all_in f g [] each = tt
+all_in f g (k ∷ ks) each = (each k (inl refl), all_in f g ks (λ c among. each c (inr among)))
+
+module _ (part : Part) (songs : List SongData) (ks : List Client) (event : Event) (rising : Rising ks) where
+  abbrev t : Turn
+  t = turn_of part songs ks event
+
+  -- the clients once one of them waits, after the turn by which it does
+  abbrev Waiting : ℕ → Subsystems → Turn → Type 0
+  Waiting n names u = AllSettled (map (at n (waits names)) (map (notified (raised_by part u)) (staying n u.said ks)))
+
+  idle_is : (a : IsAsking ks event) → t ≡ turn_idle part a.client a.named
+  idle_is a =
+      ap (turn_of part songs ks) a.is
+      ∙ ap (λ (o : Option Client). turn_line part songs o (Run (Idle a.named))) a.found
+      ∙ ap (λ (w : Option Subsystems). if is_some w && true then only part turned_away else turn_idle part a.client a.named) a.free
+
+  -- a client waits only where nothing of what it names is pending for it
+  asked : (a : IsAsking ks event) (names : Subsystems) → move_of t.said ≡ Wait names → Waiting (speaker event) names t
+  asked a names moves =
+      let d : Subsystems = meet a.client.pending.changed a.named in
+      let answers : Bool → Turn = λ b. only part (idles a.named (if b then Some d else None)) in
+      let cases : (b : Bool) → is_nonempty d ≡ b → t ≡ answers b → Waiting (speaker event) names t =
+      λ b. elim b as (λ b. is_nonempty d ≡ b → t ≡ answers b → Waiting (speaker event) names t) [
+        | true ↦ λ e is. (let clash : Learn ≡ Wait names = sym (ap (λ (u : Turn). move_of u.said) is) ∙ moves in cc)
+        | false ↦ λ e is.
+            let named : Wait a.named ≡ Wait names = sym (ap (λ (u : Turn). move_of u.said) is) ∙ moves in
+            let same : a.named ≡ names = cc in
+            let number : a.number ≡ speaker event = sym (ap speaker a.is) in
+            let each : AllSettled (map (at a.number (waits a.named)) (map (notified none) ks)) =
+            all_in (at a.number (waits a.named)) (notified none) ks (one_waits a.number a.named a.client ks rising a.found e) in
+            let heard : Waiting a.number a.named (answers false) =
+            subst (λ (r : Subsystems). AllSettled (map (at a.number (waits a.named)) (map (notified r) ks))) (sym (only_raises part (idles a.named None))) each in
+            subst (Waiting (speaker event) names) (sym is)
+            (subst (λ (x : ℕ). Waiting x names (answers false)) number (subst (λ (s : Subsystems). Waiting a.number s (answers false)) same heard))
+      ] in
+      cases (is_nonempty d) refl (idle_is a)
+
+  pub settled_after : AllSettled (clients_after (speaker event) (raised_by part t) t.said ks)
+  settled_after =
+      settled_moved (speaker event) (move_of t.said) (map (notified (raised_by part t)) (staying (speaker event) t.said ks))
+      (λ names moves. elim (kind_of part songs ks event) [ inl quiet ↦ absurd (quiet_unwaiting (move_of t.said) names quiet moves) | inr a ↦ asked a names moves ])
+      (all_notified (raised_by part t) (staying (speaker event) t.said ks))
+
+next_settled : (seat : ℕ) (i : Image) (event : Event) → Rising i.clients → Rising (next_image seat i event).clients × AllSettled (next_image seat i event).clients
+unfolding next_image
+next_settled seat i event rising =
+    let t : Turn = turn i event in
+    (rising_after (speaker event) (raised_by i.part t) t.said i.clients rising, settled_after i.part i.shared.songs i.clients event rising)
+
+-- over every history
+pub replay_settled : (hs : List Happened) (i : Image) → Rising i.clients → AllSettled i.clients → AllSettled (replay i hs).clients
+replay_settled [] i rising all = all
+replay_settled (h ∷ hs) i rising all =
+    let next = next_settled h.seat i h.event rising in
+    replay_settled hs (next_image h.seat i h.event) next.0 next.1
+
+noted_none : (p : Pending) → noted none p ≡ p
+noted_none p = ap (λ (s : Subsystems). record p { changed = s }) (union_none p.changed)
+
+same_one : (k : Client) → IsSettled k → notified none k ≡ k
+same_one k one =
+    ap (λ (p : Pending). record k { pending = settled p }) (noted_none k.pending)
+    ∙ ap (λ (b : Bool). record k { pending = if b then fresh else k.pending }) one
+
+-- where nothing is raised, settled clients are as they were
+pub same_clients : (ks : List Client) → AllSettled ks → map (notified none) ks ≡ ks
+same_clients [] all = refl
+same_clients (k ∷ ks) all = λ i. same_one k all.0 i ∷ same_clients ks all.1 i
+
+unheard_one : (k : Client) → IsSettled k → notice_for none k ≡ []
+unheard_one k one =
+    ap (λ (p : Pending). notice_to k.number (notice_of p)) (noted_none k.pending)
+    ∙ ap (λ (b : Bool). notice_to k.number (if b then Some (due k.pending) else None)) one
+
+-- and none of them is told
+pub no_notices : (ks : List Client) → AllSettled ks → flat_map (notice_for none) ks ≡ []
+no_notices [] all = refl
+no_notices (k ∷ ks) all = ap (λ l. l ++ flat_map (notice_for none) ks) (unheard_one k all.0) ∙ no_notices ks all.1
+
+or_parts : (a b : Bool) → (a || b) ≡ false → (a ≡ false) × (b ≡ false)
+or_parts true b e = cc
+or_parts false b e = (refl, e)
+
+-- a set without members is the empty one
+pub is_none : (s : Subsystems) → is_nonempty s ≡ false → s ≡ none
+is_none s e =
+    let a = or_parts _ _ e in
+    let b = or_parts _ _ a.0 in
+    let c = or_parts _ _ b.0 in
+    let d = or_parts _ _ c.0 in
+    let f = or_parts _ _ d.0 in
+    let g = or_parts _ _ f.0 in
+    let h = or_parts _ _ g.0 in
+    let j = or_parts _ _ h.0 in
+    let k = or_parts _ _ j.0 in
+    let l = or_parts _ _ k.0 in
+    λ i. record {
+      database = l.0 i;
+      update = l.1 i;
+      stored_playlist = k.1 i;
+      playlist = j.1 i;
+      player = h.1 i;
+      mixer = g.1 i;
+      output = f.1 i;
+      options = d.1 i;
+      sticker = c.1 i;
+      subscription = b.1 i;
+      message = a.1 i;
+    }
+
+-- where fewer wait there are no more notices
+pub fewer_wanted : (raised : Subsystems) (number : ℕ) (ks : List Client) → most_notices raised (filter (is_other number) ks) ≤ most_notices raised ks
+fewer_wanted raised number ks =
+    let less : count_by is_waiting (filter (is_other number) ks) ≤ count_by is_waiting ks = fewer_wait number ks in
+    elim (is_nonempty raised) as (λ b. (if b then count_by is_waiting (filter (is_other number) ks) else 0) ≤ (if b then count_by is_waiting ks else 0))
+    [ true ↦ less | false ↦ omega arith ]
+
+-- no more notices than clients that wait, and none where nothing is raised
+pub no_room : (event : Event) (ks : List Client) (may : Bool) → (may ≡ false → RaisesNothing event) → MayTell event ks (if may then count_by is_waiting ks else 0)
+no_room event ks true raises part songs =
+    elim (is_nonempty (raised_by part (turn_of part songs ks event))) as (λ b. (if b then count_by is_waiting ks else 0) ≤ count_by is_waiting ks)
+    [ true ↦ omega arith | false ↦ omega arith ]
+no_room event ks false raises part songs = subst (λ (r : Subsystems). most_notices r ks ≤ 0) (sym (raises refl part songs ks)) (omega arith)
+
+-- a line whose request changes nothing raises nothing
+pub line_raises : (number : ℕ) (request : Request) → ChangesNothing request → RaisesNothing (Line number request)
+line_raises number request nothing part songs clients =
+    elim (client_of number clients) as (λ o. raised_by part (turn_line part songs o request) ≡ none) [
+      | None ↦ only_raises part turned_away
+      | Some k ↦
+          elim (is_some k.pending.waiting && not (ends_waiting request))
+          as (λ b. raised_by part (if b then only part turned_away else turn_request part songs k request) ≡ none)
+          [ true ↦ only_raises part turned_away | false ↦ nothing part songs k ]
+    ]
+
+pub connect_raises : (number : ℕ) → RaisesNothing (Connect number)
+connect_raises number part songs clients = only_raises part (said_to_new clients number)
+
+pub disconnect_raises : (number : ℕ) → RaisesNothing (Disconnect number)
+disconnect_raises number part songs clients = only_raises part turned_away
+
+pub refused_changes : (ack : Ack) → ChangesNothing (Refused ack)
+refused_changes ack part songs client = only_raises part (goes_on (refusal ack.number ack.command ack.text))
+
+-- the commands that read
+abbrev pub Reads : Command → Type 0
+Reads command =
+    (command ≡ GetVol) ⊎ (((named : Subsystems) × (command ≡ Idle named)) ⊎ ((command ≡ NoIdle) ⊎ ((command ≡ Ping) ⊎ (((version : ℕ) × (command ≡ PlChangesPosId version)) ⊎ (command ≡ Status)))))
+
+is_read : (command read : Command) → command ≡ read → ChangesNothing (Run read) → ChangesNothing (Run command)
+is_read command read e nothing = subst (λ (x : Command). ChangesNothing (Run x)) (sym e) nothing
+
+pub reads_change : (command : Command) → Reads command → ChangesNothing (Run command)
+reads_change command (inl e) = is_read command GetVol e (λ part songs client. only_raises part (turn_command part songs client GetVol).said)
+reads_change command (inr (inl e)) = is_read command (Idle e.0) e.1 (λ part songs client. only_raises part (turn_command part songs client (Idle e.0)).said)
+reads_change command (inr (inr (inl e))) = is_read command NoIdle e (λ part songs client. only_raises part (turn_command part songs client NoIdle).said)
+reads_change command (inr (inr (inr (inl e)))) = is_read command Ping e (λ part songs client. only_raises part (turn_command part songs client Ping).said)
+reads_change command (inr (inr (inr (inr (inl e))))) = is_read command (PlChangesPosId e.0) e.1 (λ part songs client. only_raises part (turn_command part songs client (PlChangesPosId e.0)).said)
+reads_change command (inr (inr (inr (inr (inr e))))) = is_read command Status e (λ part songs client. only_raises part (turn_command part songs client Status).said)

@@ -1,8 +1,0 @@
-use Rattle.std.proofs.Common.{arith}
-use Rattle.std.proofs.lemmas.Grind.{common_steps}
-use Rattle.std.proofs.lemmas.List.Edits.{map_over_more}
-use Rattle.partition.specs.Clients.{hears}
-use Rattle.partition.proofs.clients.hear_all.Goals as goal
-
-pub loop-client-preserved : goal.loop-client-preserved
-loop-client-preserved c = rw c.heard.ensures (grind (arith, common_steps, map_over_more (hears c.args.raised)))

@@ -1,0 +1,123 @@
+-- What an event raises, and whom it tells, said of the worlds before and after it and of the moments before it (MPD
+-- protocol reference, Querying MPD's status, `idle`; that a notice clears also what was not named is this profile's).
+use Rattle.std.specs.Prelude.{◌≡◌, ◌≢◌, ◌↔◌, ◌⊎◌, ◌<◌, ℕ, true, List, [], ◌∷◌, ◌++◌, reverse, map, Option, Some, None, codes}
+use Rattle.idle_notes.specs.declared.sets.Subsystems.{Subsystems}
+use Rattle.idle_notes.specs.declared.subsystem.Subsystem.{Subsystem}
+use Rattle.idle_notes.specs.Names.{changed_lines}
+use Rattle.idle_notes.specs.Sets.{has}
+use Rattle.partition.specs.declared.command.Command.TheVariants.{Idle}
+use Rattle.partition.specs.declared.command.Request.TheVariants.{Run}
+use Rattle.partition.specs.declared.event.Event.{Event}
+use Rattle.partition.specs.declared.event.Event.TheVariants.{Line}
+use Rattle.partition.specs.declared.event.Happened.{Happened}
+use Rattle.partition.specs.declared.event.Next.TheVariants.{Goes, Waits}
+use Rattle.partition.specs.declared.event.Notice.{Notice}
+use Rattle.partition.specs.Answers.{Told}
+use Rattle.partition.specs.Step.{speaker}
+use Rattle.partition.specs.World.{World, Moment, PartDiffers, IsPending, is_told, raised_at}
+
+-- two worlds are one but for who is there and who waits
+abbrev pub AgreeButForClients : World → World → Type 0
+AgreeButForClients before after = after ≡ record before { clients = after.clients }
+
+-- A subsystem is raised exactly where its part differs. Where no part differs the worlds agree in all but their clients, so
+-- that whatever an event changes has a part that speaks of it.
+pub record Raises (moment : Moment) : Type 0 where
+  pub each : (subsystem : Subsystem) → (has (raised_at moment) subsystem ≡ true) ↔ PartDiffers subsystem moment.before moment.after
+  pub all : ((subsystem : Subsystem) → PartDiffers subsystem moment.before moment.after → ⊥) → AgreeButForClients moment.before moment.after
+
+-- it is one of these
+abbrev pub IsIn : {A : Type 0} → A → List A → Type 0
+IsIn x [] = ⊥
+IsIn x (y ∷ ys) = (y ≡ x) ⊎ IsIn x ys
+
+-- a client is there, and waits for these
+abbrev pub WaitsFor : ℕ → Subsystems → World → Type 0
+WaitsFor number named w = IsIn (record { number = number; waiting = Some named }) w.clients
+
+-- a client is there, and does not wait
+abbrev pub WaitsNot : ℕ → World → Type 0
+WaitsNot number w = IsIn (record { number = number; waiting = None }) w.clients
+
+abbrev pub IsThere : ℕ → World → Type 0
+IsThere number w = (waiting : Option Subsystems) × IsIn (record { number = number; waiting = waiting }) w.clients
+
+-- by this moment a subsystem changed for a client: it was pending before, or its part differs now
+abbrev pub HasChanged : ℕ → Subsystem → Moment → List Moment → Type 0
+HasChanged number subsystem moment earlier = IsPending number subsystem earlier ⊎ PartDiffers subsystem moment.before moment.after
+
+-- these are the subsystems of a named set that changed for a client, and there is one
+pub record Meets (number : ℕ) (named names : Subsystems) (moment : Moment) (earlier : List Moment) : Type 0 where
+  pub each : (subsystem : Subsystem) → (has names subsystem ≡ true) ↔ ((has named subsystem ≡ true) × HasChanged number subsystem moment earlier)
+  pub some : (subsystem : Subsystem) × (has names subsystem ≡ true)
+
+-- a client waited before the event and stays, and these are what changed of what it waits for
+pub record HasNews (number : ℕ) (names : Subsystems) (moment : Moment) (earlier : List Moment) : Type 0 where
+  pub named : Subsystems
+  pub waited : WaitsFor number named moment.before
+  pub stays : IsThere number moment.after
+  pub meets : Meets number named names moment earlier
+
+abbrev pub IsSent : ℕ → Subsystems → Moment → Type 0
+IsSent number names moment = IsIn (record { client = number; names = names }) moment.notices
+
+-- after the event the client does not wait, and nothing is pending for it
+pub record IsClear (number : ℕ) (moment : Moment) (earlier : List Moment) : Type 0 where
+  pub waits : WaitsNot number moment.after
+  pub pending : (subsystem : Subsystem) → IsPending number subsystem (moment ∷ earlier) → ⊥
+
+-- every notice is for a client above this
+abbrev pub AllBeyond : ℕ → List Notice → Type 0
+AllBeyond number [] = Unit {0}
+AllBeyond number (notice ∷ notices) = (number < notice.client) × AllBeyond number notices
+
+-- notices are in the order of their clients, and none has two
+abbrev pub NoticesRise : List Notice → Type 0
+NoticesRise [] = Unit {0}
+NoticesRise (notice ∷ notices) = AllBeyond notice.client notices × NoticesRise notices
+
+-- a client that did not wait asks what changed of these
+pub record Asks (number : ℕ) (named : Subsystems) (moment : Moment) : Type 0 where
+  pub event : moment.event ≡ Line number (Run (Idle named))
+  pub free : WaitsNot number moment.before
+
+-- a client was told what changed: by a notice, or as the answer to its `idle`
+abbrev pub IsToldNews : ℕ → Moment → List Moment → Type 0
+IsToldNews number moment earlier =
+    ((names : Subsystems) × IsSent number names moment)
+    ⊎ ((named : Subsystems) × (names : Subsystems) × Asks number named moment × Meets number named names moment earlier)
+
+-- Whom a moment tells. A notice goes to a client exactly where it waited and stays, and something changed of what it waits
+-- for; the notice names that; then the client waits no more and nothing is pending for it. Notices are in the order of their clients. A
+-- client that is sent none waits on, if the event is another's. A client that asks by `idle` gets what changed as its answer,
+-- with nothing pending after it; where nothing changed it waits, without an answer. No other client begins to wait, and no
+-- other event counts as the last notice of a client.
+pub record Tells (moment : Moment) (earlier : List Moment) : Type 0 where
+  pub sent : (number : ℕ) (names : Subsystems) → IsSent number names moment ↔ HasNews number names moment earlier
+  pub clear : (number : ℕ) (names : Subsystems) → IsSent number names moment → IsClear number moment earlier
+  pub rising : NoticesRise moment.notices
+  pub waits_on : (number : ℕ) (named : Subsystems) → number ≢ speaker moment.event → WaitsFor number named moment.before
+      → ((names : Subsystems) → IsSent number names moment → ⊥) → WaitsFor number named moment.after
+  pub answered : (number : ℕ) (named names : Subsystems) → Asks number named moment → Meets number named names moment earlier
+      → (moment.turn.said.answer ≡ record { text = changed_lines names ++ codes "OK\n"; next = Goes }) × IsClear number moment earlier
+  pub waits : (number : ℕ) (named : Subsystems) → Asks number named moment
+      → ((subsystem : Subsystem) → has named subsystem ≡ true → HasChanged number subsystem moment earlier → ⊥)
+      → (moment.turn.said.answer ≡ record { text = []; next = Waits }) × WaitsFor number named moment.after
+  pub begins : (number : ℕ) (named : Subsystems) → WaitsFor number named moment.after → WaitsFor number named moment.before ⊎ Asks number named moment
+  pub told : (number : ℕ) → is_told number moment ≡ true → IsToldNews number moment earlier
+
+-- at each moment, with the moments before it
+abbrev pub EachMoment : (Moment → List Moment → Type 0) → List Moment → Type 0
+EachMoment P [] = Unit {0}
+EachMoment P (moment ∷ earlier) = P moment earlier × EachMoment P earlier
+
+-- an event, and what clients heard at it
+abbrev pub heard_at : Moment → Event × Told
+heard_at moment = (moment.event, record { answer = moment.turn.said.answer; notices = moment.notices })
+
+abbrev pub heard_then : Happened → Event × Told
+heard_then happened = (happened.event, happened.told)
+
+-- the events of a history, and what was told at each, are those of the moments, the latest of which is first
+abbrev pub AreHeard : List Moment → List Happened → Type 0
+AreHeard moments history = map heard_at (reverse moments) ≡ map heard_then history

@@ -1,0 +1,11 @@
+//! Tests of the queue, the player of one thread, and whole scripts.
+#![tactic(auto)]
+
+#[cfg(test)]
+mod long_session;
+#[cfg(test)]
+mod player;
+#[cfg(test)]
+mod queue;
+#[cfg(test)]
+mod script;

@@ -1,0 +1,153 @@
+//! Worked values of the sample kernels, and blocks of the greatest size.
+ghost use Rattle.std.specs.Prelude.{◌≡◌, length};
+
+use pcm_mix::{Channels, Depth, fade, from_bytes, gain, to_bytes};
+use std::test::Fail;
+
+const FULL: [i16; 2] = [-32768, 32767];
+
+// volume, frame, what it becomes
+const GAINS: [(u8, [i16; 2], [i16; 2]); 8] = [
+    (50, [-3, 3], [-1, 1]),
+    (0, FULL, [0, 0]),
+    (1, FULL, [-327, 327]),
+    (99, FULL, [-32440, 32439]),
+    (100, FULL, FULL),
+    (99, [-1, 1], [0, 0]),
+    (1, [-99, 100], [0, 1]),
+    (33, [-200, 10], [-66, 3]),
+];
+
+#[test]
+fn volumes(rt: HostRuntime) {
+    for (volume, before, after) in GAINS {
+        let mut frames = [before, [0, 0], before];
+        gain(&mut frames, volume);
+        assert_eq!(rt; frames, [after, [0, 0], after], "at {volume}");
+    }
+}
+
+#[test]
+fn fades(rt: HostRuntime) {
+    let mut frames = [[100, 100]; 4];
+    fade(&mut frames, &[[-100, 0]; 4], 0, 4);
+    assert_eq!(rt; frames, [[100, 100], [50, 75], [0, 50], [-50, 25]]);
+
+    let mut shortest = [FULL];
+    fade(&mut shortest, &[[7, 8]], 0, 1);
+    assert_eq!(rt; shortest, [FULL]);
+
+    // the last three frames of the longest fade, 3,600 seconds at 192,000 frames a second
+    let mut longest = [FULL; 3];
+    fade(
+        &mut longest,
+        &[[32767, -32768]; 3],
+        691_199_997,
+        691_200_000,
+    );
+    assert_eq!(rt; longest, [[32766, -32767]; 3]);
+
+    // 2 * -1 / 3 and 2 * 1 / 3 are nearer to zero than to one
+    let mut small = [[0, 0]; 2];
+    fade(&mut small, &[[-1, 1]; 2], 1, 3);
+    assert_eq!(rt; small, [[0, 0], [0, 0]]);
+}
+
+#[test]
+fn frames_from_bytes(rt: HostRuntime) -> Result<(), Fail> {
+    let mut frames = [[9, 9]; 2];
+    from_bytes(
+        &[0, 1, 0, 255, 255, 255, 127],
+        Depth::TwentyFour,
+        Channels::Mono,
+        &mut frames,
+    );
+    assert_eq!(rt; frames, [[1, 1], [-1, -1]]);
+    from_bytes(
+        &[255, 255, 127, 0, 0, 128, 255, 0, 0, 1, 0, 255],
+        Depth::TwentyFour,
+        Channels::Stereo,
+        &mut frames,
+    );
+    assert_eq!(rt; frames, [[32767, -32768], [0, -256]]);
+    from_bytes(
+        &[0, 255, 128, 127],
+        Depth::Eight,
+        Channels::Stereo,
+        &mut frames,
+    );
+    assert_eq!(rt; frames, [[-32768, 32512], [0, -256]]);
+    from_bytes(&[128, 0], Depth::Eight, Channels::Mono, &mut frames);
+    assert_eq!(rt; frames, [[0, 0], [-32768, -32768]]);
+    from_bytes(
+        &[0, 128, 255, 127],
+        Depth::Sixteen,
+        Channels::Mono,
+        &mut frames,
+    );
+    assert_eq!(rt; frames, [[-32768, -32768], [32767, 32767]]);
+    from_bytes(
+        &[1, 0, 255, 255, 0, 1, 0, 255],
+        Depth::Sixteen,
+        Channels::Stereo,
+        &mut frames,
+    );
+    assert_eq!(rt; frames, [[1, -1], [256, -256]]);
+    Ok(())
+}
+
+#[test]
+fn bytes_of_frames(rt: HostRuntime) {
+    let mut bytes = [0; 12];
+    to_bytes(&[[1, -1], [2, -32768], [32767, 256]], &mut bytes);
+    assert_eq!(rt; bytes, [1, 0, 255, 255, 2, 0, 0, 128, 255, 127, 0, 1]);
+}
+
+// The frames of a block are 1 and -1, above low bytes that are dropped.
+#[test]
+fn a_block_of_24_bits(rt: HostRuntime) {
+    let mut bytes = [0u8; 6_144];
+    for place in 0..1_024usize {
+        let at = place * 6;
+        bytes[at..at + 6].copy_from_slice(&[200, 1, 0, 0, 255, 255]);
+    }
+    let mut frames = [[9i16; 2]; 1_024];
+    from_bytes(&bytes, Depth::TwentyFour, Channels::Stereo, &mut frames);
+    assert_eq!(rt; frames, [[1i16, -1]; 1_024]);
+}
+
+#[test]
+fn bytes_of_a_block(rt: HostRuntime) {
+    let mut bytes = [7u8; 4_096];
+    to_bytes(&[[1, -1]; 1_024], &mut bytes);
+    for place in 0..1_024usize {
+        let at = place * 4;
+        assert!(rt; bytes[at..at + 4] == [1, 0, 255, 255], "at {place}");
+    }
+}
+
+#[test]
+fn a_block_at_volumes_100_and_0(rt: HostRuntime) {
+    let mut frames = [FULL; 1_024];
+    gain(&mut frames, 100);
+    assert_eq!(rt; frames, [FULL; 1_024]);
+    gain(&mut frames, 0);
+    assert_eq!(rt; frames, [[0i16; 2]; 1_024]);
+}
+
+// The greatest fade is 3,600 seconds at 192,000 frames a second.
+#[test]
+fn the_ends_of_the_greatest_fade(rt: HostRuntime) {
+    let mut last = [[0i16; 2]; 1_024];
+    fade(
+        &mut last,
+        &[[32_767, -32_768]; 1_024],
+        691_198_976,
+        691_200_000,
+    );
+    assert_eq!(rt; last, [[32_766i16, -32_767]; 1_024]);
+    let mut first = [FULL; 1_024];
+    fade(&mut first, &[[32_767, -32_768]; 1_024], 0, 691_200_000);
+    assert_eq!(rt; first[0], FULL);
+    assert_eq!(rt; first[1_023], [-32_767i16, 32_766]);
+}
