@@ -10,9 +10,10 @@ use Rattle.script_lines.specs.declared.limit.LimitName.TheVariants.{MaxQueue, Ma
 use Rattle.script_lines.specs.declared.step.Step.{Step}
 use Rattle.script_lines.specs.declared.step.Step.TheVariants.{Song, Limit, Gone}
 use Rattle.partition.specs.Answers.{Told}
-use Rattle.partition.specs.Requests.{request_of}
-use Rattle.partition.specs.declared.command.Request.{Request}
+use Rattle.mpd_command.specs.Requests.{request_of}
+use Rattle.mpd_command.specs.declared.request.Request.{Request}
 use Rattle.partition.specs.declared.event.Event.{Event}
+use Rattle.partition.specs.declared.event.Stand.TheVariants.{Alone}
 use Rattle.partition.specs.declared.event.Event.TheVariants.{Connect, Disconnect, Line}
 use Rattle.partition.specs.declared.partition.PartitionFault.{PartitionFault}
 use Rattle.partition.specs.declared.state.Limits.{Limits}
@@ -98,14 +99,14 @@ module _ {P Q : Type 0} (m : PlayerKind P) (n : PlayerKind Q) (R : P → Q → T
       → SameRun R (request_run m p number request fault) (request_run n q number request fault)
   request_same p q number request (Some fault) r = record { player = r; text = refl; connected = refl }
   request_same p q number request None r =
-      record { player = agree.after p q (Line number request) r; text = ap (told_for number) (agree.told p q (Line number request) r); connected = refl }
+      record { player = agree.after p q (Line number Alone request) r; text = ap (told_for number) (agree.told p q (Line number Alone request) r); connected = refl }
 
   -- a request that runs or is refused, by how many events there were
   counted_same : (p : P) (q : Q) (number : ℕ) (line : List ℕ) (ample : Bool) → R p q
-      → SameRun R (request_run m p number (request_of line) (fault_of ample (m.made p))) (request_run n q number (request_of line) (fault_of ample (n.made q)))
+      → SameRun R (request_run m p number (request_of line false) (fault_of ample (m.made p))) (request_run n q number (request_of line false) (fault_of ample (n.made q)))
   counted_same p q number line ample r =
-      subst (λ (made : ℕ). SameRun R (request_run m p number (request_of line) (fault_of ample (m.made p))) (request_run n q number (request_of line) (fault_of ample made)))
-      (agree.made p q r) (request_same p q number (request_of line) (fault_of ample (m.made p)) r)
+      subst (λ (made : ℕ). SameRun R (request_run m p number (request_of line false) (fault_of ample (m.made p))) (request_run n q number (request_of line false) (fault_of ample made)))
+      (agree.made p q r) (request_same p q number (request_of line false) (fault_of ample (m.made p)) r)
 
   line_same : (p : P) (q : Q) (number : ℕ) (line : List ℕ) (memory : Memory) → R p q → SameRun R (line_run m p number line memory) (line_run n q number line memory)
   line_same p q number line Ample r = counted_same p q number line true r

@@ -1,5 +1,5 @@
 -- Two kinds of player: one that has what commands read, and one that has its whole past.
-use Rattle.std.specs.Prelude.{ℕ, Bool, List, [], ◌∷◌, ◌++◌, is_some, slice_index_or}
+use Rattle.std.specs.Prelude.{ℕ, Bool, false, List, [], ◌∷◌, ◌++◌, is_some, slice_index_or}
 use Rattle.mpd_text.specs.Songs.Song.{SongData}
 use Rattle.partition.specs.Answers.{Told}
 use Rattle.partition.specs.History.{own}
@@ -9,7 +9,12 @@ use Rattle.partition.specs.World.{Life, Moment, is_there, image_of, life_after_e
 use Rattle.partition.specs.declared.event.Event.{Event}
 use Rattle.partition.specs.declared.event.Happened.{Happened}
 use Rattle.partition.specs.declared.event.Next.TheVariants.{Goes}
+use Rattle.partition.specs.declared.state.Library.{Library}
 use Rattle.partition.specs.declared.state.Limits.{Limits}
+
+-- a script's songs have 8,000 frames a second
+abbrev pub library_of : List SongData → Library
+library_of songs = record { songs = songs; rate = 8000 }
 
 -- what a script asks of a player: to be opened over a library, whether a client is there, how many events it had, and what
 -- an event makes of it and makes clients hear
@@ -23,7 +28,7 @@ pub record PlayerKind (P : Type 0) : Type 0 where
 -- a player is what commands read: its queue has stamps and marks, and its clients have flags. All events are of seat 0
 abbrev pub images : PlayerKind Image
 images = record {
-  opens = λ limits songs. opening limits songs;
+  opens = λ limits songs. opening limits (library_of songs);
   is_there = λ number i. is_some (client_of number i.clients);
   made = λ i. slice_index_or i.shared.made 0 0;
   after = λ i event. next_image 0 i event;
@@ -37,7 +42,7 @@ pub record Lived : Type 0 where
 
 -- what the latest of these moments made clients hear
 abbrev pub told_at : List Moment → Told
-told_at [] = record { answer = record { text = []; next = Goes }; notices = [] }
+told_at [] = record { answer = record { text = []; next = Goes; refused = false }; notices = [] }
 told_at (moment ∷ moments) = record { answer = moment.turn.said.answer; notices = moment.notices }
 
 abbrev pub lived_after : Lived → Event → Lived
@@ -49,7 +54,7 @@ lived_after lived event =
 -- are of seat 0
 abbrev pub lives : PlayerKind Lived
 lives = record {
-  opens = λ limits songs. record { life = opening_life limits songs; history = [] };
+  opens = λ limits songs. record { life = opening_life limits (library_of songs); history = [] };
   is_there = λ number lived. is_there number lived.life.world;
   made = λ lived. own 0 lived.history;
   after = lived_after;

@@ -11,9 +11,10 @@ use Rattle.script_lines.specs.declared.limit.LimitName.TheVariants.{MaxQueue, Ma
 use Rattle.script_lines.specs.declared.step.Step.{Step}
 use Rattle.script_lines.specs.declared.step.Step.TheVariants.{Song, Limit, Gone}
 use Rattle.partition.specs.Answers.{Answer, Told}
-use Rattle.partition.specs.Commands.{notice_text}
-use Rattle.partition.specs.Requests.{request_of, name_in}
-use Rattle.partition.specs.declared.command.Request.{Request}
+use Rattle.partition.specs.Commands.Status.{notice_text}
+use Rattle.mpd_command.specs.Requests.{request_of, name_in}
+use Rattle.mpd_command.specs.declared.request.Request.{Request}
+use Rattle.partition.specs.declared.event.Stand.TheVariants.{Alone}
 use Rattle.partition.specs.declared.event.Event.TheVariants.{Connect, Disconnect, Line}
 use Rattle.partition.specs.declared.event.Next.{Next}
 use Rattle.partition.specs.declared.event.Next.TheVariants.{Goes, Waits, Closes}
@@ -156,14 +157,14 @@ module _ {P : Type 0} (kind : PlayerKind P) where
   abbrev pub request_run : P → ℕ → Request → Option PartitionFault → LineRun P
   request_run player number request (Some fault) = record { player = player; text = fault_for number (name_in request) fault; connected = true }
   request_run player number request None =
-      record { player = kind.after player (Line number request); text = told_for number (kind.told player (Line number request)); connected = true }
+      record { player = kind.after player (Line number Alone request); text = told_for number (kind.told player (Line number Alone request)); connected = true }
 
   -- the line of a client that is there
   abbrev pub line_run : P → ℕ → List ℕ → Memory → LineRun P
-  line_run player number line Ample = request_run player number (request_of line) (fault_of true (kind.made player))
-  line_run player number line NoneToConnect = request_run player number (request_of line) (fault_of true (kind.made player))
+  line_run player number line Ample = request_run player number (request_of line false) (fault_of true (kind.made player))
+  line_run player number line NoneToConnect = request_run player number (request_of line false) (fault_of true (kind.made player))
   line_run player number line NoneToRead = record { player = player; text = fault_for number [] NoMemory; connected = true }
-  line_run player number line NoneToRun = request_run player number (request_of line) (fault_of false (kind.made player))
+  line_run player number line NoneToRun = request_run player number (request_of line false) (fault_of false (kind.made player))
 
   -- the connect of a client that is not there
   abbrev pub connect_run : P → ℕ → Option PartitionFault → LineRun P

@@ -4,8 +4,9 @@ ghost use Rattle.daemon_script.specs.Kinds.{images};
 ghost use Rattle.daemon_script.specs.Script.{connect_run, fault_for, fault_of, label, client_run, line_run, request_run, lines_for, notice_lines, notices_for, reply_for, told_for};
 
 use crate::memory::Memory;
+use mpd_command::Request;
 use mpd_text::{Answer, ErrorNumber};
-use partition::{Event, Next, Notice, Outcome, Partition, PartitionFault, Reply, Request};
+use partition::{Event, Next, Notice, Outcome, Partition, PartitionFault, Reply, Stand};
 use std::alloc::{AllocError, Global};
 
 /// The one seat of a script's events.
@@ -79,7 +80,7 @@ fn run_connected_line(
     ensures text { IfOk result (λ memory. shown.new.items ≡ shown.old.items ++ (line_run images player.old.present number line.now memory).text) }
     ensures connects { IfOk result (λ memory. memory ≢ Memory.NoneToConnect) }
 {
-    let Ok(request) = Request::of_line(alloc, line) else {
+    let Ok(request) = Request::of_line(alloc, line, false) else {
         push_fault(alloc, shown, number, "", PartitionFault::NoMemory)?;
         return Ok(Memory::NoneToRead);
     };
@@ -102,7 +103,7 @@ fn run_request(
     ensures text { IfOk result (λ ample. shown.new.items ≡ shown.old.items ++ (request_run images player.old.present number request (fault_of ample (images.made player.old.present))).text) }
 {
     let name = request.name();
-    match player.apply(SEAT, Event::Line(number, request)) {
+    match player.apply(SEAT, Event::Line(number, Stand::Alone, request)) {
         Ok(outcome) => {
             push_outcome(alloc, shown, number, &outcome)?;
             Ok(true)

@@ -3,16 +3,16 @@ ghost use Rattle.std.specs.Prelude.{◌≡◌, ◌≤◌, ◌++◌, codes, None,
 ghost use Rattle.mpd_text.specs.Lines.Split.{view as view_of_line};
 ghost use Rattle.song_db.specs.Library.{in_byte_order};
 ghost use Rattle.partition.specs.Image.{opening};
-ghost use Rattle.daemon_script.specs.Kinds.{images};
+ghost use Rattle.daemon_script.specs.Kinds.{images, library_of};
 ghost use Rattle.daemon_script.specs.Pieces.{memory_of};
 ghost use Rattle.daemon_script.specs.Script.{opening_script, shown_of, step_line, collect_line, gone_line, lowers, shown_client, refusal_text, has_uri as has_uri_lem};
 
 use crate::client_lines::{SEAT, push_fault, push_notices, run_line};
 use crate::memory::Memory;
 use mpd_text::{Line, Song, Tag};
-use partition::{Event, Limits, Partition, PartitionFault};
+use partition::{Event, Library, Limits, Partition, PartitionFault};
 use script_lines::{LimitName, MAX_ID, MAX_QUEUE, MAX_VERSION, ScriptLine, Step};
-use song_db::{Db, DbFault, MAX_SONGS};
+use song_db::{Db, DbFault, MAX_SONGS, Rate};
 use std::alloc::{AllocError, Global};
 use std::marker::Model;
 
@@ -172,11 +172,15 @@ impl Script {
 
     /// A player over the songs so far.
     fn opened(&self) -> Result<Partition, AllocError>
-        ensures { IfOk result (λ player. player.present ≡ opening self.now.limits (in_byte_order self.now.songs)) }
+        ensures { IfOk result (λ player. player.present ≡ opening self.now.limits (library_of (in_byte_order self.now.songs))) }
     {
         let songs = copies(self.alloc, &self.songs)?;
         match Db::of_songs(self.alloc, songs) {
-            Ok(songs) => Ok(Partition::open(self.alloc, self.limits, songs)),
+            Ok(songs) => {
+                let rate = Rate::lowest();
+                let library = Library { songs, rate };
+                Ok(Partition::open(self.alloc, self.limits, library))
+            }
             Err(DbFault::NoMemory) => Err(AllocError),
             Err(DbFault::TwiceNamed | DbFault::TooMany) => unreachable!(),
         }

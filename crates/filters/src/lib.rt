@@ -6,7 +6,6 @@ mod matching;
 mod pairs;
 mod place;
 mod reading;
-mod sequence;
 mod stack;
 
 pub use expression::{Field, Filter, Test};

@@ -6,9 +6,8 @@ ghost use Rattle.filters.specs.Machine.{named_of, step as step_lem, opened, clos
 ghost use Rattle.filters.specs.declared.place.Stop.TheVariants.{Syntax, NoMemory};
 
 use crate::expression::{Field, Filter, Test};
-use crate::sequence::Sequence;
 use crate::stack::Stack;
-use mpd_text::{TagName, Text};
+use mpd_text::{Sequence, TagName, Text};
 use std::alloc::{AllocError, AllocFailed, Global};
 
 /// The most parentheses that may be open at once (this profile's).

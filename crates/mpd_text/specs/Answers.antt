@@ -1,3 +1,5 @@
 -- Numbers and the lines of answers.
 pub mod Answer
 pub mod Number
+pub mod Range
+pub mod Millis

@@ -4,3 +4,4 @@ pub mod Split
 pub mod Scan
 pub mod Words
 pub mod Grammar
+pub mod Quoted

@@ -1,31 +1,30 @@
 -- Which events make a client wait, or tell it what changed: `idle` alone.
-use Rattle.std.proofs.Common.{◌≡◌, ◌⊎◌, inl, inr, ℕ, zero, suc, ◌+◌, ◌==◌, Bool, true, false, not, ◌&&◌, ◌||◌, codes, nat_lt, nat_le, List, [], ◌∷◌, Option, Some, None, is_some, length, refl, ap, sym, ◌∙◌, if◌then◌else◌}
+use Rattle.std.proofs.Common.{◌≡◌, ◌⊎◌, inl, inr, ℕ, zero, suc, ◌==◌, Bool, true, false, not, ◌&&◌, codes, nat_lt, nat_le, List, [], ◌∷◌, Option, Some, None, is_some, length, refl, ap, sym, ◌∙◌, if◌then◌else◌}
 use Rattle.std.specs.Prelude.{insert}
 use Rattle.std.specs.List.{list_any, position_or_len}
 use Rattle.std.proofs.lemmas.Bool.{eqb-true}
 use Rattle.idle_notes.specs.declared.sets.Subsystems.{Subsystems}
 use Rattle.idle_notes.specs.Notes.{fresh, waits, cancelled, noted, due}
 use Rattle.idle_notes.specs.Sets.{is_nonempty}
-use Rattle.mpd_text.specs.Songs.Song.{SongData}
-use Rattle.mpd_text.specs.declared.answers.answer.ErrorNumber.TheVariants.{Argument, PlaylistMax}
-use Rattle.song_db.specs.Library.{song_of}
-use Rattle.song_queue.specs.Laws.{Insert, Remove, Swap as SwapOf}
-use Rattle.song_queue.specs.State.{QueueState, queue_of}
-use Rattle.partition.specs.declared.event.Next.TheVariants.{Goes}
-use Rattle.partition.specs.declared.command.Command.TheVariants.{Add, Clear, Delete, GetVol, Idle, NoIdle, Ping, PlChangesPosId, Repeat, SetVol, Status, Swap}
-use Rattle.partition.specs.declared.command.Request.{Request}
-use Rattle.partition.specs.declared.command.Request.TheVariants.{Run, Refused}
+use Rattle.partition.specs.declared.state.Library.{Library}
+use Rattle.mpd_command.specs.declared.command.Command.{Command}
+use Rattle.mpd_command.specs.declared.command.Command.TheVariants.{Idle}
+use Rattle.mpd_command.specs.declared.name.Name.{Name}
+use Rattle.mpd_command.specs.declared.request.Request.{Request}
+use Rattle.mpd_command.specs.declared.request.Request.TheVariants.{Run, Refused}
 use Rattle.partition.specs.declared.event.Event.{Event}
 use Rattle.partition.specs.declared.event.Event.TheVariants.{Connect, Disconnect, Line}
 use Rattle.partition.specs.declared.event.Move.{Move}
 use Rattle.partition.specs.declared.event.Move.TheVariants.{Stay, Wait, Learn, Resume, Join}
+use Rattle.partition.specs.declared.event.Stand.{Stand}
+use Rattle.partition.specs.declared.event.Stand.TheVariants.{Alone, InList}
 use Rattle.partition.specs.declared.state.Client.{Client}
 use Rattle.partition.specs.declared.state.Part.{Part}
-use Rattle.partition.specs.Answers.{Said}
-use Rattle.partition.specs.Clients.{notified, at, moved, move_of}
-use Rattle.partition.specs.Commands.{add_song, turn_delete, turn_swap, resumes, goes_on, okay, only, refuses, edits}
+use Rattle.partition.specs.Answers.{Answer, Said, refuses, shut, stays, tells}
+use Rattle.partition.specs.Clients.{closes, notified, at, moved, move_of}
+use Rattle.partition.specs.Commands.Status.{Wish, ToWait, ToGoOn, granted, resumes, wish_of}
 use Rattle.partition.specs.Image.{Turn, client_of}
-use Rattle.partition.specs.Step.{turn_of, turn_line, turn_request, turned_away, greeting, ends_waiting}
+use Rattle.partition.specs.Step.{deed_of, ends_by, greeting, quiet, turn_of, turn_line, turn_wished}
 use Rattle.partition.specs.World.{is_learning}
 use Rattle.partition.specs.Notices.{IsIn}
 use Rattle.partition.proofs.Members.{of_map}
@@ -53,6 +52,10 @@ quiet_unwaiting Learn names q e = q
 quiet_unwaiting Resume names q e = cc
 quiet_unwaiting Join names q e = cc
 
+-- an answer to a client that makes no move
+quiet_stays : (answer : Answer) → Quiet (move_of (stays answer))
+quiet_stays answer = elim (closes answer.next) as (λ b. Quiet (if b then Stay else Stay)) [ true ↦ tt | false ↦ tt ]
+
 quiet_if : (b : Bool) (x y : Turn) → Quiet (move_of x.said) → Quiet (move_of y.said) → Quiet (move_of (if b then x else y).said)
 quiet_if true x y p q = p
 quiet_if false x y p q = q
@@ -61,74 +64,77 @@ quiet_said : (b : Bool) (x y : Said) → Quiet (move_of x) → Quiet (move_of y)
 quiet_said true x y p q = p
 quiet_said false x y p q = q
 
-quiet_add : (part : Part) (queue : QueueState) (song : Option SongData) → Quiet (move_of (add_song part queue song).said)
-quiet_add part queue None = tt
-quiet_add part queue (Some song) =
-    let ids : Bool = nat_lt queue.max_id (queue.greatest_id + 1) in
-    let none : Turn = refuses part PlaylistMax (codes "add") (codes "no more song ids") in
-    let added : Turn = edits part (Insert (length (queue_of queue)) (song ∷ [])) in
-    quiet_if (nat_lt queue.max_len (length (queue_of queue) + 1)) (refuses part PlaylistMax (codes "add") (codes "playlist is full"))
-    (if ids then none else added) tt (quiet_if ids none added tt tt)
-
-quiet_delete : (part : Part) (place : ℕ) → Quiet (move_of (turn_delete part place).said)
-quiet_delete part place =
-    quiet_if (nat_le (length (queue_of part.queue)) place) (refuses part Argument (codes "delete") (codes "bad song index")) (edits part (Remove place (place + 1))) tt tt
-
-quiet_swap : (part : Part) (first second : ℕ) → Quiet (move_of (turn_swap part first second).said)
-quiet_swap part first second =
-    quiet_if (nat_le (length (queue_of part.queue)) first || nat_le (length (queue_of part.queue)) second)
-    (refuses part Argument (codes "swap") (codes "bad song index")) (edits part (SwapOf first second)) tt tt
-
 quiet_resumes : (client : Client) → Quiet (move_of (resumes client))
-quiet_resumes client = quiet_said (is_some client.pending.waiting) (record { answer = record { text = okay; next = Goes }; move = Resume }) (goes_on []) tt tt
+quiet_resumes client = quiet_said (is_some client.pending.waiting) (record { answer = tells (codes "OK\n"); move = Resume }) (stays (tells (codes ""))) tt tt
 
--- a client that is there and does not wait asks by `idle`
+-- a client that is there and does not wait asks by `idle`, alone in its line
 pub record IsAsking (clients : List Client) (event : Event) : Type 0 where
   pub number : ℕ
   pub named : Subsystems
+  pub name : Name
+  pub command : Command
   pub client : Client
-  pub is : event ≡ Line number (Run (Idle named))
+  pub is : event ≡ Line number Alone (Run name command)
+  pub wish : wish_of command ≡ Some (ToWait named)
   pub found : client_of number clients ≡ Some client
   pub free : client.pending.waiting ≡ None
 
-quiet_line : (part : Part) (songs : List SongData) (k : Client) (request : Request) → Quiet (move_of (turn_request part songs k request).said)
-    → Quiet (move_of (turn_line part songs (Some k) request).said)
-quiet_line part songs k request q =
-    quiet_if (is_some k.pending.waiting && not (ends_waiting request)) (only part turned_away) (turn_request part songs k request) tt q
+-- of all commands `idle` alone is a wish to wait
+pub wish_is : (command : Command) (named : Subsystems) → wish_of command ≡ Some (ToWait named) → command ≡ Idle named
+wish_is (Idle more) named e = cc
+wish_is _ named e = cc
 
-kind_of_line : (part : Part) (songs : List SongData) (clients : List Client) (number : ℕ) (k : Client) (request : Request) → client_of number clients ≡ Some k
-    → Quiet (move_of (turn_line part songs (Some k) request).said) ⊎ IsAsking clients (Line number request)
-kind_of_line part songs clients number k (Run (Add uri)) e = inl (quiet_line part songs k (Run (Add uri)) (quiet_add part part.queue (song_of songs uri.0)))
-kind_of_line part songs clients number k (Run Clear) e = inl (quiet_line part songs k (Run Clear) tt)
-kind_of_line part songs clients number k (Run (Delete place)) e = inl (quiet_line part songs k (Run (Delete place)) (quiet_delete part place))
-kind_of_line part songs clients number k (Run GetVol) e = inl (quiet_line part songs k (Run GetVol) tt)
-kind_of_line part songs clients number k (Run (Idle named)) e =
-    let cases : (w : Option Subsystems) → k.pending.waiting ≡ w → Quiet (move_of (turn_line part songs (Some k) (Run (Idle named))).said) ⊎ IsAsking clients (Line number (Run (Idle named))) =
-    λ w. elim w as (λ w. k.pending.waiting ≡ w → Quiet (move_of (turn_line part songs (Some k) (Run (Idle named))).said) ⊎ IsAsking clients (Line number (Run (Idle named)))) [
-      | None ↦ λ free. inr (record { number = number; named = named; client = k; is = refl; found = e; free = free })
-      | Some more ↦ λ waits_more. inl (rw waits_more tt)
-    ] in
-    cases k.pending.waiting refl
-kind_of_line part songs clients number k (Run NoIdle) e = inl (quiet_line part songs k (Run NoIdle) (quiet_resumes k))
-kind_of_line part songs clients number k (Run Ping) e = inl (quiet_line part songs k (Run Ping) tt)
-kind_of_line part songs clients number k (Run (PlChangesPosId version)) e = inl (quiet_line part songs k (Run (PlChangesPosId version)) tt)
-kind_of_line part songs clients number k (Run (Repeat on)) e = inl (quiet_line part songs k (Run (Repeat on)) tt)
-kind_of_line part songs clients number k (Run (SetVol volume)) e = inl (quiet_line part songs k (Run (SetVol volume)) tt)
-kind_of_line part songs clients number k (Run Status) e = inl (quiet_line part songs k (Run Status) tt)
-kind_of_line part songs clients number k (Run (Swap first second)) e = inl (quiet_line part songs k (Run (Swap first second)) (quiet_swap part first second))
-kind_of_line part songs clients number k (Refused ack) e = inl (quiet_line part songs k (Refused ack) tt)
+-- what a client that does not wait is answered when it asks
+abbrev pub turn_idle : Part → Client → Subsystems → Turn
+turn_idle part client named = quiet part (granted client (ToWait named))
+
+module _ (part : Part) (library : Library) (clients : List Client) (number : ℕ) (k : Client) (is_there : client_of number clients ≡ Some k) where
+  -- a line of a client that is there: it is closed, or this is done
+  abbrev line : Bool → Turn → Turn
+  line ends done = if is_some k.pending.waiting && not ends then quiet part (stays shut) else done
+
+  quiet_line : (ends : Bool) (done : Turn) → Quiet (move_of done.said) → Quiet (move_of (line ends done).said)
+  quiet_line ends done q = quiet_if (is_some k.pending.waiting && not ends) (quiet part (stays shut)) done tt q
+
+  module _ (name : Name) (command : Command) where
+    abbrev run : Stand → Option Wish → Turn
+    run stand wish = turn_wished (record { name = name; stand = stand }) part k (deed_of (record { name = name; stand = stand }) part library command) wish
+
+    abbrev Kind : Stand → Option Wish → Type 0
+    Kind stand wish = Quiet (move_of (line (ends_by stand wish) (run stand wish)).said) ⊎ IsAsking clients (Line number stand (Run name command))
+
+    asking : (named : Subsystems) → wish_of command ≡ Some (ToWait named) → Kind Alone (Some (ToWait named))
+    asking named e =
+        let cases : (w : Option Subsystems) → k.pending.waiting ≡ w → Kind Alone (Some (ToWait named)) =
+        λ w. elim w as (λ w. k.pending.waiting ≡ w → Kind Alone (Some (ToWait named))) [
+          | None ↦ λ free. inr (record { number = number; named = named; name = name; command = command; client = k; is = refl; wish = e; found = is_there; free = free })
+          | Some more ↦ λ waits_more. inl (rw waits_more tt)
+        ] in
+        cases k.pending.waiting refl
+
+    kind_of_wish : (stand : Stand) (wish : Option Wish) → wish_of command ≡ wish → Kind stand wish
+    kind_of_wish stand None e = inl (quiet_line (ends_by stand None) (run stand None) (quiet_stays (deed_of (record { name = name; stand = stand }) part library command).answer))
+    kind_of_wish Alone (Some (ToWait named)) e = asking named e
+    kind_of_wish Alone (Some ToGoOn) e = inl (quiet_line true (run Alone (Some ToGoOn)) (quiet_resumes k))
+    kind_of_wish (InList form place) (Some wish) e = inl (quiet_line false (run (InList form place) (Some wish)) tt)
+
+  kind_of_line : (stand : Stand) (request : Request) → Quiet (move_of (turn_line part library (Some k) stand request).said) ⊎ IsAsking clients (Line number stand request)
+  kind_of_line Alone (Run name command) = kind_of_wish name command Alone (wish_of command) refl
+  kind_of_line (InList form place) (Run name command) = kind_of_wish name command (InList form place) (wish_of command) refl
+  kind_of_line Alone (Refused ack) = inl (quiet_line false (quiet part (stays (refuses Alone ack.command ack.number ack.text))) tt)
+  kind_of_line (InList form place) (Refused ack) = inl (quiet_line false (quiet part (stays (refuses (InList form place) ack.command ack.number ack.text))) tt)
 
 -- each event makes a quiet move, or is `idle`
-pub kind_of : (part : Part) (songs : List SongData) (clients : List Client) (event : Event)
-    → Quiet (move_of (turn_of part songs clients event).said) ⊎ IsAsking clients event
-kind_of part songs clients (Connect number) =
+pub kind_of : (part : Part) (library : Library) (clients : List Client) (event : Event)
+    → Quiet (move_of (turn_of part library clients event).said) ⊎ IsAsking clients event
+kind_of part library clients (Connect number) =
     let full : Bool = nat_le 64 (length clients) in
-    inl (quiet_said (is_some (client_of number clients)) (goes_on []) (if full then turned_away else greeting) tt (quiet_said full turned_away greeting tt tt))
-kind_of part songs clients (Disconnect number) = inl tt
-kind_of part songs clients (Line number request) =
-    let cases : (o : Option Client) → client_of number clients ≡ o → Quiet (move_of (turn_line part songs o request).said) ⊎ IsAsking clients (Line number request) =
-    λ o. elim o as (λ o. client_of number clients ≡ o → Quiet (move_of (turn_line part songs o request).said) ⊎ IsAsking clients (Line number request))
-    [ None ↦ λ e. inl tt | Some k ↦ λ e. kind_of_line part songs clients number k request e ] in
+    inl (quiet_said (is_some (client_of number clients)) (stays (tells (codes ""))) (if full then stays shut else greeting) tt (quiet_said full (stays shut) greeting tt tt))
+kind_of part library clients (Disconnect number) = inl tt
+kind_of part library clients (Line number stand request) =
+    let cases : (o : Option Client) → client_of number clients ≡ o → Quiet (move_of (turn_line part library o stand request).said) ⊎ IsAsking clients (Line number stand request) =
+    λ o. elim o as (λ o. client_of number clients ≡ o → Quiet (move_of (turn_line part library o stand request).said) ⊎ IsAsking clients (Line number stand request))
+    [ None ↦ λ e. inl tt | Some k ↦ λ e. kind_of_line part library clients number k e stand request ] in
     cases (client_of number clients) refl
 
 -- a client that is found is one of them, and has the number

@@ -1,6 +1,6 @@
 -- A history that goes on.
 use Rattle.std.proofs.Common.{◌≡◌, ℕ, List, [], ◌∷◌, ◌++◌, refl, ap, sym, ◌∙◌}
-use Rattle.mpd_text.specs.Songs.Song.{SongData}
+use Rattle.partition.specs.declared.state.Library.{Library}
 use Rattle.partition.specs.declared.event.Event.{Event}
 use Rattle.partition.specs.declared.event.Happened.{Happened}
 use Rattle.partition.specs.declared.state.Limits.{Limits}
@@ -19,17 +19,17 @@ AreTold-append i [] h all e = (e, tt)
 AreTold-append i (g ∷ gs) h all e = (all.0, AreTold-append (next_image g.seat i g.event) gs h all.1 e)
 
 -- an event leaves the library
-pub next-songs : (seat : ℕ) (i : Image) (event : Event) → (next_image seat i event).shared.songs ≡ i.shared.songs
+pub next-library : (seat : ℕ) (i : Image) (event : Event) → (next_image seat i event).shared.library ≡ i.shared.library
 unfolding next_image
-next-songs seat i event = refl
+next-library seat i event = refl
 
 -- a player with its history goes on by one event
-pub goes_on : (limits : Limits) (songs songs' : List SongData) (i i' : Image) (hs hs' : List Happened) (h : Happened)
-    → songs' ≡ songs → i ≡ replay (opening limits songs) hs → AreTold (opening limits songs) hs
+pub goes_on : (limits : Limits) (library library' : Library) (i i' : Image) (hs hs' : List Happened) (h : Happened)
+    → library' ≡ library → i ≡ replay (opening limits library) hs → AreTold (opening limits library) hs
     → i' ≡ next_image h.seat i h.event → h.told ≡ told i h.event → hs' ≡ hs ++ h ∷ []
-    → (i' ≡ replay (opening limits songs') hs') × AreTold (opening limits songs') hs'
-goes_on limits songs songs' i i' hs hs' h same was rightly step tells more =
+    → (i' ≡ replay (opening limits library') hs') × AreTold (opening limits library') hs'
+goes_on limits library library' i i' hs hs' h same was rightly step tells more =
     rw (same, more) (
-      step ∙ ap (λ (j : Image). next_image h.seat j h.event) was ∙ sym (replay-append (opening limits songs) hs h),
-      AreTold-append (opening limits songs) hs h rightly (tells ∙ ap (λ (j : Image). told j h.event) was),
+      step ∙ ap (λ (j : Image). next_image h.seat j h.event) was ∙ sym (replay-append (opening limits library) hs h),
+      AreTold-append (opening limits library) hs h rightly (tells ∙ ap (λ (j : Image). told j h.event) was),
     )

@@ -2,11 +2,11 @@ pub mod Asking
 pub mod Chronicles
 pub mod Counts
 pub mod Flags
+pub mod Gathers
 pub mod Notified
 pub mod Lives
 pub mod Members
 pub mod Moments
-pub mod Names
 pub mod Parts
 pub mod Rows
 pub mod Pending
@@ -14,6 +14,5 @@ pub mod Raised
 pub mod Rises
 pub mod Sends
 pub mod Settled
-pub mod Slashes
 pub mod Tells
 pub mod Worlds

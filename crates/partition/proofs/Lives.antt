@@ -1,7 +1,7 @@
 -- What is true of each moment of a life.
 use Rattle.std.proofs.Common.{◌≡◌, ◌<◌, ◌≤◌, List, [], ◌∷◌, ◌++◌, length, map, reverse, refl, ap, sym, subst, ◌∙◌, append_assoc, append-nil, arith}
 use Rattle.std.proofs.lemmas.List.{map-append, reverse-append}
-use Rattle.mpd_text.specs.Songs.Song.{SongData}
+use Rattle.partition.specs.declared.state.Library.{Library}
 use Rattle.partition.specs.declared.event.Event.{Event}
 use Rattle.partition.specs.declared.event.Happened.{Happened}
 use Rattle.partition.specs.declared.state.Limits.{Limits}
@@ -27,14 +27,14 @@ each_from P holds life done (h ∷ hs) above some rising each =
     (rising-step life done h.event above some rising h) (holds life done h.event above some rising, each)
 
 -- of every history
-pub all_raise : (limits : Limits) (songs : List SongData) (history : List Happened) → 1 ≤ limits.max_version
-    → EachMoment (λ moment earlier. Raises moment) (life_after limits songs history).moments
-all_raise limits songs history above =
-    each_from (λ moment earlier. Raises moment) raises (opening_life limits songs) [] history above (omega arith) tt tt
+pub all_raise : (limits : Limits) (library : Library) (history : List Happened) → 1 ≤ limits.max_version
+    → EachMoment (λ moment earlier. Raises moment) (life_after limits library history).moments
+all_raise limits library history above =
+    each_from (λ moment earlier. Raises moment) raises (opening_life limits library) [] history above (omega arith) tt tt
 
-pub all_tell : (limits : Limits) (songs : List SongData) (history : List Happened) → 1 ≤ limits.max_version
-    → EachMoment Tells (life_after limits songs history).moments
-all_tell limits songs history above = each_from Tells tells (opening_life limits songs) [] history above (omega arith) tt tt
+pub all_tell : (limits : Limits) (library : Library) (history : List Happened) → 1 ≤ limits.max_version
+    → EachMoment Tells (life_after limits library history).moments
+all_tell limits library history above = each_from Tells tells (opening_life limits library) [] history above (omega arith) tt tt
 
 one_heard : (life : Life) (done : List Happened) (h : Happened) → h.told ≡ told (image_of life done) h.event → heard_at (moment_of life done h.event) ≡ heard_then h
 unfolding told
@@ -59,7 +59,7 @@ heard_from life done (h ∷ hs) above some rising told =
     ∙ ap (λ (x : Event × Told). was ++ x ∷ rest) (one_heard life done h told.0)
 
 -- what was told at the events of a history is what their moments tell
-pub all_heard : (limits : Limits) (songs : List SongData) (history : List Happened) → 1 ≤ limits.max_version → AreTold (opening limits songs) history
-    → AreHeard (life_after limits songs history).moments history
-all_heard limits songs history above told =
-    heard_from (opening_life limits songs) [] history above (omega arith) tt (subst (λ (i : Image). AreTold i history) (opens limits songs above) told)
+pub all_heard : (limits : Limits) (library : Library) (history : List Happened) → 1 ≤ limits.max_version → AreTold (opening limits library) history
+    → AreHeard (life_after limits library history).moments history
+all_heard limits library history above told =
+    heard_from (opening_life limits library) [] history above (omega arith) tt (subst (λ (i : Image). AreTold i history) (opens limits library above) told)

@@ -9,8 +9,11 @@ use Rattle.idle_notes.specs.Names.{changed_lines}
 use Rattle.idle_notes.specs.Notes.{waits, notice_of}
 use Rattle.idle_notes.specs.Sets.{union, meet, has, is_nonempty}
 use Rattle.song_queue.specs.Past.{present}
-use Rattle.partition.specs.declared.command.Command.TheVariants.{Idle}
-use Rattle.partition.specs.declared.command.Request.TheVariants.{Run}
+use Rattle.mpd_command.specs.declared.command.Command.{Command}
+use Rattle.mpd_command.specs.declared.command.Command.TheVariants.{Idle}
+use Rattle.mpd_command.specs.declared.request.Request.TheVariants.{Run}
+use Rattle.partition.specs.declared.event.Event.TheVariants.{Line}
+use Rattle.partition.specs.declared.event.Stand.TheVariants.{Alone}
 use Rattle.partition.specs.declared.event.Event.{Event}
 use Rattle.partition.specs.declared.event.Happened.{Happened}
 use Rattle.partition.specs.declared.event.Move.{Move}
@@ -20,12 +23,12 @@ use Rattle.partition.specs.declared.event.Notice.{Notice}
 use Rattle.partition.specs.declared.state.Client.{Client}
 use Rattle.partition.specs.Answers.{Said}
 use Rattle.partition.specs.Clients.{notified, move_of, closes, Rising}
-use Rattle.partition.specs.Commands.{idles, turn_idle}
+use Rattle.partition.specs.Commands.Status.{idles}
 use Rattle.partition.specs.Image.{Image, Turn, client_of}
 use Rattle.partition.specs.Step.{turn, turn_of, turn_line, speaker, raised_by, after_turn, told_by}
 use Rattle.partition.specs.World.{Listener, Moment, Life, PartDiffers, IsPending, raised_at, is_there, is_learning, is_told, begins_anew, pending_for, client_in, listener_of, image_of, past_after, world_after_turn}
 use Rattle.partition.specs.Notices.{Raises, IsIn, WaitsFor, HasChanged, Meets, HasNews, IsSent, IsClear, Asks, IsToldNews, Tells}
-use Rattle.partition.proofs.Asking.{Quiet, quiet_unheard, quiet_unwaiting, IsAsking, kind_of, is_found, of_any, notified_some, does_some, of_moved}
+use Rattle.partition.proofs.Asking.{wish_is, turn_idle, Quiet, quiet_unheard, quiet_unwaiting, IsAsking, kind_of, is_found, of_any, notified_some, does_some, of_moved}
 use Rattle.partition.proofs.Members.{in_map, of_map, any_in, same_sets, has_meet, has_some, is_some}
 use Rattle.partition.proofs.Parts.{raised_differ, agree}
 use Rattle.partition.proofs.Pending.{has_union, has_none, pending_more, reads_pending}
@@ -186,7 +189,7 @@ module _ (life : Life) (done : List Happened) (event : Event) (above : 1 ≤ lif
       let waited : client_of number i.clients ≡ Some (client number (Some told.named)) = found (client number (Some told.named)) i.clients rising was in
       let free : (more : Subsystems) → move_of t.said ≡ Wait more → k.number ≡ n → ⊥ =
       λ more moves same.
-      waiter_moves i.part i.shared.songs i.clients event (client number (Some told.named)) told.named more
+      waiter_moves i.part i.shared.library i.clients event (client number (Some told.named)) told.named more
       (ap (λ (x : ℕ). client_of x i.clients) (sym same ∙ s.3) ∙ waited) refl moves in
       record {
         waits = after_of k number None s.1 s.3 (does_none n r (move_of t.said) (notified r k) (told_none n r k s.2) free);
@@ -220,8 +223,8 @@ module _ (life : Life) (done : List Happened) (event : Event) (above : 1 ≤ lif
 
     turn_is : t ≡ turn_idle i.part k named
     turn_is =
-        ap (turn_of i.part i.shared.songs i.clients) asks.event
-        ∙ ap (λ (o : Option Client). turn_line i.part i.shared.songs o (Run (Idle named))) (found k i.clients rising (listed number None asks.free))
+        ap (turn_of i.part i.shared.library i.clients) asks.event
+        ∙ ap (λ (o : Option Client). turn_line i.part i.shared.library o Alone (Run asks.name (Idle named))) (found k i.clients rising (listed number None asks.free))
 
     pub speaks : n ≡ number
     speaks = ap speaker asks.event
@@ -257,7 +260,7 @@ module _ (life : Life) (done : List Happened) (event : Event) (above : 1 ≤ lif
     heard_none = notified_none n r k refl
 
     pub at_once : (names : Subsystems) → Meets number named names m ms
-        → (t.said.answer ≡ record { text = changed_lines names ++ codes "OK\n"; next = Goes }) × IsClear number m ms
+        → (t.said.answer ≡ record { text = changed_lines names ++ codes "OK\n"; next = Goes; refused = false }) × IsClear number m ms
     at_once names meets =
         let same : names ≡ d =
         same_sets names d (λ x. (λ e. (asked x).1 ((meets.each x).0 e), λ e. (meets.each x).1 ((asked x).0 e))) in
@@ -267,7 +270,7 @@ module _ (life : Life) (done : List Happened) (event : Event) (above : 1 ≤ lif
         let goes : closes t.said.answer.next ≡ false = ap (λ (s : Said). closes s.answer.next) said in
         let free : (more : Subsystems) → move_of t.said ≡ Wait more → (notified r k).number ≡ n → ⊥ =
         λ more waits_more same_number. (let clash : Learn ≡ Wait more = sym moves ∙ waits_more in cc) in (
-          ap (λ (s : Said). s.answer) said ∙ ap (λ (s : Subsystems). record { text = changed_lines s ++ codes "OK\n"; next = Goes }) (sym same),
+          ap (λ (s : Said). s.answer) said ∙ ap (λ (s : Subsystems). record { text = changed_lines s ++ codes "OK\n"; next = Goes; refused = false }) (sym same),
           record {
             waits = after_of k number None (stays goes) refl (does_none n r (move_of t.said) (notified r k) heard_none free);
             pending = nothing_pending number m ms
@@ -277,7 +280,7 @@ module _ (life : Life) (done : List Happened) (event : Event) (above : 1 ≤ lif
         )
 
     pub waits_for : ((x : Subsystem) → has named x ≡ true → HasChanged number x m ms → ⊥)
-        → (t.said.answer ≡ record { text = []; next = Waits }) × WaitsFor number named m.after
+        → (t.said.answer ≡ record { text = []; next = Waits; refused = false }) × WaitsFor number named m.after
     waits_for nothing =
         let cases : (b : Bool) → is_nonempty d ≡ b → is_nonempty d ≡ false =
         λ b. elim b as (λ b. is_nonempty d ≡ b → is_nonempty d ≡ false) [
@@ -312,7 +315,7 @@ module _ (life : Life) (done : List Happened) (event : Event) (above : 1 ≤ lif
         cases (is_nonempty d) refl
 
   kind : Quiet (move_of t.said) ⊎ IsAsking i.clients event
-  kind = kind_of i.part i.shared.songs i.clients event
+  kind = kind_of i.part i.shared.library i.clients event
 
   asks_of : (a : IsAsking i.clients event) → Asks a.number a.named m
   asks_of a =
@@ -321,7 +324,7 @@ module _ (life : Life) (done : List Happened) (event : Event) (above : 1 ≤ lif
       let number : was.0.number ≡ a.number = ap (λ (c : Client). c.number) was.2 ∙ is.1 in
       let free : was.0.waiting ≡ None = ap (λ (c : Client). c.pending.waiting) was.2 ∙ a.free in
       let same : was.0 ≡ record { number = a.number; waiting = None } = λ j. record { number = number j; waiting = free j } in
-      record { event = a.is; free = subst (λ (l : Listener). IsIn l life.world.clients) same was.1 }
+      record { name = a.name; event = a.is ∙ ap (λ (c : Command). Line a.number Alone (Run a.name c)) (wish_is a.command a.named a.wish); free = subst (λ (l : Listener). IsIn l life.world.clients) same was.1 }
 
   told_news : (number : ℕ) → is_told number m ≡ true → IsToldNews number m ms
   told_news number e =

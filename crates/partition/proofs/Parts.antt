@@ -6,7 +6,8 @@ use Rattle.idle_notes.specs.declared.subsystem.Subsystem.TheVariants.{Database, 
 use Rattle.idle_notes.specs.Sets.{has}
 use Rattle.song_queue.specs.declared.entry.Entry.{Entry}
 use Rattle.song_queue.specs.Entries.{same_queue}
-use Rattle.song_queue.specs.Laws.{Edit, queue_after}
+use Rattle.song_queue.specs.declared.edit.Edit.{Edit}
+use Rattle.song_queue.specs.Laws.{queue_after}
 use Rattle.song_queue.specs.Past.{present}
 use Rattle.song_queue.specs.State.{differ}
 use Rattle.song_queue.proofs.Ids.{present-after_event}
@@ -89,9 +90,9 @@ same_past past (Some edit) e =
     rw is refl
 
 -- where no part differs nothing differs but clients
-pub agree : (before after : World) (edit : Option Edit) → after.past ≡ past_after before.past edit → after.limits ≡ before.limits → after.songs ≡ before.songs
+pub agree : (before after : World) (edit : Option Edit) → after.past ≡ past_after before.past edit → after.limits ≡ before.limits → after.library ≡ before.library
     → ((x : Subsystem) → PartDiffers x before after → ⊥) → AgreeButForClients before after
-agree before after edit past_is limits songs none =
+agree before after edit past_is limits library none =
     let queue : present before.past ≡ present after.past = decides same_queue same_queue-true same_queue-refl (present before.past) (present after.past) (none Playlist) in
     let past : after.past ≡ before.past = past_is ∙ same_past before.past edit (queue ∙ ap present past_is) in
     let volume : before.controls.volume ≡ after.controls.volume =
@@ -101,7 +102,7 @@ agree before after edit past_is limits songs none =
     λ i. record {
       past = past i;
       limits = limits i;
-      songs = songs i;
+      library = library i;
       controls = record { volume = sym volume i; modes = record { repeat = sym modes i } };
       clients = after.clients;
     }

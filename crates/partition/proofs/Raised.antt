@@ -3,7 +3,7 @@ use Rattle.std.proofs.Common.{◌≡◌, Bool, true, false, not, nat_eq, List, O
 use Rattle.idle_notes.specs.declared.sets.Subsystems.{Subsystems}
 use Rattle.idle_notes.specs.Sets.{none}
 use Rattle.song_queue.specs.Entries.{same_queue}
-use Rattle.song_queue.specs.Laws.{Edit}
+use Rattle.song_queue.specs.declared.edit.Edit.{Edit}
 use Rattle.song_queue.specs.State.{QueueState, queue_of, differ}
 use Rattle.song_queue.proofs.Parity.{parity_tells_changes}
 use Rattle.song_queue.proofs.Same.{same_queue-refl}

@@ -1,5 +1,5 @@
 -- Which clients are sent a notice, and what becomes of each.
-use Rattle.std.proofs.Common.{◌≡◌, inl, inr, ℕ, ◌<◌, ◌==◌, Bool, true, false, not, List, [], ◌∷◌, ◌++◌, Some, None, is_some, map, refl, ap, sym, subst, ◌∙◌, arith, if◌then◌else◌}
+use Rattle.std.proofs.Common.{◌≡◌, inl, inr, ℕ, ◌<◌, ◌==◌, Bool, true, false, not, ◌&&◌, Option, List, [], ◌∷◌, ◌++◌, Some, None, is_some, map, refl, ap, sym, subst, ◌∙◌, arith, if◌then◌else◌}
 use Rattle.std.specs.Prelude.{filter, insert, nat_lt}
 use Rattle.std.specs.List.{flat_map, position_or_len}
 use Rattle.std.proofs.lemmas.Bool.{eq-eqb, eqb-true}
@@ -7,10 +7,14 @@ use Rattle.std.proofs.lemmas.Bool.Decides.{nat_tests}
 use Rattle.idle_notes.specs.declared.sets.Subsystems.{Subsystems}
 use Rattle.idle_notes.specs.Sets.{is_nonempty}
 use Rattle.idle_notes.specs.Notes.{fresh, noted, waits, cancelled, due}
-use Rattle.mpd_text.specs.Songs.Song.{SongData}
-use Rattle.partition.specs.declared.command.Command.TheVariants.{Add, Clear, Delete, GetVol, Idle, NoIdle, Ping, PlChangesPosId, Repeat, SetVol, Status, Swap}
-use Rattle.partition.specs.declared.command.Request.{Request}
-use Rattle.partition.specs.declared.command.Request.TheVariants.{Run, Refused}
+use Rattle.partition.specs.declared.state.Library.{Library}
+use Rattle.mpd_command.specs.declared.command.Command.{Command}
+use Rattle.mpd_command.specs.declared.name.Name.{Name}
+use Rattle.mpd_command.specs.declared.request.Request.{Request}
+use Rattle.mpd_command.specs.declared.request.Request.TheVariants.{Run, Refused}
+use Rattle.partition.specs.declared.event.Asked.{Asked}
+use Rattle.partition.specs.declared.event.Stand.{Stand}
+use Rattle.partition.specs.declared.event.Stand.TheVariants.{Alone, InList}
 use Rattle.partition.specs.declared.event.Event.{Event}
 use Rattle.partition.specs.declared.event.Event.TheVariants.{Connect, Disconnect, Line}
 use Rattle.partition.specs.declared.event.Move.{Move}
@@ -18,10 +22,11 @@ use Rattle.partition.specs.declared.event.Move.TheVariants.{Stay, Wait, Learn, R
 use Rattle.partition.specs.declared.event.Notice.{Notice}
 use Rattle.partition.specs.declared.state.Client.{Client}
 use Rattle.partition.specs.declared.state.Part.{Part}
-use Rattle.partition.specs.Answers.{Said}
+use Rattle.partition.specs.Answers.{Said, shut, stays}
+use Rattle.partition.specs.Commands.Status.{Wish, ToWait, ToGoOn, wish_of}
 use Rattle.partition.specs.Clients.{notified, is_other, at, moved, notice_to, notice_for, notices_after, clients_after, staying, move_of, closes, AllAbove, Rising}
 use Rattle.partition.specs.Image.{client_of}
-use Rattle.partition.specs.Step.{turn_of, turn_line, speaker}
+use Rattle.partition.specs.Step.{deed_of, ends_by, quiet, turn_of, turn_line, turn_wished, speaker}
 use Rattle.partition.specs.Notices.{IsIn, AllBeyond, NoticesRise}
 use Rattle.partition.proofs.Members.{in_filter, of_filter, in_insert, in_map, of_map, in_flat_map, of_flat_map}
 use Rattle.partition.proofs.Rises.{at_keeps}
@@ -42,28 +47,29 @@ found k (c ∷ cs) r (inr e) =
     let other : (c.number == k.number) ≡ false = grind (arith, nat_tests) in
     rw other (found k cs r.1 e)
 
-line_moves : (part : Part) (songs : List SongData) (k : Client) (named names : Subsystems) (request : Request) → k.pending.waiting ≡ Some named
-    → move_of (turn_line part songs (Some k) request).said ≡ Wait names → ⊥
-line_moves part songs k named names (Run (Add uri)) w m = (let n = rw w at m in cc)
-line_moves part songs k named names (Run Clear) w m = (let n = rw w at m in cc)
-line_moves part songs k named names (Run (Delete place)) w m = (let n = rw w at m in cc)
-line_moves part songs k named names (Run GetVol) w m = (let n = rw w at m in cc)
-line_moves part songs k named names (Run (Idle more)) w m = (let n = rw w at m in cc)
-line_moves part songs k named names (Run NoIdle) w m = (let n = rw w at m in cc)
-line_moves part songs k named names (Run Ping) w m = (let n = rw w at m in cc)
-line_moves part songs k named names (Run (PlChangesPosId version)) w m = (let n = rw w at m in cc)
-line_moves part songs k named names (Run (Repeat on)) w m = (let n = rw w at m in cc)
-line_moves part songs k named names (Run (SetVol volume)) w m = (let n = rw w at m in cc)
-line_moves part songs k named names (Run Status) w m = (let n = rw w at m in cc)
-line_moves part songs k named names (Run (Swap first second)) w m = (let n = rw w at m in cc)
-line_moves part songs k named names (Refused ack) w m = (let n = rw w at m in cc)
+module _ (part : Part) (library : Library) (k : Client) (named names : Subsystems) where
+  abbrev Moves : Asked → Command → Option Wish → Type 0
+  Moves asked command wish =
+      move_of (if is_some k.pending.waiting && not (ends_by asked.stand wish) then quiet part (stays shut) else turn_wished asked part k (deed_of asked part library command) wish).said
+      ≡ Wait names
+
+  wish_moves : (name : Name) (stand : Stand) (command : Command) (wish : Option Wish) → k.pending.waiting ≡ Some named
+      → Moves (record { name = name; stand = stand }) command wish → ⊥
+  wish_moves name Alone command None w m = (let n = rw w at m in cc)
+  wish_moves name Alone command (Some (ToWait more)) w m = (let n = rw w at m in cc)
+  wish_moves name Alone command (Some ToGoOn) w m = (let n = rw w at m in cc)
+  wish_moves name (InList form place) command wish w m = (let n = rw w at m in cc)
+
+  line_moves : (stand : Stand) (request : Request) → k.pending.waiting ≡ Some named → move_of (turn_line part library (Some k) stand request).said ≡ Wait names → ⊥
+  line_moves stand (Run name command) w m = wish_moves name stand command (wish_of command) w m
+  line_moves stand (Refused ack) w m = (let n = rw w at m in cc)
 
 -- a client that waits does not begin to wait
-pub waiter_moves : (part : Part) (songs : List SongData) (ks : List Client) (event : Event) (k : Client) (named names : Subsystems)
-    → client_of (speaker event) ks ≡ Some k → k.pending.waiting ≡ Some named → move_of (turn_of part songs ks event).said ≡ Wait names → ⊥
-waiter_moves part songs ks (Connect number) k named names e w m = (let n = rw e at m in cc)
-waiter_moves part songs ks (Disconnect number) k named names e w m = cc
-waiter_moves part songs ks (Line number request) k named names e w m = line_moves part songs k named names request w (rw e at m)
+pub waiter_moves : (part : Part) (library : Library) (ks : List Client) (event : Event) (k : Client) (named names : Subsystems)
+    → client_of (speaker event) ks ≡ Some k → k.pending.waiting ≡ Some named → move_of (turn_of part library ks event).said ≡ Wait names → ⊥
+waiter_moves part library ks (Connect number) k named names e w m = (let n = rw e at m in cc)
+waiter_moves part library ks (Disconnect number) k named names e w m = cc
+waiter_moves part library ks (Line number stand request) k named names e w m = line_moves part library k named names stand request w (rw e at m)
 
 module _ (n : ℕ) (r : Subsystems) where
   -- what of a client's named set changed

@@ -1,5 +1,5 @@
 -- The clients of every player are settled, so that an event that raises nothing leaves them as they are and tells none.
-use Rattle.std.proofs.Common.{◌≡◌, ◌⊎◌, inl, inr, ℕ, zero, suc, ◌==◌, ◌≤◌, Bool, true, false, not, ◌&&◌, ◌||◌, nat_lt, List, [], ◌∷◌, ◌++◌, Option, Some, None, is_some, map, refl, ap, sym, subst, ◌∙◌, arith, if◌then◌else◌}
+use Rattle.std.proofs.Common.{◌≡◌, inl, inr, ℕ, zero, suc, ◌==◌, ◌≤◌, Bool, true, false, not, ◌&&◌, ◌||◌, nat_lt, List, [], ◌∷◌, ◌++◌, Option, Some, None, is_some, map, refl, ap, sym, subst, ◌∙◌, arith, if◌then◌else◌}
 use Rattle.std.specs.Prelude.{filter, insert, count_by}
 use Rattle.std.specs.List.{flat_map, position_or_len}
 use Rattle.std.proofs.lemmas.Bool.{eq-eqb, eqb-true}
@@ -7,31 +7,30 @@ use Rattle.idle_notes.specs.declared.pending.Pending.{Pending}
 use Rattle.idle_notes.specs.declared.sets.Subsystems.{Subsystems}
 use Rattle.idle_notes.specs.Sets.{none, union, meet, is_nonempty}
 use Rattle.idle_notes.specs.Notes.{fresh, noted, waits, cancelled, due, settled, notice_of}
-use Rattle.mpd_text.specs.Songs.Song.{SongData}
+use Rattle.partition.specs.declared.state.Library.{Library}
 use Rattle.song_queue.proofs.Same.{same_queue-refl}
-use Rattle.song_queue.specs.State.{queue_of}
-use Rattle.partition.specs.declared.command.Command.{Command}
-use Rattle.partition.specs.declared.command.Command.TheVariants.{GetVol, Idle, NoIdle, Ping, PlChangesPosId, Status}
-use Rattle.partition.specs.declared.command.Ack.{Ack}
-use Rattle.partition.specs.declared.command.Request.{Request}
-use Rattle.partition.specs.declared.command.Request.TheVariants.{Run, Refused}
+use Rattle.song_queue.specs.State.{queue_of, differ}
+use Rattle.song_queue.specs.declared.edit.Edit.{Edit}
+use Rattle.song_queue.specs.Entries.{same_queue}
+use Rattle.mpd_command.specs.declared.request.Request.TheVariants.{Run}
+use Rattle.partition.specs.declared.event.Asked.{Asked}
 use Rattle.partition.specs.declared.event.Event.{Event}
-use Rattle.partition.specs.declared.event.Event.TheVariants.{Connect, Disconnect, Line}
+use Rattle.partition.specs.declared.event.Stand.TheVariants.{Alone}
 use Rattle.partition.specs.declared.event.Happened.{Happened}
 use Rattle.partition.specs.declared.event.Move.{Move}
 use Rattle.partition.specs.declared.event.Move.TheVariants.{Stay, Wait, Learn, Resume, Join}
 use Rattle.partition.specs.declared.state.Client.{Client}
 use Rattle.partition.specs.declared.state.Part.{Part}
-use Rattle.partition.specs.Answers.{Said}
+use Rattle.partition.specs.Answers.{Said, shut, stays}
 use Rattle.partition.specs.Clients.{notified, notice_for, notice_to, is_other, at, joined, moved, staying, move_of, clients_after, Rising}
-use Rattle.partition.specs.Commands.{only, goes_on, refusal, idles, turn_idle}
+use Rattle.partition.specs.Commands.Status.{Wish, idles}
 use Rattle.partition.specs.History.{replay}
-use Rattle.partition.specs.Image.{Image, Turn, client_of}
+use Rattle.partition.specs.Image.{Image, Turn, client_of, state_after}
 use Rattle.partition.specs.Notices.{IsIn}
 use Rattle.partition.specs.Rooms.{is_waiting}
-use Rattle.partition.specs.Settled.{IsSettled, AllSettled, RaisesNothing, ChangesNothing, MayTell, most_notices}
-use Rattle.partition.specs.Step.{turn, turn_of, turn_line, turn_request, turn_command, turned_away, said_to_new, ends_waiting, speaker, raised_by, next_image}
-use Rattle.partition.proofs.Asking.{quiet_unwaiting, IsAsking, kind_of}
+use Rattle.partition.specs.Settled.{IsSettled, AllSettled, most_notices}
+use Rattle.partition.specs.Step.{turn, turn_of, turn_line, turn_wished, deed_of, ends_by, quiet, speaker, raised_by, next_image}
+use Rattle.partition.proofs.Asking.{quiet_unwaiting, IsAsking, kind_of, turn_idle}
 use Rattle.partition.proofs.Raised.{differ-self}
 use Rattle.partition.proofs.Rises.{rising_after}
 use Rattle.partition.proofs.Sends.{found}
@@ -57,12 +56,16 @@ union_none s = λ i. record {
 }
 
 -- what leaves the queue and the controls as they are raises nothing
-pub only_raises : (part : Part) (said : Said) → raised_by part (only part said) ≡ none
-only_raises part said = λ i. record none {
-  playlist = not (same_queue-refl (queue_of part.queue) i);
-  mixer = not (eq-eqb part.controls.volume part.controls.volume refl i);
-  options = differ-self part.controls.modes.repeat i;
+pub same_raises : (part : Part) (t : Turn) → t.edit ≡ None → t.controls.volume ≡ part.controls.volume → t.controls.modes.repeat ≡ part.controls.modes.repeat
+    → raised_by part t ≡ none
+same_raises part t edit volume repeat = λ i. record none {
+  playlist = (ap (λ (e : Option Edit). not (same_queue (queue_of part.queue) (queue_of (state_after part.queue e)))) edit ∙ ap not (same_queue-refl (queue_of part.queue))) i;
+  mixer = not (eq-eqb part.controls.volume t.controls.volume (sym volume) i);
+  options = (ap (differ part.controls.modes.repeat) repeat ∙ differ-self part.controls.modes.repeat) i;
 }
+
+pub quiet_raises : (part : Part) (said : Said) → raised_by part (quiet part said) ≡ none
+quiet_raises part said = same_raises part (quiet part said) refl refl refl
 
 -- a client that heard is settled
 notified_settled : (r : Subsystems) (k : Client) → IsSettled (notified r k)
@@ -134,25 +137,29 @@ all_in : (f g : Client → Client) (ks : List Client) → ((k : Client) → IsIn
 all_in f g [] each = tt
 all_in f g (k ∷ ks) each = (each k (inl refl), all_in f g ks (λ c among. each c (inr among)))
 
-module _ (part : Part) (songs : List SongData) (ks : List Client) (event : Event) (rising : Rising ks) where
+module _ (part : Part) (library : Library) (ks : List Client) (event : Event) (rising : Rising ks) where
   abbrev t : Turn
-  t = turn_of part songs ks event
+  t = turn_of part library ks event
 
   -- the clients once one of them waits, after the turn by which it does
   abbrev Waiting : ℕ → Subsystems → Turn → Type 0
   Waiting n names u = AllSettled (map (at n (waits names)) (map (notified (raised_by part u)) (staying n u.said ks)))
 
+  abbrev asked_by : IsAsking ks event → Asked
+  asked_by a = record { name = a.name; stand = Alone }
+
   idle_is : (a : IsAsking ks event) → t ≡ turn_idle part a.client a.named
   idle_is a =
-      ap (turn_of part songs ks) a.is
-      ∙ ap (λ (o : Option Client). turn_line part songs o (Run (Idle a.named))) a.found
-      ∙ ap (λ (w : Option Subsystems). if is_some w && true then only part turned_away else turn_idle part a.client a.named) a.free
+      ap (turn_of part library ks) a.is
+      ∙ ap (λ (o : Option Client). turn_line part library o Alone (Run a.name a.command)) a.found
+      ∙ ap (λ (o : Option Wish). if is_some a.client.pending.waiting && not (ends_by Alone o) then quiet part (stays shut) else turn_wished (asked_by a) part a.client (deed_of (asked_by a) part library a.command) o) a.wish
+      ∙ ap (λ (w : Option Subsystems). if is_some w && true then quiet part (stays shut) else turn_idle part a.client a.named) a.free
 
   -- a client waits only where nothing of what it names is pending for it
   asked : (a : IsAsking ks event) (names : Subsystems) → move_of t.said ≡ Wait names → Waiting (speaker event) names t
   asked a names moves =
       let d : Subsystems = meet a.client.pending.changed a.named in
-      let answers : Bool → Turn = λ b. only part (idles a.named (if b then Some d else None)) in
+      let answers : Bool → Turn = λ b. quiet part (idles a.named (if b then Some d else None)) in
       let cases : (b : Bool) → is_nonempty d ≡ b → t ≡ answers b → Waiting (speaker event) names t =
       λ b. elim b as (λ b. is_nonempty d ≡ b → t ≡ answers b → Waiting (speaker event) names t) [
         | true ↦ λ e is. (let clash : Learn ≡ Wait names = sym (ap (λ (u : Turn). move_of u.said) is) ∙ moves in cc)
@@ -163,7 +170,7 @@ module _ (part : Part) (songs : List SongData) (ks : List Client) (event : Event
             let each : AllSettled (map (at a.number (waits a.named)) (map (notified none) ks)) =
             all_in (at a.number (waits a.named)) (notified none) ks (one_waits a.number a.named a.client ks rising a.found e) in
             let heard : Waiting a.number a.named (answers false) =
-            subst (λ (r : Subsystems). AllSettled (map (at a.number (waits a.named)) (map (notified r) ks))) (sym (only_raises part (idles a.named None))) each in
+            subst (λ (r : Subsystems). AllSettled (map (at a.number (waits a.named)) (map (notified r) ks))) (sym (quiet_raises part (idles a.named None))) each in
             subst (Waiting (speaker event) names) (sym is)
             (subst (λ (x : ℕ). Waiting x names (answers false)) number (subst (λ (s : Subsystems). Waiting a.number s (answers false)) same heard))
       ] in
@@ -172,14 +179,14 @@ module _ (part : Part) (songs : List SongData) (ks : List Client) (event : Event
   pub settled_after : AllSettled (clients_after (speaker event) (raised_by part t) t.said ks)
   settled_after =
       settled_moved (speaker event) (move_of t.said) (map (notified (raised_by part t)) (staying (speaker event) t.said ks))
-      (λ names moves. elim (kind_of part songs ks event) [ inl quiet ↦ absurd (quiet_unwaiting (move_of t.said) names quiet moves) | inr a ↦ asked a names moves ])
+      (λ names moves. elim (kind_of part library ks event) [ inl quiet ↦ absurd (quiet_unwaiting (move_of t.said) names quiet moves) | inr a ↦ asked a names moves ])
       (all_notified (raised_by part t) (staying (speaker event) t.said ks))
 
 next_settled : (seat : ℕ) (i : Image) (event : Event) → Rising i.clients → Rising (next_image seat i event).clients × AllSettled (next_image seat i event).clients
 unfolding next_image
 next_settled seat i event rising =
     let t : Turn = turn i event in
-    (rising_after (speaker event) (raised_by i.part t) t.said i.clients rising, settled_after i.part i.shared.songs i.clients event rising)
+    (rising_after (speaker event) (raised_by i.part t) t.said i.clients rising, settled_after i.part i.shared.library i.clients event rising)
 
 -- over every history
 pub replay_settled : (hs : List Happened) (i : Image) → Rising i.clients → AllSettled i.clients → AllSettled (replay i hs).clients
@@ -250,44 +257,8 @@ fewer_wanted raised number ks =
     [ true ↦ less | false ↦ omega arith ]
 
 -- no more notices than clients that wait, and none where nothing is raised
-pub no_room : (event : Event) (ks : List Client) (may : Bool) → (may ≡ false → RaisesNothing event) → MayTell event ks (if may then count_by is_waiting ks else 0)
-no_room event ks true raises part songs =
-    elim (is_nonempty (raised_by part (turn_of part songs ks event))) as (λ b. (if b then count_by is_waiting ks else 0) ≤ count_by is_waiting ks)
-    [ true ↦ omega arith | false ↦ omega arith ]
-no_room event ks false raises part songs = subst (λ (r : Subsystems). most_notices r ks ≤ 0) (sym (raises refl part songs ks)) (omega arith)
-
--- a line whose request changes nothing raises nothing
-pub line_raises : (number : ℕ) (request : Request) → ChangesNothing request → RaisesNothing (Line number request)
-line_raises number request nothing part songs clients =
-    elim (client_of number clients) as (λ o. raised_by part (turn_line part songs o request) ≡ none) [
-      | None ↦ only_raises part turned_away
-      | Some k ↦
-          elim (is_some k.pending.waiting && not (ends_waiting request))
-          as (λ b. raised_by part (if b then only part turned_away else turn_request part songs k request) ≡ none)
-          [ true ↦ only_raises part turned_away | false ↦ nothing part songs k ]
-    ]
-
-pub connect_raises : (number : ℕ) → RaisesNothing (Connect number)
-connect_raises number part songs clients = only_raises part (said_to_new clients number)
-
-pub disconnect_raises : (number : ℕ) → RaisesNothing (Disconnect number)
-disconnect_raises number part songs clients = only_raises part turned_away
-
-pub refused_changes : (ack : Ack) → ChangesNothing (Refused ack)
-refused_changes ack part songs client = only_raises part (goes_on (refusal ack.number ack.command ack.text))
-
--- the commands that read
-abbrev pub Reads : Command → Type 0
-Reads command =
-    (command ≡ GetVol) ⊎ (((named : Subsystems) × (command ≡ Idle named)) ⊎ ((command ≡ NoIdle) ⊎ ((command ≡ Ping) ⊎ (((version : ℕ) × (command ≡ PlChangesPosId version)) ⊎ (command ≡ Status)))))
-
-is_read : (command read : Command) → command ≡ read → ChangesNothing (Run read) → ChangesNothing (Run command)
-is_read command read e nothing = subst (λ (x : Command). ChangesNothing (Run x)) (sym e) nothing
-
-pub reads_change : (command : Command) → Reads command → ChangesNothing (Run command)
-reads_change command (inl e) = is_read command GetVol e (λ part songs client. only_raises part (turn_command part songs client GetVol).said)
-reads_change command (inr (inl e)) = is_read command (Idle e.0) e.1 (λ part songs client. only_raises part (turn_command part songs client (Idle e.0)).said)
-reads_change command (inr (inr (inl e))) = is_read command NoIdle e (λ part songs client. only_raises part (turn_command part songs client NoIdle).said)
-reads_change command (inr (inr (inr (inl e)))) = is_read command Ping e (λ part songs client. only_raises part (turn_command part songs client Ping).said)
-reads_change command (inr (inr (inr (inr (inl e))))) = is_read command (PlChangesPosId e.0) e.1 (λ part songs client. only_raises part (turn_command part songs client (PlChangesPosId e.0)).said)
-reads_change command (inr (inr (inr (inr (inr e))))) = is_read command Status e (λ part songs client. only_raises part (turn_command part songs client Status).said)
+pub no_room : (part : Part) (t : Turn) (ks : List Client) (may : Bool) → (may ≡ false → raised_by part t ≡ none)
+    → most_notices (raised_by part t) ks ≤ (if may then count_by is_waiting ks else 0)
+no_room part t ks true raises =
+    elim (is_nonempty (raised_by part t)) as (λ b. (if b then count_by is_waiting ks else 0) ≤ count_by is_waiting ks) [ true ↦ omega arith | false ↦ omega arith ]
+no_room part t ks false raises = subst (λ (r : Subsystems). most_notices r ks ≤ 0) (sym (raises refl)) (omega arith)

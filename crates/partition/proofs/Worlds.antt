@@ -5,9 +5,10 @@ use Rattle.std.proofs.Math.Nat.{mod-eq_of_lt}
 use Rattle.std.proofs.lemmas.Bool.Decides.{nat_tests}
 use Rattle.idle_notes.specs.declared.sets.Subsystems.{Subsystems}
 use Rattle.idle_notes.specs.Sets.{none, union}
-use Rattle.mpd_text.specs.Songs.Song.{SongData}
+use Rattle.partition.specs.declared.state.Library.{Library}
 use Rattle.song_queue.specs.declared.entry.Entry.{Entry}
-use Rattle.song_queue.specs.Laws.{Edit, queue_after}
+use Rattle.song_queue.specs.declared.edit.Edit.{Edit}
+use Rattle.song_queue.specs.Laws.{queue_after}
 use Rattle.song_queue.specs.Past.{present, state_of}
 use Rattle.song_queue.specs.State.{QueueState, queue_of}
 use Rattle.song_queue.proofs.Ids.{pasts_keep_queues}
@@ -128,7 +129,7 @@ module _ (life : Life) (done : List Happened) (event : Event) (above : 1 ≤ lif
   image_of-step h same =
       let all : List Client → QueueState → List ℕ → Image = λ k q made. record {
         part = record { queue = q; controls = t.controls };
-        shared = record { songs = life.world.songs; made = made };
+        shared = record { library = life.world.library; made = made };
         clients = k;
       } in
       ap (λ k. all k (state_at life.world.limits (past_after life.world.past t.edit)) (made_of (done ++ h ∷ []))) clients_stand
@@ -152,20 +153,20 @@ from life done (h ∷ hs) above some rising =
       subst (λ (i : Image). Rising i.clients) joined rest.1,
     )
 
-pub opens : (limits : Limits) (songs : List SongData) → 1 ≤ limits.max_version → opening limits songs ≡ image_of (opening_life limits songs) []
-opens limits songs above =
+pub opens : (limits : Limits) (library : Library) → 1 ≤ limits.max_version → opening limits library ≡ image_of (opening_life limits library) []
+opens limits library above =
     let zeroth : 1 ≡ 0 % limits.max_version + 1 = ap (λ n. n + 1) (sym (mod-eq_of_lt (let h : 0 < limits.max_version = omega arith in h))) in
     ap (λ (v : ℕ). record {
       part = record {
         queue = record { slots = []; version = v; greatest_id = 0; max_len = limits.max_queue; max_version = limits.max_version; max_id = limits.max_id; parity = false };
         controls = first_controls;
       };
-      shared = record { songs = songs; made = made_of [] };
+      shared = record { library = library; made = made_of [] };
       clients = [];
     }) zeroth
 
 -- over every history
 pub replays_worlds : ReplaysWorlds
-replays_worlds limits songs history above =
-    let rest = from (opening_life limits songs) [] history above (omega arith) tt in
-    (ap (λ (i : Image). replay i history) (opens limits songs above) ∙ rest.0, rest.1)
+replays_worlds limits library history above =
+    let rest = from (opening_life limits library) [] history above (omega arith) tt in
+    (ap (λ (i : Image). replay i history) (opens limits library above) ∙ rest.0, rest.1)

@@ -1,13 +1,23 @@
--- What clients hear (MPD protocol reference, Responses; notices: Querying MPD's status, `idle`).
-use Rattle.std.specs.Prelude.{ℕ, List}
+-- What clients hear (MPD protocol reference, Responses and Command lists; notices: Querying MPD's status, `idle`).
+use Rattle.std.specs.Prelude.{ℕ, Bool, false, true, List, ◌++◌, codes, Option}
+use Rattle.mpd_text.specs.Answers.Answer.{ack_line, number_of}
+use Rattle.mpd_text.specs.declared.answers.answer.ErrorNumber.{ErrorNumber}
+use Rattle.mpd_command.specs.declared.name.Name.{Name}
+use Rattle.mpd_command.specs.Requests.{text_of_name}
+use Rattle.partition.specs.declared.event.ListForm.TheVariants.{Plain, Ok}
 use Rattle.partition.specs.declared.event.Move.{Move}
+use Rattle.partition.specs.declared.event.Move.TheVariants.{Stay}
 use Rattle.partition.specs.declared.event.Next.{Next}
+use Rattle.partition.specs.declared.event.Next.TheVariants.{Goes, Closes}
 use Rattle.partition.specs.declared.event.Notice.{Notice}
+use Rattle.partition.specs.declared.event.Stand.{Stand}
+use Rattle.partition.specs.declared.event.Stand.TheVariants.{Alone, InList}
 
--- what one client is told, and what becomes of it
+-- what one client is told, what becomes of it, and whether it was a refusal
 pub record Answer : Type 0 where
   pub text : List ℕ
   pub next : Next
+  pub refused : Bool
 
 -- an answer, and what the client that it is for does
 pub record Said : Type 0 where
@@ -18,3 +28,34 @@ pub record Said : Type 0 where
 pub record Told : Type 0 where
   pub answer : Answer
   pub notices : List Notice
+
+-- what follows the lines of a success: `OK`; in a list nothing, or `list_OK` where its form wants it
+abbrev pub ending : Stand → List ℕ
+ending Alone = codes "OK\n"
+ending (InList Plain place) = codes ""
+ending (InList Ok place) = codes "list_OK\n"
+
+-- the place in its list that a refusal names
+abbrev pub place_of : Stand → ℕ
+place_of Alone = 0
+place_of (InList form place) = place
+
+-- the client is told this, and its next line may come
+abbrev pub tells : List ℕ → Answer
+tells text = record { text = text; next = Goes; refused = false }
+
+-- a success with these lines
+abbrev pub succeeds : Stand → List ℕ → Answer
+succeeds stand lines = tells (lines ++ ending stand)
+
+-- a refusal of a command, or of a line that names none
+abbrev pub refuses : Stand → Option Name → ErrorNumber → List ℕ → Answer
+refuses stand name number text = record { text = ack_line (number_of number) (place_of stand) (text_of_name name) text; next = Goes; refused = true }
+
+-- closed, without bytes
+abbrev pub shut : Answer
+shut = record { text = codes ""; next = Closes; refused = false }
+
+-- an answer to a client that makes no move
+abbrev pub stays : Answer → Said
+stays answer = record { answer = answer; move = Stay }

@@ -1,18 +1,19 @@
 -- What a command can read of a player, and what an event makes of it.
 use Rattle.std.specs.Prelude.{ℕ, ◌+◌, ◌==◌, false, List, [], ◌∷◌, Option, Some, None, slice_set, slice_index_or, if◌then◌else◌}
-use Rattle.mpd_text.specs.Songs.Song.{SongData}
 use Rattle.song_queue.specs.State.{QueueState, opened}
-use Rattle.song_queue.specs.Laws.{Edit, state_after_edit}
+use Rattle.song_queue.specs.declared.edit.Edit.{Edit}
+use Rattle.song_queue.specs.Laws.{state_after_edit}
 use Rattle.partition.specs.declared.state.Client.{Client}
 use Rattle.partition.specs.declared.state.Controls.{Controls}
+use Rattle.partition.specs.declared.state.Library.{Library}
 use Rattle.partition.specs.declared.state.Limits.{Limits}
 use Rattle.partition.specs.declared.state.Part.{Part}
 use Rattle.partition.specs.declared.state.State.{State}
-use Rattle.partition.specs.Answers.{Said}
+use Rattle.partition.specs.Answers.{Answer, Said, stays}
 
--- what all share: the library in byte order of URI, and how many events each seat made
+-- what all share: the library, and how many events each seat made
 pub record Shared : Type 0 where
-  pub songs : List SongData
+  pub library : Library
   pub made : List ℕ
 
 -- a player; its clients are in the order of their numbers
@@ -27,6 +28,15 @@ pub record Turn : Type 0 where
   pub edit : Option Edit
   pub controls : Controls
   pub said : Said
+
+-- what a command of the player makes of it: as a turn, but the client that asks makes no move
+pub record Deed : Type 0 where
+  pub edit : Option Edit
+  pub controls : Controls
+  pub answer : Answer
+
+abbrev pub turn_by : Deed → Turn
+turn_by deed = record { edit = deed.edit; controls = deed.controls; said = stays deed.answer }
 
 abbrev pub client_of : ℕ → List Client → Option Client
 client_of number [] = None
@@ -51,7 +61,7 @@ counted seat i = record i { shared = record i.shared { made = slice_set i.shared
 abbrev pub image_of_state : State → Image
 image_of_state s = record {
   part = s.part;
-  shared = record { songs = s.songs; made = s.made };
+  shared = record { library = s.library; made = s.made };
   clients = s.clients.items;
 }
 
@@ -63,9 +73,9 @@ abbrev pub first_controls : Controls
 first_controls = record { volume = 100; modes = record { repeat = false } }
 
 -- a player that nothing happened to
-abbrev pub opening : Limits → List SongData → Image
-opening limits songs = record {
+abbrev pub opening : Limits → Library → Image
+opening limits library = record {
   part = record { queue = opened limits.max_queue limits.max_version limits.max_id; controls = first_controls };
-  shared = record { songs = songs; made = no_events };
+  shared = record { library = library; made = no_events };
   clients = [];
 }

@@ -2,10 +2,10 @@
 use Rattle.std.specs.Prelude.{◌≡◌, ◌≢◌, ◌≤◌, ◌↔◌, ℕ, true, List, All, AllPairs}
 use Rattle.idle_notes.specs.declared.subsystem.Subsystem.{Subsystem}
 use Rattle.idle_notes.specs.Sets.{has}
-use Rattle.mpd_text.specs.Songs.Song.{SongData}
 use Rattle.song_queue.specs.State.{queue_of}
 use Rattle.partition.specs.declared.event.Happened.{Happened}
 use Rattle.partition.specs.declared.state.Client.{Client}
+use Rattle.partition.specs.declared.state.Library.{Library}
 use Rattle.partition.specs.declared.state.Limits.{Limits}
 use Rattle.partition.specs.Clients.{Rising}
 use Rattle.partition.specs.History.{Chronicle, replay, AreTold}
@@ -18,7 +18,7 @@ limits_of i = record { max_queue = i.part.queue.max_len; max_version = i.part.qu
 
 -- the life of the player of one thread that a history tells
 abbrev pub life_of : Chronicle → Life
-life_of c = life_after (limits_of c.base) c.base.shared.songs c.window
+life_of c = life_after (limits_of c.base) c.base.shared.library c.window
 
 -- the flags of a client are its pending set by the moments
 abbrev pub HasPending : List Moment → Client → Type 0
@@ -29,7 +29,7 @@ HasPending moments client = (subsystem : Subsystem) → (has client.pending.chan
 -- raised what differs between its worlds, and told whom it had to tell; each reply was the one of its place, and what was told
 -- with it is what its moment tells; ids are distinct; clients are in the order of their numbers.
 pub record IsPast (c : Chronicle) : Type 0 where
-  pub opened : c.base ≡ opening (limits_of c.base) c.base.shared.songs
+  pub opened : c.base ≡ opening (limits_of c.base) c.base.shared.library
   pub world : c.present ≡ image_of (life_of c) c.window
   pub pending : All (HasPending (life_of c).moments) c.present.clients
   pub raises : EachMoment (λ moment earlier. Raises moment) (life_of c).moments
@@ -42,8 +42,8 @@ pub record IsPast (c : Chronicle) : Type 0 where
 -- the images of the lives after a history, which remember every queue and every moment, are the replay's images, and their
 -- clients are in the order of their numbers
 abbrev pub ReplaysWorlds : Type 0
-ReplaysWorlds = (limits : Limits) (songs : List SongData) (history : List Happened) → 1 ≤ limits.max_version
-    → (replay (opening limits songs) history ≡ image_of (life_after limits songs history) history) × Rising (image_of (life_after limits songs history) history).clients
+ReplaysWorlds = (limits : Limits) (library : Library) (history : List Happened) → 1 ≤ limits.max_version
+    → (replay (opening limits library) history ≡ image_of (life_after limits library history) history) × Rising (image_of (life_after limits library history) history).clients
 
 -- what commands read as pending for a client is what is pending by the moments
 abbrev pub ReadsPending : Type 0

@@ -1,11 +1,10 @@
-pub mod Names
-pub mod Arguments
-pub mod Requests
 pub mod Answers
 pub mod Image
+pub mod Plans
 pub mod Clients
 pub mod Rooms
 pub mod Commands
+pub mod Shown
 pub mod Step
 pub mod Settled
 pub mod History

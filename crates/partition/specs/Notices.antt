@@ -1,17 +1,19 @@
 -- What an event raises, and whom it tells, said of the worlds before and after it and of the moments before it (MPD
 -- protocol reference, Querying MPD's status, `idle`; that a notice clears also what was not named is this profile's).
-use Rattle.std.specs.Prelude.{◌≡◌, ◌≢◌, ◌↔◌, ◌⊎◌, ◌<◌, ℕ, true, List, [], ◌∷◌, ◌++◌, reverse, map, Option, Some, None, codes}
+use Rattle.std.specs.Prelude.{◌≡◌, ◌≢◌, ◌↔◌, ◌⊎◌, ◌<◌, ℕ, true, false, List, [], ◌∷◌, ◌++◌, reverse, map, Option, Some, None, codes}
 use Rattle.idle_notes.specs.declared.sets.Subsystems.{Subsystems}
 use Rattle.idle_notes.specs.declared.subsystem.Subsystem.{Subsystem}
 use Rattle.idle_notes.specs.Names.{changed_lines}
 use Rattle.idle_notes.specs.Sets.{has}
-use Rattle.partition.specs.declared.command.Command.TheVariants.{Idle}
-use Rattle.partition.specs.declared.command.Request.TheVariants.{Run}
+use Rattle.mpd_command.specs.declared.command.Command.TheVariants.{Idle}
+use Rattle.mpd_command.specs.declared.name.Name.{Name}
+use Rattle.mpd_command.specs.declared.request.Request.TheVariants.{Run}
 use Rattle.partition.specs.declared.event.Event.{Event}
 use Rattle.partition.specs.declared.event.Event.TheVariants.{Line}
 use Rattle.partition.specs.declared.event.Happened.{Happened}
 use Rattle.partition.specs.declared.event.Next.TheVariants.{Goes, Waits}
 use Rattle.partition.specs.declared.event.Notice.{Notice}
+use Rattle.partition.specs.declared.event.Stand.TheVariants.{Alone}
 use Rattle.partition.specs.Answers.{Told}
 use Rattle.partition.specs.Step.{speaker}
 use Rattle.partition.specs.World.{World, Moment, PartDiffers, IsPending, is_told, raised_at}
@@ -76,9 +78,10 @@ abbrev pub NoticesRise : List Notice → Type 0
 NoticesRise [] = Unit {0}
 NoticesRise (notice ∷ notices) = AllBeyond notice.client notices × NoticesRise notices
 
--- a client that did not wait asks what changed of these
+-- a client that did not wait asks what changed of these, on a line alone
 pub record Asks (number : ℕ) (named : Subsystems) (moment : Moment) : Type 0 where
-  pub event : moment.event ≡ Line number (Run (Idle named))
+  pub name : Name
+  pub event : moment.event ≡ Line number Alone (Run name (Idle named))
   pub free : WaitsNot number moment.before
 
 -- a client was told what changed: by a notice, or as the answer to its `idle`
@@ -99,10 +102,10 @@ pub record Tells (moment : Moment) (earlier : List Moment) : Type 0 where
   pub waits_on : (number : ℕ) (named : Subsystems) → number ≢ speaker moment.event → WaitsFor number named moment.before
       → ((names : Subsystems) → IsSent number names moment → ⊥) → WaitsFor number named moment.after
   pub answered : (number : ℕ) (named names : Subsystems) → Asks number named moment → Meets number named names moment earlier
-      → (moment.turn.said.answer ≡ record { text = changed_lines names ++ codes "OK\n"; next = Goes }) × IsClear number moment earlier
+      → (moment.turn.said.answer ≡ record { text = changed_lines names ++ codes "OK\n"; next = Goes; refused = false }) × IsClear number moment earlier
   pub waits : (number : ℕ) (named : Subsystems) → Asks number named moment
       → ((subsystem : Subsystem) → has named subsystem ≡ true → HasChanged number subsystem moment earlier → ⊥)
-      → (moment.turn.said.answer ≡ record { text = []; next = Waits }) × WaitsFor number named moment.after
+      → (moment.turn.said.answer ≡ record { text = []; next = Waits; refused = false }) × WaitsFor number named moment.after
   pub begins : (number : ℕ) (named : Subsystems) → WaitsFor number named moment.after → WaitsFor number named moment.before ⊎ Asks number named moment
   pub told : (number : ℕ) → is_told number moment ≡ true → IsToldNews number moment earlier
 

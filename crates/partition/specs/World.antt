@@ -5,10 +5,10 @@ use Rattle.idle_notes.specs.declared.sets.Subsystems.{Subsystems}
 use Rattle.idle_notes.specs.declared.subsystem.Subsystem.{Subsystem}
 use Rattle.idle_notes.specs.declared.subsystem.Subsystem.TheVariants.{Database, Update, StoredPlaylist, Playlist, Player, Mixer, Output, Options, Sticker, Subscription, Message}
 use Rattle.idle_notes.specs.Sets.{none, union}
-use Rattle.mpd_text.specs.Songs.Song.{SongData}
 use Rattle.song_queue.specs.declared.entry.Entry.{Entry}
 use Rattle.song_queue.specs.Past.{present, after_event, state_of}
-use Rattle.song_queue.specs.Laws.{Edit, queue_after}
+use Rattle.song_queue.specs.declared.edit.Edit.{Edit}
+use Rattle.song_queue.specs.Laws.{queue_after}
 use Rattle.partition.specs.declared.event.Event.{Event}
 use Rattle.partition.specs.declared.event.Happened.{Happened}
 use Rattle.partition.specs.declared.event.Move.{Move}
@@ -16,6 +16,7 @@ use Rattle.partition.specs.declared.event.Move.TheVariants.{Stay, Wait, Learn, R
 use Rattle.partition.specs.declared.event.Notice.{Notice}
 use Rattle.partition.specs.declared.state.Client.{Client}
 use Rattle.partition.specs.declared.state.Controls.{Controls}
+use Rattle.partition.specs.declared.state.Library.{Library}
 use Rattle.partition.specs.declared.state.Limits.{Limits}
 use Rattle.partition.specs.Clients.{Parts, raised, move_of}
 use Rattle.partition.specs.History.{made_of}
@@ -31,7 +32,7 @@ pub record Listener : Type 0 where
 pub record World : Type 0 where
   pub past : List (List Entry)
   pub limits : Limits
-  pub songs : List SongData
+  pub library : Library
   pub controls : Controls
   pub clients : List Listener
 
@@ -126,7 +127,7 @@ listener_of client = record { number = client.number; waiting = client.pending.w
 abbrev pub image_of : Life → List Happened → Image
 image_of life history = record {
   part = record { queue = state_of life.world.limits.max_queue life.world.limits.max_version life.world.limits.max_id life.world.past; controls = life.world.controls };
-  shared = record { songs = life.world.songs; made = made_of history };
+  shared = record { library = life.world.library; made = made_of history };
   clients = map (client_in life.moments) life.world.clients;
 }
 
@@ -161,12 +162,12 @@ life_from done life [] = life
 life_from done life (h ∷ hs) = life_from (done ++ h ∷ []) (life_after_event done life h.event) hs
 
 -- a life in which nothing happened
-abbrev pub opening_life : Limits → List SongData → Life
-opening_life limits songs = record {
-  world = record { past = [] ∷ []; limits = limits; songs = songs; controls = first_controls; clients = [] };
+abbrev pub opening_life : Limits → Library → Life
+opening_life limits library = record {
+  world = record { past = [] ∷ []; limits = limits; library = library; controls = first_controls; clients = [] };
   moments = [];
 }
 
 -- the life after a history
-abbrev pub life_after : Limits → List SongData → List Happened → Life
-life_after limits songs history = life_from [] (opening_life limits songs) history
+abbrev pub life_after : Limits → Library → List Happened → Life
+life_after limits library history = life_from [] (opening_life limits library) history

@@ -1,12 +1,11 @@
 //! Events, and what they make clients hear.
-ghost use Rattle.std.specs.Prelude.{◌≡◌, IfOk};
-ghost use Rattle.partition.specs.Answers.{Answer, Said, Told};
+ghost use Rattle.std.specs.Prelude.{◌≡◌};
+ghost use Rattle.partition.specs.Answers.{Answer, Told, place_of};
 
-use crate::command::Request;
 use crate::notices::Notices;
 use idle_notes::Subsystems;
+use mpd_command::{Name, Request};
 use mpd_text::SharedText;
-use std::alloc::AllocError;
 use std::marker::Model;
 
 /// Something that happens to the player. Each is applied whole.
@@ -16,8 +15,44 @@ pub enum Event {
     Connect(u32),
     /// A client goes.
     Disconnect(u32),
-    /// A line of a client.
-    Line(u32, Request),
+    /// A line of a client, and how it comes.
+    Line(u32, Stand, Request),
+}
+
+/// The two forms of a command list (MPD protocol reference, Command lists).
+#[derive(Clone, Copy, Debug, PartialEq, Eq)]
+pub enum ListForm {
+    /// `command_list_begin`: the answers follow one another.
+    Plain,
+    /// `command_list_ok_begin`: `list_OK` follows each success.
+    Ok,
+}
+
+/// How a line comes.
+#[derive(Clone, Copy, Debug, PartialEq, Eq)]
+pub enum Stand {
+    Alone,
+    /// In a list of this form, at this place from 0.
+    InList(ListForm, u32),
+}
+
+impl Stand {
+    /// The place that a refusal names.
+    pub(crate) fn place(self) -> u32
+        ensures { result ≡ place_of self }
+    {
+        match self {
+            Stand::Alone => 0,
+            Stand::InList(_, place) => place,
+        }
+    }
+}
+
+/// What an answer is made for: a command, and how its line comes.
+#[derive(Clone, Copy)]
+pub(crate) struct Asked {
+    pub(crate) name: Name,
+    pub(crate) stand: Stand,
 }
 
 /// What becomes of a client after a reply.
@@ -53,11 +88,12 @@ pub struct Notice {
     pub names: Subsystems,
 }
 
-/// The bytes for the client that spoke, and what becomes of it.
+/// The bytes for the client that spoke, what becomes of it, and whether it was refused something.
 #[derive(Drop)]
 pub struct Reply {
-    text: SharedText,
-    next: Next,
+    pub(crate) text: SharedText,
+    pub(crate) next: Next,
+    pub(crate) refused: bool,
 }
 
 impl Model for Reply {
@@ -65,7 +101,7 @@ impl Model for Reply {
 
     ghost Value = { Answer };
 
-    ghost view = { λ r. record { text = r.text; next = r.next } };
+    ghost view = { λ r. record { text = r.text; next = r.next; refused = r.refused } };
 }
 
 impl Reply {
@@ -79,6 +115,13 @@ impl Reply {
         ensures { result ≡ self.now.next }
     {
         self.next
+    }
+
+    /// Whether the text is an `ACK` line.
+    pub fn is_refusal(&self) -> bool
+        ensures { result ≡ self.now.refused }
+    {
+        self.refused
     }
 }
 
@@ -120,58 +163,4 @@ pub struct Happened {
     pub seat: u8,
     pub event: Event,
     pub told: Outcome,
-}
-
-/// What an event answers, and what its client does. The reply is there twice, over one text: a second owner of the text has
-/// to be made before anything changes, since to make it can fail.
-#[derive(Drop)]
-pub(crate) struct Spoken {
-    given: Reply,
-    kept: Reply,
-    moves: Move,
-}
-
-impl Model for Spoken {
-    ghost use Rattle.std.specs.Prelude.{◌≡◌};
-    ghost use Rattle.partition.specs.Answers.{Said};
-
-    ghost Value = { Said };
-
-    ghost view = { λ t. record { answer = t.given; move = t.moves } };
-
-    ghost invariant = { λ t. t.kept ≡ t.given };
-}
-
-impl Spoken {
-    pub(crate) fn of(text: SharedText, next: Next, moves: Move) -> Result<Spoken, AllocError>
-        ensures { IfOk result (λ spoken. spoken ≡ record { answer = record { text = text; next = next }; move = moves }) }
-    {
-        let kept = text.clone()?;
-        Ok(Spoken {
-            given: Reply { text, next },
-            kept: Reply { text: kept, next },
-            moves,
-        })
-    }
-
-    pub(crate) fn next(&self) -> Next
-        ensures { result ≡ self.now.answer.next }
-    {
-        self.given.next
-    }
-
-    pub(crate) fn moves(&self) -> Move
-        ensures { result ≡ self.now.move }
-    {
-        self.moves
-    }
-
-    /// The reply to hand out, and the one to keep.
-    pub(crate) fn into_replies(self) -> (Reply, Reply)
-        ensures given { result.0 ≡ self.answer }
-        ensures kept { result.1 ≡ self.answer }
-    {
-        let Spoken { given, kept, .. } = self;
-        (given, kept)
-    }
 }

@@ -5,16 +5,17 @@ ghost use Rattle.idle_notes.specs.Sets.{none};
 ghost use Rattle.partition.specs.Clients.{clients_after, closes as closes_lem, notice_for, notices_after, notified};
 ghost use Rattle.partition.specs.Image.{image_of_state};
 ghost use Rattle.partition.specs.Rooms.{listed, room_in};
-ghost use Rattle.partition.specs.Settled.{AllSettled, ChangesNothing, MayTell, RaisesNothing, most_notices};
-ghost use Rattle.partition.specs.Step.{after_turn, next_image, speaker as speaker_lem, told, told_by, turn};
+ghost use Rattle.partition.specs.Settled.{AllSettled, most_notices};
+ghost use Rattle.partition.specs.Step.{after_turn, next_image, raised_by, speaker as speaker_lem, told, told_by, turn};
 ghost use Rattle.song_queue.specs.State.{differ};
 
 use crate::clients::{leave, list_notices, make_move, notify_all, waiting};
-use crate::command::{Command, Request};
-use crate::event::{Event, Happened, Next, Outcome, Spoken};
+use crate::event::{Event, Happened, Next, Outcome};
 use crate::notices::Notices;
+use crate::plan::{Plan, carry_out};
+use crate::spoken::Spoken;
 use crate::state::{Client, Modes, Part, State};
-use crate::turns::take_turn;
+use crate::turns::plan_turn;
 use idle_notes::Subsystems;
 use std::alloc::{AllocError, Global};
 
@@ -76,14 +77,20 @@ fn apply_event(alloc: Global, state: &mut State, event: &Event) -> Result<Applie
     ensures err { OnErr result (image_of_state state.new ≡ image_of_state state.old) }
 {
     state.clients.reserve(1)?;
-    let room = room_wanted(event, &state.clients);
+    let plan = plan_turn(alloc, &state.part, &state.library, &state.clients, event)?;
+    let room = room_wanted(&plan, &state.part, &state.clients);
     let mut given = Notices::with_room(alloc, room)?;
     let mut kept = Notices::with_room(alloc, room)?;
     let before = signs_of(&state.part);
-    let spoken = take_turn(alloc, &mut state.part, &state.songs, &state.clients, event)?;
+    let spoken = carry_out(&mut state.part, plan)?;
     let raised = changed_parts(before, signs_of(&state.part));
-    let number = speaker(event);
-    tell_clients(&mut state.clients, number, raised, &spoken, &mut given);
+    tell_clients(
+        &mut state.clients,
+        speaker(event),
+        raised,
+        &spoken,
+        &mut given,
+    );
     kept.push_all(given.as_slice());
     Ok(Applied {
         spoken,
@@ -126,56 +133,15 @@ fn changed_parts(before: Signs, after: Signs) -> Subsystems
     }
 }
 
-/// How many notices an event can give at most. For one that cannot raise anything no client is looked at.
+/// How many notices a plan can give at most. For one that changes nothing no client is looked at.
 #[tactic(auto, using(crate::proofs::Settled::no_room))]
-fn room_wanted(event: &Event, clients: &[Client]) -> usize
-    ensures { MayTell event.now clients.now result }
+fn room_wanted(plan: &Plan, part: &Part, clients: &[Client]) -> usize
+    ensures { most_notices (raised_by part.now plan.now) clients.now ≤ result }
 {
-    if may_raise(event) {
+    if plan.changes(part) {
         waiting(clients)
     } else {
         0
-    }
-}
-
-/// Whether an event may change the queue, the volume or the modes.
-fn may_raise(event: &Event) -> bool
-    ensures { result ≡ false → RaisesNothing event.now }
-{
-    match event {
-        Event::Connect(_) | Event::Disconnect(_) => false,
-        Event::Line(_, request) => request_may_raise(request),
-    }
-}
-
-/// Whether what a client asks for may change them.
-fn request_may_raise(request: &Request) -> bool
-    ensures { result ≡ false → ChangesNothing request.now }
-{
-    match request {
-        Request::Run(command) => command_may_raise(command),
-        Request::Refused(_) => false,
-    }
-}
-
-/// Whether a command may change them; the others only read, or are about the client itself.
-#[tactic(auto, using(crate::proofs::Settled::reads_change))]
-fn command_may_raise(command: &Command) -> bool
-    ensures { result ≡ false → ChangesNothing (Request.Run command.now) }
-{
-    match command {
-        Command::Add(_)
-        | Command::Clear
-        | Command::Delete(_)
-        | Command::Repeat(_)
-        | Command::SetVol(_)
-        | Command::Swap(_, _) => true,
-        Command::GetVol
-        | Command::Idle(_)
-        | Command::NoIdle
-        | Command::Ping
-        | Command::PlChangesPosId(_)
-        | Command::Status => false,
     }
 }
 
@@ -234,6 +200,6 @@ fn speaker(event: &Event) -> u32
     ensures { result ≡ speaker_lem event.now }
 {
     match event {
-        Event::Connect(number) | Event::Disconnect(number) | Event::Line(number, _) => *number,
+        Event::Connect(number) | Event::Disconnect(number) | Event::Line(number, _, _) => *number,
     }
 }

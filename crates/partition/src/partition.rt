@@ -1,6 +1,5 @@
 //! The player with its history.
 ghost use Rattle.std.specs.Prelude.{◌≡◌, ◌≢◌, ◌↔◌, ◌++◌, ◌∷◌, ◌-◌, ◌^◌, ◌≤◌, ◌<◌, [], List, IfOk, OnErr, OnOk, IsErrOf, slice_index_or, is_some, All, AllPairs};
-ghost use Rattle.mpd_text.specs.Songs.Song.{SongData};
 ghost use Rattle.song_queue.specs.State.{queue_of};
 ghost use Rattle.partition.specs.declared.event.Happened.{Happened};
 ghost use Rattle.partition.specs.declared.state.Limits.{Limits};
@@ -15,9 +14,8 @@ use crate::clients::find;
 use crate::event::{Event, Happened, Outcome};
 use crate::happen::record_event;
 use crate::laws::replays_worlds;
-use crate::state::{Client, Controls, Limits, MAX_OWN, Modes, Part, State};
-use crate::volume::Volume;
-use song_db::Db;
+use crate::state::{Client, Controls, Library, Limits, MAX_OWN, Modes, Part, State};
+use mpd_command::Volume;
 use song_queue::Queue;
 use std::alloc::{AllocError, Global};
 use std::marker::Model;
@@ -53,9 +51,9 @@ impl Model for Partition {
 
 impl Partition {
     /// A player over a library, to which nothing happened.
-    pub fn open(alloc: Global, limits: Limits, songs: Db) -> Partition
+    pub fn open(alloc: Global, limits: Limits, library: Library) -> Partition
         requires { 1 ≤ limits.max_version }
-        ensures { result ≡ record { base = opening limits songs; window = []; present = opening limits songs } }
+        ensures { result ≡ record { base = opening limits library; window = []; present = opening limits library } }
     {
         let queue = Queue::new(
             alloc,
@@ -74,7 +72,7 @@ impl Partition {
                         modes: Modes { repeat: false },
                     },
                 },
-                songs,
+                library,
                 made: [0; 16],
                 clients: Vec::new(alloc),
             },

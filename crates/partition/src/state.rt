@@ -1,7 +1,9 @@
 //! The state of a player.
-use crate::volume::Volume;
+ghost use Rattle.std.specs.Prelude.{◌≡◌};
+
 use idle_notes::Pending;
-use song_db::Db;
+use mpd_command::Volume;
+use song_db::{Db, Rate};
 use song_queue::Queue;
 
 /// The most clients that may be connected.
@@ -35,11 +37,31 @@ pub struct Controls {
     pub modes: Modes,
 }
 
+impl Controls {
+    /// The same controls.
+    pub(crate) fn copied(&self) -> Controls
+        ensures { result ≡ self.now }
+    {
+        Controls {
+            volume: self.volume.copied(),
+            modes: self.modes,
+        }
+    }
+}
+
 /// A client that is connected.
 #[derive(Clone, Copy, Debug, PartialEq, Eq)]
 pub struct Client {
     pub number: u32,
     pub pending: Pending,
+}
+
+/// What can be played.
+#[derive(Drop)]
+pub struct Library {
+    pub songs: Db,
+    /// The rate of all songs.
+    pub rate: Rate,
 }
 
 /// What one player owns.
@@ -53,7 +75,7 @@ pub struct Part {
 #[derive(Drop)]
 pub(crate) struct State {
     pub(crate) part: Part,
-    pub(crate) songs: Db,
+    pub(crate) library: Library,
     pub(crate) made: [u64; 16],
     /// By rising number.
     pub(crate) clients: Vec<Client>,

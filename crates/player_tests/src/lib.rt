@@ -8,4 +8,6 @@ mod player;
 #[cfg(test)]
 mod queue;
 #[cfg(test)]
+mod queue_moves;
+#[cfg(test)]
 mod script;

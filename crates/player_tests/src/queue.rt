@@ -1,5 +1,7 @@
 //! Worked rows of the queue.
-
+//!
+//! Each edit is noted as one line: what is answered, the version, the length, and whether the parity was flipped. The helpers
+//! have no clauses, so that a test knows nothing of what they give and is cheap to prove.
 use mpd_text::Song;
 use song_db::SharedSong;
 use song_queue::{
@@ -7,6 +9,7 @@ use song_queue::{
     pasts_keep_queues, patches_give_present, states_follow_pasts,
 };
 use std::alloc::Global;
+use std::fmt::Write;
 use std::test::Fail;
 
 const ID_LIMIT: u32 = 2147483647;
@@ -21,10 +24,13 @@ fn songs(alloc: Global, count: usize) -> Result<Vec<SharedSong>, Fail> {
     Ok(songs)
 }
 
+fn empty(alloc: Global, max_len: usize, max_version: u32, max_id: u32) -> Queue {
+    Queue::new(alloc, max_len, max_version.max(1), max_id)
+}
+
 /// A queue to which songs were added one by one.
 fn filled(alloc: Global, max_version: u32, count: usize) -> Result<Queue, Fail> {
-    let limit = max_version.max(1);
-    let mut queue = Queue::new(alloc, 16384, limit, ID_LIMIT);
+    let mut queue = empty(alloc, 16384, max_version, ID_LIMIT);
     for _ in 0..count {
         let at = queue.len();
         queue.insert(at, songs(alloc, 1)?)?;
@@ -32,51 +38,123 @@ fn filled(alloc: Global, max_version: u32, count: usize) -> Result<Queue, Fail> 
     Ok(queue)
 }
 
+fn word(answer: Result<(), QueueFault>) -> &'static str {
+    match answer {
+        Ok(()) => "ok",
+        Err(QueueFault::NoSuchSong) => "no such song",
+        Err(QueueFault::BadIndex) => "bad index",
+        Err(QueueFault::Full) => "full",
+        Err(QueueFault::NoMoreIds) => "no more ids",
+        Err(QueueFault::NoMemory) => "no memory",
+    }
+}
+
+/// What an edit answered and left, where the parity before it was this.
+fn noted(
+    alloc: Global,
+    queue: &Queue,
+    answer: Result<(), QueueFault>,
+    parity: bool,
+) -> Result<String, Fail> {
+    let flipped = if parity == queue.parity() {
+        "stays"
+    } else {
+        "flips"
+    };
+    let (version, len) = (queue.version(), queue.len());
+    Ok(format!(in alloc; "{} {version} {len} {flipped}", word(answer))?)
+}
+
+fn inserts(alloc: Global, queue: &mut Queue, at: usize, count: usize) -> Result<String, Fail> {
+    let parity = queue.parity();
+    let answer = queue.insert(at, songs(alloc, count)?);
+    noted(alloc, queue, answer, parity)
+}
+
+fn removes(alloc: Global, queue: &mut Queue, start: usize, end: usize) -> Result<String, Fail> {
+    let parity = queue.parity();
+    let answer = queue.remove(start..end);
+    noted(alloc, queue, answer, parity)
+}
+
+fn swaps(alloc: Global, queue: &mut Queue, a: usize, b: usize) -> Result<String, Fail> {
+    let parity = queue.parity();
+    let answer = queue.swap(a, b);
+    noted(alloc, queue, answer, parity)
+}
+
+/// The places that changed since a version.
+fn changed(alloc: Global, queue: &Queue, version: u32) -> Result<String, Fail> {
+    let mut text = String::new(alloc);
+    for place in &queue.changed_since(version)? {
+        write!(text, "{place} ")?;
+    }
+    Ok(text)
+}
+
+/// The ids from place to place, each with the place that is found for it.
+fn ids(alloc: Global, queue: &Queue) -> Result<String, Fail> {
+    let mut text = String::new(alloc);
+    for place in 0..queue.len() {
+        let entry = queue.get(place).ok_or("no entry")?;
+        let found = queue.position_of(entry.id).ok_or("not found")?;
+        write!(text, "{}@{found} ", entry.id)?;
+    }
+    Ok(text)
+}
+
+fn finds(queue: &Queue, id: u32) -> Option<usize> {
+    queue.position_of(id)
+}
+
+fn has_entry(queue: &Queue, place: usize) -> bool {
+    queue.get(place).is_some()
+}
+
 #[test]
 fn a_deletion_restamps_the_slots_after_it(rt: HostRuntime) -> Result<(), Fail> {
     let mut queue = filled(rt.alloc(), 2147483647, 5)?;
-    queue.remove(2..3)?;
-    assert_eq!(rt; queue.changed_since(6)?.as_slice(), [2, 3].as_slice());
-    assert_eq!(rt; queue.get(2).map(|entry| entry.id), Some(4));
-    assert_eq!(rt; queue.get(3).map(|entry| entry.id), Some(5));
-    assert!(rt; queue.get(4).is_none());
-    assert_eq!(rt; queue.version(), 7);
-    assert_eq!(rt; queue.len(), 4);
-    assert_eq!(rt; queue.position_of(5), Some(3));
-    assert_eq!(rt; queue.position_of(3), None);
-    assert_eq!(rt; queue.changed_since(7)?.as_slice(), [].as_slice());
-    assert_eq!(rt;
-        queue.changed_since(99)?.as_slice(),
-        [0, 1, 2, 3].as_slice()
-    );
+    let left = removes(rt.alloc(), &mut queue, 2, 3)?;
+    assert_eq!(rt; left.as_str(), "ok 7 4 flips");
+    assert_eq!(rt; changed(rt.alloc(), &queue, 6)?.as_str(), "2 3 ");
+    assert_eq!(rt; changed(rt.alloc(), &queue, 7)?.as_str(), "");
+    assert_eq!(rt; changed(rt.alloc(), &queue, 99)?.as_str(), "0 1 2 3 ");
+    assert_eq!(rt; ids(rt.alloc(), &queue)?.as_str(), "1@0 2@1 4@2 5@3 ");
+    assert_eq!(rt; finds(&queue, 3), None);
+    assert!(rt; !has_entry(&queue, 4));
     Ok(())
 }
 
 #[test]
 fn versions_begin_anew(rt: HostRuntime) -> Result<(), Fail> {
     let mut queue = filled(rt.alloc(), 4, 4)?;
-    assert_eq!(rt; queue.version(), 1);
-    assert_eq!(rt; queue.changed_since(1)?.as_slice(), [0, 1, 2, 3].as_slice());
-    queue.remove(3..4)?;
-    assert_eq!(rt; queue.version(), 2);
-    assert_eq!(rt; queue.changed_since(2)?.as_slice(), [0, 1, 2].as_slice());
-    queue.remove(1..2)?;
-    assert_eq!(rt; queue.changed_since(3)?.as_slice(), [0].as_slice());
-    let once = filled(rt.alloc(), 1, 3)?;
-    assert_eq!(rt; once.version(), 1);
-    assert_eq!(rt; once.changed_since(1)?.as_slice(), [0, 1, 2].as_slice());
+    assert_eq!(rt; changed(rt.alloc(), &queue, 1)?.as_str(), "0 1 2 3 ");
+    let left = removes(rt.alloc(), &mut queue, 3, 4)?;
+    assert_eq!(rt; left.as_str(), "ok 2 3 flips");
+    assert_eq!(rt; changed(rt.alloc(), &queue, 2)?.as_str(), "0 1 2 ");
+    removes(rt.alloc(), &mut queue, 1, 2)?;
+    assert_eq!(rt; changed(rt.alloc(), &queue, 3)?.as_str(), "0 ");
+    Ok(())
+}
+
+#[test]
+fn a_version_limit_of_one(rt: HostRuntime) -> Result<(), Fail> {
+    let mut queue = filled(rt.alloc(), 1, 2)?;
+    let left = inserts(rt.alloc(), &mut queue, 2, 1)?;
+    assert_eq!(rt; left.as_str(), "ok 1 3 flips");
+    assert_eq!(rt; changed(rt.alloc(), &queue, 1)?.as_str(), "0 1 2 ");
     Ok(())
 }
 
 #[test]
 fn ranges_are_the_callers_to_cut(rt: HostRuntime) -> Result<(), Fail> {
     let mut queue = filled(rt.alloc(), 2147483647, 3)?;
-    assert_eq!(rt; queue.remove(3..3), Ok(()));
-    assert_eq!(rt; queue.version(), 4);
-    for range in [2..4, 4..4, 2..1] {
-        assert_eq!(rt; queue.remove(range), Err(QueueFault::BadIndex));
+    let left = removes(rt.alloc(), &mut queue, 3, 3)?;
+    assert_eq!(rt; left.as_str(), "ok 4 3 stays");
+    for (start, end) in [(2, 4), (4, 4), (2, 1)] {
+        let left = removes(rt.alloc(), &mut queue, start, end)?;
+        assert_eq!(rt; left.as_str(), "bad index 4 3 stays");
     }
-    assert_eq!(rt; queue.len(), 3);
     Ok(())
 }
 
@@ -84,73 +162,57 @@ fn ranges_are_the_callers_to_cut(rt: HostRuntime) -> Result<(), Fail> {
 fn an_empty_insertion_changes_nothing(rt: HostRuntime) -> Result<(), Fail> {
     let mut queue = filled(rt.alloc(), 2147483647, 3)?;
     for at in 0..4 {
-        assert_eq!(rt; queue.insert(at, Vec::new(rt.alloc())), Ok(()));
+        let left = inserts(rt.alloc(), &mut queue, at, 0)?;
+        assert_eq!(rt; left.as_str(), "ok 4 3 stays");
     }
-    assert_eq!(rt; queue.version(), 4);
-    assert_eq!(rt;
-        queue.insert(4, Vec::new(rt.alloc())),
-        Err(QueueFault::BadIndex)
-    );
+    let left = inserts(rt.alloc(), &mut queue, 4, 0)?;
+    assert_eq!(rt; left.as_str(), "bad index 4 3 stays");
     Ok(())
 }
 
 #[test]
 fn refusals_in_their_order(rt: HostRuntime) -> Result<(), Fail> {
-    let mut queue = Queue::new(rt.alloc(), 2, 9, 3);
+    let mut queue = empty(rt.alloc(), 2, 9, 3);
+    let mut log = String::new(rt.alloc());
+    for (at, count) in [(1, 4), (0, 4), (0, 2)] {
+        log.push_str(inserts(rt.alloc(), &mut queue, at, count)?.as_str())?;
+        log.push_str("\n")?;
+    }
     assert_eq!(rt;
-        queue.insert(1, songs(rt.alloc(), 4)?),
-        Err(QueueFault::BadIndex)
+        log.as_str(),
+        "bad index 1 0 stays\nfull 1 0 stays\nok 2 2 flips\n"
     );
-    assert_eq!(rt;
-        queue.insert(0, songs(rt.alloc(), 4)?),
-        Err(QueueFault::Full)
-    );
-    queue.insert(0, songs(rt.alloc(), 2)?)?;
-    queue.remove(0..2)?;
-    assert_eq!(rt;
-        queue.insert(0, songs(rt.alloc(), 2)?),
-        Err(QueueFault::NoMoreIds)
-    );
-    queue.insert(0, songs(rt.alloc(), 1)?)?;
-    assert_eq!(rt; queue.position_of(3), Some(0));
+    removes(rt.alloc(), &mut queue, 0, 2)?;
+    let left = inserts(rt.alloc(), &mut queue, 0, 2)?;
+    assert_eq!(rt; left.as_str(), "no more ids 3 0 stays");
+    inserts(rt.alloc(), &mut queue, 0, 1)?;
+    assert_eq!(rt; ids(rt.alloc(), &queue)?.as_str(), "3@0 ");
     Ok(())
 }
 
 #[test]
 fn songs_are_put_in_the_middle(rt: HostRuntime) -> Result<(), Fail> {
     let mut queue = filled(rt.alloc(), 2147483647, 3)?;
-    queue.insert(1, songs(rt.alloc(), 2)?)?;
-    let mut place = 0;
-    for id in [1, 4, 5, 2, 3] {
-        assert_eq!(rt; queue.position_of(id), Some(place));
-        place = place.wrapping_add(1);
-    }
-    assert_eq!(rt; queue.changed_since(4)?.as_slice(), [1, 2, 3, 4].as_slice());
+    inserts(rt.alloc(), &mut queue, 1, 2)?;
+    assert_eq!(rt; ids(rt.alloc(), &queue)?.as_str(), "1@0 4@1 5@2 2@3 3@4 ");
+    assert_eq!(rt; changed(rt.alloc(), &queue, 4)?.as_str(), "1 2 3 4 ");
     Ok(())
 }
 
-/// Each row: two places, what the swap answers, the version then, and whether the parity was flipped.
 #[test]
 fn a_swap_back_is_shown(rt: HostRuntime) -> Result<(), Fail> {
     let mut queue = filled(rt.alloc(), 99, 2)?;
-    for (a, b, answer, version, flips) in [
-        (0, 1, Ok(()), 4, true),
-        (0, 1, Ok(()), 5, true),
-        (0, 0, Ok(()), 5, false),
-        (0, 5, Err(QueueFault::BadIndex), 5, false),
-        (2, 0, Err(QueueFault::BadIndex), 5, false),
-    ] {
-        let before = queue.parity();
-        assert_eq!(rt; queue.swap(a, b), answer);
-        assert_eq!(rt; queue.version(), version);
-        assert_eq!(rt; before != queue.parity(), flips);
+    let mut log = String::new(rt.alloc());
+    for (a, b) in [(0, 1), (0, 1), (0, 0), (0, 5), (2, 0)] {
+        log.push_str(swaps(rt.alloc(), &mut queue, a, b)?.as_str())?;
+        log.push_str("\n")?;
     }
-    for version in [3, 99] {
-        assert_eq!(rt; queue.changed_since(version)?.as_slice(), [0, 1].as_slice());
-    }
-    for (place, id) in [(0, 1), (1, 2)] {
-        assert_eq!(rt; queue.get(place).map(|entry| entry.id), Some(id));
-    }
+    let wanted =
+        "ok 4 2 flips\nok 5 2 flips\nok 5 2 stays\nbad index 5 2 stays\nbad index 5 2 stays\n";
+    assert_eq!(rt; log.as_str(), wanted);
+    assert_eq!(rt; changed(rt.alloc(), &queue, 3)?.as_str(), "0 1 ");
+    assert_eq!(rt; changed(rt.alloc(), &queue, 99)?.as_str(), "0 1 ");
+    assert_eq!(rt; ids(rt.alloc(), &queue)?.as_str(), "1@0 2@1 ");
     Ok(())
 }
 
@@ -167,19 +229,16 @@ fn the_laws_do_nothing() {
 
 #[test]
 fn a_full_queue(rt: HostRuntime) -> Result<(), Fail> {
-    let mut queue = Queue::new(rt.alloc(), 16_384, 2_147_483_647, ID_LIMIT);
-    queue.insert(0, songs(rt.alloc(), 16_384)?)?;
-    assert_eq!(rt; queue.len(), 16_384);
-    assert_eq!(rt; queue.version(), 2);
-    assert_eq!(rt; queue.position_of(16_384), Some(16_383));
-    assert_eq!(rt; queue.changed_since(1)?.len(), 16_384);
-    match queue.insert(16_384, songs(rt.alloc(), 1)?) {
-        Err(QueueFault::Full) => {}
-        _ => panic!(rt; "there was room"),
-    }
-    queue.remove(0..16_383)?;
-    assert_eq!(rt; queue.get(0).map(|entry| entry.id), Some(16_384));
-    queue.insert(1, songs(rt.alloc(), 16_383)?)?;
-    assert_eq!(rt; queue.get(16_383).map(|entry| entry.id), Some(32_767));
+    let mut queue = empty(rt.alloc(), 16_384, 2_147_483_647, ID_LIMIT);
+    let left = inserts(rt.alloc(), &mut queue, 0, 16_384)?;
+    assert_eq!(rt; left.as_str(), "ok 2 16384 flips");
+    assert_eq!(rt; finds(&queue, 16_384), Some(16_383));
+    assert_eq!(rt; changed(rt.alloc(), &queue, 1)?.len(), 87_194);
+    let left = inserts(rt.alloc(), &mut queue, 16_384, 1)?;
+    assert_eq!(rt; left.as_str(), "full 2 16384 stays");
+    removes(rt.alloc(), &mut queue, 0, 16_383)?;
+    assert_eq!(rt; ids(rt.alloc(), &queue)?.as_str(), "16384@0 ");
+    inserts(rt.alloc(), &mut queue, 1, 16_383)?;
+    assert_eq!(rt; finds(&queue, 32_767), Some(16_383));
     Ok(())
 }

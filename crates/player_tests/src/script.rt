@@ -62,43 +62,91 @@ fn device(alloc: Global, text: &str, point: FailurePoint) -> Result<FailAt, Allo
     Ok(FailAt::new(Vec::from_slice(alloc, text.as_bytes())?, point))
 }
 
+/// How a run of a script ends, and what it prints before that: `ok`, `read fault`, `write fault` or `no memory`, a newline, and
+/// what was written. The helpers have no clauses, so that a test knows nothing of what they give and is cheap to prove.
+fn run(
+    alloc: Global,
+    input: &str,
+    read: FailurePoint,
+    write: FailurePoint,
+) -> Result<String, Fail> {
+    let mut reader = device(alloc, input, read)?;
+    let mut writer = device(alloc, "", write)?;
+    let end = end_of(run_script(alloc, &mut reader, &mut writer));
+    Ok(format!(in alloc; "{end}\n{}", str::from_utf8(writer.bytes())?)?)
+}
+
+fn end_of(ended: Result<(), ScriptFault>) -> &'static str {
+    match ended {
+        Ok(()) => "ok",
+        Err(ScriptFault::ReadFault) => "read fault",
+        Err(ScriptFault::WriteFault) => "write fault",
+        Err(ScriptFault::NoMemory) => "no memory",
+    }
+}
+
 #[test]
 fn a_deletion_restamps_the_slots_after_it(rt: HostRuntime) -> Result<(), Fail> {
     let input = text(rt.alloc(), &DELETION)?;
-    let mut reader = device(rt.alloc(), input.as_str(), FailurePoint::Never)?;
-    let mut writer = device(rt.alloc(), "", FailurePoint::Never)?;
-    assert_eq!(rt; run_script(rt.alloc(), &mut reader, &mut writer), Ok(()));
     let prints = text(rt.alloc(), &DELETION_PRINTS)?;
-    assert_eq!(rt; str::from_utf8(writer.bytes())?, prints.as_str());
-    runs_are_lived();
+    let wanted = format!(in rt.alloc(); "ok\n{}", prints.as_str())?;
+    let ran = run(
+        rt.alloc(),
+        input.as_str(),
+        FailurePoint::Never,
+        FailurePoint::Never,
+    )?;
+    assert_eq!(rt; ran.as_str(), wanted.as_str());
     Ok(())
+}
+
+#[test]
+fn the_law_does_nothing() {
+    runs_are_lived();
 }
 
 #[test]
 fn a_writer_that_fails(rt: HostRuntime) -> Result<(), Fail> {
     let input = text(rt.alloc(), &DELETION)?;
-    let mut reader = device(rt.alloc(), input.as_str(), FailurePoint::Never)?;
-    let mut writer = device(rt.alloc(), "", FailurePoint::Byte(10))?;
-    let fault = Err(ScriptFault::WriteFault);
-    assert_eq!(rt; run_script(rt.alloc(), &mut reader, &mut writer), fault);
-    assert_eq!(rt; str::from_utf8(writer.bytes())?, "1 OK MPD 0");
+    let ran = run(
+        rt.alloc(),
+        input.as_str(),
+        FailurePoint::Never,
+        FailurePoint::Byte(10),
+    )?;
+    assert_eq!(rt; ran.as_str(), "write fault\n1 OK MPD 0");
     Ok(())
 }
 
+/// A script that a reader fails in.
+const CUT_OFF: &str = "! song a.wav 8000\n1 add a.wav\n1 delete 0\n1 sta";
+
 #[test]
 fn a_reader_that_fails(rt: HostRuntime) -> Result<(), Fail> {
-    let input = "! song a.wav 8000\n1 add a.wav\n1 delete 0\n1 sta";
-    for (point, prints) in [
-        (FailurePoint::Call(1), ""),
-        (FailurePoint::Call(2), "1 OK MPD 0.23.0\n1 OK\n1 OK\n"),
-        (FailurePoint::Byte(32), "1 OK MPD 0.23.0\n1 OK\n"),
-    ] {
-        let mut reader = device(rt.alloc(), input, point)?;
-        let mut writer = device(rt.alloc(), "", FailurePoint::Never)?;
-        let fault = Err(ScriptFault::ReadFault);
-        assert_eq!(rt; run_script(rt.alloc(), &mut reader, &mut writer), fault);
-        assert_eq!(rt; str::from_utf8(writer.bytes())?, prints, "at {point:?}");
-    }
+    let at_once = run(
+        rt.alloc(),
+        CUT_OFF,
+        FailurePoint::Call(1),
+        FailurePoint::Never,
+    )?;
+    assert_eq!(rt; at_once.as_str(), "read fault\n");
+    let at_end = run(
+        rt.alloc(),
+        CUT_OFF,
+        FailurePoint::Call(2),
+        FailurePoint::Never,
+    )?;
+    assert_eq!(rt;
+        at_end.as_str(),
+        "read fault\n1 OK MPD 0.23.0\n1 OK\n1 OK\n"
+    );
+    let between = run(
+        rt.alloc(),
+        CUT_OFF,
+        FailurePoint::Byte(32),
+        FailurePoint::Never,
+    )?;
+    assert_eq!(rt; between.as_str(), "read fault\n1 OK MPD 0.23.0\n1 OK\n");
     Ok(())
 }
 
@@ -109,10 +157,12 @@ fn a_line_too_long(rt: HostRuntime) -> Result<(), Fail> {
         input.push_str("x")?;
     }
     input.push_str("\n1 delete 0\n")?;
-    let mut reader = device(rt.alloc(), input.as_str(), FailurePoint::Never)?;
-    let mut writer = device(rt.alloc(), "", FailurePoint::Never)?;
-    assert_eq!(rt; run_script(rt.alloc(), &mut reader, &mut writer), Ok(()));
-    let prints = "1 OK MPD 0.23.0\n1 OK\n! bad\n";
-    assert_eq!(rt; str::from_utf8(writer.bytes())?, prints);
+    let ran = run(
+        rt.alloc(),
+        input.as_str(),
+        FailurePoint::Never,
+        FailurePoint::Never,
+    )?;
+    assert_eq!(rt; ran.as_str(), "ok\n1 OK MPD 0.23.0\n1 OK\n! bad\n");
     Ok(())
 }

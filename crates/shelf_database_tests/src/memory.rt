@@ -1,6 +1,6 @@
 //! A shelf over a database in memory.
 
-use shelf::ShelfFault;
+use shelf::{Shelf, ShelfFault};
 use shelf_database::SqlShelf;
 use shelf_tests::playlists::{self, wants};
 use shelf_tests::stickers;
@@ -8,67 +8,112 @@ use sqlite::{Connection, MemStore};
 use std::alloc::Global;
 use std::test::Fail;
 
-fn opened(alloc: Global) -> Result<SqlShelf<MemStore>, Fail> {
-    let connection = Connection::open_in_memory(alloc)?;
+fn over(alloc: Global, connection: Connection<MemStore>) -> Result<SqlShelf<MemStore>, ShelfFault> {
     match SqlShelf::over(alloc, connection) {
         Ok(shelf) => Ok(shelf),
-        Err((fault, _)) => Err(Fail::from(fault)),
+        Err((fault, _)) => Err(fault),
     }
+}
+
+fn opened(alloc: Global) -> Result<SqlShelf<MemStore>, Fail> {
+    Ok(over(alloc, Connection::open_in_memory(alloc)?)?)
+}
+
+/// What is looked at on a shelf.
+#[derive(Clone, Copy)]
+enum Case {
+    ListIsKept,
+    RefusalsInOrder,
+    NamesRise,
+    LongNamesTaken,
+    LongNamesRefused,
+    LongUris,
+    LongestList,
+    StickerIsKept,
+    StickersRise,
+    AnyText,
+    LongStickers,
+}
+
+fn look_at<S: Shelf>(alloc: Global, shelf: &mut S, case: Case) -> Result<(), Fail> {
+    match case {
+        Case::ListIsKept => playlists::a_list_is_kept_and_renamed(alloc, shelf),
+        Case::RefusalsInOrder => playlists::refusals_have_their_order(alloc, shelf),
+        Case::NamesRise => playlists::names_rise_by_bytes(alloc, shelf),
+        Case::LongNamesTaken => playlists::names_of_255_bytes_are_taken(alloc, shelf),
+        Case::LongNamesRefused => playlists::names_of_256_bytes_are_refused(alloc, shelf),
+        Case::LongUris => playlists::long_uris_come_back(alloc, shelf),
+        Case::LongestList => playlists::the_longest_list_is_kept(alloc, shelf),
+        Case::StickerIsKept => stickers::a_sticker_is_kept(shelf),
+        Case::StickersRise => stickers::stickers_rise_by_bytes(shelf),
+        Case::AnyText => stickers::any_text_comes_back(shelf),
+        Case::LongStickers => stickers::long_stickers_come_back(alloc, shelf),
+    }
+}
+
+/// Here alone it is proved that this is a shelf: once, and not in each test.
+fn look_at_database(alloc: Global, shelf: &mut SqlShelf<MemStore>, case: Case) -> Result<(), Fail> {
+    look_at(alloc, shelf, case)
+}
+
+/// Looks at an empty shelf.
+fn look(alloc: Global, case: Case) -> Result<(), Fail> {
+    look_at_database(alloc, &mut opened(alloc)?, case)
 }
 
 #[test]
 fn a_list_is_kept_and_renamed(rt: HostRuntime) -> Result<(), Fail> {
-    playlists::a_list_is_kept_and_renamed(rt.alloc(), &mut opened(rt.alloc())?)
+    look(rt.alloc(), Case::ListIsKept)
 }
 
 #[test]
 fn refusals_have_their_order(rt: HostRuntime) -> Result<(), Fail> {
-    playlists::refusals_have_their_order(rt.alloc(), &mut opened(rt.alloc())?)
+    look(rt.alloc(), Case::RefusalsInOrder)
 }
 
 #[test]
 fn names_rise_by_bytes(rt: HostRuntime) -> Result<(), Fail> {
-    playlists::names_rise_by_bytes(rt.alloc(), &mut opened(rt.alloc())?)
+    look(rt.alloc(), Case::NamesRise)
 }
 
 #[test]
 fn names_of_255_bytes_are_taken(rt: HostRuntime) -> Result<(), Fail> {
-    playlists::names_of_255_bytes_are_taken(rt.alloc(), &mut opened(rt.alloc())?)
+    look(rt.alloc(), Case::LongNamesTaken)
 }
 
 #[test]
 fn names_of_256_bytes_are_refused(rt: HostRuntime) -> Result<(), Fail> {
-    playlists::names_of_256_bytes_are_refused(rt.alloc(), &mut opened(rt.alloc())?)
+    look(rt.alloc(), Case::LongNamesRefused)
 }
 
 #[test]
 fn long_uris_come_back(rt: HostRuntime) -> Result<(), Fail> {
-    playlists::long_uris_come_back(rt.alloc(), &mut opened(rt.alloc())?)
+    look(rt.alloc(), Case::LongUris)
 }
 
 #[test]
 fn the_longest_list_is_kept(rt: HostRuntime) -> Result<(), Fail> {
-    playlists::the_longest_list_is_kept(rt.alloc(), &mut opened(rt.alloc())?)
+    look(rt.alloc(), Case::LongestList)
 }
 
 #[test]
 fn a_sticker_is_kept(rt: HostRuntime) -> Result<(), Fail> {
-    stickers::a_sticker_is_kept(&mut opened(rt.alloc())?)
+    look(rt.alloc(), Case::StickerIsKept)
 }
 
 #[test]
 fn stickers_rise_by_bytes(rt: HostRuntime) -> Result<(), Fail> {
-    stickers::stickers_rise_by_bytes(&mut opened(rt.alloc())?)
+    look(rt.alloc(), Case::StickersRise)
 }
 
 #[test]
 fn any_text_comes_back(rt: HostRuntime) -> Result<(), Fail> {
-    stickers::any_text_comes_back(&mut opened(rt.alloc())?)
+    look(rt.alloc(), Case::AnyText)
 }
 
 #[test]
 fn long_stickers_come_back(rt: HostRuntime) -> Result<(), Fail> {
-    stickers::long_stickers_come_back(rt.alloc(), &mut opened(rt.alloc())?)
+    look(rt.alloc(), Case::LongStickers)
 }
 
 /// A database in memory that these statements were run on.
@@ -82,43 +127,42 @@ fn after(alloc: Global, is_shelf: bool, statements: &str) -> Result<Connection<M
     Ok(connection)
 }
 
+/// What is run on the tables of a shelf, each line on its own, so that they are refused.
+const REFUSED_CHANGES: &str = "UPDATE profile SET number = 2
+DELETE FROM profile
+DROP TABLE list
+DROP TABLE sticker
+DROP TABLE list; CREATE TABLE lists (name TEXT NOT NULL PRIMARY KEY, uris TEXT NOT NULL)
+DROP TABLE list; CREATE TABLE list (name TEXT NOT NULL PRIMARY KEY, text TEXT NOT NULL)
+DROP TABLE sticker; CREATE TABLE sticker (uri TEXT NOT NULL PRIMARY KEY, name TEXT NOT NULL, value TEXT NOT NULL)";
+
+/// What is run on a database without tables, each line on its own, so that it is refused.
+const REFUSED_TABLES: &str = "CREATE TABLE other (a INTEGER)
+CREATE TABLE profile (one INTEGER PRIMARY KEY, number INTEGER); INSERT INTO profile VALUES (1, 1)
+BEGIN";
+
+fn is_refused(alloc: Global, is_shelf: bool, statements: &str) -> Result<(), Fail> {
+    match over(alloc, after(alloc, is_shelf, statements)?) {
+        Ok(_) => Err(Fail::new(statements)),
+        Err(fault) => wants(fault == ShelfFault::StoreFault, statements),
+    }
+}
+
 #[test]
 fn other_tables_are_refused(rt: HostRuntime) -> Result<(), Fail> {
-    let refused = [
-        (true, "UPDATE profile SET number = 2"),
-        (true, "DELETE FROM profile"),
-        (false, "CREATE TABLE other (a INTEGER)"),
-        (
-            false,
-            "CREATE TABLE profile (one INTEGER PRIMARY KEY, number INTEGER); INSERT INTO profile VALUES (1, 1)",
-        ),
-        (true, "DROP TABLE list"),
-        (true, "DROP TABLE sticker"),
-        (
-            true,
-            "DROP TABLE list; CREATE TABLE lists (name TEXT NOT NULL PRIMARY KEY, uris TEXT NOT NULL)",
-        ),
-        (
-            true,
-            "DROP TABLE list; CREATE TABLE list (name TEXT NOT NULL PRIMARY KEY, text TEXT NOT NULL)",
-        ),
-        (
-            true,
-            "DROP TABLE sticker; CREATE TABLE sticker (uri TEXT NOT NULL PRIMARY KEY, name TEXT NOT NULL, value TEXT NOT NULL)",
-        ),
-        (false, "BEGIN"),
-    ];
-    for (is_shelf, statements) in refused {
-        match SqlShelf::over(rt.alloc(), after(rt.alloc(), is_shelf, statements)?) {
-            Ok(_) => return Err(Fail::new(statements)),
-            Err((fault, _)) => wants(fault == ShelfFault::StoreFault, statements)?,
-        }
+    for statements in REFUSED_CHANGES.lines() {
+        is_refused(rt.alloc(), true, statements)?;
     }
+    for statements in REFUSED_TABLES.lines() {
+        is_refused(rt.alloc(), false, statements)?;
+    }
+    Ok(())
+}
+
+#[test]
+fn the_number_of_the_profile_is_taken(rt: HostRuntime) -> Result<(), Fail> {
     let again = after(rt.alloc(), true, "UPDATE profile SET number = 1")?;
-    wants(
-        SqlShelf::over(rt.alloc(), again).is_ok(),
-        "the profile's own number",
-    )
+    wants(over(rt.alloc(), again).is_ok(), "the profile's own number")
 }
 
 /// The profile's tables, made in another order.
@@ -128,21 +172,17 @@ const OTHER_ORDER: &str =
     CREATE TABLE profile (one INTEGER PRIMARY KEY CHECK (one = 1), number INTEGER NOT NULL);
     INSERT INTO profile (one, number) VALUES (1, 1)";
 
+fn is_taken(alloc: Global, is_shelf: bool, statements: &str) -> Result<(), Fail> {
+    let Ok(mut shelf) = over(alloc, after(alloc, is_shelf, statements)?) else {
+        return Err(Fail::new(statements));
+    };
+    look_at_database(alloc, &mut shelf, Case::ListIsKept)?;
+    look_at_database(alloc, &mut shelf, Case::StickersRise)
+}
+
 #[test]
 fn tables_in_another_order_are_taken(rt: HostRuntime) -> Result<(), Fail> {
-    let taken = [
-        (false, OTHER_ORDER),
-        (true, "CREATE INDEX by_value ON sticker (value)"),
-        (true, "CREATE TABLE other (a INTEGER)"),
-    ];
-    for (is_shelf, statements) in taken {
-        match SqlShelf::over(rt.alloc(), after(rt.alloc(), is_shelf, statements)?) {
-            Ok(mut shelf) => {
-                playlists::a_list_is_kept_and_renamed(rt.alloc(), &mut shelf)?;
-                stickers::stickers_rise_by_bytes(&mut shelf)?;
-            }
-            Err(_) => return Err(Fail::new(statements)),
-        }
-    }
-    Ok(())
+    is_taken(rt.alloc(), false, OTHER_ORDER)?;
+    is_taken(rt.alloc(), true, "CREATE INDEX by_value ON sticker (value)")?;
+    is_taken(rt.alloc(), true, "CREATE TABLE other (a INTEGER)")
 }

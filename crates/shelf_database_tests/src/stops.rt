@@ -8,11 +8,14 @@
 use shelf::{Shelf, ShelfFault};
 use shelf_database::SqlShelf;
 use shelf_tests::playlists::{keep, texts, wants};
-use sqlite::{Connection, FileStore, Files, Options};
+use sqlite::{Alter, Connection, FileStore, Files, Options};
 use sqlite_disk::{Crash, Disk, Fuse, Memory};
 use std::alloc::Global;
 use std::process::Abort;
 use std::test::Fail;
+
+/// The log and the database, each with the count of calls after which it fails.
+type Half = Files<Fuse<Memory>>;
 
 /// The call of a run.
 #[derive(Clone, Copy, PartialEq, Eq)]
@@ -48,25 +51,15 @@ struct Stops {
     close: u32,
 }
 
-/// All that the shelf shows, as one text.
-fn shown<S: Shelf>(alloc: Global, shelf: &mut S) -> Result<String, Fail> {
-    let mut text = String::new(alloc);
-    for name in &shelf.lists()? {
-        text.push_str(name.as_str())?;
-        text.push('=')?;
-        for uri in &shelf.list(name.as_str())? {
-            text.push_str(uri.as_str())?;
-            text.push(',')?;
-        }
-        text.push(';')?;
-    }
-    for entry in &shelf.find_stickers("r")? {
-        text.push_str(entry.key.as_str())?;
-        text.push(':')?;
-        text.push_str(entry.value.as_str())?;
-        text.push(';')?;
-    }
-    Ok(text)
+/// What is done on a shelf between opening the files and closing them.
+#[derive(Clone, Copy)]
+enum Visit {
+    /// The call of a run.
+    Make(Call),
+    /// One list and one sticker are put on the shelf.
+    Fill,
+    /// All that the shelf shows is told.
+    Show,
 }
 
 fn before(call: Call) -> &'static str {
@@ -94,6 +87,71 @@ fn make<S: Shelf>(shelf: &mut S, call: Call, uris: &[String]) -> Result<(), Shel
     }
 }
 
+/// Puts one list and one sticker on the shelf.
+fn fill<S: Shelf>(shelf: &mut S, uris: &[String]) -> Result<(), ShelfFault> {
+    keep(shelf, "x", uris, true)?;
+    shelf.set_sticker("a.wav", "r", "5")
+}
+
+/// Appends the shelf's lists.
+fn show_lists<S: Shelf>(shelf: &mut S, shown: &mut String) -> Result<(), ShelfFault> {
+    for name in &shelf.lists()? {
+        shown.push_str(name.as_str())?;
+        shown.push('=')?;
+        for uri in &shelf.list(name.as_str())? {
+            shown.push_str(uri.as_str())?;
+            shown.push(',')?;
+        }
+        shown.push(';')?;
+    }
+    Ok(())
+}
+
+/// Appends all that the shelf shows, as one text.
+fn show<S: Shelf>(shelf: &mut S, shown: &mut String) -> Result<(), ShelfFault> {
+    show_lists(shelf, shown)?;
+    for entry in &shelf.find_stickers("r")? {
+        shown.push_str(entry.key.as_str())?;
+        shown.push(':')?;
+        shown.push_str(entry.value.as_str())?;
+        shown.push(';')?;
+    }
+    Ok(())
+}
+
+fn run_visit<S: Shelf>(
+    shelf: &mut S,
+    what: Visit,
+    uris: &[String],
+    shown: &mut String,
+) -> Result<(), ShelfFault> {
+    match what {
+        Visit::Make(call) => make(shelf, call, uris),
+        Visit::Fill => fill(shelf, uris),
+        Visit::Show => show(shelf, shown),
+    }
+}
+
+/// The connection after a run that was not stopped, or else the step that was, and the store.
+fn run_over<S: Alter + Drop>(
+    alloc: Global,
+    connection: Connection<S>,
+    what: Visit,
+    uris: &[String],
+    shown: &mut String,
+) -> Result<Connection<S>, (Step, S)> {
+    let mut shelf = match SqlShelf::over(alloc, connection) {
+        Ok(shelf) => shelf,
+        Err((_, connection)) => return Err((Step::Over, connection.into_store())),
+    };
+    let answer = run_visit(&mut shelf, what, uris, shown);
+    let connection = shelf.into_connection();
+    match answer {
+        Ok(()) => Ok(connection),
+        Err(_) => Err((Step::Call, connection.into_store())),
+    }
+}
+
 fn opened<D: Disk + Drop>(
     alloc: Global,
     files: Files<D>,
@@ -107,17 +165,10 @@ fn opened<D: Disk + Drop>(
     }
 }
 
-/// A shelf over files that do not stop.
-fn shelf_over<D: Disk + Drop>(
-    alloc: Global,
-    files: Files<D>,
-) -> Result<SqlShelf<FileStore<D>>, Fail> {
-    let Ok(connection) = opened(alloc, files) else {
-        return Err(Fail::new("the files are not opened"));
-    };
-    match SqlShelf::over(alloc, connection) {
-        Ok(shelf) => Ok(shelf),
-        Err((fault, _)) => Err(Fail::from(fault)),
+fn closed<D: Disk + Drop>(connection: Connection<FileStore<D>>) -> (Option<Step>, Files<D>) {
+    match connection.close_files() {
+        Ok(files) => (None, files),
+        Err((_, store)) => (Some(Step::Close), store.close()),
     }
 }
 
@@ -125,96 +176,73 @@ fn shelf_over<D: Disk + Drop>(
 fn run<D: Disk + Drop>(
     alloc: Global,
     files: Files<D>,
-    call: Call,
+    what: Visit,
     uris: &[String],
+    shown: &mut String,
 ) -> (Option<Step>, Files<D>) {
     let connection = match opened(alloc, files) {
         Ok(connection) => connection,
         Err(files) => return (Some(Step::Open), files),
     };
-    let mut shelf = match SqlShelf::over(alloc, connection) {
-        Ok(shelf) => shelf,
-        Err((_, connection)) => return (Some(Step::Over), connection.into_store().close()),
-    };
-    if make(&mut shelf, call, uris).is_err() {
-        return (
-            Some(Step::Call),
-            shelf.into_connection().into_store().close(),
-        );
-    }
-    match shelf.into_connection().close_files() {
-        Ok(files) => (None, files),
-        Err((_, store)) => (Some(Step::Close), store.close()),
+    match run_over(alloc, connection, what, uris, shown) {
+        Ok(connection) => closed(connection),
+        Err((step, store)) => (Some(step), store.close()),
     }
 }
 
-fn copied(alloc: Global, bytes: &[u8]) -> Result<Memory, Fail> {
+/// A file with these bytes, all of them synced, that fails after so many calls.
+fn fused(alloc: Global, bytes: &[u8], calls: u64) -> Result<Fuse<Memory>, Fail> {
     let mut file = Memory::new(alloc);
     file.write_at(0, bytes)?;
     file.sync()?;
-    Ok(file)
-}
-
-fn empty(alloc: Global) -> Files<Memory> {
-    Files {
-        log: Memory::new(alloc),
-        db: Memory::new(alloc),
-    }
-}
-
-/// Puts one list and one sticker on the shelf.
-fn fill<S: Shelf>(alloc: Global, shelf: &mut S) -> Result<(), Fail> {
-    let uris = texts(alloc, &["s.wav"])?;
-    keep(shelf, "x", &uris, true)?;
-    shelf.set_sticker("a.wav", "r", "5")?;
-    Ok(())
-}
-
-/// Files with one list and one sticker, closed.
-fn filled(alloc: Global) -> Result<Files<Memory>, Fail> {
-    let mut shelf = shelf_over(alloc, empty(alloc))?;
-    fill(alloc, &mut shelf)?;
-    match shelf.into_connection().close_files() {
-        Ok(files) => Ok(files),
-        Err((error, store)) => {
-            drop(store.close());
-            Err(Fail::from(error))
-        }
-    }
+    Ok(Fuse::new(file, calls))
 }
 
 /// Copies of the files, one of which fails after so many calls.
-fn fused(
-    alloc: Global,
-    files: &Files<Memory>,
-    side: Side,
-    calls: u64,
-) -> Result<Files<Fuse<Memory>>, Fail> {
+fn copied(alloc: Global, files: &Half, side: Side, calls: u64) -> Result<Half, Fail> {
     let (log, db) = match side {
         Side::Log => (calls, u64::MAX),
         Side::Database => (u64::MAX, calls),
     };
     Ok(Files {
-        log: Fuse::new(copied(alloc, files.log.bytes())?, log),
-        db: Fuse::new(copied(alloc, files.db.bytes())?, db),
+        log: fused(alloc, files.log.inner().bytes(), log)?,
+        db: fused(alloc, files.db.inner().bytes(), db)?,
     })
 }
 
-fn text_of<D: Disk + Drop>(alloc: Global, files: Files<D>) -> Result<String, Fail> {
-    shown(alloc, &mut shelf_over(alloc, files)?)
+fn empty(alloc: Global) -> Half {
+    Files {
+        log: Fuse::new(Memory::new(alloc), u64::MAX),
+        db: Fuse::new(Memory::new(alloc), u64::MAX),
+    }
+}
+
+/// Files with one list and one sticker, closed.
+fn filled(alloc: Global) -> Result<Half, Fail> {
+    let uris = texts(alloc, &["s.wav"])?;
+    let mut shown = String::new(alloc);
+    match run(alloc, empty(alloc), Visit::Fill, &uris, &mut shown) {
+        (None, files) => Ok(files),
+        (Some(_), _) => Err(Fail::new("the files are not filled")),
+    }
+}
+
+/// What a shelf over files that do not stop shows.
+fn text_of(alloc: Global, files: Half) -> Result<String, Fail> {
+    let mut shown = String::new(alloc);
+    match run(alloc, files, Visit::Show, &[], &mut shown) {
+        (None, _) => Ok(shown),
+        (Some(_), _) => Err(Fail::new("the files are not shown")),
+    }
 }
 
 /// What the shelf shows with all that was written.
-fn written(alloc: Global, files: &Files<Fuse<Memory>>) -> Result<String, Fail> {
-    let files = Files {
-        log: copied(alloc, files.log.inner().bytes())?,
-        db: copied(alloc, files.db.inner().bytes())?,
-    };
-    text_of(alloc, files)
+fn written(alloc: Global, files: &Half) -> Result<String, Fail> {
+    text_of(alloc, copied(alloc, files, Side::Log, u64::MAX)?)
 }
 
 /// What the shelf shows with what was synced alone.
-fn synced(alloc: Global, files: Files<Fuse<Memory>>) -> Result<String, Fail> {
+fn synced(alloc: Global, files: Half) -> Result<String, Fail> {
     let Files { mut log, mut db } = files;
     log.crash();
     db.crash();
@@ -240,6 +268,17 @@ fn count(stops: &mut Stops, step: Option<Step>) {
     }
 }
 
+/// The step that was stopped by the file after so many calls, if one was, where the shelf shows what it may after it.
+fn stopped(alloc: Global, files: Half, call: Call, uris: &[String]) -> Result<Option<Step>, Fail> {
+    let mut shown = String::new(alloc);
+    let (step, left) = run(alloc, files, Visit::Make(call), uris, &mut shown);
+    let text = written(alloc, &left)?;
+    wants(may_show(step, call, text.as_str()), "what was written")?;
+    let text = synced(alloc, left)?;
+    wants(may_show(step, call, text.as_str()), "what was synced")?;
+    Ok(step)
+}
+
 /// Stops at each call of the file, counting upwards until a run ends without a stop.
 fn stops_in(alloc: Global, call: Call, side: Side) -> Result<Stops, Fail> {
     let uris = texts(alloc, &["a.wav", "b.wav"])?;
@@ -253,11 +292,8 @@ fn stops_in(alloc: Global, call: Call, side: Side) -> Result<Stops, Fail> {
         close: 0,
     };
     for calls in 0..1_000u64 {
-        let (step, left) = run(alloc, fused(alloc, &files, side, calls)?, call, &uris);
-        let text = written(alloc, &left)?;
-        wants(may_show(step, call, text.as_str()), "what was written")?;
-        let text = synced(alloc, left)?;
-        wants(may_show(step, call, text.as_str()), "what was synced")?;
+        let files = copied(alloc, &files, side, calls)?;
+        let step = stopped(alloc, files, call, &uris)?;
         count(&mut stops, step);
         if step.is_none() {
             return Ok(stops);

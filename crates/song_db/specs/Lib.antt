@@ -1,1 +1,2 @@
 pub mod Library
+pub mod Lines

@@ -2,7 +2,11 @@
 #![tactic(auto)]
 
 mod db;
+mod rate;
 mod shared_song;
+mod song_lines;
 
 pub use db::{Db, DbFault, MAX_SONGS};
+pub use rate::Rate;
 pub use shared_song::SharedSong;
+pub use song_lines::push_song;

@@ -74,6 +74,22 @@ IsQueue-edited q es g is room low distinct ids =
           })
     ]
 
+-- an edit that brings no entry in gives a queue
+pub IsQueue-stays : (q : QueueState) (es : List Entry) → IsQueue q → length es ≤ length q.slots → AtMost q.greatest_id es → Distinct es → IsQueue (edited q es)
+IsQueue-stays q es is few low distinct =
+    let room = is.len in
+    let same : (edited q es).greatest_id ≡ q.greatest_id = elim (edited_cases q es) [ inl p ↦ ap (λ (x : QueueState). x.greatest_id) p.0 | inr p ↦ ap (λ (x : QueueState). x.greatest_id) p ] in
+    let P : ℕ → Type 0 = λ g. IsQueue (record (edited q es) { greatest_id = g }) in
+    subst P (sym same) (IsQueue-edited q es q.greatest_id is (omega arith) low distinct is.greatest_id)
+
+-- the fields that the code leaves after an edit that changes something and adds no id
+pub edited-is : (q : QueueState) (left : List Entry → List Entry) (v : ℕ) (w : Bool) (ss slots : List Slot) → v ≡ next_version q → w ≡ wraps q → ss ≡ q.slots → queue_of q ≢ left (queue_of q)
+    → slots ≡ restamped v w ss (left (entries_of ss))
+    → record { slots = slots; version = v; greatest_id = q.greatest_id; max_len = q.max_len; max_version = q.max_version; max_id = q.max_id; parity = not q.parity } ≡ edited q (left (queue_of q))
+edited-is q left v w ss slots is_v is_w is_old other is_slots =
+    let is_all : slots ≡ restamped (next_version q) (wraps q) q.slots (left (queue_of q)) = is_slots ∙ (λ i. restamped (is_v i) (is_w i) (is_old i) (left (entries_of (is_old i)))) in
+    (λ i. record { slots = is_all i; version = is_v i; greatest_id = q.greatest_id; max_len = q.max_len; max_version = q.max_version; max_id = q.max_id; parity = not q.parity }) ∙ sym (edited-changed q (left (queue_of q)) other)
+
 -- an edit that keeps what is before a place, and gives each later slot another id
 pub stepped-joined : (q : QueueState) (at : ℕ) (es : List Entry)
     → ((i : ℕ) (s : Slot) (e : Entry) → i < length (drop at q.slots) → i < length es → (get_or (drop at q.slots) i s).entry.id ≢ (get_or es i e).id)
@@ -295,10 +311,7 @@ module _ (q : QueueState) (is : IsQueue q) (start end : ℕ) (order : start ≤ 
   pub IsQueue-removed : IsQueue (removed q start end)
   IsQueue-removed =
       let B : Entry → Type 0 = λ e. e.id ≤ q.greatest_id in
-      let room = is.len in
-      let same : (edited q left).greatest_id ≡ q.greatest_id = elim (edited_cases q left) [ inl p ↦ ap (λ (x : QueueState). x.greatest_id) p.0 | inr p ↦ ap (λ (x : QueueState). x.greatest_id) p ] in
-      let P : ℕ → Type 0 = λ g. IsQueue (record (edited q left) { greatest_id = g }) in
-      subst P (sym same) (IsQueue-edited q left q.greatest_id is (omega (arith, length-left)) (All-append B (take start all) (drop end all) (All-take B start all is.ids) (All-drop B end all is.ids)) Distinct-left is.greatest_id)
+      IsQueue-stays q left is (omega (arith, length-left)) (All-append B (take start all) (drop end all) (All-take B start all is.ids) (All-drop B end all is.ids)) Distinct-left
 
   removed-others : start < end → (i : ℕ) (s : Slot) (e : Entry) → i < length (drop start q.slots) → i < length (drop end all) → (get_or (drop start q.slots) i s).entry.id ≢ (get_or (drop end all) i e).id
   removed-others some i s e l m same =

@@ -5,6 +5,8 @@ pub mod Patches
 pub mod Lists
 pub mod Edits
 pub mod Swaps
+pub mod Moves
+pub mod Priorities
 pub mod Runs
 pub mod Ids
 pub mod Parity

@@ -3,9 +3,10 @@ use Rattle.std.proofs.Common.{◌≡◌, ◌+◌, Bool, true, false, not, List, 
 use Rattle.std.specs.Prelude.{swap}
 use Rattle.std.proofs.lemmas.Bool.{cond-true, cond-false, cases_Bool}
 use Rattle.song_queue.specs.declared.entry.Entry.{Entry}
-use Rattle.song_queue.specs.Entries.{same_queue, entries_for}
+use Rattle.song_queue.specs.Entries.{same_queue, entries_for, moved_to, with_priority}
 use Rattle.song_queue.specs.State.{QueueState, queue_of, edited, wraps, next_version, differ}
-use Rattle.song_queue.specs.Laws.{Insert, Remove, Swap, ParityTellsChanges}
+use Rattle.song_queue.specs.declared.edit.Edit.TheVariants.{Insert, Remove, Move, Prioritize, Swap}
+use Rattle.song_queue.specs.Laws.{ParityTellsChanges}
 use Rattle.song_queue.proofs.Same.{same_queue-refl}
 use Rattle.song_queue.proofs.Edits.{stepped, entries_of-restamped}
 
@@ -33,4 +34,6 @@ tells q es =
 pub parity_tells_changes : ParityTellsChanges
 parity_tells_changes q (Insert at songs) = tells q (take at (queue_of q) ++ entries_for (q.greatest_id + 1) songs ++ drop at (queue_of q))
 parity_tells_changes q (Remove start end) = tells q (take start (queue_of q) ++ drop end (queue_of q))
+parity_tells_changes q (Move start end to) = tells q (moved_to (queue_of q) start end to)
+parity_tells_changes q (Prioritize ranges priority) = tells q (with_priority (queue_of q) ranges priority)
 parity_tells_changes q (Swap a b) = tells q (swap (queue_of q) a b)

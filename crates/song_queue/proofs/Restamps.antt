@@ -1,5 +1,5 @@
 -- What `restamped` gives at the joins that edits make.
-use Rattle.std.proofs.Common.{◌≡◌, ◌≢◌, ℕ, suc, ◌<◌, Bool, false, List, [], ◌∷◌, ◌++◌, length, map, get_or, refl, arith}
+use Rattle.std.proofs.Common.{◌≡◌, ◌≢◌, ℕ, suc, ◌<◌, Bool, false, cond, List, [], ◌∷◌, ◌++◌, length, map, get_or, refl, arith}
 use Rattle.std.proofs.lemmas.Bool.{cond-true, cond-false}
 use Rattle.song_queue.specs.declared.entry.Entry.{Entry}
 use Rattle.song_queue.specs.declared.entry.Slot.{Slot}
@@ -11,6 +11,18 @@ use Rattle.song_queue.proofs.Same.{same_entry-refl, same_entry-other}
 pub restamped-append : (v : ℕ) (w : Bool) (ss xs : List Slot) (es : List Entry) → restamped v w (ss ++ xs) (entries_of ss ++ es) ≡ map (kept w) ss ++ restamped v w xs es
 restamped-append v w [] xs es = refl
 restamped-append v w (a ∷ ss) xs es = λ i. cond-true (same_entry a.entry a.entry) (kept w a) (written v w a.entry) (same_entry-refl a.entry) i ∷ restamped-append v w ss xs es i
+
+-- with none behind them
+restamped-kept : (v : ℕ) (w : Bool) (ss : List Slot) → restamped v w ss (entries_of ss) ≡ map (kept w) ss
+restamped-kept v w [] = refl
+restamped-kept v w (s ∷ ss) = λ i. cond-true (same_entry s.entry s.entry) (kept w s) (written v w s.entry) (same_entry-refl s.entry) i ∷ restamped-kept v w ss i
+
+-- behind as many others
+pub restamped-middle : (v : ℕ) (w : Bool) (xs ss : List Slot) (es : List Entry) → length xs ≡ length es → restamped v w (xs ++ ss) (es ++ entries_of ss) ≡ restamped v w xs es ++ map (kept w) ss
+restamped-middle v w [] ss [] n = restamped-kept v w ss
+restamped-middle v w [] ss (e ∷ es) n = absurd (omega arith)
+restamped-middle v w (x ∷ xs) ss [] n = absurd (omega arith)
+restamped-middle v w (x ∷ xs) ss (e ∷ es) n = λ i. cond (same_entry x.entry e) (kept w x) (written v w e) ∷ restamped-middle v w xs ss es (omega arith) i
 
 pub restamped-nil : (v : ℕ) (w : Bool) (es : List Entry) → restamped v w [] es ≡ map (written v w) es
 restamped-nil v w [] = refl

@@ -1,17 +1,22 @@
 -- Whole runs of edits.
 use Rattle.std.proofs.Common.{◌≡◌, ◌≢◌, ℕ, zero, suc, ◌+◌, ◌-◌, ◌%◌, ◌<◌, ◌≤◌, true, false, cond, List, [], ◌∷◌, ◌++◌, length, take, drop, min, max, refl, ap, sym, ◌∙◌, inl, inr, arith, length-append}
-use Rattle.std.specs.Prelude.{swap}
+use Rattle.std.specs.Prelude.{All, swap}
 use Rattle.std.proofs.lemmas.Bool.{cond-true, cond-false, cases_Bool, cases_lt}
 use Rattle.std.proofs.lemmas.List.{length-take, length-drop}
+use Rattle.std.proofs.lemmas.List.Elements.{All-append, All-take, All-drop}
 use Rattle.std.proofs.Math.Nat.{mod-eq_of_lt}
 use Rattle.song_queue.specs.declared.entry.Entry.{Entry}
 use Rattle.mpd_text.specs.Songs.Song.{SongData}
-use Rattle.song_queue.specs.Entries.{entries_for, same_queue}
+use Rattle.song_queue.specs.Entries.{entries_for, moved_to, with_priority, same_queue}
 use Rattle.song_queue.specs.Past.{present, after_event, greatest_in, greatest_id, state_of}
-use Rattle.song_queue.specs.State.{QueueState, opened, edited, inserted, removed, swapped, queue_of}
-use Rattle.song_queue.specs.Laws.{Edit, Insert, Remove, Swap, queue_after, past_after, state_after_edit, state_after, StatesFollowPasts}
+use Rattle.song_queue.specs.State.{QueueState, opened, edited, inserted, queue_of}
+use Rattle.song_queue.specs.declared.edit.Edit.{Edit}
+use Rattle.song_queue.specs.declared.edit.Edit.TheVariants.{Insert, Remove, Move, Prioritize, Swap}
+use Rattle.song_queue.specs.Laws.{queue_after, past_after, state_after_edit, state_after, StatesFollowPasts}
 use Rattle.song_queue.proofs.Edits.{AtMost, AtMost-more, length-entries_for}
 use Rattle.song_queue.proofs.Swaps.{All-swap}
+use Rattle.song_queue.proofs.Moves.{All-moved_to}
+use Rattle.song_queue.proofs.Priorities.{All-with_priority}
 use Rattle.song_queue.proofs.Pasts.{state_with, edited-state_with, entries_of-slots_of}
 use Rattle.song_queue.proofs.Same.{same_queue-other}
 
@@ -48,9 +53,6 @@ greatest_in-AtMost n (e ∷ es) low =
     let here : e.id ≤ n = low 0 e (omega arith) in
     let rest : greatest_in es ≤ n = greatest_in-AtMost n es (λ k d l. low (suc k) d (omega arith)) in
     omega arith
-
-pub greatest_in-swap : (a b : ℕ) (es : List Entry) → greatest_in (swap es a b) ≤ greatest_in es
-greatest_in-swap a b es = greatest_in-AtMost (greatest_in es) (swap es a b) (All-swap (λ e. e.id ≤ greatest_in es) es a b (AtMost-greatest_in es))
 
 -- the greatest id after an event that adds none
 pub greatest_id-after_event : (past : List (List Entry)) (queue : List Entry) → greatest_in queue ≤ greatest_id past → greatest_id (after_event past queue) ≡ greatest_id past
@@ -111,21 +113,14 @@ module _ (max_len k max_id : ℕ) (above : 0 < k) where
   edited-at_end past queue some low =
       edited-state_with max_len k max_id (greatest_id past) past queue above some ∙ ap (λ g. state_with max_len k max_id g (after_event past queue)) (sym (greatest_id-after_event past queue low))
 
-  pub removed-at_end : (past : List (List Entry)) (start end : ℕ) → 0 < length past → removed (at_end past) start end ≡ at_end (after_event past (queue_after past (Remove start end)))
-  removed-at_end past start end some =
+  -- one that brings no entry in
+  kept-at_end : (past : List (List Entry)) (left : List Entry → List Entry) → 0 < length past → ((P : ℕ → Type 0) → All (λ e. P e.id) (present past) → All (λ e. P e.id) (left (present past)))
+      → edited (at_end past) (left (queue_of (at_end past))) ≡ at_end (after_event past (left (present past)))
+  kept-at_end past left some keeps =
       let now : List Entry = present past in
-      let a : greatest_in (take start now) ≤ greatest_in now = greatest_in-take start now in
-      let b : greatest_in (drop end now) ≤ greatest_in now = greatest_in-drop end now in
-      let c : greatest_in (take start now ++ drop end now) ≡ max (greatest_in (take start now)) (greatest_in (drop end now)) = greatest_in-append (take start now) (drop end now) in
+      let low : greatest_in (left now) ≤ greatest_in now = greatest_in-AtMost (greatest_in now) (left now) (keeps (λ id. id ≤ greatest_in now) (AtMost-greatest_in now)) in
       let d : greatest_in now ≤ greatest_id past = greatest_in-present past in
-      ap (λ x. edited (at_end past) (take start x ++ drop end x)) (queue_of-at_end past) ∙ edited-at_end past (take start now ++ drop end now) some (omega arith)
-
-  pub swapped-at_end : (past : List (List Entry)) (a b : ℕ) → 0 < length past → swapped (at_end past) a b ≡ at_end (after_event past (queue_after past (Swap a b)))
-  swapped-at_end past a b some =
-      let now : List Entry = present past in
-      let low : greatest_in (swap now a b) ≤ greatest_in now = greatest_in-swap a b now in
-      let d : greatest_in now ≤ greatest_id past = greatest_in-present past in
-      ap (λ x. edited (at_end past) (swap x a b)) (queue_of-at_end past) ∙ edited-at_end past (swap now a b) some (omega arith)
+      ap (λ x. edited (at_end past) (left x)) (queue_of-at_end past) ∙ edited-at_end past (left now) some (omega arith)
 
   pub inserted-at_end : (past : List (List Entry)) (at : ℕ) (songs : List SongData) → 0 < length past → inserted (at_end past) at songs ≡ at_end (after_event past (queue_after past (Insert at songs)))
   inserted-at_end past at songs some =
@@ -139,8 +134,10 @@ module _ (max_len k max_id : ℕ) (above : 0 < k) where
 
   pub after_edit : (past : List (List Entry)) (edit : Edit) → 0 < length past → state_after_edit (at_end past) edit ≡ at_end (after_event past (queue_after past edit))
   after_edit past (Insert at songs) some = inserted-at_end past at songs some
-  after_edit past (Remove start end) some = removed-at_end past start end some
-  after_edit past (Swap a b) some = swapped-at_end past a b some
+  after_edit past (Remove start end) some = kept-at_end past (λ x. take start x ++ drop end x) some (λ P all. All-append (λ e. P e.id) _ _ (All-take (λ e. P e.id) start _ all) (All-drop (λ e. P e.id) end _ all))
+  after_edit past (Move start end to) some = kept-at_end past (λ x. moved_to x start end to) some (λ P. All-moved_to (λ e. P e.id) (present past) start end to)
+  after_edit past (Prioritize ranges priority) some = kept-at_end past (λ x. with_priority x ranges priority) some (λ P. All-with_priority P (present past) ranges priority)
+  after_edit past (Swap a b) some = kept-at_end past (λ x. swap x a b) some (λ P. All-swap (λ e. P e.id) (present past) a b)
 
   pub after_edits : (past : List (List Entry)) (edits : List Edit) → 0 < length past → state_after (at_end past) edits ≡ at_end (past_after past edits)
   after_edits past [] some = refl

@@ -1,5 +1,5 @@
 -- The tests of sameness decide equality.
-use Rattle.std.proofs.Common.{◌≡◌, ◌≢◌, Bool, true, false, ◌&&◌, List, [], ◌∷◌, Some, None, Option, refl, ap, eqb, arith}
+use Rattle.std.proofs.Common.{◌≡◌, ◌≢◌, Bool, true, false, ◌&&◌, List, [], ◌∷◌, Some, None, Option, refl, ap, eqb}
 use Rattle.std.proofs.lemmas.Bool.{and_parts, and_from, eq-eqb, eqb-true, ne_eqb, false_from_ne_true, and_left}
 use lib.Pointwise.{pointwise}
 use Rattle.song_queue.specs.declared.entry.Entry.{Entry}

@@ -8,9 +8,9 @@ use Rattle.std.proofs.lemmas.List.Elements.{All-get_or, All-set}
 use Rattle.song_queue.specs.declared.entry.Entry.{Entry}
 use Rattle.song_queue.specs.declared.entry.Slot.{Slot}
 use Rattle.song_queue.specs.Entries.{same_entry}
-use Rattle.song_queue.specs.State.{QueueState, IsQueue, restamped, kept, written, write_at, queue_of, edited, swapped, wraps, next_version}
+use Rattle.song_queue.specs.State.{QueueState, IsQueue, restamped, kept, written, write_at, queue_of, swapped, wraps, next_version}
 use Rattle.song_queue.proofs.Same.{same_entry-refl, same_entry-other}
-use Rattle.song_queue.proofs.Edits.{Distinct, IsQueue-edited, edited_cases, edited-changed, edited-same}
+use Rattle.song_queue.proofs.Edits.{Distinct, IsQueue-stays, edited-changed, edited-same}
 
 -- a swap brings no entry in, wherever its places are
 pub All-swap : (P : Entry → Type 0) (es : List Entry) (a b : ℕ) → All P es → All P (swap es a b)
@@ -61,15 +61,15 @@ module _ (v : ℕ) (w : Bool) where
   set-written (x ∷ xs) (suc i) r l = λ j. x ∷ set-written xs i r (omega arith) j
 
 -- an entry of a list that has one
-data One : Type 0 where
+pub data One : Type 0 where
   one : Entry → One
 
-some : (es : List Entry) → 0 < length es → One
+pub some : (es : List Entry) → 0 < length es → One
 some [] l = absurd (omega arith)
 some (e ∷ es) l = one e
 
 -- entries at two places are two
-Distinct-apart : (es : List Entry) → Distinct es → (i j : ℕ) (d : Entry) → i < length es → j < length es → i ≢ j → (get_or es i d).id ≢ (get_or es j d).id
+pub Distinct-apart : (es : List Entry) → Distinct es → (i j : ℕ) (d : Entry) → i < length es → j < length es → i ≢ j → (get_or es i d).id ≢ (get_or es j d).id
 Distinct-apart es h i j d li lj ne same = elim (cases_lt i j) [
   | inl below ↦ h i j d below lj same
   | inr above ↦ h j i d (omega arith) li (sym same)
@@ -125,11 +125,7 @@ module _ (q : QueueState) (is : IsQueue q) (a b : ℕ) (la : a < length q.slots)
   pub IsQueue-swapped : IsQueue (swapped q a b)
   IsQueue-swapped =
       let size : length after ≡ length es = length-swap es a b in
-      let room = is.len in
-      let same : (edited q after).greatest_id ≡ q.greatest_id = elim (edited_cases q after) [ inl p ↦ ap (λ (x : QueueState). x.greatest_id) p.0 | inr p ↦ ap (λ (x : QueueState). x.greatest_id) p ] in
-      let P : ℕ → Type 0 = λ g. IsQueue (record (edited q after) { greatest_id = g }) in
-      subst P (sym same) (IsQueue-edited q after q.greatest_id is (omega (arith, length-es)) (All-swap (λ e. e.id ≤ q.greatest_id) es a b is.ids)
-      (Distinct-swap es a b (omega (arith, length-es)) (omega (arith, length-es)) is.distinct) is.greatest_id)
+      IsQueue-stays q after is (omega (arith, length-es)) (All-swap (λ e. e.id ≤ q.greatest_id) es a b is.ids) (Distinct-swap es a b (omega (arith, length-es)) (omega (arith, length-es)) is.distinct)
 
   abbrev v : ℕ
   v = next_version q

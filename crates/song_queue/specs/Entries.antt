@@ -1,6 +1,7 @@
 -- Queues as lists of entries (MPD protocol reference, The queue).
-use Rattle.std.specs.Prelude.{ℕ, Bool, true, false, ◌==◌, ◌&&◌, if◌then◌else◌, List, [], ◌∷◌, ◌++◌, length, take, map, Option, Some, None, slice_get, slice_set, fold}
-use Rattle.std.specs.List.{enumerate_from}
+use Rattle.std.specs.Prelude.{ℕ, Bool, true, false, ◌==◌, ◌&&◌, nat_lt, nat_le, if◌then◌else◌, List, [], ◌∷◌, ◌++◌, length, take, drop, map, Option, Some, None, slice_get, slice_set, fold}
+use Rattle.std.specs.List.{enumerate_from, list_any, slice_range}
+use Rattle.std.specs.declared.ops.Range.{Range}
 use lib.Pointwise.{pointwise}
 use Rattle.mpd_text.specs.Songs.Song.{SongData, TagData}
 use Rattle.mpd_text.specs.Songs.Tags.{tag_number}
@@ -32,6 +33,18 @@ same_slot (Some a) None = false
 -- entries for added songs, with ids from `first` on
 abbrev pub entries_for : ℕ → List SongData → List Entry
 entries_for first songs = map (λ p. record { id = p.0; song = p.1; priority = 0 }) (enumerate_from first songs)
+
+-- the entries from start up to end taken out, and put back so that the first of them is at a place of what is left
+abbrev pub moved_to : List Entry → ℕ → ℕ → ℕ → List Entry
+moved_to queue start end to = let rest = take start queue ++ drop end queue in take to rest ++ slice_range queue start end ++ drop to rest
+
+-- whether a place is in one of the ranges
+abbrev pub is_named : List (Range ℕ) → ℕ → Bool
+is_named ranges place = list_any (λ r. nat_le r.start place && nat_lt place r.end) ranges
+
+-- the queue with a priority for each entry whose place is in one of the ranges
+abbrev pub with_priority : List Entry → List (Range ℕ) → ℕ → List Entry
+with_priority queue ranges priority = map (λ p. if is_named ranges p.0 then record p.1 { priority = priority } else p.1) (enumerate_from 0 queue)
 
 -- a row overwrites its slot, or is appended where its slot is the end
 abbrev pub patch_row : List Entry → ℕ × Entry → List Entry

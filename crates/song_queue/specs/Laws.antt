@@ -1,21 +1,21 @@
 -- Laws of the definitions, over every list of edits (this profile's, from the MPD protocol reference, The queue).
-use Rattle.std.specs.Prelude.{ℕ, ◌≡◌, ◌≢◌, ◌+◌, ◌<◌, ◌≤◌, not, List, [], ◌∷◌, ◌++◌, length, take, drop, swap, All, AllPairs}
+use Rattle.std.specs.Prelude.{ℕ, ◌≡◌, ◌≢◌, ◌+◌, ◌-◌, ◌<◌, ◌≤◌, ◌⊎◌, not, List, [], ◌∷◌, ◌++◌, length, take, drop, swap, All, AllPairs, IsPermutation}
+use Rattle.std.specs.List.{slice_range}
+use Rattle.std.specs.declared.ops.Range.{Range}
 use Rattle.mpd_text.specs.Songs.Song.{SongData}
+use Rattle.song_queue.specs.declared.edit.Edit.{Edit}
+use Rattle.song_queue.specs.declared.edit.Edit.TheVariants.{Insert, Remove, Move, Prioritize, Swap}
 use Rattle.song_queue.specs.declared.entry.Entry.{Entry}
-use Rattle.song_queue.specs.Entries.{same_queue, entries_for, patch, rows_at}
+use Rattle.song_queue.specs.Entries.{same_queue, entries_for, moved_to, with_priority, patch, rows_at}
 use Rattle.song_queue.specs.Past.{present, number, version_of, after_event, greatest_id, state_of}
-use Rattle.song_queue.specs.State.{QueueState, queue_of, opened, inserted, removed, swapped, changed, differ}
-
--- songs put in before a place; the entries from a place up to another taken out; the entries at two places changed round
-pub data Edit : Type 0 where
-  Insert : ℕ → List SongData → Edit
-  Remove : ℕ → ℕ → Edit
-  Swap : ℕ → ℕ → Edit
+use Rattle.song_queue.specs.State.{QueueState, queue_of, opened, inserted, removed, moved, prioritized, swapped, changed, differ}
 
 -- the queue that an edit leaves
 abbrev pub queue_after : List (List Entry) → Edit → List Entry
 queue_after past (Insert at songs) = take at (present past) ++ entries_for (greatest_id past + 1) songs ++ drop at (present past)
 queue_after past (Remove start end) = take start (present past) ++ drop end (present past)
+queue_after past (Move start end to) = moved_to (present past) start end to
+queue_after past (Prioritize ranges priority) = with_priority (present past) ranges priority
 queue_after past (Swap a b) = swap (present past) a b
 
 -- the past after edits
@@ -27,6 +27,8 @@ past_after past (edit ∷ edits) = past_after (after_event past (queue_after pas
 abbrev pub state_after_edit : QueueState → Edit → QueueState
 state_after_edit q (Insert at songs) = inserted q at songs
 state_after_edit q (Remove start end) = removed q start end
+state_after_edit q (Move start end to) = moved q start end to
+state_after_edit q (Prioritize ranges priority) = prioritized q ranges priority
 state_after_edit q (Swap a b) = swapped q a b
 
 -- the state after edits
@@ -38,7 +40,17 @@ state_after q (edit ∷ edits) = state_after (state_after_edit q edit) edits
 abbrev pub FitsIn : List Entry → Edit → Type 0
 FitsIn queue (Insert at songs) = at ≤ length queue
 FitsIn queue (Remove start end) = (start ≤ end) × (end ≤ length queue)
+FitsIn queue (Move start end to) = (start ≤ end) × (end ≤ length queue) × ((start ≡ end) ⊎ (to + (end - start) ≤ length queue))
+FitsIn queue (Prioritize ranges priority) = All (λ r. (r.start ≤ r.end) × (r.end ≤ length queue)) ranges
 FitsIn queue (Swap a b) = (a < length queue) × (b < length queue)
+
+-- the queue can take the edit: its places lie in it, and what is put in finds room and ids
+abbrev pub Takes : QueueState → Edit → Type 0
+Takes q (Insert at songs) = (at ≤ length (queue_of q)) × (length (queue_of q) + length songs ≤ q.max_len) × (q.greatest_id + length songs ≤ q.max_id)
+Takes q (Remove start end) = (start ≤ end) × (end ≤ length (queue_of q))
+Takes q (Move start end to) = (start ≤ end) × (end ≤ length (queue_of q)) × ((start ≡ end) ⊎ (to + (end - start) ≤ length (queue_of q)))
+Takes q (Prioritize ranges priority) = All (λ r. (r.start ≤ r.end) × (r.end ≤ length (queue_of q))) ranges
+Takes q (Swap a b) = (a < length (queue_of q)) × (b < length (queue_of q))
 
 -- each edit's places lie in the queue that it finds
 abbrev pub AllFitIn : List (List Entry) → List Edit → Type 0
@@ -84,6 +96,14 @@ PatchesEarlier q version places = (newer older : List (List Entry)) (known : Lis
 -- after any edits the ids of the present queue are distinct
 abbrev pub IdsAreDistinct : Type 0
 IdsAreDistinct = (edits : List Edit) → AllFitIn ([] ∷ []) edits → AllPairs (λ a b. a.id ≢ b.id) (present (past_after ([] ∷ []) edits))
+
+-- a move keeps each entry: the moved ones are at the place in their order, and the others follow one another as before
+pub record MovesKeepEntries : Type 0 where
+  pub permutes : (queue : List Entry) (start end to : ℕ) → start ≤ end → IsPermutation queue (moved_to queue start end to)
+  pub places : (queue : List Entry) (start end to : ℕ) → start ≤ end → end ≤ length queue → to + (end - start) ≤ length queue
+      → slice_range (moved_to queue start end to) to (to + (end - start)) ≡ slice_range queue start end
+  pub others : (queue : List Entry) (start end to : ℕ) → start ≤ end → end ≤ length queue → to + (end - start) ≤ length queue
+      → take to (moved_to queue start end to) ++ drop (to + (end - start)) (moved_to queue start end to) ≡ take start queue ++ drop end queue
 
 -- no entry has this id
 abbrev pub Lacks : ℕ → List Entry → Type 0

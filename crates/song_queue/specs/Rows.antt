@@ -1,11 +1,14 @@
 -- Worked rows, computed by the definitions.
-use Rattle.std.specs.Prelude.{ℕ, ◌≡◌, false, true, List, [], ◌∷◌, map, refl}
+use Rattle.std.specs.Prelude.{ℕ, ◌≡◌, false, true, List, [], ◌∷◌, ◌++◌, map, refl}
+use Rattle.std.specs.declared.ops.Range.{Range}
 use Rattle.mpd_text.specs.Songs.Song.{SongData}
 use Rattle.song_queue.specs.declared.entry.Entry.{Entry}
 use Rattle.song_queue.specs.Entries.{patch}
 use Rattle.song_queue.specs.Past.{present, state_of}
 use Rattle.song_queue.specs.State.{opened, changed, queue_of}
-use Rattle.song_queue.specs.Laws.{Edit, Insert, Remove, Swap, past_after, state_after}
+use Rattle.song_queue.specs.declared.edit.Edit.{Edit}
+use Rattle.song_queue.specs.declared.edit.Edit.TheVariants.{Insert, Remove, Move, Prioritize, Swap}
+use Rattle.song_queue.specs.Laws.{past_after, state_after}
 
 abbrev song : ℕ → SongData
 song n = record { uri = n ∷ []; tags = []; frames = 8 }
@@ -70,3 +73,35 @@ even = refl
 -- the id of a deleted song is not given again
 again : map (λ e. e.id) (queue_of (state_after (opened 10 100 100) (Insert 0 (song 1 ∷ []) ∷ Remove 0 1 ∷ Insert 0 (song 2 ∷ []) ∷ []))) ≡ 2 ∷ []
 again = refl
+
+abbrev three : List Edit
+three = Insert 0 (song 1 ∷ song 2 ∷ song 3 ∷ []) ∷ []
+
+-- the first two of three songs moved behind the third: each slot is shown
+moved_behind : ids (changed (state_after (opened 10 100 100) (three ++ Move 0 2 1 ∷ [])) 2) ≡ (0, 3) ∷ (1, 1) ∷ (2, 2) ∷ []
+moved_behind = refl
+
+-- the fourth of four songs moved before the third: the slots before them are not shown
+moved_before : ids (changed (state_of 10 100 100 (past_of (four ++ Move 3 4 2 ∷ []))) 5) ≡ (2, 4) ∷ (3, 3) ∷ []
+moved_before = refl
+
+-- songs moved to where they are, or none: no change
+moved_nowhere : (state_after (opened 10 100 100) (three ++ Move 1 3 1 ∷ Move 2 2 9 ∷ [])).version ≡ 2
+moved_nowhere = refl
+
+abbrev first : List (Range ℕ)
+first = record { start = 0; end = 1 } ∷ []
+
+-- versions began anew, and then the first song gets a priority: the others are still shown
+prioritized_anew : ids (changed (state_after (opened 10 4 100) (four ++ Prioritize first 5 ∷ [])) 2) ≡ (1, 2) ∷ (2, 3) ∷ (3, 4) ∷ []
+prioritized_anew = refl
+
+prioritized_anew_past : ids (changed (state_of 10 4 100 (past_of (four ++ Prioritize first 5 ∷ []))) 2) ≡ (1, 2) ∷ (2, 3) ∷ (3, 4) ∷ []
+prioritized_anew_past = refl
+
+-- ranges that overlap, and one that is empty: one change, and the same again is none
+overlapping : map (λ e. e.priority) (queue_of (state_after (opened 10 100 100) (four ++ Prioritize (record { start = 0; end = 2 } ∷ record { start = 1; end = 3 } ∷ record { start = 3; end = 3 } ∷ []) 7 ∷ []))) ≡ 7 ∷ 7 ∷ 7 ∷ 0 ∷ []
+overlapping = refl
+
+again_the_same : (state_after (opened 10 100 100) (four ++ Prioritize first 7 ∷ Prioritize first 7 ∷ Prioritize [] 9 ∷ [])).version ≡ 6
+again_the_same = refl

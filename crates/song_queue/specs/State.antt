@@ -3,10 +3,11 @@
 use Rattle.std.specs.Prelude.{ℕ, zero, suc, ◌≢◌, ◌+◌, ◌≤◌, Bool, false, not, ◌||◌, nat_lt, ◌==◌, if◌then◌else◌, List, [], ◌∷◌, ◌++◌, length, take, drop, map, filter, swap, All, AllPairs, Option, position}
 use Rattle.std.specs.Bool.{beq}
 use Rattle.std.specs.List.{enumerate_from}
+use Rattle.std.specs.declared.ops.Range.{Range}
 use Rattle.mpd_text.specs.Songs.Song.{SongData}
 use Rattle.song_queue.specs.declared.entry.Entry.{Entry}
 use Rattle.song_queue.specs.declared.entry.Slot.{Slot}
-use Rattle.song_queue.specs.Entries.{same_entry, same_queue, entries_for}
+use Rattle.song_queue.specs.Entries.{same_entry, same_queue, entries_for, moved_to, with_priority}
 
 -- slots, the version of the last change, the greatest id that was given, the limits, and whether the number of changes
 -- is odd, so that two readings of it tell whether an edit between them changed the queue
@@ -32,6 +33,10 @@ written version wraps entry = record { entry = entry; stamp = version; marked = 
 -- a slot whose entry stays
 abbrev pub kept : Bool → Slot → Slot
 kept wraps slot = record { entry = slot.entry; stamp = slot.stamp; marked = wraps || slot.marked }
+
+-- a slot whose entry gets a priority: new at this version where that changes it
+abbrev pub prioritized_slot : ℕ → Bool → ℕ → Slot → Slot
+prioritized_slot version wraps priority slot = if slot.entry.priority == priority then slot else written version wraps (record slot.entry { priority = priority })
 
 -- the slots after one is written with the entry that it has
 abbrev pub write_at : ℕ → Bool → List Slot → ℕ → List Slot
@@ -64,6 +69,14 @@ inserted q at songs =
 -- the entries from start up to end are taken out
 abbrev pub removed : QueueState → ℕ → ℕ → QueueState
 removed q start end = edited q (take start (queue_of q) ++ drop end (queue_of q))
+
+-- the entries from start up to end are taken out, and put back so that the first of them is at a place of what is left
+abbrev pub moved : QueueState → ℕ → ℕ → ℕ → QueueState
+moved q start end to = edited q (moved_to (queue_of q) start end to)
+
+-- each entry whose place is in one of the ranges gets a priority
+abbrev pub prioritized : QueueState → List (Range ℕ) → ℕ → QueueState
+prioritized q ranges priority = edited q (with_priority (queue_of q) ranges priority)
 
 -- the entries at two places change places
 abbrev pub swapped : QueueState → ℕ → ℕ → QueueState

@@ -1,5 +1,5 @@
 //! Laws of the definitions. A caller that calls one may use it; each does nothing.
-ghost use Rattle.song_queue.specs.Laws.{EditsFollowPast, IdsAreDistinct, IdsNeverReturn, ParityTellsChanges, PastsKeepQueues, PatchesGivePresent, StatesFollowPasts};
+ghost use Rattle.song_queue.specs.Laws.{EditsFollowPast, IdsAreDistinct, IdsNeverReturn, MovesKeepEntries, ParityTellsChanges, PastsKeepQueues, PatchesGivePresent, StatesFollowPasts};
 
 /// A past ends in the queue that the last event left, and its state has that queue.
 pub fn pasts_keep_queues()
@@ -29,6 +29,11 @@ pub fn patches_give_present()
 /// After any edits the ids of the present queue are distinct.
 pub fn ids_are_distinct()
     ensures { IdsAreDistinct }
+{}
+
+/// A move keeps each entry, puts the moved ones where they are to be, and leaves the order of the others.
+pub fn moves_keep_entries()
+    ensures { MovesKeepEntries }
 {}
 
 /// An id that was given, and that no entry has any more, never comes back.

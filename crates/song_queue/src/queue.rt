@@ -1,12 +1,15 @@
 //! The queue and its edits.
-ghost use Rattle.std.specs.Prelude.{◌≡◌, ◌↔◌, ◌+◌, ◌<◌, ◌≤◌, ◌⊎◌, length, map, IfOk, OnOk, OnErr, IsErrOf, IsOkUnless, slice_get, vec_len};
+ghost use Rattle.std.specs.Prelude.{◌≡◌, ◌≢◌, ◌↔◌, ◌+◌, ◌-◌, ◌<◌, ◌≤◌, ◌⊎◌, All, Any, length, map, IfOk, IfSome, nat_le, OnOk, OnErr, IsErrOf, IsOkUnless, slice_get, vec_len};
 ghost use Rattle.std.specs.Option.{option_copied};
 ghost use Rattle.std.specs.Bool.{OnTrue, OnFalse};
-ghost use Rattle.song_queue.specs.State.{QueueState, IsQueue, queue_of, position_of, inserted, removed, swapped, changed, opened};
+ghost use Rattle.song_queue.specs.State.{QueueState, IsQueue, queue_of, position_of, inserted, removed, moved, prioritized, swapped, changed, opened};
 ghost use Rattle.song_queue.specs.Laws.{PatchesEarlier};
 
 use crate::entry::{Entry, Slot};
-use crate::slots::{changed_places, exchange, new_slots, put_in, take_out, version_after};
+use crate::slots::{
+    changed_places, exchange, have_priority, move_part, new_slots, prioritize, put_in, take_out,
+    version_after,
+};
 use song_db::SharedSong;
 use std::alloc::{AllocError, Global};
 use std::marker::Model;
@@ -88,6 +91,27 @@ impl Queue {
         self.slots.len()
     }
 
+    /// Whether so many more entries have room.
+    pub fn has_room(&self, count: usize) -> bool
+        ensures { result ≡ nat_le (length (queue_of self.now) + count) self.now.max_len }
+    {
+        count <= self.max_len - self.slots.len()
+    }
+
+    /// Whether there is an id for each of so many more entries.
+    pub fn has_ids(&self, count: usize) -> bool
+        ensures { result ≡ nat_le (self.now.greatest_id + count) self.now.max_id }
+    {
+        count <= (self.max_id - self.greatest_id) as usize
+    }
+
+    /// The greatest id that was given; 0 at first.
+    pub fn greatest_id(&self) -> u32
+        ensures { result ≡ self.now.greatest_id }
+    {
+        self.greatest_id
+    }
+
     /// The version of the last edit that changed something; 1 at first.
     pub fn version(&self) -> u32
         ensures { result ≡ self.now.version }
@@ -115,7 +139,8 @@ impl Queue {
 
     /// The place of the entry with an id.
     pub fn position_of(&self, id: u32) -> Option<usize>
-        ensures { result ≡ position_of self.now id }
+        ensures place { result ≡ position_of self.now id }
+        ensures within { IfSome result (λ place. (place < length (queue_of self.now)) × (place < 18446744073709551615)) }
     {
         self.slots.iter().position(|slot| slot.entry.id == id)
     }
@@ -185,6 +210,56 @@ impl Queue {
         Ok(())
     }
 
+    /// Takes the entries of a range out, and puts them back so that the first of them is at a place of what is left. An
+    /// empty range changes nothing, whatever the place. It takes no memory.
+    pub fn move_range(&mut self, range: Range<usize>, to: usize) -> Result<(), QueueFault>
+        ensures ok { OnOk result (self.new ≡ moved self.old range.start range.end to) }
+        ensures bad_index { IsErrOf result QueueFault.BadIndex ↔ ((range.end < range.start) ⊎ (length (queue_of self.old) < range.end) ⊎ ((range.start ≢ range.end) × (length (queue_of self.old) < to + (range.end - range.start)))) }
+        ensures faults { IsOkUnless result QueueFault.BadIndex }
+        ensures err { OnErr result (self.new ≡ self.old) }
+    {
+        let Range { start, end } = range;
+        let len = self.slots.len();
+        if lies_outside(start, end, len) {
+            return Err(QueueFault::BadIndex);
+        }
+        if start == end {
+            return Ok(());
+        }
+        if to > len - (end - start) {
+            return Err(QueueFault::BadIndex);
+        }
+        if to == start {
+            return Ok(());
+        }
+        let (version, wraps) = version_after(self.version, self.max_version);
+        move_part(self.slots.as_mut_slice(), start, end, to, version, wraps);
+        self.version = version;
+        self.parity = !self.parity;
+        Ok(())
+    }
+
+    /// Gives each entry whose place is in one of the ranges a priority. Ranges may be empty and may overlap. It takes no
+    /// memory.
+    pub fn set_prio(&mut self, ranges: &[Range<usize>], priority: u8) -> Result<(), QueueFault>
+        ensures ok { OnOk result (self.new ≡ prioritized self.old ranges.now priority) }
+        ensures bad_index { IsErrOf result QueueFault.BadIndex ↔ Any (λ r. (r.end < r.start) ⊎ (length (queue_of self.old) < r.end)) ranges.now }
+        ensures faults { IsOkUnless result QueueFault.BadIndex }
+        ensures err { OnErr result (self.new ≡ self.old) }
+    {
+        if any_lies_outside(ranges, self.slots.len()) {
+            return Err(QueueFault::BadIndex);
+        }
+        if have_priority(&self.slots, ranges, priority) {
+            return Ok(());
+        }
+        let (version, wraps) = version_after(self.version, self.max_version);
+        prioritize(self.slots.as_mut_slice(), ranges, priority, version, wraps);
+        self.version = version;
+        self.parity = !self.parity;
+        Ok(())
+    }
+
     /// Lets the entries at two places change places; a place with itself changes nothing. It takes no memory.
     pub fn swap(&mut self, a: usize, b: usize) -> Result<(), QueueFault>
         ensures ok { OnOk result (self.new ≡ swapped self.old a b) }
@@ -213,4 +288,17 @@ fn lies_outside(start: usize, end: usize, len: usize) -> bool
     ensures within { OnFalse result ((start ≤ end) × (end ≤ len)) }
 {
     start > end || end > len
+}
+
+/// Whether one of the ranges does not lie within so many entries.
+fn any_lies_outside(ranges: &[Range<usize>], len: usize) -> bool
+    ensures outside { OnTrue result (Any (λ r. (r.end < r.start) ⊎ (len < r.end)) ranges.now) }
+    ensures within { OnFalse result (All (λ r. (r.start ≤ r.end) × (r.end ≤ len)) ranges.now) }
+{
+    for range in ranges {
+        if lies_outside(range.start, range.end, len) {
+            return true;
+        }
+    }
+    false
 }

@@ -1,12 +1,13 @@
 //! Lists of slots: what edits write and keep.
-ghost use Rattle.std.specs.Prelude.{◌≡◌, ◌+◌, ◌<◌, ◌≤◌, ◌++◌, ◌==◌, ◌-◌, ◌^◌, ◌||◌, nat_lt, length, map, take, drop, swap, filter, vec_len, true, IfOk, OnOk, OnErr, if◌then◌else◌};
-ghost use Rattle.std.specs.List.{enumerate_from};
-ghost use Rattle.song_queue.specs.State.{kept, written, write_at, entries_of};
-ghost use Rattle.song_queue.specs.Entries.{entries_for};
+ghost use Rattle.std.specs.Prelude.{◌≡◌, ◌+◌, ◌<◌, ◌≤◌, ◌++◌, ◌==◌, ◌-◌, ◌^◌, ◌||◌, ◌≢◌, ◌↔◌, nat_lt, length, map, take, drop, swap, filter, vec_len, true, IfOk, OnOk, OnErr, IsTrue, All, AllPairs, if◌then◌else◌};
+ghost use Rattle.std.specs.List.{enumerate_from, slice_range};
+ghost use Rattle.song_queue.specs.State.{kept, written, write_at, entries_of, restamped, prioritized_slot};
+ghost use Rattle.song_queue.specs.Entries.{entries_for, moved_to, with_priority};
 
 use crate::entry::{Entry, Slot};
 use song_db::SharedSong;
 use std::alloc::{AllocError, Global};
+use std::ops::Range;
 
 /// The version after one, and whether versions begin anew.
 pub fn version_after(version: u32, max_version: u32) -> (u32, bool)
@@ -106,6 +107,96 @@ pub fn exchange(slots: &mut [Slot], a: usize, b: usize, version: u32, wraps: boo
     slots.swap(a, b);
     write(slots, a, version, wraps);
     write(slots, b, version, wraps);
+}
+
+/// Takes the entries from `start` up to `end` out, and puts them back so that the first of them is at a place of what is
+/// left. Slots whose entry changes are written, and the others kept.
+pub fn move_part(slots: &mut [Slot], start: usize, end: usize, to: usize, version: u32, wraps: bool)
+    requires some { start < end }
+    requires elsewhere { to ≢ start }
+    requires within { end ≤ length slots.old }
+    requires room { to + (end - start) ≤ length slots.old }
+    requires distinct { AllPairs (λ a b. a.id ≢ b.id) (entries_of slots.old) }
+    ensures { slots.new ≡ restamped version wraps slots.old (moved_to (entries_of slots.old) start end to) }
+{
+    if to < start {
+        turn(slots, to, start, end, version, wraps);
+    } else {
+        turn(slots, start, end, to + (end - start), version, wraps);
+    }
+}
+
+/// Lets the entries from `low` up to `middle` and those from there up to `high` change places. All of these slots are
+/// written, and the others kept.
+fn turn(slots: &mut [Slot], low: usize, middle: usize, high: usize, version: u32, wraps: bool)
+    requires front { low ≤ middle }
+    requires back { middle ≤ high }
+    requires within { high ≤ length slots.old }
+    ensures { slots.new ≡ map (kept wraps) (take low slots.old) ++ map (written version wraps) (entries_of (slice_range slots.old middle high ++ slice_range slots.old low middle)) ++ map (kept wraps) (drop high slots.old) }
+{
+    let (front, rest) = slots.split_at_mut(low);
+    let (span, back) = rest.split_at_mut(high - low);
+    span.rotate_left(middle - low);
+    keep_all(front, wraps);
+    write_all(span, version, wraps);
+    keep_all(back, wraps);
+}
+
+/// Whether each entry in some ranges has a priority.
+pub fn have_priority(slots: &[Slot], ranges: &[Range<usize>], priority: u8) -> bool
+    requires { All (λ r. (r.start ≤ r.end) × (r.end ≤ length slots.now)) ranges.now }
+    ensures { IsTrue result ↔ (entries_of slots.now ≡ with_priority (entries_of slots.now) ranges.now priority) }
+{
+    for range in ranges {
+        if !all_have_priority(&slots[range.start..range.end], priority) {
+            return false;
+        }
+    }
+    true
+}
+
+/// Whether each entry has a priority.
+fn all_have_priority(slots: &[Slot], priority: u8) -> bool
+    ensures { IsTrue result ↔ All (λ s. s.entry.priority ≡ priority) slots.now }
+{
+    slots.iter().all(|slot| slot.entry.priority == priority)
+}
+
+/// Gives each entry in some ranges a priority. Slots whose entry changes are written, and the others kept.
+pub fn prioritize(
+    slots: &mut [Slot],
+    ranges: &[Range<usize>],
+    priority: u8,
+    version: u32,
+    wraps: bool,
+)
+    requires { All (λ r. (r.start ≤ r.end) × (r.end ≤ length slots.old)) ranges.now }
+    ensures { slots.new ≡ restamped version wraps slots.old (with_priority (entries_of slots.old) ranges.now priority) }
+{
+    keep_all(slots, wraps);
+    for range in ranges {
+        prioritize_all(&mut slots[range.start..range.end], priority, version, wraps);
+    }
+}
+
+/// Gives each entry a priority. Slots whose entry changes are written, and the others stay.
+fn prioritize_all(slots: &mut [Slot], priority: u8, version: u32, wraps: bool)
+    ensures { slots.new ≡ map (prioritized_slot version wraps priority) slots.old }
+{
+    for slot in slots {
+        prioritize_one(slot, priority, version, wraps);
+    }
+}
+
+/// Gives an entry a priority. Its slot is written where that changes it.
+fn prioritize_one(slot: &mut Slot, priority: u8, version: u32, wraps: bool)
+    ensures { slot.new ≡ prioritized_slot version wraps priority slot.old }
+{
+    if slot.entry.priority != priority {
+        slot.entry.priority = priority;
+        slot.stamp = version;
+        slot.marked = wraps;
+    }
 }
 
 /// Gives one slot a stamp, and a mark where versions begin anew.

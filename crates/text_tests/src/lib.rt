@@ -1,4 +1,7 @@
 //! Tests of the crates mpd_text, idle_notes and script_lines.
+//!
+//! Each call of a crate under test stands in a small function with no clause, and a test asserts once or twice: a proof costs
+//! by the size of a body, and most by its asserts and exits.
 #![tactic(auto)]
 
 #[cfg(test)]
@@ -8,10 +11,16 @@ mod devices;
 #[cfg(test)]
 mod lines;
 #[cfg(test)]
+mod long_devices;
+#[cfg(test)]
 mod notices;
+#[cfg(test)]
+mod quotes;
 #[cfg(test)]
 mod script;
 #[cfg(test)]
 mod songs;
+#[cfg(test)]
+mod tables;
 #[cfg(test)]
 mod words;

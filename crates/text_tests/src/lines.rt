@@ -1,11 +1,10 @@
 //! A stream as lines.
+use crate::tables::{repeated, wants};
 use mpd_text::{Line, SplitFault, Splitter, any_cut, lines_make_the_stream, pieces_do_not_matter};
 use std::alloc::{AllocError, Global};
-use std::test::Fail;
 
-/// The lines with a bar after each, and `!` for a line that is not text.
-fn shown(lines: &Vec<Line>, alloc: Global) -> Result<String, AllocError> {
-    let mut all = String::new(alloc);
+/// Adds the lines with a bar after each, and `!` for a line that is not text.
+fn add_lines(all: &mut String, lines: &[Line]) -> Result<(), AllocError> {
     for line in lines {
         match line {
             Line::Text(text) => all.push_str(text.as_str())?,
@@ -13,57 +12,78 @@ fn shown(lines: &Vec<Line>, alloc: Global) -> Result<String, AllocError> {
         }
         all.push('|')?;
     }
+    all.push('\n')
+}
+
+/// Adds the lines that a piece gives, after `too long: ` where the line after them is.
+fn feed(splitter: &mut Splitter, piece: &[u8], all: &mut String) -> Result<(), AllocError> {
+    match splitter.feed(piece) {
+        Ok(lines) => add_lines(all, lines.as_slice()),
+        Err(SplitFault::LineTooLong(lines)) => {
+            all.push_str("too long: ")?;
+            add_lines(all, lines.as_slice())
+        }
+        Err(SplitFault::NoMemory) => Err(AllocError),
+    }
+}
+
+/// What each of these pieces of a stream gives, and whether the splitter is closed after them.
+fn fed(alloc: Global, pieces: &[&[u8]]) -> Result<String, AllocError> {
+    let mut all = String::new(alloc);
+    let mut splitter = Splitter::new(alloc);
+    for piece in pieces {
+        feed(&mut splitter, piece, &mut all)?;
+    }
+    all.push_str(if splitter.is_closed() {
+        "closed"
+    } else {
+        "open"
+    })?;
     Ok(all)
 }
 
 #[test]
-fn a_stream_in_pieces(rt: HostRuntime) -> Result<(), Fail> {
-    let mut splitter = Splitter::new(rt.alloc());
-    assert_eq!(rt; splitter.feed(b"\x70\x69")?.len(), 0);
-    let lines = splitter.feed(b"\x6e\x67\x0a")?;
-    assert_eq!(rt; shown(&lines, rt.alloc())?.as_str(), "ping|");
-    let lines = splitter.feed(b"ping\r\n")?;
-    assert_eq!(rt; shown(&lines, rt.alloc())?.as_str(), "ping|");
-    let lines = splitter.feed(b"\xff\x0a")?;
-    assert_eq!(rt; shown(&lines, rt.alloc())?.as_str(), "!|");
-    let lines = splitter.feed(b"\nping\r\r\n\xc3")?;
-    assert_eq!(rt; shown(&lines, rt.alloc())?.as_str(), "|ping\r|");
-    let lines = splitter.feed(b"\xab\r")?;
-    assert_eq!(rt; lines.len(), 0);
-    let lines = splitter.feed(b"\nstatus\n")?;
-    assert_eq!(rt; shown(&lines, rt.alloc())?.as_str(), "\u{eb}|status|");
-    assert!(rt; !splitter.is_closed());
-    Ok(())
+fn a_stream_in_pieces(rt: HostRuntime) {
+    let told = fed(
+        rt.alloc(),
+        &[
+            b"\x70\x69",
+            b"\x6e\x67\x0a",
+            b"ping\r\n",
+            b"\xff\x0a",
+            b"\nping\r\r\n\xc3",
+            b"\xab\r",
+            b"\nstatus\n",
+        ],
+    );
+    wants(
+        &rt,
+        told,
+        "\nping|\nping|\n!|\n|ping\r|\n\n\u{eb}|status|\nopen",
+    );
+}
+
+/// A line of 16,384 bytes and one of 16,385 by its carriage return, and whether the lines are told so.
+fn longest_line(alloc: Global) -> Result<bool, AllocError> {
+    let long = repeated(alloc, "x", 16_384)?;
+    let line = long.as_bytes();
+    let told = fed(alloc, &[line, b"\n", line, b"\r\n"])?;
+    let wanted = format!(in alloc; "\n{long}|\n\ntoo long: \nclosed")?;
+    Ok(told.as_str() == wanted.as_str())
+}
+
+/// A line of 16,385 bytes after two others, and one more piece.
+fn line_too_long(alloc: Global) -> Result<String, AllocError> {
+    let long = repeated(alloc, "x", 16_385)?;
+    let stream = format!(in alloc; "ping\nstatus\n{long}")?;
+    fed(alloc, &[stream.as_bytes(), b"ping\n"])
 }
 
 #[test]
-fn a_line_too_long(rt: HostRuntime) -> Result<(), Fail> {
-    let long = vec![in rt.alloc(); b'\x78'; 16_384]?;
-    let mut splitter = Splitter::new(rt.alloc());
-    assert_eq!(rt; splitter.feed(long.as_slice())?.len(), 0);
-    let lines = splitter.feed(b"\n")?;
-    assert_eq!(rt; shown(&lines, rt.alloc())?.len(), 16_385);
-    assert_eq!(rt; splitter.feed(long.as_slice())?.len(), 0);
-    match splitter.feed(b"\r\n") {
-        Err(SplitFault::LineTooLong(lines)) => assert_eq!(rt; lines.len(), 0),
-        _ => panic!(rt; "a carriage return is a byte of the line"),
-    }
-    let mut splitter = Splitter::new(rt.alloc());
-    let mut stream = Vec::from_slice(rt.alloc(), b"ping\nstatus\n")?;
-    stream.extend_from_slice(long.as_slice())?;
-    stream.push(b'x')?;
-    match splitter.feed(stream.as_slice()) {
-        Err(SplitFault::LineTooLong(lines)) => {
-            assert_eq!(rt; shown(&lines, rt.alloc())?.as_str(), "ping|status|");
-        }
-        _ => panic!(rt; "the line was too long"),
-    }
-    assert!(rt; splitter.is_closed());
-    match splitter.feed(b"ping\n") {
-        Err(SplitFault::LineTooLong(lines)) => assert_eq!(rt; lines.len(), 0),
-        _ => panic!(rt; "the splitter was closed"),
-    }
-    Ok(())
+fn a_line_too_long(rt: HostRuntime) {
+    assert!(rt; longest_line(rt.alloc()) == Ok(true));
+    let told = line_too_long(rt.alloc());
+    wants(&rt, told, "too long: ping|status|\ntoo long: \nclosed");
 }
 
 #[test]

@@ -1,139 +1,132 @@
 //! Lines of a script.
+use crate::songs;
+use crate::tables::{Reads, compared, repeated, wants};
 use script_lines::{LimitName, ScriptLine, Step};
 use std::alloc::{AllocError, Global};
-use std::test::Fail;
 
-#[test]
-fn heads(rt: HostRuntime) {
-    for (line, number, rest) in [("1 ping", 1, "ping"), ("9", 9, ""), ("2  ping", 2, " ping")] {
-        match ScriptLine::of(line) {
-            ScriptLine::Client(client, text) => assert!(rt; client == number && text == rest),
-            _ => panic!(rt; "{line} is a client's"),
-        }
-    }
-    for (line, rest) in [("! want", "want"), ("!", ""), ("!   want  ", "  want  ")] {
-        match ScriptLine::of(line) {
-            ScriptLine::Step(text) => assert!(rt; text == rest),
-            _ => panic!(rt; "{line} is a step"),
-        }
-    }
-    for line in [
-        "", "hello", "0 ping", "10 ping", "!want", " 1 ping", " ! want", "1\tping",
-    ] {
-        match ScriptLine::of(line) {
-            ScriptLine::Bad => {}
-            _ => panic!(rt; "{line} is neither"),
-        }
+/// Whose line it is, and what follows in brackets.
+pub fn read_head(alloc: Global, line: &str) -> Result<String, AllocError> {
+    match ScriptLine::of(line) {
+        ScriptLine::Client(client, text) => format!(in alloc; "client {client} [{text}]"),
+        ScriptLine::Step(text) => format!(in alloc; "step [{text}]"),
+        ScriptLine::Bad => String::from_str(alloc, "neither"),
     }
 }
 
-fn shown(alloc: Global, rest: &str) -> Result<String, AllocError> {
+const HEADS: &str = "1 ping => client 1 [ping]
+9 => client 9 []
+2  ping => client 2 [ ping]
+! want => step [want]
+! => step []
+!   want   => step [  want  ]
+ => neither
+hello => neither
+0 ping => neither
+10 ping => neither
+!want => neither
+ 1 ping => neither
+ ! want => neither
+1\tping => neither";
+
+#[test]
+fn heads(rt: HostRuntime) {
+    let told = compared(rt.alloc(), Reads::Head, HEADS);
+    wants(&rt, told, "14 lines agree");
+}
+
+/// What a step says, or that it is bad.
+pub fn read_step(alloc: Global, rest: &str) -> Result<String, AllocError> {
     match Step::of_line(alloc, rest)? {
-        Some(Step::Song(song)) => {
-            let mut all = format!(in alloc; "{} {}", song.uri(), song.frames())?;
-            for tag in song.tags() {
-                let tag = format!(in alloc; "|{:?}={}", tag.name(), tag.text())?;
-                all.push_str(tag.as_str())?;
-            }
-            Ok(all)
-        }
+        Some(Step::Song(song)) => songs::shown(alloc, &song),
         Some(Step::Limit(name, value)) => format!(in alloc; "{name:?} {value}"),
         Some(Step::Gone(number)) => format!(in alloc; "gone {number}"),
         None => String::from_str(alloc, "bad"),
     }
 }
 
+const SONGS: &str = "song a.wav 8000 => a.wav 8000
+song a.wav 8 Title= title=One Title=Two ARTIST=Me \"Comment=a=b\"  => a.wav 8|Title=One|Artist=Me|Comment=a=b
+song b.wav 4000 \"Album=a\tb\" \"Genre=ab\0cd\" => b.wav 4000|Genre=ab
+song b.wav 16000 Artist=Zoë Title=Bee => b.wav 16000|Title=Bee|Artist=Zoë
+song a.wav 8000 \"Artist=foo'bar\\\"\" => a.wav 8000|Artist=foo'bar\"
+  \"song\"\td/ 4294967295  => d/ 4294967295
+song b.wav 0 => bad
+song \"\" 5 => bad
+song b.wav 8 Colour=red => bad
+song b.wav => bad
+song b.wav x => bad
+song b.wav 4294967296 => bad
+song c.wav 8 Title => bad
+song c.wav 8 =v => bad
+song c.wav 8 Title=x \"Foo=y\" => bad
+song a.wav \"8 => bad
+Song a.wav 8 => bad
+nosuch => bad
+ => bad";
+
 #[test]
-fn songs(rt: HostRuntime) -> Result<(), Fail> {
-    for (rest, want) in [
-        ("song a.wav 8000", "a.wav 8000"),
-        (
-            "song a.wav 8 Title= title=One Title=Two ARTIST=Me \"Comment=a=b\" ",
-            "a.wav 8|Title=One|Artist=Me|Comment=a=b",
-        ),
-        (
-            "song b.wav 4000 \"Album=a\tb\" \"Genre=ab\0cd\"",
-            "b.wav 4000|Genre=ab",
-        ),
-        (
-            "song b.wav 16000 Artist=Zoë Title=Bee",
-            "b.wav 16000|Title=Bee|Artist=Zoë",
-        ),
-        (
-            "song a.wav 8000 \"Artist=foo'bar\\\"\"",
-            "a.wav 8000|Artist=foo'bar\"",
-        ),
-        ("  \"song\"\td/ 4294967295 ", "d/ 4294967295"),
-        ("song b.wav 0", "bad"),
-        ("song \"\" 5", "bad"),
-        ("song b.wav 8 Colour=red", "bad"),
-        ("song b.wav", "bad"),
-        ("song b.wav x", "bad"),
-        ("song b.wav 4294967296", "bad"),
-        ("song c.wav 8 Title", "bad"),
-        ("song c.wav 8 =v", "bad"),
-        ("song c.wav 8 Title=x \"Foo=y\"", "bad"),
-        ("song \"a\nb\" 8", "bad"),
-        ("song a.wav \"8", "bad"),
-        ("Song a.wav 8", "bad"),
-        ("nosuch", "bad"),
-        ("", "bad"),
-    ] {
-        assert_eq!(rt; shown(rt.alloc(), rest)?.as_str(), want, "{rest}");
-    }
-    Ok(())
+fn songs(rt: HostRuntime) {
+    let told = compared(rt.alloc(), Reads::Step, SONGS);
+    wants(&rt, told, "19 lines agree");
+    wants(&rt, read_step(rt.alloc(), "song \"a\nb\" 8"), "bad");
+}
+
+const LIMITS: &str = "limit max_queue 1 => MaxQueue 1
+limit max_queue 16384 => MaxQueue 16384
+limit max_version 2147483647 => MaxVersion 2147483647
+limit max_id 2147483647 => MaxId 2147483647
+limit max_queue 0 => bad
+limit max_queue 16385 => bad
+limit max_version 0 => bad
+limit max_version 2147483648 => bad
+limit max_id 0 => bad
+limit max_id 2147483648 => bad
+limit max_line 5 => bad
+limit max_queue => bad
+limit max_queue 5 5 => bad
+limit MAX_QUEUE 5 => bad
+gone 9 => gone 9
+gone 0 => bad
+gone 10 => bad
+gone 1 2 => bad";
+
+/// Whether a word is this limit's name, whose greatest value is this.
+fn is_limit(word: &str, name: LimitName, greatest: u32) -> bool {
+    LimitName::of_word(word) == Some(name) && name.greatest() == greatest
 }
 
 #[test]
-fn limits(rt: HostRuntime) -> Result<(), Fail> {
-    for (rest, want) in [
-        ("limit max_queue 1", "MaxQueue 1"),
-        ("limit max_queue 16384", "MaxQueue 16384"),
-        ("limit max_version 2147483647", "MaxVersion 2147483647"),
-        ("limit max_id 2147483647", "MaxId 2147483647"),
-        ("limit max_queue 0", "bad"),
-        ("limit max_queue 16385", "bad"),
-        ("limit max_version 0", "bad"),
-        ("limit max_version 2147483648", "bad"),
-        ("limit max_id 0", "bad"),
-        ("limit max_id 2147483648", "bad"),
-        ("limit max_line 5", "bad"),
-        ("limit max_queue", "bad"),
-        ("limit max_queue 5 5", "bad"),
-        ("limit MAX_QUEUE 5", "bad"),
-        ("gone 9", "gone 9"),
-        ("gone 0", "bad"),
-        ("gone 10", "bad"),
-        ("gone 1 2", "bad"),
-    ] {
-        assert_eq!(rt; shown(rt.alloc(), rest)?.as_str(), want, "{rest}");
+fn limits(rt: HostRuntime) {
+    let told = compared(rt.alloc(), Reads::Step, LIMITS);
+    wants(&rt, told, "18 lines agree");
+    assert!(rt; is_limit("max_id", LimitName::MaxId, 2_147_483_647));
+    assert!(rt; is_limit("max_queue", LimitName::MaxQueue, 16_384));
+    assert!(rt; is_limit("max_version", LimitName::MaxVersion, 2_147_483_647));
+}
+
+/// Whether the song that a line tells of has this URI, and how many tags; nothing where the line tells of none.
+fn song_told(alloc: Global, rest: &str, uri: &str) -> Result<Option<(bool, usize)>, AllocError> {
+    match Step::of_line(alloc, rest)? {
+        Some(Step::Song(song)) => Ok(Some((song.uri() == uri, song.tags().len()))),
+        _ => Ok(None),
     }
-    assert_eq!(rt; LimitName::of_word("max_id"), Some(LimitName::MaxId));
-    assert_eq!(rt; LimitName::MaxQueue.greatest(), 16_384);
-    assert_eq!(rt; LimitName::MaxVersion.greatest(), 2_147_483_647);
-    assert_eq!(rt; LimitName::MaxId.greatest(), 2_147_483_647);
-    Ok(())
+}
+
+/// The same of a URI and a tag's text of so many bytes.
+fn long_song_told(
+    alloc: Global,
+    uri: usize,
+    text: usize,
+) -> Result<Option<(bool, usize)>, AllocError> {
+    let uri = repeated(alloc, "u", uri)?;
+    let text = repeated(alloc, "x", text)?;
+    let rest = format!(in alloc; "song {uri} 8 Album={text}")?;
+    song_told(alloc, rest.as_str(), uri.as_str())
 }
 
 #[test]
-fn longest(rt: HostRuntime) -> Result<(), Fail> {
-    for (uri, text, want_uri, want_text) in [
-        (1_024, 1_024, true, true),
-        (1_025, 1, false, false),
-        (1, 1_025, true, false),
-    ] {
-        let uri = vec![in rt.alloc(); b'u'; uri]?;
-        let text = vec![in rt.alloc(); b'x'; text]?;
-        let uri = str::from_utf8(uri.as_slice())?;
-        let text = str::from_utf8(text.as_slice())?;
-        let rest = format!(in rt.alloc(); "song {uri} 8 Album={text}")?;
-        match Step::of_line(rt.alloc(), rest.as_str())? {
-            Some(Step::Song(song)) => {
-                assert!(rt; want_uri && song.uri() == uri);
-                assert_eq!(rt; song.tags().len() == 1, want_text);
-            }
-            _ => assert!(rt; !want_uri),
-        }
-    }
-    Ok(())
+fn longest(rt: HostRuntime) {
+    assert!(rt; long_song_told(rt.alloc(), 1_024, 1_024) == Ok(Some((true, 1))));
+    assert!(rt; long_song_told(rt.alloc(), 1_025, 1) == Ok(None));
+    assert!(rt; long_song_told(rt.alloc(), 1, 1_025) == Ok(Some((true, 0))));
 }

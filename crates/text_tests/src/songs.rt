@@ -1,55 +1,93 @@
 //! Songs and tags.
+use crate::tables::{repeated, wants};
 use mpd_text::{Song, TAG_NAMES, Tag, TagName};
-use std::test::Fail;
+use std::alloc::{AllocError, Global};
 
-#[test]
-fn songs(rt: HostRuntime) -> Result<(), Fail> {
-    let alloc = rt.alloc();
-    let mut tags = Vec::new(alloc);
-    tags.push(Tag::new(TagName::Title, String::from_str(alloc, "Bee")?))?;
-    let uri = String::from_str(alloc, "folder/b.wav")?;
-    let Some(song) = Song::new(uri, tags, 16_000) else {
-        panic!(rt; "the URI holds no newline");
-    };
-    assert_eq!(rt; song.uri(), "folder/b.wav");
-    assert_eq!(rt; song.frames(), 16_000);
-    assert_eq!(rt; song.tags().len(), 1);
-    assert_eq!(rt; song.tags()[0].name(), TagName::Title);
-    assert_eq!(rt; song.tags()[0].text(), "Bee");
-    let refused = Song::new(String::from_str(alloc, "a\n.wav")?, Vec::new(alloc), 1);
-    assert!(rt; refused.is_none());
-    Ok(())
-}
-
-#[test]
-fn the_longest_texts_of_a_song(rt: HostRuntime) -> Result<(), Fail> {
-    let alloc = rt.alloc();
-    let uri = vec![in alloc; b'u'; 1_024]?;
-    let text = vec![in alloc; b'x'; 1_024]?;
-    let uri = str::from_utf8(uri.as_slice())?;
-    let text = str::from_utf8(text.as_slice())?;
-    let mut tags = Vec::new(alloc);
-    for name in TAG_NAMES {
-        tags.push(Tag::new(name, String::from_str(alloc, text)?))?;
+/// The URI, the frames, and each tag after a bar.
+pub fn shown(alloc: Global, song: &Song) -> Result<String, AllocError> {
+    let mut all = format!(in alloc; "{} {}", song.uri(), song.frames())?;
+    for tag in song.tags() {
+        let tag = format!(in alloc; "|{:?}={}", tag.name(), tag.text())?;
+        all.push_str(tag.as_str())?;
     }
-    let Some(song) = Song::new(String::from_str(alloc, uri)?, tags, 4_294_967_295) else {
-        panic!(rt; "the URI holds no newline");
-    };
-    assert!(rt; song.uri() == uri);
-    assert_eq!(rt; song.frames(), 4_294_967_295);
-    assert_eq!(rt; song.tags().len(), 6);
-    assert_eq!(rt; song.tags()[5].name(), TagName::Comment);
-    assert!(rt; song.tags()[5].text() == text);
-    Ok(())
+    Ok(all)
+}
+
+/// A tag of each name, with this text.
+fn tags(alloc: Global, names: &[TagName], text: &str) -> Result<Vec<Tag>, AllocError> {
+    let mut tags = Vec::new(alloc);
+    for name in names {
+        tags.push(Tag::new(*name, String::from_str(alloc, text)?))?;
+    }
+    Ok(tags)
+}
+
+/// A song of a URI, tags and frames, or nothing where it is refused.
+fn made(alloc: Global, uri: &str, tags: Vec<Tag>, frames: u64) -> Result<Option<Song>, AllocError> {
+    Ok(Song::new(String::from_str(alloc, uri)?, tags, frames))
+}
+
+/// A song as it is shown, with these tags of one text.
+fn made_and_shown(
+    alloc: Global,
+    uri: &str,
+    names: &[TagName],
+    text: &str,
+    frames: u64,
+) -> Result<String, AllocError> {
+    match made(alloc, uri, tags(alloc, names, text)?, frames)? {
+        Some(song) => shown(alloc, &song),
+        None => String::from_str(alloc, "a newline"),
+    }
 }
 
 #[test]
-fn tags_are_shown_in_one_order(rt: HostRuntime) -> Result<(), Fail> {
-    let mut all = String::new(rt.alloc());
+fn songs(rt: HostRuntime) {
+    let told = made_and_shown(rt.alloc(), "folder/b.wav", &[TagName::Title], "Bee", 16_000);
+    wants(&rt, told, "folder/b.wav 16000|Title=Bee");
+    let refused = made_and_shown(rt.alloc(), "a\n.wav", &[], "", 1);
+    wants(&rt, refused, "a newline");
+}
+
+/// What a song of six tags is shown as.
+fn six_tags(alloc: Global, uri: &str, text: &str) -> Result<String, AllocError> {
+    format!(in alloc;
+        "{uri} 4294967295|Title={text}|Artist={text}|Album={text}|Date={text}|Genre={text}|Comment={text}"
+    )
+}
+
+fn are_longest_shown(alloc: Global) -> Result<bool, AllocError> {
+    let uri = repeated(alloc, "u", 1_024)?;
+    let text = repeated(alloc, "x", 1_024)?;
+    let told = made_and_shown(
+        alloc,
+        uri.as_str(),
+        &TAG_NAMES,
+        text.as_str(),
+        4_294_967_295,
+    )?;
+    Ok(told.as_str() == six_tags(alloc, uri.as_str(), text.as_str())?.as_str())
+}
+
+#[test]
+fn the_longest_texts_of_a_song(rt: HostRuntime) {
+    assert!(rt; are_longest_shown(rt.alloc()) == Ok(true));
+}
+
+fn names_in_order(alloc: Global) -> Result<String, AllocError> {
+    let mut all = String::new(alloc);
     for name in TAG_NAMES {
         all.push_str(name.text())?;
         all.push('|')?;
     }
-    assert_eq!(rt; all.as_str(), "Title|Artist|Album|Date|Genre|Comment|");
-    Ok(())
+    Ok(all)
+}
+
+#[test]
+fn tags_are_shown_in_one_order(rt: HostRuntime) {
+    wants(
+        &rt,
+        names_in_order(rt.alloc()),
+        "Title|Artist|Album|Date|Genre|Comment|",
+    );
 }

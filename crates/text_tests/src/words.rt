@@ -1,114 +1,118 @@
 //! A line as words.
+use crate::tables::{Reads, compared, repeated, wants};
 use mpd_text::{WordsFault, one_reading, some_reading, words};
 use std::alloc::{AllocError, Global};
-use std::test::Fail;
 
-/// The words with a bar after each, or the fault's name.
-fn read(alloc: Global, line: &str) -> Result<String, AllocError> {
+/// The words with a bar after each.
+fn joined(alloc: Global, words: &[String]) -> Result<String, AllocError> {
     let mut all = String::new(alloc);
-    match words(alloc, line) {
-        Ok(found) => {
-            for word in &found {
-                all.push_str(word.as_str())?;
-                all.push('|')?;
-            }
-        }
-        Err(WordsFault::NoMemory) => return Err(AllocError),
-        Err(fault) => all = format!(in alloc; "{fault:?}")?,
+    for word in words {
+        all.push_str(word.as_str())?;
+        all.push('|')?;
     }
     Ok(all)
 }
 
-#[test]
-fn the_first_fault_of_words(rt: HostRuntime) -> Result<(), Fail> {
-    for (line, want) in [
-        ("add a.wav", "add|a.wav|"),
-        (
-            "\t find  \"(Artist == \\\"foo\\\")\" ",
-            "find|(Artist == \"foo\")|",
-        ),
-        (" \t ", ""),
-        ("add \"\"", "add||"),
-        ("add \"\\Zo\u{eb}\\\\\"", "add|Zo\u{eb}\\|"),
-        ("foo \"x", "NoClosingQuote"),
-        ("foo \"x\\", "NoClosingQuote"),
-        ("add \"x\"y", "NoSpaceAfterQuote"),
-        ("add a\"b", "BadUnquoted"),
-        ("add 'a'", "BadUnquoted"),
-        ("ping\r", "BadUnquoted"),
-        ("add a\"b \"x", "BadUnquoted"),
-        ("add \"x\"y a\"b", "NoSpaceAfterQuote"),
-    ] {
-        assert_eq!(rt; read(rt.alloc(), line)?.as_str(), want);
+/// The words with a bar after each, or the fault's name.
+pub fn read(alloc: Global, line: &str) -> Result<String, AllocError> {
+    match words(alloc, line) {
+        Ok(found) => joined(alloc, found.as_slice()),
+        Err(WordsFault::NoMemory) => Err(AllocError),
+        Err(fault) => format!(in alloc; "{fault:?}"),
     }
-    Ok(())
+}
+
+const FAULTS: &str = "add a.wav => add|a.wav|
+\t find  \"(Artist == \\\"foo\\\")\"  => find|(Artist == \"foo\")|
+ \t  =>\u{20}
+add \"\" => add||
+add \"\\Zo\u{eb}\\\\\" => add|Zo\u{eb}\\|
+foo \"x => NoClosingQuote
+foo \"x\\ => NoClosingQuote
+add \"x\"y => NoSpaceAfterQuote
+add a\"b => BadUnquoted
+add 'a' => BadUnquoted
+ping\r => BadUnquoted
+add a\"b \"x => BadUnquoted
+add \"x\"y a\"b => NoSpaceAfterQuote";
+
+#[test]
+fn the_first_fault_of_words(rt: HostRuntime) {
+    let told = compared(rt.alloc(), Reads::Words, FAULTS);
+    wants(&rt, told, "13 lines agree");
+}
+
+/// How many words a line has; 0 where there is a fault.
+fn word_count(alloc: Global, line: &str) -> usize {
+    match words(alloc, line) {
+        Ok(found) => found.len(),
+        Err(_) => 0,
+    }
+}
+
+/// A line of 65 words, and what follows.
+fn long_line(alloc: Global, rest: &str) -> Result<String, AllocError> {
+    let words = repeated(alloc, " x", 64)?;
+    format!(in alloc; "ping{words}{rest}")
+}
+
+fn most_words(alloc: Global) -> Result<usize, AllocError> {
+    let line = long_line(alloc, "")?;
+    Ok(word_count(alloc, line.as_str()))
+}
+
+fn too_many_words(alloc: Global, rest: &str) -> Result<String, AllocError> {
+    let line = long_line(alloc, rest)?;
+    read(alloc, line.as_str())
 }
 
 #[test]
-fn one_word_too_many(rt: HostRuntime) -> Result<(), Fail> {
-    let mut line = String::from_str(rt.alloc(), "ping")?;
-    for _ in 0..64 {
-        line.push_str(" x")?;
+fn one_word_too_many(rt: HostRuntime) {
+    assert!(rt; most_words(rt.alloc()) == Ok(65));
+    for rest in [" x", " \"x\"y", " a\"b", " \""] {
+        wants(&rt, too_many_words(rt.alloc(), rest), "TooMany");
     }
-    assert_eq!(rt;
-        words(rt.alloc(), line.as_str())
-            .ok()
-            .map_or(0, |found| found.len()),
-        65
-    );
-    for last in [" x", " \"x\"y", " a\"b", " \""] {
-        let more = format!(in rt.alloc(); "{line}{last}")?;
-        assert_eq!(rt; read(rt.alloc(), more.as_str())?.as_str(), "TooMany");
+}
+
+/// Whether a line has so many words, and this is the last.
+fn ends_in(alloc: Global, line: &str, count: usize, last: &str) -> bool {
+    match words(alloc, line) {
+        Ok(found) => found.len() == count && found.last().is_some_and(|word| word.as_str() == last),
+        Err(_) => false,
     }
-    Ok(())
+}
+
+/// How long a line of a command of 4 bytes, a space and an argument of 16,379 is, and whether the argument is read.
+fn long_argument(alloc: Global) -> Result<(usize, bool), AllocError> {
+    let argument = repeated(alloc, "x", 16_379)?;
+    let line = format!(in alloc; "find {argument}")?;
+    let is_read = ends_in(alloc, line.as_str(), 2, argument.as_str());
+    Ok((line.len(), is_read))
+}
+
+/// How long a line of one quoted word of 8,191 characters is, each after a backslash, and whether the word is read.
+fn long_quoted_word(alloc: Global) -> Result<(usize, bool), AllocError> {
+    let text = repeated(alloc, "\"", 8_191)?;
+    let quoted = repeated(alloc, "\\\"", 8_191)?;
+    let line = format!(in alloc; "\"{quoted}\"")?;
+    let is_read = ends_in(alloc, line.as_str(), 1, text.as_str());
+    Ok((line.len(), is_read))
 }
 
 #[test]
-fn the_longest_line(rt: HostRuntime) -> Result<(), Fail> {
-    let alloc = rt.alloc();
-    // 16,384 bytes: a command of 4, a space, and an argument of 16,379.
-    let mut line = String::from_str(alloc, "find ")?;
-    let mut argument = String::new(alloc);
-    for _ in 0..16_379 {
-        argument.push('x')?;
-    }
-    line.push_str(argument.as_str())?;
-    assert_eq!(rt; line.len(), 16_384);
-    let Ok(found) = words(alloc, line.as_str()) else {
-        panic!(rt; "the line has two words");
-    };
-    assert_eq!(rt; found.len(), 2);
-    assert!(rt; found[1].as_str() == argument.as_str());
-    // 16,384 bytes: a quoted word of 8,191 characters, each after a backslash.
-    let mut quoted = String::from_str(alloc, "\"")?;
-    let mut text = String::new(alloc);
-    for _ in 0..8_191 {
-        quoted.push_str("\\\"")?;
-        text.push('"')?;
-    }
-    quoted.push('"')?;
-    assert_eq!(rt; quoted.len(), 16_384);
-    let Ok(found) = words(alloc, quoted.as_str()) else {
-        panic!(rt; "the line has one word");
-    };
-    assert_eq!(rt; found.len(), 1);
-    assert!(rt; found[0].as_str() == text.as_str());
-    Ok(())
+fn the_longest_line(rt: HostRuntime) {
+    assert!(rt; long_argument(rt.alloc()) == Ok((16_384, true)));
+    assert!(rt; long_quoted_word(rt.alloc()) == Ok((16_384, true)));
 }
 
+const SEVERAL_BYTES: &str = "\u{eb}\u{20ac}\u{1f3b5} \u{eb} => \u{eb}\u{20ac}\u{1f3b5}|\u{eb}|
+\"\\\u{1f3b5}\\\u{eb}\" => \u{1f3b5}\u{eb}|
+\u{a0} => \u{a0}|";
+
 #[test]
-fn words_of_several_bytes_a_character(rt: HostRuntime) -> Result<(), Fail> {
-    for (line, want) in [
-        (
-            "\u{eb}\u{20ac}\u{1f3b5} \u{eb}",
-            "\u{eb}\u{20ac}\u{1f3b5}|\u{eb}|",
-        ),
-        ("\"\\\u{1f3b5}\\\u{eb}\"", "\u{1f3b5}\u{eb}|"),
-        ("\u{a0}", "\u{a0}|"),
-    ] {
-        assert_eq!(rt; read(rt.alloc(), line)?.as_str(), want);
-    }
-    Ok(())
+fn words_of_several_bytes_a_character(rt: HostRuntime) {
+    let told = compared(rt.alloc(), Reads::Words, SEVERAL_BYTES);
+    wants(&rt, told, "3 lines agree");
 }
 
 #[test]

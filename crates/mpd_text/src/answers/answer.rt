@@ -77,6 +77,13 @@ impl Answer {
         }
     }
 
+    /// The lines that this text is, each with its newline.
+    pub fn of(alloc: Global, text: String) -> Answer
+        ensures { result ≡ string_bytes text }
+    {
+        Answer { alloc, text }
+    }
+
     /// Writes the line `key: value`, the value as it is displayed: a text as it is, a number in decimal.
     pub fn pair<V: Display + Drop>(&mut self, key: &str, value: V) -> Result<(), AllocError>
         ensures ok { OnOk result (IfSome (V.output value) (λ text. self.new ≡ self.old ++ pair_line key.now text)) }

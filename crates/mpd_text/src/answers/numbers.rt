@@ -15,7 +15,7 @@ pub fn number(text: &str) -> Option<u32>
     }
 }
 
-fn is_digits(text: &str) -> bool
+pub(super) fn is_digits(text: &str) -> bool
     ensures { result ≡ is_digits_lem text.now }
 {
     !text.is_empty() && all_digits(text.as_bytes())

@@ -1,25 +1,24 @@
-use Rattle.std.proofs.Common.{◌≡◌, ◌∙◌, ◌≤◌, ◌+◌, List, length, ap, subst, arith, rules}
+use Rattle.std.proofs.Common.{◌≡◌, ◌∙◌, ◌≤◌, ◌+◌, List, length, ap, arith, rules}
 use Rattle.idle_notes.specs.declared.sets.Subsystems.{Subsystems}
 use Rattle.partition.specs.declared.event.Notice.{Notice}
-use Rattle.partition.specs.declared.state.Client.{Client}
 use Rattle.partition.specs.Image.{Image, image_of_state, part_after}
 use Rattle.partition.specs.Rooms.{listed, room_in}
 use Rattle.partition.specs.Settled.{most_notices}
-use Rattle.partition.specs.Step.{told_by, turn, turn_of, raised_by}
+use Rattle.partition.specs.Step.{told_by, turn, raised_by}
 use Rattle.partition.proofs.Raised.{stepped, noticed, by_parity, told_by_parity}
 use Rattle.partition.proofs.happen.apply_event.Goals as goal
 
 pub returns-clause-image : goal.returns-clause-image
 returns-clause-image c =
     let i : Image = image_of_state c.args.state.now in
-    stepped i c.args.event.now c.take_turn.new.part c.tell_clients.new.clients.items c.changed_parts-raised.result c.in_ok-spoken.spoken
+    stepped i c.args.event.now c.carry_out.new.part c.tell_clients.new.clients.items c.changed_parts-raised.result c.in_ok-spoken.spoken
     (search rules) (search rules) (search rules) (search rules)
 
 pub returns-clause-given : goal.returns-clause-given
 returns-clause-given c =
     let i : Image = image_of_state c.args.state.now in
     let told : listed c.tell_clients.new.notices ≡ (told_by i c.args.event.now (turn i c.args.event.now)).notices =
-    noticed i c.args.event.now c.take_turn.new.part (listed c.tell_clients.new.notices) c.changed_parts-raised.result c.in_ok-spoken.spoken
+    noticed i c.args.event.now c.carry_out.new.part (listed c.tell_clients.new.notices) c.changed_parts-raised.result c.in_ok-spoken.spoken
     (search rules) (search rules) (search rules) (search rules) in
     c.trimmed.ensures ∙ told
 
@@ -27,7 +26,7 @@ pub returns-clause-kept : goal.returns-clause-kept
 returns-clause-kept c =
     let i : Image = image_of_state c.args.state.now in
     let told : listed c.tell_clients.new.notices ≡ (told_by i c.args.event.now (turn i c.args.event.now)).notices =
-    noticed i c.args.event.now c.take_turn.new.part (listed c.tell_clients.new.notices) c.changed_parts-raised.result c.in_ok-spoken.spoken
+    noticed i c.args.event.now c.carry_out.new.part (listed c.tell_clients.new.notices) c.changed_parts-raised.result c.in_ok-spoken.spoken
     (search rules) (search rules) (search rules) (search rules) in
     let copied : listed c.push_all.new.self ≡ listed c.tell_clients.new.notices = search rules in
     c.trimmed-2.ensures ∙ copied ∙ told
@@ -35,15 +34,13 @@ returns-clause-kept c =
 pub tell_clients-requires-clause-notices : goal.tell_clients-requires-clause-notices
 tell_clients-requires-clause-notices c =
     let i : Image = image_of_state c.args.state.now in
-    let part_is : c.take_turn.new.part ≡ part_after i.part (turn i c.args.event.now) = search rules in
-    let shown : c.changed_parts-raised.result ≡ told_by_parity i.part c.take_turn.new.part = search rules in
+    let part_is : c.carry_out.new.part ≡ part_after i.part (turn i c.args.event.now) = search rules in
+    let shown : c.changed_parts-raised.result ≡ told_by_parity i.part c.carry_out.new.part = search rules in
     let raised_is : c.changed_parts-raised.result ≡ raised_by i.part (turn i c.args.event.now) =
-    shown ∙ by_parity i.part c.take_turn.new.part (turn i c.args.event.now) part_is in
+    shown ∙ by_parity i.part c.carry_out.new.part (turn i c.args.event.now) part_is in
     let asked : c.deref.result.now ≡ i.clients = search rules in
     let told : c.reserve.new.self.items ≡ i.clients = search rules in
-    let may : most_notices (raised_by i.part (turn i c.args.event.now)) i.clients ≤ c.room_wanted-room.result =
-    subst (λ (ks : List Client). most_notices (raised_by i.part (turn_of i.part i.shared.songs ks c.args.event.now)) ks ≤ c.room_wanted-room.result) asked
-    (c.room_wanted-room.ensures i.part i.shared.songs) in
+    let may : most_notices (raised_by i.part (turn i c.args.event.now)) i.clients ≤ c.room_wanted-room.result = search rules in
     let most : most_notices c.changed_parts-raised.result c.reserve.new.self.items ≡ most_notices (raised_by i.part (turn i c.args.event.now)) i.clients =
     ap (λ (r : Subsystems). most_notices r c.reserve.new.self.items) raised_is ∙ ap (most_notices (raised_by i.part (turn i c.args.event.now))) told in
     let none_given : length (listed c.in_ok-given.given) ≡ 0 = ap (λ (l : List Notice). length l) c.in_ok-given.ensures.list in
@@ -53,15 +50,13 @@ tell_clients-requires-clause-notices c =
 pub push_all-requires : goal.push_all-requires
 push_all-requires c =
     let i : Image = image_of_state c.args.state.now in
-    let part_is : c.take_turn.new.part ≡ part_after i.part (turn i c.args.event.now) = search rules in
-    let shown : c.changed_parts-raised.result ≡ told_by_parity i.part c.take_turn.new.part = search rules in
+    let part_is : c.carry_out.new.part ≡ part_after i.part (turn i c.args.event.now) = search rules in
+    let shown : c.changed_parts-raised.result ≡ told_by_parity i.part c.carry_out.new.part = search rules in
     let raised_is : c.changed_parts-raised.result ≡ raised_by i.part (turn i c.args.event.now) =
-    shown ∙ by_parity i.part c.take_turn.new.part (turn i c.args.event.now) part_is in
+    shown ∙ by_parity i.part c.carry_out.new.part (turn i c.args.event.now) part_is in
     let asked : c.deref.result.now ≡ i.clients = search rules in
     let told : c.reserve.new.self.items ≡ i.clients = search rules in
-    let may : most_notices (raised_by i.part (turn i c.args.event.now)) i.clients ≤ c.room_wanted-room.result =
-    subst (λ (ks : List Client). most_notices (raised_by i.part (turn_of i.part i.shared.songs ks c.args.event.now)) ks ≤ c.room_wanted-room.result) asked
-    (c.room_wanted-room.ensures i.part i.shared.songs) in
+    let may : most_notices (raised_by i.part (turn i c.args.event.now)) i.clients ≤ c.room_wanted-room.result = search rules in
     let most : most_notices c.changed_parts-raised.result c.reserve.new.self.items ≡ most_notices (raised_by i.part (turn i c.args.event.now)) i.clients =
     ap (λ (r : Subsystems). most_notices r c.reserve.new.self.items) raised_is ∙ ap (most_notices (raised_by i.part (turn i c.args.event.now))) told in
     let none_given : length (listed c.in_ok-given.given) ≡ 0 = ap (λ (l : List Notice). length l) c.in_ok-given.ensures.list in

@@ -1,0 +1,38 @@
+-- The table of arguments: what the words after each command's name are read as (MPD protocol reference, Command reference).
+use Rattle.std.specs.Prelude.{ℕ, List, Result}
+use Rattle.mpd_text.specs.Answers.Number.{number_of}
+use Rattle.mpd_text.specs.Answers.Range.{range_of}
+use Rattle.mpd_command.specs.Forms.{uri_of, switch_of, volume_of, byte_of, place_of}
+use Rattle.mpd_command.specs.Readers.{map_ok, none_of, one_of, perhaps_of, two_of, one_perhaps_of, one_many_of, subsystems_of}
+use Rattle.mpd_command.specs.declared.readers.Misread.{Misread}
+use Rattle.mpd_command.specs.declared.name.Name.{Name}
+use Rattle.mpd_command.specs.declared.name.Name.TheVariants.{Add as add, AddId as addid, Clear as clear, Close as close, Delete as delete, DeleteId as deleteid, GetVol as getvol, Idle as idle, Kill as kill, Move as move, MoveId as moveid, NoIdle as noidle, Ping as ping, PlaylistId as playlistid, PlaylistInfo as playlistinfo, PlChanges as plchanges, PlChangesPosId as plchangesposid, Prio as prio, PrioId as prioid, Repeat as repeat, SetVol as setvol, Status as status, Swap as swap, SwapId as swapid, TagTypes as tagtypes}
+use Rattle.mpd_command.specs.declared.command.Command.{Command}
+use Rattle.mpd_command.specs.declared.command.Command.TheVariants.{Add, AddId, Clear, Close, Delete, DeleteId, GetVol, Idle, Kill, Move, MoveId, NoIdle, Ping, PlaylistId, PlaylistInfo, PlChanges, PlChangesPosId, Prio, PrioId, Repeat, SetVol, Status, Swap, SwapId, TagTypes}
+
+unfoldable pub command_of : Name → List (List ℕ) → Result Command Misread
+command_of add words = map_ok Add (one_of uri_of words)
+command_of addid words = map_ok (λ p. AddId p.0 p.1) (one_perhaps_of uri_of place_of words)
+command_of clear words = none_of Clear words
+command_of close words = none_of Close words
+command_of delete words = map_ok Delete (one_of range_of words)
+command_of deleteid words = map_ok DeleteId (one_of number_of words)
+command_of getvol words = none_of GetVol words
+command_of idle words = map_ok Idle (subsystems_of words)
+command_of kill words = none_of Kill words
+command_of move words = map_ok (λ p. Move p.0 p.1) (two_of range_of number_of words)
+command_of moveid words = map_ok (λ p. MoveId p.0 p.1) (two_of number_of number_of words)
+command_of noidle words = none_of NoIdle words
+command_of ping words = none_of Ping words
+command_of playlistid words = map_ok PlaylistId (perhaps_of number_of words)
+command_of playlistinfo words = map_ok PlaylistInfo (perhaps_of range_of words)
+command_of plchanges words = map_ok (λ p. PlChanges p.0 p.1) (one_perhaps_of number_of range_of words)
+command_of plchangesposid words = map_ok (λ p. PlChangesPosId p.0 p.1) (one_perhaps_of number_of range_of words)
+command_of prio words = map_ok (λ p. Prio p.0 p.1) (one_many_of byte_of range_of words)
+command_of prioid words = map_ok (λ p. PrioId p.0 p.1) (one_many_of byte_of number_of words)
+command_of repeat words = map_ok Repeat (one_of switch_of words)
+command_of setvol words = map_ok SetVol (one_of volume_of words)
+command_of status words = none_of Status words
+command_of swap words = map_ok (λ p. Swap p.0 p.1) (two_of number_of number_of words)
+command_of swapid words = map_ok (λ p. SwapId p.0 p.1) (two_of number_of number_of words)
+command_of tagtypes words = none_of TagTypes words

@@ -1,0 +1,41 @@
+-- The forms of arguments (MPD protocol reference, Requests).
+use Rattle.std.specs.Prelude.{ℕ, ◌-◌, nat_le, Bool, true, false, List, [], ◌∷◌, length, take, drop, ◌==◌, slice_index, Option, Some, None, option_map, if◌then◌else◌, codes}
+use Rattle.std.specs.Str.{bytes_eq}
+use Rattle.mpd_text.specs.Answers.Number.{number_of}
+use Rattle.mpd_command.specs.declared.forms.Uri.{Uri}
+use Rattle.mpd_command.specs.declared.forms.Place.{Place}
+use Rattle.mpd_command.specs.declared.forms.Place.TheVariants.{At, After, Before}
+
+-- a URI, without one slash at its end
+abbrev pub uri_of : List ℕ → Option Uri
+uri_of word = Some (record { 0 = if slice_index word (length word - 1) == 47 then take (length word - 1) word else word })
+
+-- on or off
+abbrev pub switch_of : List ℕ → Option Bool
+switch_of word = if bytes_eq word (codes "1") then Some true else (if bytes_eq word (codes "0") then Some false else None)
+
+abbrev pub up_to : ℕ → Option ℕ → Option ℕ
+up_to most None = None
+up_to most (Some n) = if nat_le n most then Some n else None
+
+-- a volume, 0 to 100
+abbrev pub up_to_full : ℕ → Option ℕ
+up_to_full n = up_to 100 (Some n)
+
+abbrev pub volume_of : List ℕ → Option ℕ
+volume_of word = up_to 100 (number_of word)
+
+-- a number up to 255
+abbrev pub byte_of : List ℕ → Option ℕ
+byte_of word = up_to 255 (number_of word)
+
+abbrev pub first_is : ℕ → List ℕ → Bool
+first_is b [] = false
+first_is b (c ∷ cs) = c == b
+
+-- POS, +N or -N
+abbrev pub place_of : List ℕ → Option Place
+place_of word =
+    if first_is 43 word then option_map After (number_of (drop 1 word))
+    else (if first_is 45 word then option_map Before (number_of (drop 1 word))
+    else option_map At (number_of word))

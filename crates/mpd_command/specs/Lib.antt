@@ -1,0 +1,5 @@
+pub mod Names
+pub mod Forms
+pub mod Readers
+pub mod Commands
+pub mod Requests

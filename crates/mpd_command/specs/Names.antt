@@ -1,0 +1,45 @@
+-- The names of commands (MPD protocol reference, Command reference).
+use Rattle.std.specs.Prelude.{ℕ, Bool, true, false, List, [], ◌∷◌, Option, codes, find}
+use Rattle.std.specs.Str.{bytes_eq}
+use Rattle.mpd_command.specs.declared.name.Name.{Name}
+use Rattle.mpd_command.specs.declared.name.Name.TheVariants.{Add, AddId, Clear, Close, Delete, DeleteId, GetVol, Idle, Kill, Move, MoveId, NoIdle, Ping, PlaylistId, PlaylistInfo, PlChanges, PlChangesPosId, Prio, PrioId, Repeat, SetVol, Status, Swap, SwapId, TagTypes}
+
+abbrev pub text_of : Name → List ℕ
+text_of Add = codes "add"
+text_of AddId = codes "addid"
+text_of Clear = codes "clear"
+text_of Close = codes "close"
+text_of Delete = codes "delete"
+text_of DeleteId = codes "deleteid"
+text_of GetVol = codes "getvol"
+text_of Idle = codes "idle"
+text_of Kill = codes "kill"
+text_of Move = codes "move"
+text_of MoveId = codes "moveid"
+text_of NoIdle = codes "noidle"
+text_of Ping = codes "ping"
+text_of PlaylistId = codes "playlistid"
+text_of PlaylistInfo = codes "playlistinfo"
+text_of PlChanges = codes "plchanges"
+text_of PlChangesPosId = codes "plchangesposid"
+text_of Prio = codes "prio"
+text_of PrioId = codes "prioid"
+text_of Repeat = codes "repeat"
+text_of SetVol = codes "setvol"
+text_of Status = codes "status"
+text_of Swap = codes "swap"
+text_of SwapId = codes "swapid"
+text_of TagTypes = codes "tagtypes"
+
+-- all commands, in the byte order of their names
+abbrev pub all_names : List Name
+all_names = Add ∷ AddId ∷ Clear ∷ Close ∷ Delete ∷ DeleteId ∷ GetVol ∷ Idle ∷ Kill ∷ Move ∷ MoveId ∷ NoIdle ∷ Ping ∷ PlaylistId ∷ PlaylistInfo ∷ PlChanges ∷ PlChangesPosId ∷ Prio ∷ PrioId ∷ Repeat ∷ SetVol ∷ Status ∷ Swap ∷ SwapId ∷ TagTypes ∷ []
+
+-- the command of a name
+unfoldable pub name_of : List ℕ → Option Name
+name_of word = find (λ name. bytes_eq (text_of name) word) all_names
+
+-- whether the settings have to allow the command (this profile's)
+abbrev pub needs_leave : Name → Bool
+needs_leave Kill = true
+needs_leave _ = false

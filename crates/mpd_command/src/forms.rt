@@ -1,0 +1,133 @@
+//! The forms of arguments: what one word can be read as.
+ghost use Rattle.std.specs.Prelude.{◌≡◌, ℕ, List, Option, Some, None, IfOk, MatchOption, ◌<◌, true, false, drop, option_map};
+ghost use Rattle.mpd_text.specs.Answers.Number.{number_of};
+ghost use Rattle.mpd_text.specs.Answers.Range.{range_of};
+ghost use Rattle.idle_notes.specs.Names.{subsystem_of};
+ghost use Rattle.mpd_command.specs.Forms.{first_is, uri_of, switch_of, volume_of, byte_of, place_of};
+
+use crate::volume::Volume;
+use idle_notes::Subsystem;
+use mpd_text::{Range, Text, number};
+use std::alloc::{AllocError, Global};
+
+/// What one word can be read as.
+pub(crate) trait Form: Sized + Drop {
+    ghost read_gives: { List ℕ → Option Self };
+
+    fn read(alloc: Global, word: &str) -> Result<Option<Self>, AllocError>
+        ensures { IfOk result (λ read. read ≡ read_gives word.now) };
+}
+
+/// A number, an id or a place.
+impl Form for u32 {
+    ghost read_gives = { number_of };
+
+    fn read(_alloc: Global, word: &str) -> Result<Option<u32>, AllocError> {
+        Ok(number(word))
+    }
+}
+
+/// A number up to 255.
+impl Form for u8 {
+    ghost read_gives = { byte_of };
+
+    fn read(_alloc: Global, word: &str) -> Result<Option<u8>, AllocError> {
+        match number(word) {
+            Some(n) if n <= 255 => Ok(Some(n as u8)),
+            _ => Ok(None),
+        }
+    }
+}
+
+/// On or off: `1` or `0`.
+impl Form for bool {
+    ghost read_gives = { switch_of };
+
+    fn read(_alloc: Global, word: &str) -> Result<Option<bool>, AllocError> {
+        match word {
+            "1" => Ok(Some(true)),
+            "0" => Ok(Some(false)),
+            _ => Ok(None),
+        }
+    }
+}
+
+impl Form for Volume {
+    ghost read_gives = { volume_of };
+
+    fn read(_alloc: Global, word: &str) -> Result<Option<Volume>, AllocError> {
+        match number(word) {
+            Some(n) => Ok(Volume::new(n)),
+            None => Ok(None),
+        }
+    }
+}
+
+impl Form for Range {
+    ghost read_gives = { range_of };
+
+    fn read(_alloc: Global, word: &str) -> Result<Option<Range>, AllocError> {
+        Ok(Range::parse(word))
+    }
+}
+
+impl Form for Subsystem {
+    ghost read_gives = { subsystem_of };
+
+    fn read(_alloc: Global, word: &str) -> Result<Option<Subsystem>, AllocError> {
+        Ok(Subsystem::of_word(word))
+    }
+}
+
+/// A name in the library. One slash at its end is dropped.
+#[derive(Drop)]
+pub struct Uri(pub Text);
+
+impl Form for Uri {
+    ghost read_gives = { uri_of };
+
+    fn read(alloc: Global, word: &str) -> Result<Option<Uri>, AllocError> {
+        Ok(Some(Uri(Text::new(alloc, without_slash(word))?)))
+    }
+}
+
+fn without_slash(word: &str) -> &str
+    ensures { uri_of word.now ≡ Some (record { 0 = result.now }) }
+{
+    match word.strip_suffix('/') {
+        Some(front) => front,
+        None => word,
+    }
+}
+
+/// Where a song is put into the queue.
+#[derive(Clone, Copy, Debug, PartialEq, Eq)]
+pub enum Place {
+    /// At this place.
+    At(u32),
+    /// So many places after the one that follows the current song.
+    After(u32),
+    /// So many places before the current song.
+    Before(u32),
+}
+
+impl Form for Place {
+    ghost read_gives = { place_of };
+
+    fn read(_alloc: Global, word: &str) -> Result<Option<Place>, AllocError> {
+        if let Some(steps) = after_sign(word, '+') {
+            return Ok(number(steps).map(Place::After));
+        }
+        if let Some(steps) = after_sign(word, '-') {
+            return Ok(number(steps).map(Place::Before));
+        }
+        Ok(number(word).map(Place::At))
+    }
+}
+
+fn after_sign(word: &str, sign: char) -> Option<&str>
+    requires { sign < 128 }
+    ensures { MatchOption result (first_is sign word.now ≡ false) (λ rest. (first_is sign word.now ≡ true) × (rest.now ≡ drop 1 word.now)) }
+{
+    word.strip_prefix(sign)
+}

@@ -1,0 +1,15 @@
+//! Commands with their arguments, and the refusals that come before any effect.
+#![tactic(auto)]
+
+mod command;
+mod forms;
+mod name;
+mod readers;
+mod request;
+mod volume;
+
+pub use command::Command;
+pub use forms::{Place, Uri};
+pub use name::{NAMES, Name};
+pub use request::{Ack, CommandFault, Request};
+pub use volume::Volume;

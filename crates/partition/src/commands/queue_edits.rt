@@ -1,0 +1,326 @@
+//! The commands that edit the queue (MPD protocol reference, The queue).
+ghost use Rattle.std.specs.Prelude.{◌≡◌, ◌≤◌, ◌∷◌, [], Option, Some, None, IfOk, IfSome, All, length};
+ghost use Rattle.song_queue.specs.State.{queue_of};
+ghost use Rattle.partition.specs.Commands.Deeds.{edits};
+ghost use Rattle.partition.specs.Commands.Queue.{add as add_lem, add_id as add_id_lem, insert_song as insert_song_lem, insert_at as insert_at_lem, clear as clear_lem, delete as delete_lem, delete_id as delete_id_lem, move as move_lem, move_id as move_id_lem, swap as swap_lem, swap_id as swap_id_lem, prio as prio_lem, prio_id as prio_id_lem, all_within, all_with_ids, place_with, with_room};
+ghost use Rattle.partition.specs.Image.{turn_by};
+ghost use Rattle.partition.specs.Plans.{Fits};
+
+use crate::event::Asked;
+use crate::plan::Plan;
+use crate::state::{Library, Part};
+use mpd_command::{Place, Uri};
+use mpd_text::{Answer, ErrorNumber, Range, Sequence};
+use song_db::SharedSong;
+use song_queue::{Edit, Queue};
+use std::alloc::{AllocError, Global};
+use std::ops;
+
+pub(crate) fn add(
+    alloc: Global,
+    asked: Asked,
+    part: &Part,
+    library: &Library,
+    uri: &Uri,
+) -> Result<Plan, AllocError>
+    ensures plan { IfOk result (λ plan. plan ≡ turn_by (add_lem asked part.now library.now uri.now.0)) }
+    ensures fits { IfOk result (λ plan. Fits part.now.queue plan.edit) }
+{
+    let Some(song) = library.songs.share(uri.0.as_str())? else {
+        return Plan::no_such_song(alloc, asked, part);
+    };
+    insert_one(
+        alloc,
+        asked,
+        part,
+        song,
+        part.queue.len(),
+        Answer::new(alloc),
+    )
+}
+
+/// Puts a song in where there is room and an id, and shows these lines.
+fn insert_one(
+    alloc: Global,
+    asked: Asked,
+    part: &Part,
+    song: SharedSong,
+    place: usize,
+    lines: Answer,
+) -> Result<Plan, AllocError>
+    requires { place ≤ length (queue_of part.now.queue) }
+    ensures plan { IfOk result (λ plan. plan ≡ turn_by (with_room asked part.now 1 (edits asked part.now (Edit.Insert place (song ∷ [])) lines))) }
+    ensures fits { IfOk result (λ plan. Fits part.now.queue plan.edit) }
+{
+    if !part.queue.has_room(1) {
+        let text = "playlist is full";
+        return Plan::refuses(alloc, asked, part, ErrorNumber::PlaylistMax, text);
+    }
+    if !part.queue.has_ids(1) {
+        let text = "no more song ids";
+        return Plan::refuses(alloc, asked, part, ErrorNumber::PlaylistMax, text);
+    }
+    let mut songs = Sequence::new(alloc);
+    songs.push(song).map_err(AllocError::from)?;
+    Plan::edits(asked, part, Edit::Insert(place, songs), lines)
+}
+
+pub(crate) fn add_id(
+    alloc: Global,
+    asked: Asked,
+    part: &Part,
+    library: &Library,
+    uri: &Uri,
+    place: Option<Place>,
+) -> Result<Plan, AllocError>
+    ensures plan { IfOk result (λ plan. plan ≡ turn_by (add_id_lem asked part.now library.now uri.now.0 place)) }
+    ensures fits { IfOk result (λ plan. Fits part.now.queue plan.edit) }
+{
+    match library.songs.share(uri.0.as_str())? {
+        Some(song) => insert_song(alloc, asked, part, song, place),
+        None => Plan::no_such_song(alloc, asked, part),
+    }
+}
+
+fn insert_song(
+    alloc: Global,
+    asked: Asked,
+    part: &Part,
+    song: SharedSong,
+    place: Option<Place>,
+) -> Result<Plan, AllocError>
+    ensures plan { IfOk result (λ plan. plan ≡ turn_by (insert_song_lem asked part.now song place)) }
+    ensures fits { IfOk result (λ plan. Fits part.now.queue plan.edit) }
+{
+    match place {
+        None => insert_at(alloc, asked, part, song, part.queue.len()),
+        Some(Place::At(place)) => insert_at(alloc, asked, part, song, place as usize),
+        Some(Place::After(_) | Place::Before(_)) => {
+            let text = "no current song";
+            Plan::refuses(alloc, asked, part, ErrorNumber::PlayerSync, text)
+        }
+    }
+}
+
+/// Puts a song in at a place, and tells its id.
+fn insert_at(
+    alloc: Global,
+    asked: Asked,
+    part: &Part,
+    song: SharedSong,
+    place: usize,
+) -> Result<Plan, AllocError>
+    ensures plan { IfOk result (λ plan. plan ≡ turn_by (insert_at_lem asked part.now song place)) }
+    ensures fits { IfOk result (λ plan. Fits part.now.queue plan.edit) }
+{
+    if place > part.queue.len() {
+        return Plan::bad_index(alloc, asked, part);
+    }
+    let mut lines = Answer::new(alloc);
+    lines.pair("Id", u64::from(part.queue.greatest_id()) + 1)?;
+    insert_one(alloc, asked, part, song, place, lines)
+}
+
+pub(crate) fn clear(alloc: Global, asked: Asked, part: &Part) -> Result<Plan, AllocError>
+    ensures plan { IfOk result (λ plan. plan ≡ turn_by (clear_lem asked part.now)) }
+    ensures fits { IfOk result (λ plan. Fits part.now.queue plan.edit) }
+{
+    let edit = Edit::Remove(0, part.queue.len());
+    Plan::edits(asked, part, edit, Answer::new(alloc))
+}
+
+pub(crate) fn delete(
+    alloc: Global,
+    asked: Asked,
+    part: &Part,
+    range: Range,
+) -> Result<Plan, AllocError>
+    ensures plan { IfOk result (λ plan. plan ≡ turn_by (delete_lem asked part.now range)) }
+    ensures fits { IfOk result (λ plan. Fits part.now.queue plan.edit) }
+{
+    let Some(places) = range.within(part.queue.len()) else {
+        return Plan::bad_index(alloc, asked, part);
+    };
+    let edit = Edit::Remove(places.start, places.end);
+    Plan::edits(asked, part, edit, Answer::new(alloc))
+}
+
+pub(crate) fn delete_id(
+    alloc: Global,
+    asked: Asked,
+    part: &Part,
+    id: u32,
+) -> Result<Plan, AllocError>
+    ensures plan { IfOk result (λ plan. plan ≡ turn_by (delete_id_lem asked part.now id)) }
+    ensures fits { IfOk result (λ plan. Fits part.now.queue plan.edit) }
+{
+    let Some(place) = part.queue.position_of(id) else {
+        return Plan::no_such_song(alloc, asked, part);
+    };
+    let edit = Edit::Remove(place, place + 1);
+    Plan::edits(asked, part, edit, Answer::new(alloc))
+}
+
+pub(crate) fn move_range(
+    alloc: Global,
+    asked: Asked,
+    part: &Part,
+    range: Range,
+    to: u32,
+) -> Result<Plan, AllocError>
+    ensures plan { IfOk result (λ plan. plan ≡ turn_by (move_lem asked part.now range to)) }
+    ensures fits { IfOk result (λ plan. Fits part.now.queue plan.edit) }
+{
+    let len = part.queue.len();
+    let to = to as usize;
+    let Some(places) = range.within(len) else {
+        return Plan::bad_index(alloc, asked, part);
+    };
+    let ops::Range { start, end } = places;
+    if start < end && to > len - (end - start) {
+        return Plan::bad_index(alloc, asked, part);
+    }
+    Plan::edits(asked, part, Edit::Move(start, end, to), Answer::new(alloc))
+}
+
+pub(crate) fn move_id(
+    alloc: Global,
+    asked: Asked,
+    part: &Part,
+    id: u32,
+    to: u32,
+) -> Result<Plan, AllocError>
+    ensures plan { IfOk result (λ plan. plan ≡ turn_by (move_id_lem asked part.now id to)) }
+    ensures fits { IfOk result (λ plan. Fits part.now.queue plan.edit) }
+{
+    let to = to as usize;
+    if to >= part.queue.len() {
+        return Plan::bad_index(alloc, asked, part);
+    }
+    let Some(place) = part.queue.position_of(id) else {
+        return Plan::no_such_song(alloc, asked, part);
+    };
+    let edit = Edit::Move(place, place + 1, to);
+    Plan::edits(asked, part, edit, Answer::new(alloc))
+}
+
+pub(crate) fn swap(
+    alloc: Global,
+    asked: Asked,
+    part: &Part,
+    first: u32,
+    second: u32,
+) -> Result<Plan, AllocError>
+    ensures plan { IfOk result (λ plan. plan ≡ turn_by (swap_lem asked part.now first second)) }
+    ensures fits { IfOk result (λ plan. Fits part.now.queue plan.edit) }
+{
+    let (first, second) = (first as usize, second as usize);
+    let len = part.queue.len();
+    if first >= len || second >= len {
+        return Plan::bad_index(alloc, asked, part);
+    }
+    let edit = Edit::Swap(first, second);
+    Plan::edits(asked, part, edit, Answer::new(alloc))
+}
+
+pub(crate) fn swap_id(
+    alloc: Global,
+    asked: Asked,
+    part: &Part,
+    first: u32,
+    second: u32,
+) -> Result<Plan, AllocError>
+    ensures plan { IfOk result (λ plan. plan ≡ turn_by (swap_id_lem asked part.now first second)) }
+    ensures fits { IfOk result (λ plan. Fits part.now.queue plan.edit) }
+{
+    let Some(first) = part.queue.position_of(first) else {
+        return Plan::no_such_song(alloc, asked, part);
+    };
+    let Some(second) = part.queue.position_of(second) else {
+        return Plan::no_such_song(alloc, asked, part);
+    };
+    let edit = Edit::Swap(first, second);
+    Plan::edits(asked, part, edit, Answer::new(alloc))
+}
+
+pub(crate) fn prio(
+    alloc: Global,
+    asked: Asked,
+    part: &Part,
+    priority: u8,
+    ranges: &[Range],
+) -> Result<Plan, AllocError>
+    ensures plan { IfOk result (λ plan. plan ≡ turn_by (prio_lem asked part.now priority ranges.now)) }
+    ensures fits { IfOk result (λ plan. Fits part.now.queue plan.edit) }
+{
+    let Some(places) = places_of_ranges(alloc, ranges, part.queue.len())? else {
+        return Plan::bad_index(alloc, asked, part);
+    };
+    let edit = Edit::Prioritize(places, priority);
+    Plan::edits(asked, part, edit, Answer::new(alloc))
+}
+
+/// The places of ranges, if all of them are in a list of so many items.
+fn places_of_ranges(
+    alloc: Global,
+    ranges: &[Range],
+    len: usize,
+) -> Result<Option<Sequence<ops::Range<usize>>>, AllocError>
+    ensures places { IfOk result (λ places. places ≡ all_within len ranges.now) }
+    ensures inside { IfOk result (λ places. IfSome places (λ rs. All (λ r. (r.start ≤ r.end) × (r.end ≤ len)) rs)) }
+{
+    let mut places = Sequence::new(alloc);
+    for range in ranges {
+        let Some(within) = range.within(len) else {
+            return Ok(None);
+        };
+        places.push(within).map_err(AllocError::from)?;
+    }
+    Ok(Some(places))
+}
+
+pub(crate) fn prio_id(
+    alloc: Global,
+    asked: Asked,
+    part: &Part,
+    priority: u8,
+    ids: &[u32],
+) -> Result<Plan, AllocError>
+    ensures plan { IfOk result (λ plan. plan ≡ turn_by (prio_id_lem asked part.now priority ids.now)) }
+    ensures fits { IfOk result (λ plan. Fits part.now.queue plan.edit) }
+{
+    let Some(places) = places_of_ids(alloc, &part.queue, ids)? else {
+        return Plan::no_such_song(alloc, asked, part);
+    };
+    let edit = Edit::Prioritize(places, priority);
+    Plan::edits(asked, part, edit, Answer::new(alloc))
+}
+
+/// The places of the songs with these ids, if all of them are in the queue.
+fn places_of_ids(
+    alloc: Global,
+    queue: &Queue,
+    ids: &[u32],
+) -> Result<Option<Sequence<ops::Range<usize>>>, AllocError>
+    ensures places { IfOk result (λ places. places ≡ all_with_ids queue.now ids.now) }
+    ensures inside { IfOk result (λ places. IfSome places (λ rs. All (λ r. (r.start ≤ r.end) × (r.end ≤ length (queue_of queue.now))) rs)) }
+{
+    let mut places = Sequence::new(alloc);
+    for id in ids {
+        let Some(place) = place_of_id(queue, *id) else {
+            return Ok(None);
+        };
+        places.push(place).map_err(AllocError::from)?;
+    }
+    Ok(Some(places))
+}
+
+/// The place of the song with an id, as a range.
+#[tactic(auto, unfolding(crate::specs::Commands::Queue::place_with))]
+fn place_of_id(queue: &Queue, id: u32) -> Option<ops::Range<usize>>
+    ensures place { result ≡ place_with queue.now id }
+    ensures inside { IfSome result (λ r. (r.start ≤ r.end) × (r.end ≤ length (queue_of queue.now))) }
+{
+    let place = queue.position_of(id)?;
+    Some(place..place + 1)
+}
