@@ -10,6 +10,7 @@ PAIRS = 51       # of which the median counts where the difference of two runs i
 SONG = b'! song a.wav 8000\n'
 ADD, DELETE, STATUS, CHANGES, PING = b'1 add a.wav\n', b'1 delete 0\n', b'1 status\n', b'1 plchangesposid 0\n', b'1 ping\n'
 NO_SONG = b'1 add nosuch\n'
+ALL, WINDOW, NEW = b'1 playlistinfo\n', b'1 playlistinfo 0:50\n', b'1 plchanges %d\n'
 PING_TEXTS, NO_SONG_TEXTS = len(b'OK\n'), len(b'nosuch' + b'ACK [50@0] {add} no such song\n')
 
 
@@ -79,6 +80,24 @@ def show_long_times(path, queue):
     row('plchangesposid 0 at %d entries (us each)' % ENTRIES, both(listed.each(full, 20)))
 
 
+def show_songs(path, start, queue):
+    """What the queue shows, and edits by id at its front; each answer costs the bytes that it shows."""
+    small = start + ADD * 100
+    changed = queue + b'1 prio 1 0\n'
+    new = NEW % (ENTRIES + 1)
+    inputs = [queue, queue + ALL * 20, queue + WINDOW * 2000, small, small + WINDOW * 2000, changed, changed + new * 1000,
+              queue + b''.join(b'1 moveid %d 0\n' % (i % 2 + 1) for i in range(1000)),
+              queue + b''.join(b'1 deleteid %d\n' % (i + 1) for i in range(1000))]
+    full, whole, window, few, few_window, one, one_new, moved, deleted = map(best, turns(path, inputs, RUNS))
+    each = whole.each(full, 20)
+    row('playlistinfo at %d entries, entries a second' % ENTRIES, ('%.0f' % (ENTRIES / each.passed * 1e6), '%.0f' % (ENTRIES / each.processor * 1e6)), '500000 or more')
+    row('playlistinfo 0:50 at %d entries (us each)' % ENTRIES, both(window.each(full, 2000)), 'up to 1.5 times the next')
+    row('playlistinfo 0:50 at 100 entries (us each)', both(few_window.each(few, 2000)))
+    row('plchanges after one change (us each)', both(one_new.each(one, 1000)))
+    row('moveid at the front (us each)', both(moved.each(full, 1000)))
+    row('deleteid at the front (us each)', both(deleted.each(full, 1000)))
+
+
 def show_short_times(path, start, queue):
     row('median of %d differences of two runs' % PAIRS, ('passed', 'processor'), 'wanted')
     none, few, most, full, full_status, one, one_status = turns(path, [
@@ -115,6 +134,7 @@ def check(program):
     start = SONG + PING
     queue = start + ADD * ENTRIES
     show_long_times(program.path, queue)
+    show_songs(program.path, start, queue)
     show_short_times(program.path, start, queue)
     show_memory(program)
     return 0
