@@ -1,133 +1,149 @@
 //! Filters: worked texts and pairs, faults, and the greatest depth and texts.
-ghost use Rattle.std.specs.Prelude.{◌≡◌};
-
+use crate::tables::{Reads, compare, holds, owned, push, repeated, wants};
 use filters::{Case, Filter, FilterFault, Pair, Test, one_answer};
 use mpd_text::{Song, Tag, TagName, Text};
-use std::alloc::{AllocError, Global};
-use std::test::Fail;
+use std::alloc::Global;
+use std::process::Abort;
+
+fn tags<R: Abort>(rt: &R, alloc: Global, given: &[(TagName, &str)]) -> Vec<Tag> {
+    let mut all = Vec::new(alloc);
+    for (name, text) in given {
+        all.push(Tag::new(*name, owned(rt, alloc, text)))
+            .expect(rt, "no memory");
+    }
+    all
+}
 
 /// A song of a URI, which holds no newline, with these tags.
-fn song(alloc: Global, uri: &str, tags: &[(TagName, &str)]) -> Result<Song, Fail> {
-    let mut all = Vec::new(alloc);
-    for (name, text) in tags {
-        all.push(Tag::new(*name, String::from_str(alloc, text)?))?;
-    }
-    match Song::new(String::from_str(alloc, uri)?, all, 8_000) {
-        Some(song) => Ok(song),
-        None => Err(Fail::new("a newline is in the URI")),
-    }
+fn song<R: Abort>(rt: &R, alloc: Global, uri: &str, given: &[(TagName, &str)]) -> Song {
+    Song::new(owned(rt, alloc, uri), tags(rt, alloc, given), 8_000).expect(
+        rt,
+        "a newline is in the URI",
+    )
+}
+
+fn add<R: Abort>(
+    rt: &R,
+    alloc: Global,
+    songs: &mut Vec<Song>,
+    uri: &str,
+    given: &[(TagName, &str)],
+) {
+    songs
+        .push(song(rt, alloc, uri, given))
+        .expect(rt, "no memory");
 }
 
 /// The songs of the worked sessions.
-fn songs(alloc: Global) -> Result<Vec<Song>, Fail> {
+fn songs<R: Abort>(rt: &R, alloc: Global) -> Vec<Song> {
     let mut all = Vec::new(alloc);
-    all.push(song(alloc, "a.wav", &[(TagName::Artist, "foo'bar\"")])?)?;
+    add(
+        rt,
+        alloc,
+        &mut all,
+        "a.wav",
+        &[(TagName::Artist, "foo'bar\"")],
+    );
     let tags = [(TagName::Title, "Bee"), (TagName::Artist, "Zo\u{eb}")];
-    all.push(song(alloc, "b.wav", &tags)?)?;
-    all.push(song(alloc, "d", &[(TagName::Genre, "Stra\u{df}e")])?)?;
-    all.push(song(alloc, "d/c.wav", &[])?)?;
-    all.push(song(alloc, "dd.wav", &[])?)?;
-    Ok(all)
+    add(rt, alloc, &mut all, "b.wav", &tags);
+    add(rt, alloc, &mut all, "d", &[(TagName::Genre, "Stra\u{df}e")]);
+    add(rt, alloc, &mut all, "d/c.wav", &[]);
+    add(rt, alloc, &mut all, "dd.wav", &[]);
+    all
+}
+
+fn matches<R: Abort>(rt: &R, filter: &Filter, song: &Song, case: Case) -> bool {
+    filter.matches(song, case).expect(rt, "no memory")
 }
 
 /// The URIs of the songs that meet the filter, with a space after each.
-fn met(alloc: Global, filter: &Filter, case: Case) -> Result<String, Fail> {
+fn met<R: Abort>(rt: &R, alloc: Global, filter: &Filter, case: Case) -> String {
     let mut all = String::new(alloc);
-    for song in &songs(alloc)? {
-        if filter.matches(song, case)? {
-            all.push_str(song.uri())?;
-            all.push(' ')?;
+    for song in &songs(rt, alloc) {
+        if matches(rt, filter, song, case) {
+            push(rt, &mut all, song.uri());
+            push(rt, &mut all, " ");
         }
     }
-    Ok(all)
+    all
 }
 
 /// What a fault is called.
-fn fault(alloc: Global, fault: FilterFault) -> Result<String, AllocError> {
-    match fault {
+fn fault<R: Abort>(rt: &R, alloc: Global, fault: FilterFault) -> String {
+    let told = match fault {
         FilterFault::Syntax(at) => format!(in alloc; "bad filter at byte {at}"),
         FilterFault::UnknownTag(word) => format!(in alloc; "unknown tag {}", word.as_str()),
         FilterFault::TooDeep => String::from_str(alloc, "filter too deep"),
-        FilterFault::NoMemory => Err(AllocError),
+        FilterFault::NoMemory => String::from_str(alloc, "no memory"),
+    };
+    told.expect(rt, "no memory")
+}
+
+/// The songs that meet a filter, or its fault.
+fn found<R: Abort>(
+    rt: &R,
+    alloc: Global,
+    filter: Result<Filter, FilterFault>,
+    case: Case,
+) -> String {
+    match filter {
+        Ok(filter) => met(rt, alloc, &filter, case),
+        Err(cause) => fault(rt, alloc, cause),
     }
+}
+
+fn parsed(alloc: Global, text: &str) -> Result<Filter, FilterFault> {
+    Filter::parse(alloc, text)
 }
 
 /// The songs that meet the filter of a text, or its fault.
-fn find(alloc: Global, text: &str, case: Case) -> Result<String, Fail> {
-    match Filter::parse(alloc, text) {
-        Ok(filter) => met(alloc, &filter, case),
-        Err(cause) => Ok(fault(alloc, cause)?),
-    }
+pub fn read<R: Abort>(rt: &R, alloc: Global, text: &str) -> String {
+    found(rt, alloc, parsed(alloc, text), Case::Heeded)
 }
 
-/// The songs that meet the filter of these pairs, or its fault.
-fn find_pairs(
-    alloc: Global,
-    words: &[(&str, &str)],
-    test: Test,
-    case: Case,
-) -> Result<String, Fail> {
-    let mut pairs = Vec::new(alloc);
-    for (name, text) in words {
-        pairs.push(Pair {
-            name: Text::new(alloc, name)?,
-            text: Text::new(alloc, text)?,
-        })?;
-    }
-    match Filter::of_pairs(alloc, pairs.as_slice(), test) {
-        Ok(filter) => met(alloc, &filter, case),
-        Err(cause) => Ok(fault(alloc, cause)?),
-    }
+/// The same where case is ignored.
+pub fn read_any_case<R: Abort>(rt: &R, alloc: Global, text: &str) -> String {
+    found(rt, alloc, parsed(alloc, text), Case::Ignored)
 }
 
-/// A text between so many parentheses.
-fn nested(alloc: Global, depth: usize, text: &str) -> Result<String, AllocError> {
-    let mut all = String::new(alloc);
-    for _ in 0..depth {
-        all.push('(')?;
-    }
-    all.push_str(text)?;
+const FAULTS: &str = "
+ => bad filter at byte 0
+( => bad filter at byte 1
+() => bad filter at byte 1
+(Artist == 'x' => bad filter at byte 14
+(Artist = 'x') => bad filter at byte 9
+(file == 'a')x => bad filter at byte 13
+(title == 'Bee')  => bad filter at byte 16
+(title contains'Be') => bad filter at byte 15
+(! (title == 'Bee')) => bad filter at byte 2
+((title == 'Bee')AND (artist != 'x')) => bad filter at byte 17
+(base == 'x') => bad filter at byte 6
+(title == \"a\\ => bad filter at byte 13
+(title => bad filter at byte 6
+(Artiste == 'x') => unknown tag Artiste
+(foo) => unknown tag foo
+(foo => unknown tag foo
+(foo = 'x') => unknown tag foo
+(title = (foo == 'x')) => bad filter at byte 8
+";
+
+#[test]
+fn faults(rt: HostRuntime) {
+    compare(&rt, rt.alloc(), Reads::Filter, FAULTS, 18);
+}
+
+/// What is read of a text between so many parentheses. Those that close are left out where the text is empty.
+fn read_nested<R: Abort>(rt: &R, alloc: Global, depth: usize, text: &str) -> String {
+    let mut all = repeated(rt, alloc, "(", depth);
+    push(rt, &mut all, text);
     if !text.is_empty() {
-        for _ in 0..depth {
-            all.push(')')?;
-        }
+        push(rt, &mut all, repeated(rt, alloc, ")", depth).as_str());
     }
-    Ok(all)
+    read(rt, alloc, all.as_str())
 }
 
 #[test]
-fn faults(rt: HostRuntime) -> Result<(), Fail> {
-    for (text, want) in [
-        ("", "bad filter at byte 0"),
-        ("(", "bad filter at byte 1"),
-        ("()", "bad filter at byte 1"),
-        ("(Artist == 'x'", "bad filter at byte 14"),
-        ("(Artist = 'x')", "bad filter at byte 9"),
-        ("(file == 'a')x", "bad filter at byte 13"),
-        ("(title == 'Bee') ", "bad filter at byte 16"),
-        ("(title contains'Be')", "bad filter at byte 15"),
-        ("(! (title == 'Bee'))", "bad filter at byte 2"),
-        (
-            "((title == 'Bee')AND (artist != 'x'))",
-            "bad filter at byte 17",
-        ),
-        ("(base == 'x')", "bad filter at byte 6"),
-        ("(title == \"a\\", "bad filter at byte 13"),
-        ("(title", "bad filter at byte 6"),
-        ("(Artiste == 'x')", "unknown tag Artiste"),
-        ("(foo)", "unknown tag foo"),
-        ("(foo", "unknown tag foo"),
-        ("(foo = 'x')", "unknown tag foo"),
-        ("(title = (foo == 'x'))", "bad filter at byte 8"),
-    ] {
-        let told = find(rt.alloc(), text, Case::Heeded)?;
-        assert_eq!(rt; told.as_str(), want, "of {text}");
-    }
-    Ok(())
-}
-
-#[test]
-fn depths(rt: HostRuntime) -> Result<(), Fail> {
+fn depths(rt: HostRuntime) {
     one_answer();
     for (depth, text, want) in [
         (32, "", "bad filter at byte 32"),
@@ -135,146 +151,156 @@ fn depths(rt: HostRuntime) -> Result<(), Fail> {
         (32, "title == 'Bee'", "b.wav "),
         (33, "title == 'Bee'", "filter too deep"),
     ] {
-        let text = nested(rt.alloc(), depth, text)?;
-        let told = find(rt.alloc(), text.as_str(), Case::Heeded)?;
-        assert_eq!(rt; told.as_str(), want, "at {depth}");
+        let told = read_nested(&rt, rt.alloc(), depth, text);
+        wants(&rt, text, told.as_str(), want);
     }
-    Ok(())
 }
 
-#[test]
-fn songs_that_meet_texts(rt: HostRuntime) -> Result<(), Fail> {
-    for (text, case, want) in [
-        ("(Artist == \"foo\\'bar\\\"\")", Case::Heeded, "a.wav "),
-        ("( TITLE=='Bee' )", Case::Heeded, "b.wav "),
-        ("(title == 'bee')", Case::Heeded, ""),
-        ("(title == 'bee')", Case::Ignored, "b.wav "),
-        ("(title == '\\B\\e\\e')", Case::Heeded, "b.wav "),
-        ("(artist == 'Zo\\\u{eb}')", Case::Heeded, "b.wav "),
-        ("(artist contains 'O')", Case::Ignored, "a.wav b.wav "),
-        ("(genre == 'STRASSE')", Case::Ignored, "d "),
-        ("(genre contains 'asse')", Case::Ignored, "d "),
-        ("(genre contains 'asse')", Case::Heeded, ""),
-        ("(Artist == '')", Case::Heeded, "d d/c.wav dd.wav "),
-        ("(any contains 'oo')", Case::Heeded, "a.wav "),
-        ("(any == 'Bee')", Case::Heeded, "b.wav "),
-        ("(any != 'Bee')", Case::Heeded, "a.wav d d/c.wav dd.wav "),
-        ("(any == '')", Case::Heeded, "a.wav b.wav d d/c.wav dd.wav "),
-        (
-            "(!(title == 'Bee'))",
-            Case::Heeded,
-            "a.wav d d/c.wav dd.wav ",
-        ),
-        (
-            "((artist != '') AND (title != 'Bee'))",
-            Case::Heeded,
-            "a.wav ",
-        ),
-        (
-            "((file contains 'd') AND (file contains '.wav') AND (!(base 'd')))",
-            Case::Heeded,
-            "dd.wav ",
-        ),
-        ("(base 'd')", Case::Heeded, "d/c.wav "),
-        ("(base 'D')", Case::Ignored, ""),
-        ("(base '')", Case::Heeded, "a.wav b.wav d d/c.wav dd.wav "),
-        ("(file == 'dd.wav')", Case::Heeded, "dd.wav "),
-    ] {
-        let told = find(rt.alloc(), text, case)?;
-        assert_eq!(rt; told.as_str(), want, "of {text}");
-    }
-    Ok(())
-}
+const FOUND: &str = "
+(Artist == \"foo\\'bar\\\"\") => a.wav\u{20}
+( TITLE=='Bee' ) => b.wav\u{20}
+(title == 'bee') =>\u{20}
+(title == '\\B\\e\\e') => b.wav\u{20}
+(artist == 'Zo\\\u{eb}') => b.wav\u{20}
+(genre contains 'asse') =>\u{20}
+(Artist == '') => d d/c.wav dd.wav\u{20}
+(any contains 'oo') => a.wav\u{20}
+(any == 'Bee') => b.wav\u{20}
+(any != 'Bee') => a.wav d d/c.wav dd.wav\u{20}
+(any == '') => a.wav b.wav d d/c.wav dd.wav\u{20}
+(!(title == 'Bee')) => a.wav d d/c.wav dd.wav\u{20}
+((artist != '') AND (title != 'Bee')) => a.wav\u{20}
+((file contains 'd') AND (file contains '.wav') AND (!(base 'd'))) => dd.wav\u{20}
+(base 'd') => d/c.wav\u{20}
+(base '') => a.wav b.wav d d/c.wav dd.wav\u{20}
+(file == 'dd.wav') => dd.wav\u{20}
+";
+
+const FOUND_IN_ANY_CASE: &str = "
+(title == 'bee') => b.wav\u{20}
+(artist contains 'O') => a.wav b.wav\u{20}
+(genre == 'STRASSE') => d\u{20}
+(genre contains 'asse') => d\u{20}
+(base 'D') =>\u{20}
+";
 
 #[test]
-fn songs_that_meet_pairs(rt: HostRuntime) -> Result<(), Fail> {
+fn songs_that_meet_texts(rt: HostRuntime) {
+    compare(&rt, rt.alloc(), Reads::Filter, FOUND, 17);
     let alloc = rt.alloc();
-    let all = find_pairs(alloc, &[], Test::Equals, Case::Heeded)?;
-    assert_eq!(rt; all.as_str(), "a.wav b.wav d d/c.wav dd.wav ");
-    let both = [("TITLE", "Bee"), ("artist", "Zo\u{eb}")];
-    let told = find_pairs(alloc, &both, Test::Equals, Case::Heeded)?;
-    assert_eq!(rt; told.as_str(), "b.wav ");
-    let told = find_pairs(
-        alloc,
-        &[("artist", "zO\u{cb}")],
-        Test::Contains,
-        Case::Ignored,
-    )?;
-    assert_eq!(rt; told.as_str(), "b.wav ");
-    let folder = [("base", "d"), ("file", ".wav")];
-    let told = find_pairs(alloc, &folder, Test::Contains, Case::Heeded)?;
-    assert_eq!(rt; told.as_str(), "d/c.wav ");
-    let unknown = [("title", "x"), ("foo", "x"), ("bar", "x")];
-    let told = find_pairs(alloc, &unknown, Test::Equals, Case::Heeded)?;
-    assert_eq!(rt; told.as_str(), "unknown tag foo");
-    Ok(())
+    compare(&rt, alloc, Reads::FilterOfAnyCase, FOUND_IN_ANY_CASE, 5);
 }
 
-/// A text so many times.
-fn repeated(alloc: Global, text: &str, count: usize) -> Result<String, AllocError> {
-    let mut all = String::new(alloc);
-    for _ in 0..count {
-        all.push_str(text)?;
+fn pairs<R: Abort>(rt: &R, alloc: Global, words: &[(&str, &str)]) -> Vec<Pair> {
+    let mut pairs = Vec::new(alloc);
+    for (name, text) in words {
+        let pair = Pair {
+            name: Text::of(owned(rt, alloc, name)),
+            text: Text::of(owned(rt, alloc, text)),
+        };
+        pairs.push(pair).expect(rt, "no memory");
     }
-    Ok(all)
+    pairs
 }
 
-/// Whether a song meets the filter of this comparison with a text that is repeated so many times.
-fn meets(
+fn of_pairs<R: Abort>(
+    rt: &R,
     alloc: Global,
-    song: &Song,
-    comparison: &str,
-    wanted: (&str, usize),
-    case: Case,
-) -> Result<bool, Fail> {
-    let wanted = repeated(alloc, wanted.0, wanted.1)?;
-    let text = format!(in alloc; "({comparison} '{}')", wanted.as_str())?;
-    match Filter::parse(alloc, text.as_str()) {
-        Ok(filter) => Ok(filter.matches(song, case)?),
-        Err(_) => Err(Fail::new("no filter")),
-    }
+    words: &[(&str, &str)],
+    test: Test,
+) -> Result<Filter, FilterFault> {
+    Filter::of_pairs(alloc, pairs(rt, alloc, words).as_slice(), test)
 }
 
-// A tag's text and a URI have up to 1,024 bytes.
+/// The songs that meet the filter of these pairs in any case, or its fault.
+fn contain<R: Abort>(rt: &R, alloc: Global, words: &[(&str, &str)], case: Case, wanted: &str) {
+    let told = found(rt, alloc, of_pairs(rt, alloc, words, Test::Contains), case);
+    wants(rt, "containing", told.as_str(), wanted);
+}
+
+fn equal<R: Abort>(rt: &R, alloc: Global, words: &[(&str, &str)], wanted: &str) {
+    let filter = of_pairs(rt, alloc, words, Test::Equals);
+    let told = found(rt, alloc, filter, Case::Heeded);
+    wants(rt, "equal", told.as_str(), wanted);
+}
+
 #[test]
-fn texts_of_1024_bytes(rt: HostRuntime) -> Result<(), Fail> {
+fn songs_that_meet_pairs(rt: HostRuntime) {
     let alloc = rt.alloc();
-    let uri = repeated(alloc, "d", 1_024)?;
-    let artist = repeated(alloc, "A", 1_024)?;
-    let title = repeated(alloc, "\u{390}", 512)?;
+    equal(&rt, alloc, &[], "a.wav b.wav d d/c.wav dd.wav ");
+    let both = [("TITLE", "Bee"), ("artist", "Zo\u{eb}")];
+    equal(&rt, alloc, &both, "b.wav ");
+    let artist = [("artist", "zO\u{cb}")];
+    contain(&rt, alloc, &artist, Case::Ignored, "b.wav ");
+    let folder = [("base", "d"), ("file", ".wav")];
+    contain(&rt, alloc, &folder, Case::Heeded, "d/c.wav ");
+    let unknown = [("title", "x"), ("foo", "x"), ("bar", "x")];
+    equal(&rt, alloc, &unknown, "unknown tag foo");
+}
+
+/// A song whose texts have 1,024 bytes each: the most that a tag's text and a URI have.
+fn long_song<R: Abort>(rt: &R, alloc: Global) -> Song {
+    let uri = repeated(rt, alloc, "d", 1_024);
+    let artist = repeated(rt, alloc, "A", 1_024);
+    let title = repeated(rt, alloc, "\u{390}", 512);
     let tags = [
         (TagName::Title, title.as_str()),
         (TagName::Artist, artist.as_str()),
     ];
-    let song = song(alloc, uri.as_str(), &tags)?;
-    for (comparison, wanted, case, want) in [
-        ("artist ==", ("A", 1_024), Case::Heeded, true),
-        ("artist ==", ("a", 1_024), Case::Heeded, false),
-        ("artist ==", ("a", 1_024), Case::Ignored, true),
-        ("artist ==", ("a", 1_023), Case::Ignored, false),
-        ("artist contains", ("a", 1_024), Case::Ignored, true),
-        ("artist contains", ("a", 1_025), Case::Ignored, false),
-        ("any ==", ("a", 1_024), Case::Ignored, true),
-        ("file ==", ("D", 1_024), Case::Ignored, true),
-        // the full folding of U+0390 (Unicode's CaseFolding.txt, status F)
-        (
-            "title ==",
-            ("\u{3b9}\u{308}\u{301}", 512),
-            Case::Ignored,
-            true,
-        ),
-    ] {
-        let met = meets(alloc, &song, comparison, wanted, case)?;
-        assert_eq!(rt; met, want, "{comparison} {} of {}", wanted.1, wanted.0);
+    song(rt, alloc, uri.as_str(), &tags)
+}
+
+/// A comparison with a text that is repeated so many times, and whether the song of long texts meets it.
+type Comparison = (&'static str, &'static str, usize, Case, bool);
+
+fn meets<R: Abort>(rt: &R, alloc: Global, song: &Song, comparison: &Comparison) -> bool {
+    let (with, text, count, case, _) = *comparison;
+    let wanted = repeated(rt, alloc, text, count);
+    let text = format!(in alloc; "({with} '{wanted}')").expect(rt, "no memory");
+    let filter = parsed(alloc, text.as_str()).expect(rt, "no filter");
+    matches(rt, &filter, song, case)
+}
+
+fn compare_all<R: Abort>(rt: &R, alloc: Global, comparisons: &[Comparison]) {
+    let song = long_song(rt, alloc);
+    for comparison in comparisons {
+        let is_met = meets(rt, alloc, &song, comparison);
+        let (with, text, count, _, want) = *comparison;
+        assert!(*rt; is_met == want, "{with} {count} of {text}");
     }
-    let mut pairs = Vec::new(alloc);
-    pairs.push(Pair {
-        name: Text::new(alloc, "ARTIST")?,
-        text: Text::new(alloc, repeated(alloc, "a", 1_024)?.as_str())?,
-    })?;
-    match Filter::of_pairs(alloc, pairs.as_slice(), Test::Equals) {
-        Ok(filter) => assert!(rt; filter.matches(&song, Case::Ignored)?),
-        Err(cause) => return Err(Fail::new(fault(alloc, cause)?.as_str())),
-    }
-    Ok(())
+}
+
+/// Whether the song of long texts meets the filter of one pair.
+fn meets_pair<R: Abort>(rt: &R, alloc: Global) -> bool {
+    let artist = repeated(rt, alloc, "a", 1_024);
+    let filter = of_pairs(rt, alloc, &[("ARTIST", artist.as_str())], Test::Equals);
+    let filter = filter.expect(rt, "no filter");
+    matches(rt, &filter, &long_song(rt, alloc), Case::Ignored)
+}
+
+#[test]
+fn texts_of_1024_bytes(rt: HostRuntime) {
+    compare_all(
+        &rt,
+        rt.alloc(),
+        &[
+            ("artist ==", "A", 1_024, Case::Heeded, true),
+            ("artist ==", "a", 1_024, Case::Heeded, false),
+            ("artist ==", "a", 1_024, Case::Ignored, true),
+            ("artist ==", "a", 1_023, Case::Ignored, false),
+            ("artist contains", "a", 1_024, Case::Ignored, true),
+            ("artist contains", "a", 1_025, Case::Ignored, false),
+            ("any ==", "a", 1_024, Case::Ignored, true),
+            ("file ==", "D", 1_024, Case::Ignored, true),
+            // the full folding of U+0390 (Unicode's CaseFolding.txt, status F)
+            (
+                "title ==",
+                "\u{3b9}\u{308}\u{301}",
+                512,
+                Case::Ignored,
+                true,
+            ),
+        ],
+    );
+    holds(&rt, meets_pair(&rt, rt.alloc()), "the pair");
 }

@@ -6,4 +6,6 @@ mod filter_texts;
 #[cfg(test)]
 mod song_library;
 #[cfg(test)]
+mod tables;
+#[cfg(test)]
 mod wave_files;

@@ -1,11 +1,15 @@
 //! WAVE files: worked bytes, files of other programs, cut files, failing devices, and the greatest sizes.
 
-use mpd_text::{Counting, FailAt, Failing, FailurePoint, Media, number};
-use std::alloc::{AllocError, Global};
+use crate::tables::{Reads, compare, holds, push, wants};
+use mpd_text::{Counting, FailAt, Failing, FailurePoint, Media, Tag, number};
+use std::alloc::Global;
 use std::fs;
 use std::io::Cursor;
-use std::test::Fail;
+use std::process::Abort;
 use wave::{Head, Reader, WaveFault, chunks_are_those_of_the_bytes, read_head};
+
+/// The left and the right sample.
+type Frame = [i16; 2];
 
 /// 24 bits, one channel, a title, and a data size past the file's end.
 const FIRST: &str = "52494646 00000000 57415645
@@ -17,56 +21,103 @@ const FIRST: &str = "52494646 00000000 57415645
 const EIGHT: &str =
     "52494646 00000000 57415645 666d7420 10000000 0100 0100 401f0000 401f0000 0100 0800";
 
+/// The value of a hexadecimal digit.
+fn value_of(digit: u8) -> Option<u8> {
+    match digit {
+        b'0'..=b'9' => Some(digit - b'0'),
+        b'a'..=b'f' => Some(digit - b'a' + 10),
+        _ => None,
+    }
+}
+
 /// The bytes of hexadecimal digits.
-fn bytes(alloc: Global, hex: &str) -> Result<Vec<u8>, AllocError> {
+fn bytes<R: Abort>(rt: &R, alloc: Global, hex: &str) -> Vec<u8> {
     let mut all = Vec::new(alloc);
     let mut high: Option<u8> = None;
     for digit in hex.as_bytes() {
-        let value = match *digit {
-            b'0'..=b'9' => *digit - b'0',
-            b'a'..=b'f' => *digit - b'a' + 10,
-            _ => continue,
-        };
-        match high {
-            Some(front) => {
-                all.push((front << 4) | value)?;
-                high = None;
+        high = match (value_of(*digit), high) {
+            (None, high) => high,
+            (Some(front), None) => Some(front),
+            (Some(value), Some(front)) => {
+                add(rt, &mut all, &[front.wrapping_mul(16) | value]);
+                None
             }
-            None => high = Some(value),
-        }
+        };
     }
-    Ok(all)
+    all
 }
 
-fn device(alloc: Global, digits: &str, point: FailurePoint) -> Result<FailAt, AllocError> {
-    Ok(FailAt::new(bytes(alloc, digits)?, point))
+fn add<R: Abort>(rt: &R, all: &mut Vec<u8>, more: &[u8]) {
+    all.extend_from_slice(more).expect(rt, "no memory");
+}
+
+/// A device of these bytes.
+fn device<R: Abort>(rt: &R, alloc: Global, digits: &str, point: FailurePoint) -> FailAt {
+    FailAt::new(bytes(rt, alloc, digits), point)
+}
+
+fn whole(bytes: Vec<u8>) -> FailAt {
+    FailAt::new(bytes, FailurePoint::Never)
+}
+
+fn calls(media: &FailAt) -> u64 {
+    media.calls()
+}
+
+/// The head of a file that has one.
+fn head<R: Abort>(rt: &R, alloc: Global, media: &mut FailAt, rate: u32) -> Head {
+    read_head(alloc, media, rate).expect(rt, "no head")
+}
+
+/// The frames that are read from a place on.
+fn frames<R: Abort>(
+    rt: &R,
+    alloc: Global,
+    reader: &mut Reader<FailAt>,
+    from: u64,
+    n: usize,
+) -> Vec<Frame> {
+    reader.frames_at(alloc, from, n).expect(rt, "no frames")
+}
+
+fn shown_tag<R: Abort>(rt: &R, alloc: Global, tag: &Tag) -> String {
+    format!(in alloc; "|{:?} {}", tag.name(), tag.text()).expect(rt, "no memory")
 }
 
 /// Channels, bits and frames, and each tag after a bar.
-fn shown_head(alloc: Global, head: &Head) -> Result<String, AllocError> {
-    let mut text = format!(in alloc; "{} {} {}", head.channels(), head.bits(), head.frames())?;
+fn shown_head<R: Abort>(rt: &R, alloc: Global, head: &Head) -> String {
+    let (channels, bits, frames) = (head.channels(), head.bits(), head.frames());
+    let mut text = format!(in alloc; "{channels} {bits} {frames}").expect(rt, "no memory");
     for tag in head.tags() {
-        text.push_str(format!(in alloc; "|{:?} {}", tag.name(), tag.text())?.as_str())?;
+        push(rt, &mut text, shown_tag(rt, alloc, tag).as_str());
     }
-    Ok(text)
+    text
+}
+
+/// The first frames of a file, or the fault's name.
+fn shown_frames<R: Abort, M: Media + Drop>(rt: &R, alloc: Global, media: M, head: Head) -> String {
+    let text = match Reader::new(media, head).frames_at(alloc, 0, 5) {
+        Ok(frames) => format!(in alloc; "{frames:?}"),
+        Err(fault) => format!(in alloc; "{fault:?}"),
+    };
+    text.expect(rt, "no memory")
+}
+
+fn fault_name<R: Abort>(rt: &R, alloc: Global, fault: WaveFault) -> String {
+    format!(in alloc; "{fault:?}").expect(rt, "no memory")
 }
 
 /// The head and the first frames, or the fault's name.
-fn shown<M: Media + Drop>(alloc: Global, mut media: M, rate: u32) -> Result<String, AllocError> {
-    let head = match read_head(alloc, &mut media, rate) {
-        Ok(head) => head,
-        Err(fault) => return format!(in alloc; "{fault:?}"),
-    };
-    let text = shown_head(alloc, &head)?;
-    let mut reader = Reader::new(media, head);
-    match reader.frames_at(alloc, 0, 5) {
-        Ok(frames) => format!(in alloc; "{} {frames:?}", text.as_str()),
-        Err(fault) => format!(in alloc; "{} {fault:?}", text.as_str()),
+fn shown<R: Abort, M: Media + Drop>(rt: &R, alloc: Global, mut media: M, rate: u32) -> String {
+    match read_head(alloc, &mut media, rate) {
+        Ok(head) => {
+            let mut text = shown_head(rt, alloc, &head);
+            push(rt, &mut text, " ");
+            push(rt, &mut text, shown_frames(rt, alloc, media, head).as_str());
+            text
+        }
+        Err(fault) => fault_name(rt, alloc, fault),
     }
-}
-
-fn read(alloc: Global, digits: &str, rate: u32) -> Result<String, AllocError> {
-    shown(alloc, device(alloc, digits, FailurePoint::Never)?, rate)
 }
 
 const HIGH: &str = "1 24 2|Title Hi [[1, 1], [-1, -1]]";
@@ -134,161 +185,205 @@ const REAL: &str = "
 8000: 52494646ffffffff57415645666d74201000000001000100401f0000803e0000020010004c4953541a000000494e464f495346540e0000004c61766635392e32372e3130300064617461fffffffffbff00000700 => 1 16 3 [[-5, -5], [0, 0], [7, 7]]
 ";
 
-/// The first line of a table of files that says something else than what is read, and how many lines were compared.
-fn first_difference(alloc: Global, table: &str) -> Result<(Option<String>, u32), AllocError> {
-    let mut compared = 0u32;
-    for line in table.lines() {
-        if line.is_empty() || line.starts_with('#') {
-            continue;
-        }
-        if !says_what_is_read(alloc, line)? {
-            return Ok((Some(String::from_str(alloc, line)?), compared));
-        }
-        compared = compared.saturating_add(1);
+/// What is read of a file: its rate, a colon, and its bytes.
+pub fn read<R: Abort>(rt: &R, alloc: Global, file: &str) -> String {
+    let (rate, digits) = file.split_once(":").expect(rt, "no colon");
+    let rate = number(rate).expect(rt, "no rate");
+    let media = device(rt, alloc, digits, FailurePoint::Never);
+    shown(rt, alloc, media, rate)
+}
+
+#[test]
+fn files(rt: HostRuntime) {
+    compare(&rt, rt.alloc(), Reads::Wave, FILES, 24);
+}
+
+#[test]
+fn files_of_other_programs(rt: HostRuntime) {
+    compare(&rt, rt.alloc(), Reads::Wave, REAL, 6);
+}
+
+/// What is read of the first file cut to so many bytes.
+pub fn read_cut<R: Abort>(rt: &R, alloc: Global, len: &str) -> String {
+    let mut all = bytes(rt, alloc, FIRST);
+    all.truncate(number(len).expect(rt, "no length") as usize);
+    shown(rt, alloc, whole(all), 8_000)
+}
+
+const CUT: &str = "
+11 => NotRiff
+30 => NoFormat
+36 => NoData
+60 => NoData
+67 => NoData
+68 => 1 24 0|Title Hi []
+71 => 1 24 1|Title Hi [[1, 1]]
+74 => 1 24 2|Title Hi [[1, 1], [-1, -1]]
+";
+
+#[test]
+fn cut_files(rt: HostRuntime) {
+    compare(&rt, rt.alloc(), Reads::CutWave, CUT, 8);
+}
+
+/// How many bytes the first file has, and what is read of it where the size of its data is the greatest one.
+fn shown_stream<R: Abort>(rt: &R, alloc: Global) -> String {
+    let mut all = bytes(rt, alloc, FIRST);
+    holds(rt, all.len() == 75, "75 bytes");
+    let size = all.as_mut_slice().get_mut(64..68).expect(rt, "no size");
+    size.fill(255);
+    shown(rt, alloc, whole(all), 8_000)
+}
+
+#[test]
+fn the_data_size_of_a_stream(rt: HostRuntime) {
+    let told = shown_stream(&rt, rt.alloc());
+    wants(&rt, "a stream", told.as_str(), HIGH);
+}
+
+/// A file with an artist of so many letters.
+fn long_text<R: Abort>(rt: &R, alloc: Global, len: u16) -> Vec<u8> {
+    let mut all = bytes(rt, alloc, EIGHT);
+    let size = u32::from(len);
+    add(rt, &mut all, b"LIST");
+    add(rt, &mut all, &(size + 12).to_le_bytes());
+    add(rt, &mut all, b"INFOIART");
+    add(rt, &mut all, &size.to_le_bytes());
+    for _ in 0..len {
+        add(rt, &mut all, b"a");
     }
-    Ok((None, compared))
-}
-
-fn says_what_is_read(alloc: Global, line: &str) -> Result<bool, AllocError> {
-    let Some((rate, file)) = line.split_once(": ") else {
-        return Ok(false);
-    };
-    let Some((digits, expected)) = file.split_once(" => ") else {
-        return Ok(false);
-    };
-    let Some(rate) = number(rate) else {
-        return Ok(false);
-    };
-    Ok(read(alloc, digits, rate)?.as_str() == expected)
-}
-
-#[test]
-fn files(rt: HostRuntime) -> Result<(), Fail> {
-    let (different, compared) = first_difference(rt.alloc(), FILES)?;
-    assert!(rt; different.is_none(), "{different:?}");
-    assert_eq!(rt; compared, 24);
-    Ok(())
-}
-
-#[test]
-fn files_of_other_programs(rt: HostRuntime) -> Result<(), Fail> {
-    let (different, compared) = first_difference(rt.alloc(), REAL)?;
-    assert!(rt; different.is_none(), "{different:?}");
-    assert_eq!(rt; compared, 6);
-    Ok(())
-}
-
-#[test]
-fn cut_files(rt: HostRuntime) -> Result<(), Fail> {
-    for (len, expected) in [
-        (11, "NotRiff"),
-        (30, "NoFormat"),
-        (36, "NoData"),
-        (60, "NoData"),
-        (67, "NoData"),
-        (68, "1 24 0|Title Hi []"),
-        (71, "1 24 1|Title Hi [[1, 1]]"),
-        (74, HIGH),
-    ] {
-        let mut all = bytes(rt.alloc(), FIRST)?;
-        all.truncate(len);
-        let media = FailAt::new(all, FailurePoint::Never);
-        assert_eq!(rt;
-            shown(rt.alloc(), media, 8000)?.as_str(),
-            expected,
-            "cut to {len}"
-        );
+    if len % 2 == 1 {
+        add(rt, &mut all, b"\0");
     }
-    Ok(())
+    add(rt, &mut all, b"data\0\0\0\0");
+    all
 }
 
+/// How many tags such a file has, and how many calls the reading of its head took.
+fn long_text_told<R: Abort>(rt: &R, alloc: Global, len: u16) -> (usize, u64) {
+    let mut media = whole(long_text(rt, alloc, len));
+    let head = head(rt, alloc, &mut media, 8_000);
+    (head.tags().len(), calls(&media))
+}
+
+// The calls are the file's size, and a seek and a read for each of eleven: the first twelve bytes, three headers and the
+// format for the samples, three headers, the list's kind, an item's header and its text for the tags.
 #[test]
-fn the_data_size_of_a_stream(rt: HostRuntime) -> Result<(), Fail> {
-    let mut all = bytes(rt.alloc(), FIRST)?;
-    assert_eq!(rt; all.len(), 75);
-    all.as_mut_slice()[64..68].copy_from_slice(&[255; 4]);
-    let media = FailAt::new(all, FailurePoint::Never);
-    assert_eq!(rt; shown(rt.alloc(), media, 8000)?.as_str(), HIGH);
-    Ok(())
+fn the_longest_text(rt: HostRuntime) {
+    holds(
+        &rt,
+        long_text_told(&rt, rt.alloc(), 1_024) == (1, 23),
+        "1,024 bytes",
+    );
+    holds(
+        &rt,
+        long_text_told(&rt, rt.alloc(), 1_025) == (0, 23),
+        "1,025 bytes",
+    );
 }
 
-#[test]
-fn the_longest_text(rt: HostRuntime) -> Result<(), Fail> {
-    for (len, expected) in [(1_024, 1), (1_025, 0)] {
-        let mut all = bytes(rt.alloc(), EIGHT)?;
-        let size = len as u32;
-        all.extend_from_slice(b"LIST")?;
-        all.extend_from_slice(&(size + 12).to_le_bytes())?;
-        all.extend_from_slice(b"INFOIART")?;
-        all.extend_from_slice(&size.to_le_bytes())?;
-        for _ in 0..len {
-            all.push(b'a')?;
-        }
-        if len % 2 == 1 {
-            all.push(0)?;
-        }
-        all.extend_from_slice(b"data\0\0\0\0")?;
-        let mut media = FailAt::new(all, FailurePoint::Never);
-        let head = read_head(rt.alloc(), &mut media, 8000)?;
-        assert_eq!(rt; head.tags().len(), expected, "{len} bytes");
-        // the file's size, and a seek and a read for each of eleven: the first twelve bytes, three headers and the
-        // format for the samples, three headers, the list's kind, an item's header and its text for the tags
-        assert_eq!(rt; media.calls(), 23, "{len} bytes");
-    }
-    Ok(())
+/// The bytes of a frame of 24 bits and two channels. The samples are k and -k, above a low byte of 200.
+fn counted_frame(k: u16) -> [u8; 6] {
+    let [a, b] = k.to_le_bytes();
+    let [c, d] = 0u16.wrapping_sub(k).to_le_bytes();
+    [200, a, b, 200, c, d]
 }
 
-/// A file of 24 bits and two channels at this rate. The samples of frame k are k and -k, above a low byte of 200.
-fn counted_frames(alloc: Global, rate: u32, frames: u16) -> Result<Vec<u8>, AllocError> {
+/// A file of 24 bits and two channels at this rate. The samples of frame k are k and -k.
+fn counted_frames<R: Abort>(rt: &R, alloc: Global, rate: u32, frames: u16) -> Vec<u8> {
     let mut all = Vec::new(alloc);
-    all.extend_from_slice(b"RIFF\0\0\0\0WAVEfmt ")?;
-    all.extend_from_slice(&[16, 0, 0, 0, 1, 0, 2, 0])?;
-    all.extend_from_slice(&rate.to_le_bytes())?;
-    all.extend_from_slice(&rate.wrapping_mul(6).to_le_bytes())?;
-    all.extend_from_slice(&[6, 0, 24, 0])?;
-    all.extend_from_slice(b"data")?;
-    all.extend_from_slice(&(u32::from(frames) * 6).to_le_bytes())?;
+    add(rt, &mut all, b"RIFF\0\0\0\0WAVEfmt ");
+    add(rt, &mut all, &[16, 0, 0, 0, 1, 0, 2, 0]);
+    add(rt, &mut all, &rate.to_le_bytes());
+    add(rt, &mut all, &rate.wrapping_mul(6).to_le_bytes());
+    add(rt, &mut all, &[6, 0, 24, 0]);
+    add(rt, &mut all, b"data");
+    add(rt, &mut all, &(u32::from(frames) * 6).to_le_bytes());
     for k in 0..frames {
-        let [a, b] = k.to_le_bytes();
-        let [c, d] = 0u16.wrapping_sub(k).to_le_bytes();
-        all.extend_from_slice(&[200, a, b, 200, c, d])?;
+        add(rt, &mut all, &counted_frame(k));
     }
-    Ok(all)
+    all
 }
 
-#[test]
-fn a_block_at_the_lowest_and_highest_rate(rt: HostRuntime) -> Result<(), Fail> {
-    for rate in [8_000, 192_000] {
-        let mut media = FailAt::new(
-            counted_frames(rt.alloc(), rate, 2_000)?,
-            FailurePoint::Never,
-        );
-        let head = read_head(rt.alloc(), &mut media, rate)?;
-        assert_eq!(rt; head.frames(), 2_000);
-        let mut reader = Reader::new(media, head);
-        let calls = reader.media().calls();
-        let frames = reader.frames_at(rt.alloc(), 500, 1_024)?;
-        // one seek and one read
-        assert_eq!(rt; reader.media().calls().wrapping_sub(calls), 2);
-        assert_eq!(rt; frames.len(), 1_024);
-        let mut k: i16 = 500;
-        for frame in &frames {
-            assert_eq!(rt; *frame, [k, 0i16.wrapping_sub(k)]);
-            k = k.wrapping_add(1);
+/// Whether the samples are k and -k, k + 1 and -(k + 1), and so on.
+fn are_counted(frames: &[Frame], first: i16) -> bool {
+    let mut k = first;
+    for frame in frames {
+        if *frame != [k, 0i16.wrapping_sub(k)] {
+            return false;
         }
+        k = k.wrapping_add(1);
     }
-    Ok(())
+    true
+}
+
+/// How many frames a file of 2,000 has; of a block of 1,024, how many calls its reading took and how many frames it has; and
+/// whether they are those from frame 500 on.
+fn block_told<R: Abort>(rt: &R, alloc: Global, rate: u32) -> (u64, u64, usize, bool) {
+    let mut media = whole(counted_frames(rt, alloc, rate, 2_000));
+    let head = head(rt, alloc, &mut media, rate);
+    let (all, before) = (head.frames(), calls(&media));
+    let mut reader = Reader::new(media, head);
+    let block = frames(rt, alloc, &mut reader, 500, 1_024);
+    let took = calls(reader.media()).wrapping_sub(before);
+    (all, took, block.len(), are_counted(block.as_slice(), 500))
+}
+
+// The calls are one seek and one read.
+#[test]
+fn a_block_at_the_lowest_and_highest_rate(rt: HostRuntime) {
+    let want = (2_000, 2, 1_024, true);
+    holds(
+        &rt,
+        block_told(&rt, rt.alloc(), 8_000) == want,
+        "the lowest",
+    );
+    holds(
+        &rt,
+        block_told(&rt, rt.alloc(), 192_000) == want,
+        "the highest",
+    );
+}
+
+/// A reader of the first file.
+fn reader<R: Abort>(rt: &R, alloc: Global, point: FailurePoint) -> Reader<FailAt> {
+    let mut media = device(rt, alloc, FIRST, point);
+    let head = head(rt, alloc, &mut media, 8_000);
+    Reader::new(media, head)
+}
+
+fn wants_frames<R: Abort>(
+    rt: &R,
+    alloc: Global,
+    reader: &mut Reader<FailAt>,
+    range: (u64, usize),
+    wanted: &str,
+) {
+    let frames = frames(rt, alloc, reader, range.0, range.1);
+    let told = format!(in alloc; "{frames:?}").expect(rt, "no memory");
+    wants(rt, "the frames", told.as_str(), wanted);
+}
+
+/// Where the samples of a file begin, how long a frame is, and how many frames there are.
+fn places(head: &Head) -> (u64, usize, u64) {
+    (head.place(), head.layout().block(), head.frames())
+}
+
+fn tag_count<R: Abort>(rt: &R, alloc: Global) -> usize {
+    let mut media = device(rt, alloc, FIRST, FailurePoint::Never);
+    head(rt, alloc, &mut media, 8_000).into_tags().len()
+}
+
+fn failures(reader: &Reader<FailAt>) -> u64 {
+    reader.media().failures()
 }
 
 #[test]
-fn a_reader(rt: HostRuntime) -> Result<(), Fail> {
+fn a_reader(rt: HostRuntime) {
     chunks_are_those_of_the_bytes();
-    let mut media = device(rt.alloc(), FIRST, FailurePoint::Never)?;
-    let head = read_head(rt.alloc(), &mut media, 8000)?;
-    assert_eq!(rt; head.place(), 68);
-    assert_eq!(rt; head.layout().block(), 3);
-    let mut reader = Reader::new(media, head);
-    assert_eq!(rt; reader.head().frames(), 2);
+    let alloc = rt.alloc();
+    let mut reader = reader(&rt, alloc, FailurePoint::Never);
+    holds(&rt, places(reader.head()) == (68, 3, 2), "places");
     for (from, n, expected) in [
         (0, 1, "[[1, 1]]"),
         (1, 1, "[[-1, -1]]"),
@@ -298,67 +393,87 @@ fn a_reader(rt: HostRuntime) -> Result<(), Fail> {
         (0, usize::MAX, "[[1, 1], [-1, -1]]"),
         (0, 0, "[]"),
     ] {
-        let frames = reader.frames_at(rt.alloc(), from, n)?;
-        assert_eq!(rt;
-            format!(in rt.alloc(); "{frames:?}")?.as_str(),
-            expected,
-            "{n} from {from}"
-        );
+        wants_frames(&rt, alloc, &mut reader, (from, n), expected);
     }
-    assert_eq!(rt; reader.media().failures(), 0);
-    let mut media = device(rt.alloc(), FIRST, FailurePoint::Never)?;
-    let tags = read_head(rt.alloc(), &mut media, 8000)?.into_tags();
-    assert_eq!(rt; tags.len(), 1);
-    Ok(())
+    holds(&rt, failures(&reader) == 0, "failures");
+    holds(&rt, tag_count(&rt, alloc) == 1, "tags");
+}
+
+/// How many calls the reading of a head takes.
+fn calls_of_head<R: Abort>(rt: &R, alloc: Global) -> u64 {
+    let mut media = device(rt, alloc, FIRST, FailurePoint::Never);
+    let _head = head(rt, alloc, &mut media, 8_000);
+    calls(&media)
+}
+
+/// Whether the reading of a head ends in a fault of the device.
+fn is_head_refused(alloc: Global, media: &mut FailAt) -> bool {
+    match read_head(alloc, media, 8_000) {
+        Ok(_) => false,
+        Err(fault) => fault == WaveFault::ReadFault,
+    }
+}
+
+/// Whether the reading of a head ends in a fault where a call fails, and how many failures the device counts then.
+fn failed_head<R: Abort>(rt: &R, alloc: Global, call: u64) -> (bool, u64) {
+    let mut media = device(rt, alloc, FIRST, FailurePoint::Call(call));
+    (is_head_refused(alloc, &mut media), media.failures())
+}
+
+fn are_frames_refused(alloc: Global, reader: &mut Reader<FailAt>) -> bool {
+    match reader.frames_at(alloc, 0, 2) {
+        Ok(_) => false,
+        Err(fault) => fault == WaveFault::ReadFault,
+    }
+}
+
+/// Whether the reading of the frames ends in a fault where a call fails, and how many are read after that.
+fn failed_frames<R: Abort>(rt: &R, alloc: Global, call: u64) -> (bool, usize) {
+    let mut reader = reader(rt, alloc, FailurePoint::Call(call));
+    let is_refused = are_frames_refused(alloc, &mut reader);
+    (is_refused, frames(rt, alloc, &mut reader, 0, 2).len())
+}
+
+fn is_blocked_head_refused<R: Abort>(rt: &R, alloc: Global) -> bool {
+    let bytes = bytes(rt, alloc, FIRST);
+    let mut blocked = FailAt::would_block(bytes, FailurePoint::Call(1));
+    is_head_refused(alloc, &mut blocked)
 }
 
 #[test]
-fn each_call_fails_in_turn(rt: HostRuntime) -> Result<(), Fail> {
-    let mut whole = device(rt.alloc(), FIRST, FailurePoint::Never)?;
-    read_head(rt.alloc(), &mut whole, 8000)?;
-    let calls = whole.calls();
-    assert!(rt; calls > 3);
+fn each_call_fails_in_turn(rt: HostRuntime) {
+    let alloc = rt.alloc();
+    let calls = calls_of_head(&rt, alloc);
+    holds(&rt, calls > 3, "calls");
     for call in 1..=calls {
-        let mut media = device(rt.alloc(), FIRST, FailurePoint::Call(call))?;
-        let fault = read_head(rt.alloc(), &mut media, 8000).err();
-        assert_eq!(rt; fault, Some(WaveFault::ReadFault), "call {call}");
-        assert_eq!(rt; media.failures(), 1);
+        assert!(rt; failed_head(&rt, alloc, call) == (true, 1), "call {call}");
     }
     // the seek and the read of the frames
     for call in 1..=2 {
-        let mut media = device(
-            rt.alloc(),
-            FIRST,
-            FailurePoint::Call(calls.saturating_add(call)),
-        )?;
-        let head = read_head(rt.alloc(), &mut media, 8000)?;
-        let mut reader = Reader::new(media, head);
-        let fault = reader.frames_at(rt.alloc(), 0, 2).err();
-        assert_eq!(rt; fault, Some(WaveFault::ReadFault));
-        assert_eq!(rt; reader.frames_at(rt.alloc(), 0, 2)?.len(), 2);
+        let call = calls.saturating_add(call);
+        assert!(rt; failed_frames(&rt, alloc, call) == (true, 2), "call {call}");
     }
-    let mut blocked = FailAt::would_block(bytes(rt.alloc(), FIRST)?, FailurePoint::Call(1));
-    assert_eq!(rt;
-        read_head(rt.alloc(), &mut blocked, 8000).err(),
-        Some(WaveFault::ReadFault)
-    );
-    Ok(())
+    holds(&rt, is_blocked_head_refused(&rt, alloc), "a blocked device");
 }
 
 #[test]
-fn a_file(rt: HostRuntime) -> Result<(), Fail> {
+fn a_file(rt: HostRuntime) {
     let name = "wave_of_this_test.wav";
-    fs::write(&rt, name, bytes(rt.alloc(), FIRST)?.as_slice())?;
-    let media = Counting::new(fs::open(&rt, name)?);
-    let text = shown(rt.alloc(), media, 8000)?;
-    fs::remove_file(&rt, name)?;
-    assert_eq!(rt; text.as_str(), HIGH);
-    Ok(())
+    let bytes = bytes(&rt, rt.alloc(), FIRST);
+    fs::write(&rt, name, bytes.as_slice()).expect(&rt, "no file");
+    let media = Counting::new(fs::open(&rt, name).expect(&rt, "no file"));
+    let text = shown(&rt, rt.alloc(), media, 8_000);
+    fs::remove_file(&rt, name).expect(&rt, "no file");
+    wants(&rt, "a file", text.as_str(), HIGH);
+}
+
+fn shown_bytes<R: Abort>(rt: &R, alloc: Global) -> String {
+    let media = Counting::new(Cursor::new(bytes(rt, alloc, FIRST)));
+    shown(rt, alloc, media, 8_000)
 }
 
 #[test]
-fn a_device_of_unknown_bytes(rt: HostRuntime) -> Result<(), Fail> {
-    let media = Counting::new(Cursor::new(bytes(rt.alloc(), FIRST)?));
-    assert_eq!(rt; shown(rt.alloc(), media, 8000)?.as_str(), HIGH);
-    Ok(())
+fn a_device_of_unknown_bytes(rt: HostRuntime) {
+    let told = shown_bytes(&rt, rt.alloc());
+    wants(&rt, "bytes", told.as_str(), HIGH);
 }
