@@ -30,12 +30,15 @@ fn library(alloc: Global) -> Result<Library, Fail> {
     })
 }
 
-/// What clients hear of an event, as one text: the answer, `closed` where the client is, and each notice after its client.
+/// What clients hear of an event, as one text: the answer, `waits` or `closed` where the client does or is, and each notice after
+/// its client.
 fn heard(alloc: Global, outcome: &Outcome) -> Result<String, Fail> {
     let mut text = String::from_str(alloc, outcome.reply().text())?;
-    if outcome.reply().next() == Next::Closes {
-        text.push_str("closed\n")?;
-    }
+    text.push_str(match outcome.reply().next() {
+        Next::Goes => "",
+        Next::Waits => "waits\n",
+        Next::Closes => "closed\n",
+    })?;
     for notice in outcome.notices() {
         text.push_str(told(alloc, notice)?.as_str())?;
     }
@@ -48,17 +51,24 @@ fn told(alloc: Global, notice: &Notice) -> Result<String, Fail> {
     Ok(format!(in alloc; "{}: {}", notice.client, lines.as_str())?)
 }
 
+/// An event of seat 3.
 fn happens(player: &mut Partition, alloc: Global, event: Event) -> Result<String, Fail> {
     let outcome = player.apply(3, event)?;
     heard(alloc, &outcome)
 }
 
+/// An event of the last seat.
+fn arrives(player: &mut Partition, alloc: Global, event: Event) -> Result<String, Fail> {
+    let outcome = player.apply(15, event)?;
+    heard(alloc, &outcome)
+}
+
 fn comes(player: &mut Partition, alloc: Global, client: u32) -> Result<String, Fail> {
-    happens(player, alloc, Event::Connect(client))
+    arrives(player, alloc, Event::Connect(client))
 }
 
 fn goes(player: &mut Partition, alloc: Global, client: u32) -> Result<String, Fail> {
-    happens(player, alloc, Event::Disconnect(client))
+    arrives(player, alloc, Event::Disconnect(client))
 }
 
 fn says(player: &mut Partition, alloc: Global, client: u32, line: &str) -> Result<String, Fail> {
@@ -77,14 +87,14 @@ fn session(player: &mut Partition, alloc: Global, lines: &str) -> Result<String,
     Ok(text)
 }
 
-/// What the player shows of itself: the events of seat 3, the events that it keeps, its entries, its clients, its volume.
+/// What the player shows of itself: the events of seats 15 and 3, the events that it keeps, its entries, its clients, its volume.
 fn counts(player: &Partition, alloc: Global) -> Result<String, Fail> {
-    let own = player.own(3);
+    let (last, own) = (player.own(15), player.own(3));
     let kept = player.history().len();
     let entries = player.queue().len();
     let clients = player.clients().len();
     let volume = player.controls().volume.percent();
-    Ok(format!(in alloc; "{own} {kept} {entries} {clients} {volume}")?)
+    Ok(format!(in alloc; "{last} {own} {kept} {entries} {clients} {volume}")?)
 }
 
 /// What is pending for the first client.
@@ -93,6 +103,12 @@ fn pending(player: &Partition, alloc: Global) -> Result<String, Fail> {
     let mut lines = Answer::new(alloc);
     client.pending.changed().push_lines(&mut lines)?;
     Ok(lines.into_string())
+}
+
+/// What clients heard of the last event that is kept.
+fn last_kept(player: &Partition, alloc: Global) -> Result<String, Fail> {
+    let last = player.history().last().ok_or("no history")?;
+    heard(alloc, &last.told)
 }
 
 fn has_client(player: &Partition, client: u32) -> bool {
@@ -108,7 +124,7 @@ fn a_deletion_restamps_the_slot_after_it(rt: HostRuntime) -> Result<(), Fail> {
     let hears = session(&mut player, rt.alloc(), lines)?;
     let wanted = "OK\nOK\nOK\ncpos: 0\nId: 2\nOK\nACK [50@0] {add} no such song\n";
     assert_eq!(rt; hears.as_str(), wanted);
-    assert_eq!(rt; counts(&player, rt.alloc())?.as_str(), "6 6 1 1 100");
+    assert_eq!(rt; counts(&player, rt.alloc())?.as_str(), "1 5 6 1 1 100");
     assert!(rt; has_client(&player, 1));
     Ok(())
 }
@@ -116,7 +132,8 @@ fn a_deletion_restamps_the_slot_after_it(rt: HostRuntime) -> Result<(), Fail> {
 const WAITING: &str =
     "2 idle mixer options\n1 add a.wav\n1 setvol 40\n1 repeat 1\n2 idle\n2 idle\n2 noidle\n2 idle\n2 ping\n";
 
-const WAITING_HEARS: &str = "OK\nOK\n2: changed: mixer\nOK\nchanged: options\nOK\nOK\nclosed\n";
+const WAITING_HEARS: &str =
+    "waits\nOK\nOK\n2: changed: mixer\nOK\nchanged: options\nOK\nwaits\nOK\nwaits\nclosed\n";
 
 #[test]
 fn a_waiting_client_hears_of_a_change_once(rt: HostRuntime) -> Result<(), Fail> {
@@ -125,8 +142,9 @@ fn a_waiting_client_hears_of_a_change_once(rt: HostRuntime) -> Result<(), Fail> 
     comes(&mut player, rt.alloc(), 1)?;
     let hears = session(&mut player, rt.alloc(), WAITING)?;
     assert_eq!(rt; hears.as_str(), WAITING_HEARS);
-    assert_eq!(rt; counts(&player, rt.alloc())?.as_str(), "11 11 1 1 40");
+    assert_eq!(rt; counts(&player, rt.alloc())?.as_str(), "2 9 11 1 1 40");
     assert!(rt; !has_client(&player, 2));
+    assert_eq!(rt; last_kept(&player, rt.alloc())?.as_str(), "closed\n");
     let changed = pending(&player, rt.alloc())?;
     assert_eq!(rt;
         changed.as_str(),
@@ -158,7 +176,7 @@ fn a_sixty_fifth_client_is_closed(rt: HostRuntime) -> Result<(), Fail> {
     }
     assert_eq!(rt; comes(&mut player, rt.alloc(), 65)?.as_str(), "closed\n");
     assert!(rt; !has_client(&player, 65));
-    assert_eq!(rt; counts(&player, rt.alloc())?.as_str(), "65 65 0 64 100");
+    assert_eq!(rt; counts(&player, rt.alloc())?.as_str(), "65 0 65 0 64 100");
     goes(&mut player, rt.alloc(), 7)?;
     assert_eq!(rt;
         comes(&mut player, rt.alloc(), 65)?.as_str(),

@@ -128,6 +128,8 @@ fn a_deletion_restamps_the_slots_after_it(rt: HostRuntime) -> Result<(), Fail> {
 #[test]
 fn versions_begin_anew(rt: HostRuntime) -> Result<(), Fail> {
     let mut queue = filled(rt.alloc(), 4, 4)?;
+    let left = removes(rt.alloc(), &mut queue, 4, 4)?;
+    assert_eq!(rt; left.as_str(), "ok 1 4 stays");
     assert_eq!(rt; changed(rt.alloc(), &queue, 1)?.as_str(), "0 1 2 3 ");
     let left = removes(rt.alloc(), &mut queue, 3, 4)?;
     assert_eq!(rt; left.as_str(), "ok 2 3 flips");

@@ -1,0 +1,5 @@
+mod Blanks
+mod Alone
+mod Outcomes
+mod Taking
+mod Reading

@@ -1,0 +1,103 @@
+//! The collector of a client's command list.
+use crate::list::{CommandList, OpenList};
+use crate::word::ListWord;
+use std::alloc::{AllocError, Global};
+use std::marker::Model;
+
+/// What a line was taken as.
+#[derive(Drop)]
+pub enum Taken {
+    /// It is in no list.
+    Alone,
+    /// It begins a list.
+    Begun,
+    /// It is the next line of the open list.
+    Collected,
+    /// It ends the open list, which is this.
+    Ended(CommandList),
+    /// With it the open list would have more than 2,097,152 bytes. The list is dropped, and the client is to be closed.
+    TooLarge,
+}
+
+/// Collects the lines of a client's command list. A clause sees the open list, if one is open.
+#[derive(Drop)]
+pub struct ListCollector {
+    open_list: Option<OpenList>,
+}
+
+impl Model for ListCollector {
+    ghost use Rattle.std.specs.Prelude.{Option};
+    ghost use Rattle.command_lists.specs.declared.list.CommandList.{CommandList};
+
+    ghost Value = { Option CommandList };
+
+    ghost view = { λ c. c.open_list };
+}
+
+impl ListCollector {
+    ghost use Rattle.std.specs.Prelude.{◌≡◌, None, Some, true, IfOk, OnErr, is_some};
+    ghost use Rattle.std.specs.Option.{option_copied};
+    ghost use Rattle.command_lists.specs.declared.collector.Taken.TheVariants.{Collected};
+    ghost use Rattle.command_lists.specs.Lists.{outcome_of, outcome_with, with_line, fits};
+
+    /// A collector without an open list.
+    pub fn new() -> ListCollector
+        ensures { result ≡ None }
+    {
+        ListCollector { open_list: None }
+    }
+
+    /// Takes a client's next line; `None` is a line that is not UTF-8. Only a line that is collected takes memory;
+    /// without memory nothing changes, as if the line had not come.
+    pub fn take(&mut self, alloc: Global, line: Option<&str>) -> Result<Taken, AllocError>
+        ensures ok { IfOk result (λ t. record { open_list = self.new; taken = t } ≡ outcome_of self.old (option_copied line.entry)) }
+        ensures err { OnErr result (self.new ≡ self.old) }
+        ensures memory { OnErr result ((outcome_of self.old (option_copied line.entry)).taken ≡ Collected) }
+    {
+        let word = line.and_then(ListWord::of_line);
+        match (self.open_list.take(), word) {
+            (None, Some(ListWord::Begin(form))) => {
+                self.open_list = Some(OpenList::new(alloc, form));
+                Ok(Taken::Begun)
+            }
+            (None, _) => Ok(Taken::Alone),
+            (Some(list), Some(ListWord::End)) => Ok(Taken::Ended(list.into_list())),
+            (Some(list), _) => self.collect(alloc, list, line),
+        }
+    }
+
+    /// Takes a line of the list that was open, and opens it again if it is not too large.
+    fn collect(
+        &mut self,
+        alloc: Global,
+        mut list: OpenList,
+        line: Option<&str>,
+    ) -> Result<Taken, AllocError>
+        ensures ok { IfOk result (λ t. record { open_list = self.new; taken = t } ≡ outcome_with (with_line list (option_copied line.entry))) }
+        ensures err { OnErr result (self.new ≡ Some list) }
+        ensures memory { OnErr result (fits (with_line list (option_copied line.entry)) ≡ true) }
+    {
+        if !list.has_room(line) {
+            self.open_list = None;
+            return Ok(Taken::TooLarge);
+        }
+        let pushed = list.push(alloc, line);
+        self.open_list = Some(list);
+        pushed?;
+        Ok(Taken::Collected)
+    }
+
+    /// Drops the open list, if one is open.
+    pub fn drop_list(&mut self)
+        ensures { self.new ≡ None }
+    {
+        self.open_list = None;
+    }
+
+    /// Whether a list is open.
+    pub fn is_open(&self) -> bool
+        ensures { result ≡ is_some self.now }
+    {
+        self.open_list.is_some()
+    }
+}
