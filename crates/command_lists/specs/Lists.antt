@@ -1,5 +1,5 @@
 -- Command lists as they stand among a client's lines (MPD protocol reference, Command lists; the limit is this profile's).
-use Rattle.std.specs.Prelude.{ℕ, ◌+◌, List, [], ◌∷◌, ◌++◌, length, sum_by, Bool, nat_le, if◌then◌else◌, Option, Some, None}
+use Rattle.std.specs.Prelude.{ℕ, ◌+◌, List, [], ◌∷◌, ◌++◌, length, sum_by, Bool, false, true, nat_le, if◌then◌else◌, Option, Some, None}
 use Rattle.command_lists.specs.declared.collector.Taken.{Taken}
 use Rattle.command_lists.specs.declared.collector.Taken.TheVariants.{Alone, Begun, Collected, Ended, TooLarge}
 use Rattle.command_lists.specs.declared.list.CommandList.{CommandList}
@@ -46,6 +46,13 @@ with_line list line = record { form = list.form; lines = list.lines ++ kept line
 pub record Outcome : Type 0 where
   pub open_list : Option CommandList
   pub taken : Taken
+
+abbrev pub is_too_large : Taken → Bool
+is_too_large Alone = false
+is_too_large Begun = false
+is_too_large Collected = false
+is_too_large (Ended list) = false
+is_too_large TooLarge = true
 
 -- where no list is open, a begin word begins one, and any other line is alone
 abbrev pub outcome_outside : Option ListWord → Outcome

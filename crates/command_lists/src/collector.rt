@@ -38,7 +38,7 @@ impl ListCollector {
     ghost use Rattle.std.specs.Prelude.{◌≡◌, None, Some, true, IfOk, OnErr, is_some};
     ghost use Rattle.std.specs.Option.{option_copied};
     ghost use Rattle.command_lists.specs.declared.collector.Taken.TheVariants.{Collected};
-    ghost use Rattle.command_lists.specs.Lists.{outcome_of, outcome_with, with_line, fits};
+    ghost use Rattle.command_lists.specs.Lists.{outcome_of, outcome_with, with_line, fits, is_too_large};
 
     /// A collector without an open list.
     pub fn new() -> ListCollector
@@ -63,6 +63,18 @@ impl ListCollector {
             (None, _) => Ok(Taken::Alone),
             (Some(list), Some(ListWord::End)) => Ok(Taken::Ended(list.into_list())),
             (Some(list), _) => self.collect(alloc, list, line),
+        }
+    }
+
+    /// Whether the open list would be too large with a line. Asked before [`ListCollector::take`], it lets a caller close
+    /// the client first, and keep the list where it could not.
+    pub fn is_too_large_with(&self, line: Option<&str>) -> bool
+        ensures { result ≡ is_too_large (outcome_of self.now (option_copied line.entry)).taken }
+    {
+        let word = line.and_then(ListWord::of_line);
+        match (&self.open_list, word) {
+            (None, _) | (Some(_), Some(ListWord::End)) => false,
+            (Some(list), _) => !list.has_room(line),
         }
     }
 

@@ -1,6 +1,12 @@
 -- Scripts over two kinds of player that agree.
-use Rattle.std.proofs.Common.{◌≡◌, ℕ, ◌≤◌, Bool, true, false, List, [], ◌∷◌, ◌++◌, Option, None, Some, refl, sym, ap, subst, ◌∙◌, if◌then◌else◌}
-use Rattle.std.specs.Prelude.{◌&&◌, is_some, not, nat_lt, length}
+use Rattle.std.proofs.Common.{◌≡◌, ℕ, ◌+◌, ◌≤◌, Bool, true, false, List, [], ◌∷◌, ◌++◌, Option, None, Some, refl, sym, ap, subst, ◌∙◌, if◌then◌else◌}
+use Rattle.std.specs.Prelude.{◌&&◌, is_some, map, not, nat_lt, length}
+use Rattle.std.specs.List.{flat_map}
+use Rattle.command_lists.specs.Lists.{outcome_of}
+use Rattle.command_lists.specs.declared.collector.Taken.{Taken}
+use Rattle.command_lists.specs.declared.collector.Taken.TheVariants.{Alone as AloneLine, Begun, Collected, Ended, TooLarge}
+use Rattle.command_lists.specs.declared.list.CommandList.{CommandList}
+use Rattle.command_lists.specs.declared.word.ListForm.{ListForm}
 use Rattle.mpd_text.specs.Songs.Song.{SongData}
 use Rattle.song_db.specs.Library.{in_byte_order}
 use Rattle.script_lines.specs.Lines.{LineData, ClientLine, StepLine, BadLine, script_line_of}
@@ -10,10 +16,11 @@ use Rattle.script_lines.specs.declared.limit.LimitName.TheVariants.{MaxQueue, Ma
 use Rattle.script_lines.specs.declared.step.Step.{Step}
 use Rattle.script_lines.specs.declared.step.Step.TheVariants.{Song, Limit, Gone}
 use Rattle.partition.specs.Answers.{Told}
+use Rattle.partition.specs.Lists.{ends_list}
 use Rattle.mpd_command.specs.Requests.{request_of}
 use Rattle.mpd_command.specs.declared.request.Request.{Request}
 use Rattle.partition.specs.declared.event.Event.{Event}
-use Rattle.partition.specs.declared.event.Stand.TheVariants.{Alone}
+use Rattle.partition.specs.declared.event.Stand.TheVariants.{Alone, InList}
 use Rattle.partition.specs.declared.event.Event.TheVariants.{Connect, Disconnect, Line}
 use Rattle.partition.specs.declared.partition.PartitionFault.{PartitionFault}
 use Rattle.partition.specs.declared.state.Limits.{Limits}
@@ -21,7 +28,7 @@ use Rattle.daemon_script.specs.declared.memory.Memory.{Memory}
 use Rattle.daemon_script.specs.declared.memory.Memory.TheVariants.{Ample, NoneToConnect, NoneToRead, NoneToRun}
 use Rattle.daemon_script.specs.Kinds.{PlayerKind}
 use Rattle.daemon_script.specs.Output.{Run, script_after, text_of}
-use Rattle.daemon_script.specs.Script.{ScriptData, Shown, LineRun, bad, collects, lowers, limits_with, has_uri, told_for, notices_for, fault_of, connects, sent_off, sends_off, shown_step, step_line, request_run, line_run, connect_run, line_after, client_run, shown_client, shown_kind, shown_of}
+use Rattle.daemon_script.specs.Script.{ScriptData, Shown, LineRun, bad, collects, lowers, limits_with, has_uri, told_for, notices_for, fault_of, connects, sent_off, sends_off, shown_step, step_line, request_run, alone_run, runs, request_in, read_of, end_of, place_without, is_at, closed_line, ListRun, list_goes, list_step, list_run, notices_by_number, lines_for, list_of, with_list, commands_run, collected_run, too_large_run, taken_run, line_run, connect_run, line_after, client_run, shown_client, shown_kind, shown_of}
 use Rattle.daemon_script.proofs.Ranges.{limit_at_least_one}
 
 -- two kinds agree: a relation of their players holds at the opening and is kept by events, and related players answer alike
@@ -42,6 +49,7 @@ module _ {P Q : Type 0} (R : P → Q → Type 0) where
   pub record SameScript (s : ScriptData P) (t : ScriptData Q) : Type 0 where
     pub limits : s.limits ≡ t.limits
     pub songs : s.songs ≡ t.songs
+    pub lists : s.lists ≡ t.lists
     pub above : 1 ≤ s.limits.max_version
     pub player : SamePlayer s.player t.player
 
@@ -51,12 +59,13 @@ module _ {P Q : Type 0} (R : P → Q → Type 0) where
 
   record SameRun (a : LineRun P) (b : LineRun Q) : Type 0 where
     pub player : R a.player b.player
+    pub list : a.list ≡ b.list
     pub text : a.text ≡ b.text
     pub connected : a.connected ≡ b.connected
 
   -- a script with another player
   abbrev over : ScriptData P → Option Q → ScriptData Q
-  over s q = record { limits = s.limits; songs = s.songs; player = q }
+  over s q = record { limits = s.limits; songs = s.songs; lists = s.lists; player = q }
 
   same_some : (p : Option P) (q : Option Q) → SamePlayer p q → is_some p ≡ is_some q
   same_some None None r = refl
@@ -65,7 +74,7 @@ module _ {P Q : Type 0} (R : P → Q → Type 0) where
   same_some (Some p) (Some q) r = refl
 
   same : (s : ScriptData P) (q : Option Q) → 1 ≤ s.limits.max_version → SamePlayer s.player q → SameScript s (over s q)
-  same s q above r = record { limits = refl; songs = refl; above = above; player = r }
+  same s q above r = record { limits = refl; songs = refl; lists = refl; above = above; player = r }
 
   shows_same : (text : List ℕ) (s : ScriptData P) (q : Option Q) → 1 ≤ s.limits.max_version → SamePlayer s.player q
       → SameShown (record { script = s; text = text }) (record { script = over s q; text = text })
@@ -97,9 +106,13 @@ module _ {P Q : Type 0} (R : P → Q → Type 0) where
 module _ {P Q : Type 0} (m : PlayerKind P) (n : PlayerKind Q) (R : P → Q → Type 0) (agree : Agree m n R) where
   request_same : (p : P) (q : Q) (number : ℕ) (request : Request) (fault : Option PartitionFault) → R p q
       → SameRun R (request_run m p number request fault) (request_run n q number request fault)
-  request_same p q number request (Some fault) r = record { player = r; text = refl; connected = refl }
-  request_same p q number request None r =
-      record { player = agree.after p q (Line number Alone request) r; text = ap (told_for number) (agree.told p q (Line number Alone request) r); connected = refl }
+  request_same p q number request (Some fault) r = record { player = r; list = refl; text = refl; connected = refl }
+  request_same p q number request None r = record {
+    player = agree.after p q (Line number Alone request) r;
+    list = refl;
+    text = ap (told_for number) (agree.told p q (Line number Alone request) r);
+    connected = refl;
+  }
 
   -- a request that runs or is refused, by how many events there were
   counted_same : (p : P) (q : Q) (number : ℕ) (line : List ℕ) (ample : Bool) → R p q
@@ -108,56 +121,129 @@ module _ {P Q : Type 0} (m : PlayerKind P) (n : PlayerKind Q) (R : P → Q → T
       subst (λ (made : ℕ). SameRun R (request_run m p number (request_of line false) (fault_of ample (m.made p))) (request_run n q number (request_of line false) (fault_of ample made)))
       (agree.made p q r) (request_same p q number (request_of line false) (fault_of ample (m.made p)) r)
 
-  line_same : (p : P) (q : Q) (number : ℕ) (line : List ℕ) (memory : Memory) → R p q → SameRun R (line_run m p number line memory) (line_run n q number line memory)
-  line_same p q number line Ample r = counted_same p q number line true r
-  line_same p q number line NoneToConnect r = counted_same p q number line true r
-  line_same p q number line NoneToRead r = record { player = r; text = refl; connected = refl }
-  line_same p q number line NoneToRun r = counted_same p q number line false r
+  alone_same : (p : P) (q : Q) (number : ℕ) (line : List ℕ) (memory : Memory) → R p q → SameRun R (alone_run m p number line memory) (alone_run n q number line memory)
+  alone_same p q number line Ample r = counted_same p q number line true r
+  alone_same p q number line NoneToConnect r = counted_same p q number line true r
+  alone_same p q number line (NoneToRead place) r = record { player = r; list = refl; text = refl; connected = refl }
+  alone_same p q number line (NoneToRun place) r = counted_same p q number line false r
 
-  new_same : (p : P) (q : Q) (number : ℕ) (line : List ℕ) (memory : Memory) (fault : Option PartitionFault) → R p q
-      → SameRun R (line_after m (connect_run m p number fault) number line memory) (line_after n (connect_run n q number fault) number line memory)
-  new_same p q number line memory (Some fault) r = record { player = r; text = refl; connected = refl }
-  new_same p q number line memory None r =
-      let ran = line_same (m.after p (Connect number)) (n.after q (Connect number)) number line memory (agree.after p q (Connect number) r) in
+  record SameList (a : ListRun P) (b : ListRun Q) : Type 0 where
+    player : R a.player b.player
+    tolds : a.tolds ≡ b.tolds
+    ending : a.ending ≡ b.ending
+
+  goes_if : (ends : Bool) (p : P) (q : Q) (t : Told) (ending : List ℕ) (a : ListRun P) (b : ListRun Q) → R p q → SameList a b
+      → SameList (if ends then record { player = p; tolds = t ∷ []; ending = ending } else record a { tolds = t ∷ a.tolds })
+      (if ends then record { player = q; tolds = t ∷ []; ending = ending } else record b { tolds = t ∷ b.tolds })
+  goes_if true p q t ending a b r rest = record { player = r; tolds = refl; ending = refl }
+  goes_if false p q t ending a b r rest = record { player = rest.player; tolds = ap (λ (ts : List Told). t ∷ ts) rest.tolds; ending = rest.ending }
+
+  list_step_same : (p p' : P) (q q' : Q) (place : ℕ) (request : Request) (fault : Option PartitionFault) (t u : Told) (a : ListRun P) (b : ListRun Q)
+      → R p q → R p' q' → t ≡ u → SameList a b → SameList (list_step p place request fault p' t a) (list_step q place request fault q' u b)
+  list_step_same p p' q q' place request (Some fault) t u a b r r' e rest = record { player = r; tolds = refl; ending = refl }
+  list_step_same p p' q q' place request None t u a b r r' e rest =
+      subst (λ (v : Told). SameList (list_goes p' t a) (list_goes q' v b)) e (goes_if (ends_list t) p' q' t (closed_line t.answer.next) a b r' rest)
+
+  list_same : (p : P) (q : Q) (number : ℕ) (form : ListForm) (place : ℕ) (requests : List Request) (without : Option ℕ) (end : List ℕ) → R p q
+      → SameList (list_run m p number form place requests without end) (list_run n q number form place requests without end)
+  unfolding list_run
+  list_same p q number form place [] without end r = record { player = r; tolds = refl; ending = refl }
+  list_same p q number form place (request ∷ requests) without end r =
+      let event : Event = Line number (InList form place) request in
+      let after : R (m.after p event) (n.after q event) = agree.after p q event r in
+      let rest = list_same (m.after p event) (n.after q event) number form (place + 1) requests without end after in
+      subst (λ (made : ℕ). SameList (list_run m p number form place (request ∷ requests) without end)
+      (list_step q place request (fault_of (not (is_at place without)) made) (n.after q event) (n.told q event) (list_run n (n.after q event) number form (place + 1) requests without end)))
+      (agree.made p q r)
+      (list_step_same p (m.after p event) q (n.after q event) place request (fault_of (not (is_at place without)) (m.made p)) (m.told p event) (n.told q event) _ _ r after (agree.told p q event r) rest)
+
+  commands_same : (p : P) (q : Q) (number : ℕ) (commands : CommandList) (memory : Memory) → R p q → SameRun R (commands_run m p number commands memory) (commands_run n q number commands memory)
+  commands_same p q number commands memory r =
+      let ran = list_same p q number commands.form 0 (read_of memory (map request_in commands.lines)) (place_without memory) (end_of memory) r in
       record {
         player = ran.player;
-        text = ap (λ (t : Told). told_for number t ++ (line_run m (m.after p (Connect number)) number line memory).text) (agree.told p q (Connect number) r)
+        list = refl;
+        text = λ i. lines_for number (flat_map (λ (t : Told). t.answer.text) (ran.tolds i) ++ ran.ending i) ++ notices_by_number (ran.tolds i);
+        connected = refl;
+      }
+
+  collected_same : (p : P) (q : Q) (list next : Option CommandList) (number : ℕ) (memory : Memory) → R p q
+      → SameRun R (collected_run m p list next number memory) (collected_run n q list next number memory)
+  collected_same p q list next number Ample r = record { player = r; list = refl; text = refl; connected = refl }
+  collected_same p q list next number NoneToConnect r = record { player = r; list = refl; text = refl; connected = refl }
+  collected_same p q list next number (NoneToRead place) r = record { player = r; list = refl; text = refl; connected = refl }
+  collected_same p q list next number (NoneToRun place) r = record { player = r; list = refl; text = refl; connected = refl }
+
+  too_large_same : (p : P) (q : Q) (list : Option CommandList) (number : ℕ) (fault : Option PartitionFault) → R p q
+      → SameRun R (too_large_run m p list number fault) (too_large_run n q list number fault)
+  too_large_same p q list number (Some fault) r = record { player = r; list = refl; text = refl; connected = refl }
+  too_large_same p q list number None r = record {
+    player = agree.after p q (Disconnect number) r;
+    list = refl;
+    text = ap (told_for number) (agree.told p q (Disconnect number) r);
+    connected = refl;
+  }
+
+  taken_same : (p : P) (q : Q) (list next : Option CommandList) (number : ℕ) (line : List ℕ) (memory : Memory) (taken : Taken) → R p q
+      → SameRun R (taken_run m p list next number line memory taken) (taken_run n q list next number line memory taken)
+  taken_same p q list next number line memory AloneLine r = alone_same p q number line memory r
+  taken_same p q list next number line memory Begun r = record { player = r; list = refl; text = refl; connected = refl }
+  taken_same p q list next number line memory Collected r = collected_same p q list next number memory r
+  taken_same p q list next number line memory (Ended commands) r = commands_same p q number commands memory r
+  taken_same p q list next number line memory TooLarge r =
+      subst (λ (made : ℕ). SameRun R (too_large_run m p list number (fault_of (runs memory) (m.made p))) (too_large_run n q list number (fault_of (runs memory) made)))
+      (agree.made p q r) (too_large_same p q list number (fault_of (runs memory) (m.made p)) r)
+
+  line_same : (p : P) (q : Q) (list : Option CommandList) (number : ℕ) (line : List ℕ) (memory : Memory) → R p q
+      → SameRun R (line_run m p list number line memory) (line_run n q list number line memory)
+  line_same p q list number line memory r =
+      taken_same p q list (outcome_of list (Some line)).open_list number line memory (outcome_of list (Some line)).taken r
+
+  new_same : (p : P) (q : Q) (list : Option CommandList) (number : ℕ) (line : List ℕ) (memory : Memory) (fault : Option PartitionFault) → R p q
+      → SameRun R (line_after m (connect_run m p list number fault) number line memory) (line_after n (connect_run n q list number fault) number line memory)
+  new_same p q list number line memory (Some fault) r = record { player = r; list = refl; text = refl; connected = refl }
+  new_same p q list number line memory None r =
+      let ran = line_same (m.after p (Connect number)) (n.after q (Connect number)) list number line memory (agree.after p q (Connect number) r) in
+      record {
+        player = ran.player;
+        list = ran.list;
+        text = ap (λ (t : Told). told_for number t ++ (line_run m (m.after p (Connect number)) list number line memory).text) (agree.told p q (Connect number) r)
             ∙ ap (λ (t : List ℕ). told_for number (n.told q (Connect number)) ++ t) ran.text;
         connected = ran.connected;
       }
 
-  client_if : (there : Bool) (p : P) (q : Q) (number : ℕ) (line : List ℕ) (memory : Memory) (fault : Option PartitionFault) → R p q
-      → SameRun R (if there then line_run m p number line memory else line_after m (connect_run m p number fault) number line memory)
-      (if there then line_run n q number line memory else line_after n (connect_run n q number fault) number line memory)
-  client_if true p q number line memory fault r = line_same p q number line memory r
-  client_if false p q number line memory fault r = new_same p q number line memory fault r
+  client_if : (there : Bool) (p : P) (q : Q) (list : Option CommandList) (number : ℕ) (line : List ℕ) (memory : Memory) (fault : Option PartitionFault) → R p q
+      → SameRun R (if there then line_run m p list number line memory else line_after m (connect_run m p list number fault) number line memory)
+      (if there then line_run n q list number line memory else line_after n (connect_run n q list number fault) number line memory)
+  client_if true p q list number line memory fault r = line_same p q list number line memory r
+  client_if false p q list number line memory fault r = new_same p q list number line memory fault r
 
-  client_same : (p : P) (q : Q) (number : ℕ) (line : List ℕ) (memory : Memory) → R p q → SameRun R (client_run m p number line memory) (client_run n q number line memory)
+  client_same : (p : P) (q : Q) (list : Option CommandList) (number : ℕ) (line : List ℕ) (memory : Memory) → R p q → SameRun R (client_run m p list number line memory) (client_run n q list number line memory)
   unfolding client_run
-  client_same p q number line memory r =
-      subst (λ (there : Bool). SameRun R (client_run m p number line memory)
-      (if there then line_run n q number line memory else line_after n (connect_run n q number (fault_of (connects memory) (n.made q))) number line memory)) (agree.there p q number r)
-      (subst (λ (made : ℕ). SameRun R (client_run m p number line memory)
-      (if m.is_there number p then line_run n q number line memory else line_after n (connect_run n q number (fault_of (connects memory) made)) number line memory)) (agree.made p q r)
-      (client_if (m.is_there number p) p q number line memory (fault_of (connects memory) (m.made p)) r))
+  client_same p q list number line memory r =
+      subst (λ (there : Bool). SameRun R (client_run m p list number line memory)
+      (if there then line_run n q list number line memory else line_after n (connect_run n q list number (fault_of (connects memory) (n.made q))) number line memory)) (agree.there p q number r)
+      (subst (λ (made : ℕ). SameRun R (client_run m p list number line memory)
+      (if m.is_there number p then line_run n q list number line memory else line_after n (connect_run n q list number (fault_of (connects memory) made)) number line memory)) (agree.made p q r)
+      (client_if (m.is_there number p) p q list number line memory (fault_of (connects memory) (m.made p)) r))
 
   sent_same : (s : ScriptData P) (p : P) (q : Q) (number : ℕ) (fault : Option PartitionFault) → 1 ≤ s.limits.max_version → SamePlayer R s.player (Some q) → R p q
       → SameShown R (sent_off m s p number fault) (sent_off n (over R s (Some q)) q number fault)
   sent_same s p q number (Some fault) above has r = shows_same R _ s (Some q) above has
   sent_same s p q number None above has r =
       record {
-        script = same R (record s { player = Some (m.after p (Disconnect number)) }) (Some (n.after q (Disconnect number))) above (agree.after p q (Disconnect number) r);
+        script = same R (record s { player = Some (m.after p (Disconnect number)); lists = with_list number None s.lists }) (Some (n.after q (Disconnect number))) above (agree.after p q (Disconnect number) r);
         text = ap (λ (t : Told). notices_for t.notices) (agree.told p q (Disconnect number) r);
       }
 
   -- by the player that is there
-  sends_same : (limits : Limits) (songs : List SongData) (p : Option P) (q : Option Q) (number : ℕ) → 1 ≤ limits.max_version → SamePlayer R p q
-      → SameShown R (sends_off m (record { limits = limits; songs = songs; player = p }) p number) (sends_off n (record { limits = limits; songs = songs; player = q }) q number)
-  sends_same limits songs None None number above r = shows_same R _ (record { limits = limits; songs = songs; player = None }) None above r
-  sends_same limits songs None (Some q) number above r = absurd r
-  sends_same limits songs (Some p) None number above r = absurd r
-  sends_same limits songs (Some p) (Some q) number above r =
-      let s : ScriptData P = record { limits = limits; songs = songs; player = Some p } in
+  sends_same : (limits : Limits) (songs : List SongData) (lists : List (Option CommandList)) (p : Option P) (q : Option Q) (number : ℕ) → 1 ≤ limits.max_version → SamePlayer R p q
+      → SameShown R (sends_off m (record { limits = limits; songs = songs; lists = lists; player = p }) p number) (sends_off n (record { limits = limits; songs = songs; lists = lists; player = q }) q number)
+  sends_same limits songs lists None None number above r = shows_same R _ (record { limits = limits; songs = songs; lists = lists; player = None }) None above r
+  sends_same limits songs lists None (Some q) number above r = absurd r
+  sends_same limits songs lists (Some p) None number above r = absurd r
+  sends_same limits songs lists (Some p) (Some q) number above r =
+      let s : ScriptData P = record { limits = limits; songs = songs; lists = lists; player = Some p } in
       subst (λ (made : ℕ). SameShown R (sent_off m s p number (fault_of true (m.made p))) (sent_off n (over R s (Some q)) q number (fault_of true made)))
       (agree.made p q r) (sent_same s p q number (fault_of true (m.made p)) above r r)
 
@@ -166,45 +252,56 @@ module _ {P Q : Type 0} (m : PlayerKind P) (n : PlayerKind Q) (R : P → Q → T
   step_same s q rest None e above r = shows_same R _ s q above r
   step_same s q rest (Some (Song song)) e above r = collects_same R s q song above r
   step_same s q rest (Some (Limit name number)) e above r = lowers_same R s q name number above (limit_at_least_one rest name number (sym e)) r
-  step_same s q rest (Some (Gone number)) e above r = sends_same s.limits s.songs s.player q number above r
+  step_same s q rest (Some (Gone number)) e above r = sends_same s.limits s.songs s.lists s.player q number above r
 
   step_line_same : (s : ScriptData P) (q : Option Q) (rest : List ℕ) (memory : Memory) → 1 ≤ s.limits.max_version → SamePlayer R s.player q
       → SameShown R (step_line m s rest memory) (step_line n (over R s q) rest memory)
   step_line_same s q rest Ample above r = step_same s q rest (step_of rest) refl above r
   step_line_same s q rest NoneToConnect above r = shows_same R _ s q above r
-  step_line_same s q rest NoneToRead above r = shows_same R _ s q above r
-  step_line_same s q rest NoneToRun above r = shows_same R _ s q above r
+  step_line_same s q rest (NoneToRead place) above r = shows_same R _ s q above r
+  step_line_same s q rest (NoneToRun place) above r = shows_same R _ s q above r
+
+  -- the script after a line of a client that was there when the line was run
+  abbrev kept : {X : Type 0} → ScriptData X → ℕ → LineRun X → ScriptData X
+  kept s number ran = record s { player = Some ran.player; lists = with_list number ran.list s.lists }
+
+  kept_same : (s : ScriptData P) (player : Option Q) (number : ℕ) (a : LineRun P) (b : LineRun Q) → 1 ≤ s.limits.max_version → SameRun R a b
+      → SameScript R (kept s number a) (kept (over R s player) number b)
+  kept_same s player number a b above ran = record {
+    limits = refl;
+    songs = refl;
+    lists = ap (λ (list : Option CommandList). with_list number list s.lists) ran.list;
+    above = above;
+    player = ran.player;
+  }
 
   -- the player that a first client line opened is kept where the client connected
-  kept_if : (connected : Bool) (s : ScriptData P) (p : P) (q : Q) → 1 ≤ s.limits.max_version → SamePlayer R s.player None → R p q
-      → SameScript R (if connected then record s { player = Some p } else s) (if connected then record (over R s None) { player = Some q } else over R s None)
-  kept_if true s p q above none r = same R (record s { player = Some p }) (Some q) above r
-  kept_if false s p q above none r = same R s None above none
+  kept_if : (connected : Bool) (s : ScriptData P) (number : ℕ) (a : LineRun P) (b : LineRun Q) → 1 ≤ s.limits.max_version → SamePlayer R s.player None → SameRun R a b
+      → SameScript R (if connected then kept s number a else s) (if connected then kept (over R s None) number b else over R s None)
+  kept_if true s number a b above none ran = kept_same s None number a b above ran
+  kept_if false s number a b above none ran = same R s None above none
 
-  first_same : (s : ScriptData P) (a : LineRun P) (b : LineRun Q) → 1 ≤ s.limits.max_version → SamePlayer R s.player None → SameRun R a b
-      → SameScript R (if a.connected then record s { player = Some a.player } else s) (if b.connected then record (over R s None) { player = Some b.player } else over R s None)
-  first_same s a b above none ran =
-      subst (λ (c : Bool). SameScript R (if a.connected then record s { player = Some a.player } else s) (if c then record (over R s None) { player = Some b.player } else over R s None))
-      ran.connected (kept_if a.connected s a.player b.player above none ran.player)
+  first_same : (s : ScriptData P) (number : ℕ) (a : LineRun P) (b : LineRun Q) → 1 ≤ s.limits.max_version → SamePlayer R s.player None → SameRun R a b
+      → SameScript R (if a.connected then kept s number a else s) (if b.connected then kept (over R s None) number b else over R s None)
+  first_same s number a b above none ran =
+      subst (λ (c : Bool). SameScript R (if a.connected then kept s number a else s) (if c then kept (over R s None) number b else over R s None))
+      ran.connected (kept_if a.connected s number a b above none ran)
 
-  client_line_same : (limits : Limits) (songs : List SongData) (p : Option P) (q : Option Q) (number : ℕ) (line : List ℕ) (memory : Memory) → 1 ≤ limits.max_version → SamePlayer R p q
-      → SameShown R (shown_client m (record { limits = limits; songs = songs; player = p }) p number line memory)
-      (shown_client n (record { limits = limits; songs = songs; player = q }) q number line memory)
-  client_line_same limits songs None None number line memory above r =
-      let ran = client_same (m.opens limits (in_byte_order songs)) (n.opens limits (in_byte_order songs)) number line memory (agree.opens limits (in_byte_order songs) above) in
-      record { script = first_same (record { limits = limits; songs = songs; player = None }) _ _ above r ran; text = ran.text }
-  client_line_same limits songs None (Some q) number line memory above r = absurd r
-  client_line_same limits songs (Some p) None number line memory above r = absurd r
-  client_line_same limits songs (Some p) (Some q) number line memory above r =
-      let ran = client_same p q number line memory r in
-      record {
-        script = same R (record { limits = limits; songs = songs; player = Some (client_run m p number line memory).player }) (Some (client_run n q number line memory).player) above ran.player;
-        text = ran.text;
-      }
+  client_line_same : (limits : Limits) (songs : List SongData) (lists : List (Option CommandList)) (p : Option P) (q : Option Q) (number : ℕ) (line : List ℕ) (memory : Memory) → 1 ≤ limits.max_version → SamePlayer R p q
+      → SameShown R (shown_client m (record { limits = limits; songs = songs; lists = lists; player = p }) p number line memory)
+      (shown_client n (record { limits = limits; songs = songs; lists = lists; player = q }) q number line memory)
+  client_line_same limits songs lists None None number line memory above r =
+      let ran = client_same (m.opens limits (in_byte_order songs)) (n.opens limits (in_byte_order songs)) (list_of number lists) number line memory (agree.opens limits (in_byte_order songs) above) in
+      record { script = first_same (record { limits = limits; songs = songs; lists = lists; player = None }) number _ _ above r ran; text = ran.text }
+  client_line_same limits songs lists None (Some q) number line memory above r = absurd r
+  client_line_same limits songs lists (Some p) None number line memory above r = absurd r
+  client_line_same limits songs lists (Some p) (Some q) number line memory above r =
+      let ran = client_same p q (list_of number lists) number line memory r in
+      record { script = kept_same (record { limits = limits; songs = songs; lists = lists; player = Some p }) (Some q) number _ _ above ran; text = ran.text }
 
   kind_same : (s : ScriptData P) (q : Option Q) (line : LineData) (memory : Memory) → 1 ≤ s.limits.max_version → SamePlayer R s.player q
       → SameShown R (shown_kind m s line memory) (shown_kind n (over R s q) line memory)
-  kind_same s q (ClientLine number line) memory above r = client_line_same s.limits s.songs s.player q number line memory above r
+  kind_same s q (ClientLine number line) memory above r = client_line_same s.limits s.songs s.lists s.player q number line memory above r
   kind_same s q (StepLine rest) memory above r = step_line_same s q rest memory above r
   kind_same s q BadLine memory above r = shows_same R _ s q above r
 
@@ -217,9 +314,10 @@ module _ {P Q : Type 0} (m : PlayerKind P) (n : PlayerKind Q) (R : P → Q → T
   line_shown_same : (s : ScriptData P) (t : ScriptData Q) (line : Option (List ℕ)) (memory : Memory) → SameScript R s t
       → SameShown R (shown_of m s line memory) (shown_of n t line memory)
   line_shown_same s t line memory both =
-      subst (λ (limits : Limits). SameShown R (shown_of m s line memory) (shown_of n (record { limits = limits; songs = t.songs; player = t.player }) line memory)) both.limits
-      (subst (λ (songs : List SongData). SameShown R (shown_of m s line memory) (shown_of n (record { limits = s.limits; songs = songs; player = t.player }) line memory)) both.songs
-      (over_same s t.player line memory both.above both.player))
+      subst (λ (limits : Limits). SameShown R (shown_of m s line memory) (shown_of n (record { limits = limits; songs = t.songs; lists = t.lists; player = t.player }) line memory)) both.limits
+      (subst (λ (songs : List SongData). SameShown R (shown_of m s line memory) (shown_of n (record { limits = s.limits; songs = songs; lists = t.lists; player = t.player }) line memory)) both.songs
+      (subst (λ (lists : List (Option CommandList)). SameShown R (shown_of m s line memory) (shown_of n (record { limits = s.limits; songs = s.songs; lists = lists; player = t.player }) line memory)) both.lists
+      (over_same s t.player line memory both.above both.player)))
 
   -- scripts that are the same print the same, and stay so
   pub runs_same : (s : ScriptData P) (t : ScriptData Q) (run : Run) → SameScript R s t

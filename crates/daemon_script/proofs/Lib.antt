@@ -1,5 +1,6 @@
 pub mod Alike
 pub mod Collected
+pub mod ListRuns
 pub mod Lives
 pub mod Numbered
 pub mod Outputs

@@ -98,9 +98,9 @@ module _ (law : ReplaysWorlds) where
   player_seen (Some p) (Some q) same = ap Some same.0
 
   script_seen : (s : ScriptData Image) (t : ScriptData Lived) → SameScript Shows s t → s ≡ seen_script t
-  script_seen s t same = λ i. record { limits = same.limits i; songs = same.songs i; player = player_seen s.player t.player same.player i }
+  script_seen s t same = λ i. record { limits = same.limits i; songs = same.songs i; lists = same.lists i; player = player_seen s.player t.player same.player i }
 
   pub runs_are_lived : RunsAreLived
   runs_are_lived run =
-      let both = runs_same images lives Shows agree opening_script opening_script run (record { limits = refl; songs = refl; above = omega arith; player = tt }) in
+      let both = runs_same images lives Shows agree opening_script opening_script run (record { limits = refl; songs = refl; lists = refl; above = omega arith; player = tt }) in
       (both.0, script_seen _ _ both.1)

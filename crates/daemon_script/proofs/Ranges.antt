@@ -1,5 +1,5 @@
 -- What the lines of a script can hold.
-use Rattle.std.proofs.Common.{◌≡◌, ℕ, ◌≤◌, Bool, true, false, List, [], ◌∷◌, Option, Some, None, Result, Ok, Err, cond, refl, ap, sym, arith}
+use Rattle.std.proofs.Common.{◌≡◌, ℕ, ◌-◌, ◌<◌, ◌≤◌, ◌==◌, Bool, true, false, List, [], ◌∷◌, Option, Some, None, Result, Ok, Err, cond, refl, ap, sym, arith}
 use Rattle.std.specs.Prelude.{◌&&◌, nat_le, codes}
 use Rattle.std.specs.List.{list_all}
 use Rattle.std.specs.Str.{bytes_eq}
@@ -8,6 +8,8 @@ use Rattle.mpd_text.specs.Answers.Number.{number_of}
 use Rattle.mpd_text.specs.Lines.Scan.{words_of}
 use Rattle.mpd_text.specs.Songs.Song.{SongData}
 use Rattle.mpd_text.specs.declared.lines.quoting.WordsFault.{WordsFault}
+use Rattle.script_lines.specs.Cuts.{before, after}
+use Rattle.script_lines.specs.Lines.{LineData, ClientLine, StepLine, BadLine, by_head, script_line_of}
 use Rattle.script_lines.specs.Limits.{limit_named, greatest_of, within, number_within}
 use Rattle.script_lines.specs.Steps.{step_of, step_if_read, song_of, song_with, is_uri, limit_of, limit_with, limit_to, gone_of, gone_with}
 use Rattle.script_lines.specs.Tags.{is_tag, tags_of}
@@ -77,3 +79,25 @@ step_positive (Ok (word ∷ words)) found n e = step_if (bytes_eq word (codes "s
 pub limit_at_least_one : (rest : List ℕ) (found : LimitName) (n : ℕ) → Some (Limit found n) ≡ step_of rest → 1 ≤ n
 unfolding step_of
 limit_at_least_one rest found n e = step_positive (words_of rest) found n (sym e)
+
+number_in : LineData → ℕ
+number_in (ClientLine number rest) = number
+number_in (StepLine rest) = 0
+number_in BadLine = 0
+
+client_if : (step client : Bool) (c number : ℕ) (rest text : List ℕ) → (client ≡ true → c - 48 < 10)
+    → ClientLine number text ≡ cond step (StepLine rest) (cond client (ClientLine (c - 48) rest) BadLine) → number < 10
+unfolding number_in
+client_if true client c number rest text few e = cc
+client_if false true c number rest text few e = let same : number ≡ c - 48 = ap number_in e in let h = few refl in omega (arith, same, h)
+client_if false false c number rest text few e = cc
+
+client_of_head : (head rest : List ℕ) (number : ℕ) (text : List ℕ) → ClientLine number text ≡ by_head head rest → number < 10
+client_of_head [] rest number text e = cc
+client_of_head (c ∷ []) rest number text e = client_if (c == 33) (nat_le 49 c && nat_le c 57) c number rest text (λ t. grind (arith, nat_tests)) e
+client_of_head (c ∷ d ∷ more) rest number text e = cc
+
+-- a client's number is one digit
+pub client_below_ten : (line : List ℕ) (number : ℕ) (text : List ℕ) → ClientLine number text ≡ script_line_of line → number < 10
+unfolding script_line_of
+client_below_ten line number text e = client_of_head (before 32 line) (after 32 line) number text e

@@ -63,7 +63,7 @@ CalledTooOften old new = new.calls ≡ min (old.calls + 2 ^ 32) (2 ^ 64 - 1)
 
 -- what commands read of a script's life
 abbrev pub seen_script : ScriptData Lived → ScriptData Image
-seen_script s = record { limits = s.limits; songs = s.songs; player = option_map seen s.player }
+seen_script s = record { limits = s.limits; songs = s.songs; lists = s.lists; player = option_map seen s.player }
 
 -- what a run prints is what the life of its player tells, with every queue that it had and every moment; and what commands read
 -- after it is what they read of that life

@@ -14,7 +14,7 @@ use Rattle.daemon_script.specs.Script.{ScriptData}
 -- the memory that a step found which the player refused
 abbrev pub memory_of : PartitionFault → Memory
 memory_of AtLimit = Ample
-memory_of NoMemory = NoneToRun
+memory_of NoMemory = NoneToRun 0
 
 -- by what the lines found of memory, the script goes on from old to new, and their texts are appended
 pub record ShowsLines (old new : ScriptData Image) (lines : List (Option (List ℕ))) (before after : List ℕ) : Type 0 where

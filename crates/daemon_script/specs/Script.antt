@@ -1,6 +1,13 @@
 -- What a script run prints (this profile's script), over the events of a player of one thread. What a player is, is left open: Kinds.antt has two.
-use Rattle.std.specs.Prelude.{ℕ, ◌==◌, Bool, true, false, not, ◌&&◌, nat_lt, nat_le, List, [], ◌∷◌, ◌++◌, length, Option, Some, None, is_some, codes, decimal, if◌then◌else◌}
-use Rattle.std.specs.List.{flat_map, list_any, onto_first}
+use Rattle.std.specs.Prelude.{ℕ, ◌+◌, ◌==◌, Bool, true, false, not, ◌&&◌, nat_lt, nat_le, List, [], ◌∷◌, ◌++◌, length, map, take, slice_index_or, slice_set, Option, Some, None, is_some, codes, decimal, if◌then◌else◌}
+use Rattle.std.specs.List.{filter, flat_map, list_any, onto_first}
+use Rattle.command_lists.specs.Lists.{outcome_of}
+use Rattle.command_lists.specs.declared.collector.Taken.{Taken}
+use Rattle.command_lists.specs.declared.collector.Taken.TheVariants.{Alone as AloneLine, Begun, Collected, Ended, TooLarge}
+use Rattle.command_lists.specs.declared.list.CommandList.{CommandList}
+use Rattle.command_lists.specs.declared.list.ListLine.{ListLine}
+use Rattle.command_lists.specs.declared.list.ListLine.TheVariants.{Text, NotText}
+use Rattle.command_lists.specs.declared.word.ListForm.{ListForm}
 use Rattle.mpd_text.specs.Answers.Answer.{ack_line}
 use Rattle.mpd_text.specs.Songs.Song.{SongData}
 use Rattle.song_db.specs.Library.{same_uri, in_byte_order}
@@ -14,7 +21,11 @@ use Rattle.partition.specs.Answers.{Answer, Told}
 use Rattle.partition.specs.Commands.Status.{notice_text}
 use Rattle.mpd_command.specs.Requests.{request_of, name_in}
 use Rattle.mpd_command.specs.declared.request.Request.{Request}
-use Rattle.partition.specs.declared.event.Stand.TheVariants.{Alone}
+use Rattle.mpd_command.specs.declared.request.Request.TheVariants.{Refused}
+use Rattle.mpd_text.specs.declared.answers.answer.ErrorNumber.TheVariants.{Argument}
+use Rattle.partition.specs.Clients.{closes}
+use Rattle.partition.specs.Lists.{ends_list, fault_text}
+use Rattle.partition.specs.declared.event.Stand.TheVariants.{Alone, InList}
 use Rattle.partition.specs.declared.event.Event.TheVariants.{Connect, Disconnect, Line}
 use Rattle.partition.specs.declared.event.Next.{Next}
 use Rattle.partition.specs.declared.event.Next.TheVariants.{Goes, Waits, Closes}
@@ -26,10 +37,12 @@ use Rattle.daemon_script.specs.Kinds.{PlayerKind}
 use Rattle.daemon_script.specs.declared.memory.Memory.{Memory}
 use Rattle.daemon_script.specs.declared.memory.Memory.TheVariants.{Ample, NoneToConnect, NoneToRead, NoneToRun}
 
--- the limits and the songs that were collected, and the player, which is there from the first client line on
+-- the limits and the songs that were collected, the command list that each client has open, by its number, and the player,
+-- which is there from the first client line on
 pub record ScriptData (P : Type 0) : Type 0 where
   pub limits : Limits
   pub songs : List SongData
+  pub lists : List (Option CommandList)
   pub player : Option P
 
 -- what a line makes of a script, and what it prints
@@ -100,10 +113,6 @@ notices_for notices = flat_map notice_lines notices
 abbrev pub told_for : ℕ → Told → List ℕ
 told_for number told = reply_for number told.answer ++ notices_for told.notices
 
-abbrev pub fault_text : PartitionFault → List ℕ
-fault_text AtLimit = codes "player limit reached"
-fault_text NoMemory = codes "out of memory"
-
 -- an event that was refused changes nothing, and prints its line of number 52
 abbrev pub fault_for : ℕ → List ℕ → PartitionFault → List ℕ
 fault_for number name fault = lines_for number (ack_line 52 0 name (fault_text fault))
@@ -116,9 +125,11 @@ fault_of ample made = if nat_le 9223372036854775807 made then Some AtLimit else 
 abbrev pub refusal_text : PartitionFault → List ℕ
 refusal_text fault = codes "! refused " ++ (fault_text fault ++ codes "\n")
 
--- what a client line makes of the player and prints, and whether its client was there when it was run
+-- what a client line makes of the player and of the command list that its client has open, what it prints, and whether its
+-- client was there when it was run
 pub record LineRun (P : Type 0) : Type 0 where
   pub player : P
+  pub list : Option CommandList
   pub text : List ℕ
   pub connected : Bool
 
@@ -129,13 +140,98 @@ abbrev pub connects : Memory → Bool
 connects NoneToConnect = false
 connects _ = true
 
+abbrev pub runs : Memory → Bool
+runs (NoneToRun place) = false
+runs _ = true
+
+-- what a command list makes of the player, what its commands made clients hear, and what follows their answers
+pub record ListRun (P : Type 0) : Type 0 where
+  pub player : P
+  pub tolds : List Told
+  pub ending : List ℕ
+
+-- what a line of a list asks for
+abbrev pub request_in : ListLine → Request
+request_in (Text line) = request_of line false
+request_in NotText = Refused (record { number = Argument; command = None; text = codes "line is not UTF-8" })
+
+-- the lines of a list are read before its first command is run: those that there was memory to read
+abbrev pub read_of : Memory → List Request → List Request
+read_of (NoneToRead place) requests = take place requests
+read_of _ requests = requests
+
+-- what follows the answers where all commands that were read succeed
+abbrev pub end_of : Memory → List ℕ
+end_of (NoneToRead place) = ack_line 52 place [] (fault_text NoMemory)
+end_of _ = codes "OK\n"
+
+-- the place whose command finds no memory, if one does
+abbrev pub place_without : Memory → Option ℕ
+place_without (NoneToRun place) = Some place
+place_without _ = None
+
+abbrev pub is_at : ℕ → Option ℕ → Bool
+is_at place None = false
+is_at place (Some other) = other == place
+
+-- a refusal ends a list with its own text
+abbrev pub closed_line : Next → List ℕ
+closed_line Goes = []
+closed_line Waits = []
+closed_line Closes = codes "closed\n"
+
+-- what follows the answers of a list that ran: nothing where a refusal ended it, and `end` where all succeeded
+abbrev pub ending_of : List ℕ → List Told → List ℕ
+ending_of end tolds = if list_any (λ t. closes t.answer.next) tolds then codes "closed\n" else (if list_any ends_list tolds then [] else end)
+
+-- a command that was run, and the rest of its list, which is run unless this ended it
+abbrev pub list_goes : {P : Type 0} → P → Told → ListRun P → ListRun P
+list_goes after told rest =
+    if ends_list told then record { player = after; tolds = told ∷ []; ending = closed_line told.answer.next }
+    else record rest { tolds = told ∷ rest.tolds }
+
+abbrev pub list_step : {P : Type 0} → P → ℕ → Request → Option PartitionFault → P → Told → ListRun P → ListRun P
+list_step player place request (Some fault) after told rest =
+    record { player = player; tolds = []; ending = ack_line 52 place (name_in request) (fault_text fault) }
+list_step player place request None after told rest = list_goes after told rest
+
+-- the whole answer of a list
+abbrev pub list_answer : {P : Type 0} → ListRun P → List ℕ
+list_answer ran = flat_map (λ t. t.answer.text) ran.tolds ++ ran.ending
+
+-- those of some notices that are to one client
+unfoldable pub notices_to : ℕ → List Notice → List ℕ
+notices_to number notices = notices_for (filter (λ notice. notice.client == number) notices)
+
+-- the notices that some events make for one client
+unfoldable pub all_notices_to : ℕ → List Told → List ℕ
+all_notices_to number tolds = flat_map (λ t. notices_to number t.notices) tolds
+
+-- the numbers of a script's clients
+abbrev pub client_numbers : List ℕ
+client_numbers = 1 ∷ 2 ∷ 3 ∷ 4 ∷ 5 ∷ 6 ∷ 7 ∷ 8 ∷ 9 ∷ []
+
+-- the notices of a list's commands, by rising client
+unfoldable pub notices_by_number : List Told → List ℕ
+notices_by_number tolds = flat_map (λ number. all_notices_to number tolds) client_numbers
+
+-- the command list that a client has open, if it has one
+abbrev pub list_of : ℕ → List (Option CommandList) → Option CommandList
+list_of number lists = slice_index_or lists number None
+
+abbrev pub with_list : ℕ → Option CommandList → List (Option CommandList) → List (Option CommandList)
+with_list number list lists = slice_set lists number list
+
 module _ {P : Type 0} (kind : PlayerKind P) where
   abbrev pub sent_off : ScriptData P → P → ℕ → Option PartitionFault → Shown P
   sent_off s player number (Some fault) = record { script = s; text = refusal_text fault }
   sent_off s player number None =
-      record { script = record s { player = Some (kind.after player (Disconnect number)) }; text = notices_for (kind.told player (Disconnect number)).notices }
+      record {
+        script = record s { player = Some (kind.after player (Disconnect number)); lists = with_list number None s.lists };
+        text = notices_for (kind.told player (Disconnect number)).notices;
+      }
 
-  -- a client goes, once the player is there; one that is not there changes nothing
+  -- a client goes, once the player is there, and its open list with it; one that is not there changes nothing
   abbrev pub sends_off : ScriptData P → Option P → ℕ → Shown P
   sends_off s None number = bad s
   sends_off s (Some player) number = sent_off s player number (fault_of true (kind.made player))
@@ -155,39 +251,89 @@ module _ {P : Type 0} (kind : PlayerKind P) where
   step_line s rest _ = refused s
 
   abbrev pub request_run : P → ℕ → Request → Option PartitionFault → LineRun P
-  request_run player number request (Some fault) = record { player = player; text = fault_for number (name_in request) fault; connected = true }
+  request_run player number request (Some fault) =
+      record { player = player; list = None; text = fault_for number (name_in request) fault; connected = true }
   request_run player number request None =
-      record { player = kind.after player (Line number Alone request); text = told_for number (kind.told player (Line number Alone request)); connected = true }
+      record {
+        player = kind.after player (Line number Alone request);
+        list = None;
+        text = told_for number (kind.told player (Line number Alone request));
+        connected = true;
+      }
 
-  -- the line of a client that is there
-  abbrev pub line_run : P → ℕ → List ℕ → Memory → LineRun P
-  line_run player number line Ample = request_run player number (request_of line false) (fault_of true (kind.made player))
-  line_run player number line NoneToConnect = request_run player number (request_of line false) (fault_of true (kind.made player))
-  line_run player number line NoneToRead = record { player = player; text = fault_for number [] NoMemory; connected = true }
-  line_run player number line NoneToRun = request_run player number (request_of line false) (fault_of false (kind.made player))
+  -- a line in no list
+  abbrev pub alone_run : P → ℕ → List ℕ → Memory → LineRun P
+  alone_run player number line Ample = request_run player number (request_of line false) (fault_of true (kind.made player))
+  alone_run player number line NoneToConnect = request_run player number (request_of line false) (fault_of true (kind.made player))
+  alone_run player number line (NoneToRead place) = record { player = player; list = None; text = fault_for number [] NoMemory; connected = true }
+  alone_run player number line (NoneToRun place) = request_run player number (request_of line false) (fault_of false (kind.made player))
+
+  -- the requests of a list from this place on, one event after the other, up to the first that ends the list or finds no memory
+  unfoldable pub list_run : P → ℕ → ListForm → ℕ → List Request → Option ℕ → List ℕ → ListRun P
+  list_run player number form place [] without end = record { player = player; tolds = []; ending = end }
+  list_run player number form place (request ∷ requests) without end =
+      let event = Line number (InList form place) request in
+      list_step player place request (fault_of (not (is_at place without)) (kind.made player)) (kind.after player event) (kind.told player event)
+      (list_run (kind.after player event) number form (place + 1) requests without end)
+
+  -- a list that has ended is run under other clients' eyes: first comes its whole answer, and then the notices to others
+  abbrev pub commands_run : P → ℕ → CommandList → Memory → LineRun P
+  commands_run player number commands memory =
+      let ran = list_run player number commands.form 0 (read_of memory (map request_in commands.lines)) (place_without memory) (end_of memory) in
+      record { player = ran.player; list = None; text = lines_for number (list_answer ran) ++ notices_by_number ran.tolds; connected = true }
+
+  -- a line that is collected prints nothing
+  abbrev pub collected_run : P → Option CommandList → Option CommandList → ℕ → Memory → LineRun P
+  collected_run player list next number (NoneToRead place) = record { player = player; list = list; text = fault_for number [] NoMemory; connected = true }
+  collected_run player list next number _ = record { player = player; list = next; text = []; connected = true }
+
+  -- a list that is too large closes its client, which is a disconnect
+  abbrev pub too_large_run : P → Option CommandList → ℕ → Option PartitionFault → LineRun P
+  too_large_run player list number (Some fault) = record { player = player; list = list; text = fault_for number [] fault; connected = true }
+  too_large_run player list number None =
+      record {
+        player = kind.after player (Disconnect number);
+        list = None;
+        text = told_for number (kind.told player (Disconnect number));
+        connected = true;
+      }
+
+  abbrev pub taken_run : P → Option CommandList → Option CommandList → ℕ → List ℕ → Memory → Taken → LineRun P
+  taken_run player list next number line memory AloneLine = alone_run player number line memory
+  taken_run player list next number line memory Begun = record { player = player; list = next; text = []; connected = true }
+  taken_run player list next number line memory Collected = collected_run player list next number memory
+  taken_run player list next number line memory (Ended commands) = commands_run player number commands memory
+  taken_run player list next number line memory TooLarge = too_large_run player list number (fault_of (runs memory) (kind.made player))
+
+  -- the line of a client that is there, by the list that it has open
+  abbrev pub line_run : P → Option CommandList → ℕ → List ℕ → Memory → LineRun P
+  line_run player list number line memory =
+      taken_run player list (outcome_of list (Some line)).open_list number line memory (outcome_of list (Some line)).taken
 
   -- the connect of a client that is not there
-  abbrev pub connect_run : P → ℕ → Option PartitionFault → LineRun P
-  connect_run player number (Some fault) = record { player = player; text = fault_for number [] fault; connected = false }
-  connect_run player number None = record { player = kind.after player (Connect number); text = told_for number (kind.told player (Connect number)); connected = true }
+  abbrev pub connect_run : P → Option CommandList → ℕ → Option PartitionFault → LineRun P
+  connect_run player list number (Some fault) = record { player = player; list = list; text = fault_for number [] fault; connected = false }
+  connect_run player list number None =
+      record { player = kind.after player (Connect number); list = list; text = told_for number (kind.told player (Connect number)); connected = true }
 
   -- a line that follows its client's connect; where that was refused it is not run
   abbrev pub line_after : LineRun P → ℕ → List ℕ → Memory → LineRun P
-  line_after ran number line memory = if ran.connected then after_text ran.text (line_run ran.player number line memory) else ran
+  line_after ran number line memory = if ran.connected then after_text ran.text (line_run ran.player ran.list number line memory) else ran
 
-  unfoldable pub client_run : P → ℕ → List ℕ → Memory → LineRun P
-  client_run player number line memory =
-      if kind.is_there number player then line_run player number line memory
-      else line_after (connect_run player number (fault_of (connects memory) (kind.made player))) number line memory
+  unfoldable pub client_run : P → Option CommandList → ℕ → List ℕ → Memory → LineRun P
+  client_run player list number line memory =
+      if kind.is_there number player then line_run player list number line memory
+      else line_after (connect_run player list number (fault_of (connects memory) (kind.made player))) number line memory
 
   -- a client line, which opens the player over the songs so far if it is the first. Where the connect of a first line is
   -- refused, no player is there
   abbrev pub shown_client : ScriptData P → Option P → ℕ → List ℕ → Memory → Shown P
   shown_client s (Some player) number line memory =
-      let ran = client_run player number line memory in record { script = record s { player = Some ran.player }; text = ran.text }
+      let ran = client_run player (list_of number s.lists) number line memory in
+      record { script = record s { player = Some ran.player; lists = with_list number ran.list s.lists }; text = ran.text }
   shown_client s None number line memory =
-      let ran = client_run (kind.opens s.limits (in_byte_order s.songs)) number line memory in
-      record { script = if ran.connected then record s { player = Some ran.player } else s; text = ran.text }
+      let ran = client_run (kind.opens s.limits (in_byte_order s.songs)) (list_of number s.lists) number line memory in
+      record { script = if ran.connected then record s { player = Some ran.player; lists = with_list number ran.list s.lists } else s; text = ran.text }
 
   abbrev pub shown_kind : ScriptData P → LineData → Memory → Shown P
   shown_kind s (ClientLine number line) memory = shown_client s s.player number line memory
@@ -199,6 +345,10 @@ module _ {P : Type 0} (kind : PlayerKind P) where
   shown_of s None memory = bad s
   shown_of s (Some line) memory = shown_kind s (script_line_of line) memory
 
+-- no client has a list open; the numbers of clients are below 10
+abbrev pub no_lists : List (Option CommandList)
+no_lists = None ∷ None ∷ None ∷ None ∷ None ∷ None ∷ None ∷ None ∷ None ∷ None ∷ []
+
 -- a script to which no line came
 abbrev pub opening_script : {P : Type 0} → ScriptData P
-opening_script = record { limits = record { max_queue = 16384; max_version = 2147483647; max_id = 2147483647 }; songs = []; player = None }
+opening_script = record { limits = record { max_queue = 16384; max_version = 2147483647; max_id = 2147483647 }; songs = []; lists = no_lists; player = None }

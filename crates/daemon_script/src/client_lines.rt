@@ -1,9 +1,12 @@
 //! Client lines, and the lines that they print.
-ghost use Rattle.std.specs.Prelude.{◌≡◌, ◌≢◌, ◌++◌, IfOk, OnOk};
+ghost use Rattle.std.specs.Prelude.{◌≡◌, ◌≢◌, ◌++◌, None, Some, IfOk, OnOk};
+ghost use Rattle.command_lists.specs.Lists.{outcome_of};
 ghost use Rattle.daemon_script.specs.Kinds.{images};
-ghost use Rattle.daemon_script.specs.Script.{connect_run, fault_for, fault_of, label, client_run, line_run, request_run, lines_for, notice_lines, notices_for, reply_for, told_for};
+ghost use Rattle.daemon_script.specs.Script.{alone_run, connect_run, fault_for, fault_of, label, client_run, line_run, request_run, lines_for, notice_lines, notices_for, reply_for, told_for, runs, too_large_run};
 
+use crate::lists::run_commands;
 use crate::memory::Memory;
+use command_lists::{ListCollector, Taken};
 use mpd_command::Request;
 use mpd_text::{Answer, ErrorNumber};
 use partition::{Event, Next, Notice, Outcome, Partition, PartitionFault, Reply, Stand};
@@ -24,13 +27,15 @@ pub(crate) struct LineRun {
 pub(crate) fn run_line(
     alloc: Global,
     player: &mut Partition,
+    list: &mut ListCollector,
     number: u32,
     line: &str,
     shown: &mut Vec<u8>,
 ) -> Result<LineRun, AllocError>
-    ensures player { IfOk result (λ ran. player.new.present ≡ (client_run images player.old.present number line.now ran.memory).player) }
-    ensures text { IfOk result (λ ran. shown.new.items ≡ shown.old.items ++ (client_run images player.old.present number line.now ran.memory).text) }
-    ensures connected { IfOk result (λ ran. ran.connected ≡ (client_run images player.old.present number line.now ran.memory).connected) }
+    ensures player { IfOk result (λ ran. player.new.present ≡ (client_run images player.old.present list.old number line.now ran.memory).player) }
+    ensures list { IfOk result (λ ran. list.new ≡ (client_run images player.old.present list.old number line.now ran.memory).list) }
+    ensures text { IfOk result (λ ran. shown.new.items ≡ shown.old.items ++ (client_run images player.old.present list.old number line.now ran.memory).text) }
+    ensures connected { IfOk result (λ ran. ran.connected ≡ (client_run images player.old.present list.old number line.now ran.memory).connected) }
 {
     if !player.has_client(number) && !connect(alloc, player, number, shown)? {
         return Ok(LineRun {
@@ -38,7 +43,7 @@ pub(crate) fn run_line(
             connected: false,
         });
     }
-    let memory = run_connected_line(alloc, player, number, line, shown)?;
+    let memory = run_connected_line(alloc, player, list, number, line, shown)?;
     Ok(LineRun {
         memory,
         connected: true,
@@ -52,9 +57,9 @@ fn connect(
     number: u32,
     shown: &mut Vec<u8>,
 ) -> Result<bool, AllocError>
-    ensures player { IfOk result (λ found. player.new.present ≡ (connect_run images player.old.present number (fault_of found (images.made player.old.present))).player) }
-    ensures text { IfOk result (λ found. shown.new.items ≡ shown.old.items ++ (connect_run images player.old.present number (fault_of found (images.made player.old.present))).text) }
-    ensures connected { IfOk result (λ found. found ≡ (connect_run images player.old.present number (fault_of found (images.made player.old.present))).connected) }
+    ensures player { IfOk result (λ found. player.new.present ≡ (connect_run images player.old.present None number (fault_of found (images.made player.old.present))).player) }
+    ensures text { IfOk result (λ found. shown.new.items ≡ shown.old.items ++ (connect_run images player.old.present None number (fault_of found (images.made player.old.present))).text) }
+    ensures connected { IfOk result (λ found. found ≡ (connect_run images player.old.present None number (fault_of found (images.made player.old.present))).connected) }
 {
     match player.apply(SEAT, Event::Connect(number)) {
         Ok(greeting) => {
@@ -68,26 +73,81 @@ fn connect(
     }
 }
 
-/// Runs the line of a client that is there.
+/// Runs the line of a client that is there, by the command list that it has open.
 fn run_connected_line(
+    alloc: Global,
+    player: &mut Partition,
+    list: &mut ListCollector,
+    number: u32,
+    line: &str,
+    shown: &mut Vec<u8>,
+) -> Result<Memory, AllocError>
+    ensures player { IfOk result (λ memory. player.new.present ≡ (line_run images player.old.present list.old number line.now memory).player) }
+    ensures list { IfOk result (λ memory. list.new ≡ (line_run images player.old.present list.old number line.now memory).list) }
+    ensures text { IfOk result (λ memory. shown.new.items ≡ shown.old.items ++ (line_run images player.old.present list.old number line.now memory).text) }
+    ensures connects { IfOk result (λ memory. memory ≢ Memory.NoneToConnect) }
+{
+    if list.is_too_large_with(Some(line)) {
+        return close_with_list(alloc, player, list, number, shown);
+    }
+    match list.take(alloc, Some(line)) {
+        Ok(Taken::Alone) => run_line_alone(alloc, player, number, line, shown),
+        Ok(Taken::Begun | Taken::Collected) => Ok(Memory::Ample),
+        Ok(Taken::Ended(commands)) => run_commands(alloc, player, number, &commands, shown),
+        Ok(Taken::TooLarge) => unreachable!(),
+        Err(AllocError) => {
+            push_fault(alloc, shown, number, "", PartitionFault::NoMemory)?;
+            Ok(Memory::NoneToRead(0))
+        }
+    }
+}
+
+/// Disconnects a client whose open list would be too large with its line. Where the player refuses that, the list stays open.
+fn close_with_list(
+    alloc: Global,
+    player: &mut Partition,
+    list: &mut ListCollector,
+    number: u32,
+    shown: &mut Vec<u8>,
+) -> Result<Memory, AllocError>
+    ensures player { IfOk result (λ memory. player.new.present ≡ (too_large_run images player.old.present list.old number (fault_of (runs memory) (images.made player.old.present))).player) }
+    ensures list { IfOk result (λ memory. list.new ≡ (too_large_run images player.old.present list.old number (fault_of (runs memory) (images.made player.old.present))).list) }
+    ensures text { IfOk result (λ memory. shown.new.items ≡ shown.old.items ++ (too_large_run images player.old.present list.old number (fault_of (runs memory) (images.made player.old.present))).text) }
+    ensures connects { IfOk result (λ memory. memory ≢ Memory.NoneToConnect) }
+{
+    match player.apply(SEAT, Event::Disconnect(number)) {
+        Ok(outcome) => {
+            list.drop_list();
+            push_outcome(alloc, shown, number, &outcome)?;
+            Ok(Memory::Ample)
+        }
+        Err(fault) => {
+            push_fault(alloc, shown, number, "", fault)?;
+            Ok(Memory::NoneToRun(0))
+        }
+    }
+}
+
+/// Runs a line that is in no list.
+fn run_line_alone(
     alloc: Global,
     player: &mut Partition,
     number: u32,
     line: &str,
     shown: &mut Vec<u8>,
 ) -> Result<Memory, AllocError>
-    ensures player { IfOk result (λ memory. player.new.present ≡ (line_run images player.old.present number line.now memory).player) }
-    ensures text { IfOk result (λ memory. shown.new.items ≡ shown.old.items ++ (line_run images player.old.present number line.now memory).text) }
+    ensures player { IfOk result (λ memory. player.new.present ≡ (alone_run images player.old.present number line.now memory).player) }
+    ensures text { IfOk result (λ memory. shown.new.items ≡ shown.old.items ++ (alone_run images player.old.present number line.now memory).text) }
     ensures connects { IfOk result (λ memory. memory ≢ Memory.NoneToConnect) }
 {
     let Ok(request) = Request::of_line(alloc, line, false) else {
         push_fault(alloc, shown, number, "", PartitionFault::NoMemory)?;
-        return Ok(Memory::NoneToRead);
+        return Ok(Memory::NoneToRead(0));
     };
     if run_request(alloc, player, number, request, shown)? {
         Ok(Memory::Ample)
     } else {
-        Ok(Memory::NoneToRun)
+        Ok(Memory::NoneToRun(0))
     }
 }
 
@@ -157,7 +217,11 @@ pub(crate) fn push_notices(
     Ok(())
 }
 
-fn push_notice(alloc: Global, shown: &mut Vec<u8>, notice: Notice) -> Result<(), AllocError>
+pub(crate) fn push_notice(
+    alloc: Global,
+    shown: &mut Vec<u8>,
+    notice: Notice,
+) -> Result<(), AllocError>
     ensures { OnOk result (shown.new.items ≡ shown.old.items ++ notice_lines notice) }
 {
     let mut answer = Answer::new(alloc);
@@ -176,18 +240,14 @@ pub(crate) fn push_fault(
 ) -> Result<(), AllocError>
     ensures { OnOk result (shown.new.items ≡ shown.old.items ++ fault_for number name.now fault) }
 {
-    let text = match fault {
-        PartitionFault::AtLimit => "player limit reached",
-        PartitionFault::NoMemory => "out of memory",
-    };
     let mut answer = Answer::new(alloc);
-    answer.ack(ErrorNumber::System, 0, name, text)?;
+    answer.ack(ErrorNumber::System, 0, name, fault.text())?;
     push_lines(alloc, shown, number, answer.bytes())
 }
 
 /// Appends a text, with the client's number before each line.
 #[tactic(auto, using(crate::proofs::Numbered::whole_text))]
-fn push_lines(
+pub(crate) fn push_lines(
     alloc: Global,
     shown: &mut Vec<u8>,
     number: u32,

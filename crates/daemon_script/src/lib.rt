@@ -3,6 +3,7 @@
 
 mod client_lines;
 mod laws;
+mod lists;
 mod memory;
 mod run;
 mod script;

@@ -6,8 +6,8 @@ pub enum Memory {
     Ample,
     /// None for its client's connect: the line was not run.
     NoneToConnect,
-    /// None to read what the line asks for.
-    NoneToRead,
-    /// None to run what was read.
-    NoneToRun,
+    /// None to read what the line asks for, or the line at this place of the command list that it ends.
+    NoneToRead(usize),
+    /// None to run what was read, or the command at this place of the list.
+    NoneToRun(usize),
 }

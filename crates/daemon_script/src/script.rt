@@ -1,14 +1,15 @@
 //! A script: what it collects, and its player.
-ghost use Rattle.std.specs.Prelude.{◌≡◌, ◌≤◌, ◌++◌, codes, None, IfOk, OnOk};
+ghost use Rattle.std.specs.Prelude.{◌≡◌, ◌<◌, ◌≤◌, ◌++◌, codes, None, IfOk, OnOk};
 ghost use Rattle.mpd_text.specs.Lines.Split.{view as view_of_line};
 ghost use Rattle.song_db.specs.Library.{in_byte_order};
 ghost use Rattle.partition.specs.Image.{opening};
 ghost use Rattle.daemon_script.specs.Kinds.{images, library_of};
 ghost use Rattle.daemon_script.specs.Pieces.{memory_of};
-ghost use Rattle.daemon_script.specs.Script.{opening_script, shown_of, step_line, collect_line, gone_line, lowers, shown_client, refusal_text, has_uri as has_uri_lem};
+ghost use Rattle.daemon_script.specs.Script.{no_lists as no_lists_lem, client_run, list_of, with_list, opening_script, shown_of, step_line, collect_line, gone_line, lowers, shown_client, refusal_text, has_uri as has_uri_lem};
 
-use crate::client_lines::{SEAT, push_fault, push_notices, run_line};
+use crate::client_lines::{LineRun, SEAT, push_fault, push_notices, run_line};
 use crate::memory::Memory;
+use command_lists::ListCollector;
 use mpd_text::{Line, Song, Tag};
 use partition::{Event, Library, Limits, Partition, PartitionFault};
 use script_lines::{LimitName, MAX_ID, MAX_QUEUE, MAX_VERSION, ScriptLine, Step};
@@ -22,6 +23,8 @@ pub(crate) struct Script {
     alloc: Global,
     limits: Limits,
     songs: Vec<Song>,
+    /// The command list that each client has open, by its number.
+    lists: [ListCollector; 10],
     player: Option<Partition>,
 }
 
@@ -33,7 +36,7 @@ impl Model for Script {
 
     ghost Value = { ScriptData Image };
 
-    ghost view = { λ s. record { limits = s.limits; songs = s.songs.items; player = option_map (λ p. p.present) s.player } };
+    ghost view = { λ s. record { limits = s.limits; songs = s.songs.items; lists = s.lists; player = option_map (λ p. p.present) s.player } };
 
     ghost invariant = { λ s. IsScript s.limits s.songs.items };
 }
@@ -51,6 +54,7 @@ impl Script {
                 max_id: MAX_ID,
             },
             songs: Vec::new(alloc),
+            lists: no_lists(),
             player: None,
         }
     }
@@ -124,6 +128,7 @@ impl Script {
         };
         match player.apply(SEAT, Event::Disconnect(number)) {
             Ok(outcome) => {
+                drop_list_of(&mut self.lists, number);
                 push_notices(self.alloc, shown, outcome.notices())?;
                 Ok(Memory::Ample)
             }
@@ -137,13 +142,15 @@ impl Script {
         line: &str,
         shown: &mut Vec<u8>,
     ) -> Result<Memory, AllocError>
+        requires { number < 10 }
         ensures script { IfOk result (λ memory. self.new ≡ (shown_client images self.old self.old.player number line.now memory).script) }
         ensures text { IfOk result (λ memory. shown.new.items ≡ shown.old.items ++ (shown_client images self.old self.old.player number line.now memory).text) }
     {
         let Some(player) = &mut self.player else {
             return self.run_first_line(number, line, shown);
         };
-        let ran = run_line(self.alloc, player, number, line, shown)?;
+        let lists = &mut self.lists;
+        let ran = run_listed_line(self.alloc, player, lists, number, line, shown)?;
         Ok(ran.memory)
     }
 
@@ -155,7 +162,8 @@ impl Script {
         line: &str,
         shown: &mut Vec<u8>,
     ) -> Result<Memory, AllocError>
-        requires { self.old.player ≡ None }
+        requires client { number < 10 }
+        requires first { self.old.player ≡ None }
         ensures script { IfOk result (λ memory. self.new ≡ (shown_client images self.old None number line.now memory).script) }
         ensures text { IfOk result (λ memory. shown.new.items ≡ shown.old.items ++ (shown_client images self.old None number line.now memory).text) }
     {
@@ -163,7 +171,8 @@ impl Script {
             push_fault(self.alloc, shown, number, "", PartitionFault::NoMemory)?;
             return Ok(Memory::NoneToConnect);
         };
-        let ran = run_line(self.alloc, &mut player, number, line, shown)?;
+        let lists = &mut self.lists;
+        let ran = run_listed_line(self.alloc, &mut player, lists, number, line, shown)?;
         if ran.connected {
             self.player = Some(player);
         }
@@ -187,6 +196,59 @@ impl Script {
     }
 }
 
+/// Runs a client's line, by the command list that it has open.
+fn run_listed_line(
+    alloc: Global,
+    player: &mut Partition,
+    lists: &mut [ListCollector; 10],
+    number: u32,
+    line: &str,
+    shown: &mut Vec<u8>,
+) -> Result<LineRun, AllocError>
+    requires { number < 10 }
+    ensures player { IfOk result (λ ran. player.new.present ≡ (client_run images player.old.present (list_of number lists.old) number line.now ran.memory).player) }
+    ensures lists { IfOk result (λ ran. lists.new ≡ with_list number (client_run images player.old.present (list_of number lists.old) number line.now ran.memory).list lists.old) }
+    ensures text { IfOk result (λ ran. shown.new.items ≡ shown.old.items ++ (client_run images player.old.present (list_of number lists.old) number line.now ran.memory).text) }
+    ensures connected { IfOk result (λ ran. ran.connected ≡ (client_run images player.old.present (list_of number lists.old) number line.now ran.memory).connected) }
+{
+    run_line(
+        alloc,
+        player,
+        &mut lists[number as usize],
+        number,
+        line,
+        shown,
+    )
+}
+
+/// Drops the command list that a client has open, if it has one.
+fn drop_list_of(lists: &mut [ListCollector; 10], number: u32)
+    ensures { lists.new ≡ with_list number None lists.old }
+{
+    let place = number as usize;
+    if place < lists.len() {
+        lists[place].drop_list();
+    }
+}
+
+/// No client has a list open.
+fn no_lists() -> [ListCollector; 10]
+    ensures { result ≡ no_lists_lem }
+{
+    [
+        ListCollector::new(),
+        ListCollector::new(),
+        ListCollector::new(),
+        ListCollector::new(),
+        ListCollector::new(),
+        ListCollector::new(),
+        ListCollector::new(),
+        ListCollector::new(),
+        ListCollector::new(),
+        ListCollector::new(),
+    ]
+}
+
 fn push_bad(shown: &mut Vec<u8>) -> Result<Memory, AllocError>
     ensures text { OnOk result (shown.new.items ≡ shown.old.items ++ codes "! bad\n") }
     ensures memory { IfOk result (λ memory. memory ≡ Memory.Ample) }
@@ -207,7 +269,7 @@ fn push_refusal(shown: &mut Vec<u8>, fault: PartitionFault) -> Result<Memory, Al
         }
         PartitionFault::NoMemory => {
             shown.extend_from_slice(b"! refused out of memory\n")?;
-            Ok(Memory::NoneToRun)
+            Ok(Memory::NoneToRun(0))
         }
     }
 }

@@ -16,3 +16,4 @@ pub mod Sends
 pub mod Settled
 pub mod Tells
 pub mod Worlds
+mod ListRuns

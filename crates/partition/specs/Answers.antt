@@ -1,10 +1,10 @@
 -- What clients hear (MPD protocol reference, Responses and Command lists; notices: Querying MPD's status, `idle`).
 use Rattle.std.specs.Prelude.{ℕ, Bool, false, true, List, ◌++◌, codes, Option}
+use Rattle.command_lists.specs.declared.word.ListForm.TheVariants.{Plain, ListOk}
 use Rattle.mpd_text.specs.Answers.Answer.{ack_line, number_of}
 use Rattle.mpd_text.specs.declared.answers.answer.ErrorNumber.{ErrorNumber}
 use Rattle.mpd_command.specs.declared.name.Name.{Name}
 use Rattle.mpd_command.specs.Requests.{text_of_name}
-use Rattle.partition.specs.declared.event.ListForm.TheVariants.{Plain, Ok}
 use Rattle.partition.specs.declared.event.Move.{Move}
 use Rattle.partition.specs.declared.event.Move.TheVariants.{Stay}
 use Rattle.partition.specs.declared.event.Next.{Next}
@@ -33,7 +33,7 @@ pub record Told : Type 0 where
 abbrev pub ending : Stand → List ℕ
 ending Alone = codes "OK\n"
 ending (InList Plain place) = codes ""
-ending (InList Ok place) = codes "list_OK\n"
+ending (InList ListOk place) = codes "list_OK\n"
 
 -- the place in its list that a refusal names
 abbrev pub place_of : Stand → ℕ

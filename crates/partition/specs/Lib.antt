@@ -12,3 +12,4 @@ pub mod World
 pub mod Notices
 pub mod Legal
 pub mod Invariant
+pub mod Lists

@@ -3,6 +3,7 @@ ghost use Rattle.std.specs.Prelude.{◌≡◌};
 ghost use Rattle.partition.specs.Answers.{Answer, Told, place_of};
 
 use crate::notices::Notices;
+use command_lists::ListForm;
 use idle_notes::Subsystems;
 use mpd_command::{Name, Request};
 use mpd_text::SharedText;
@@ -19,26 +20,17 @@ pub enum Event {
     Line(u32, Stand, Request),
 }
 
-/// The two forms of a command list (MPD protocol reference, Command lists).
-#[derive(Clone, Copy, Debug, PartialEq, Eq)]
-pub enum ListForm {
-    /// `command_list_begin`: the answers follow one another.
-    Plain,
-    /// `command_list_ok_begin`: `list_OK` follows each success.
-    Ok,
-}
-
 /// How a line comes.
 #[derive(Clone, Copy, Debug, PartialEq, Eq)]
 pub enum Stand {
     Alone,
     /// In a list of this form, at this place from 0.
-    InList(ListForm, u32),
+    InList(ListForm, usize),
 }
 
 impl Stand {
     /// The place that a refusal names.
-    pub(crate) fn place(self) -> u32
+    pub(crate) fn place(self) -> usize
         ensures { result ≡ place_of self }
     {
         match self {
@@ -142,11 +134,20 @@ impl Model for Outcome {
 }
 
 impl Outcome {
+    ghost use Rattle.partition.specs.Lists.{ends_list};
+
     /// What the client is told that spoke, came or went.
     pub fn reply(&self) -> &Reply
         ensures { result.now ≡ self.now.answer }
     {
         &self.reply
+    }
+
+    /// Whether a command list ends with this outcome of one of its commands: it is a refusal, or it closes the client.
+    pub fn ends_list(&self) -> bool
+        ensures { result ≡ ends_list self.now }
+    {
+        self.reply.refused || matches!(self.reply.next, Next::Closes)
     }
 
     /// What others are told that waited, by rising client.

@@ -1,21 +1,25 @@
 //! The player with its history.
-ghost use Rattle.std.specs.Prelude.{◌≡◌, ◌≢◌, ◌↔◌, ◌++◌, ◌∷◌, ◌-◌, ◌^◌, ◌≤◌, ◌<◌, [], List, IfOk, OnErr, OnOk, IsErrOf, slice_index_or, is_some, All, AllPairs};
+ghost use Rattle.std.specs.Prelude.{◌≡◌, ◌≢◌, ◌↔◌, ◌++◌, ◌∷◌, ◌-◌, ◌^◌, ◌≤◌, ◌<◌, [], List, length, map, vec_capacity, IfOk, IfErr, OnErr, OnOk, IsErrOf, slice_index_or, nat_le, is_some, All, AllPairs};
 ghost use Rattle.song_queue.specs.State.{queue_of};
+ghost use Rattle.mpd_command.specs.Requests.{name_in};
 ghost use Rattle.partition.specs.declared.event.Happened.{Happened};
 ghost use Rattle.partition.specs.declared.state.Limits.{Limits};
 ghost use Rattle.partition.specs.History.{replay, AreTold, own as own_of};
 ghost use Rattle.partition.specs.Image.{Image, image_of_state, opening, client_of};
+ghost use Rattle.partition.specs.Lists.{RunsList, StopsList, entries_of};
 ghost use Rattle.partition.specs.Legal.{HasPending, IsPast, life_of};
 ghost use Rattle.partition.specs.Notices.{AreHeard, EachMoment, Raises, Tells};
 ghost use Rattle.partition.specs.Settled.{AllSettled};
 ghost use Rattle.partition.specs.Step.{next_image, told};
 
 use crate::clients::find;
-use crate::event::{Event, Happened, Outcome};
+use crate::event::{Event, Happened, Outcome, Stand};
 use crate::happen::record_event;
 use crate::laws::replays_worlds;
+use crate::lists::{ListFault, ListOutcome};
 use crate::state::{Client, Controls, Library, Limits, MAX_OWN, Modes, Part, State};
-use mpd_command::Volume;
+use command_lists::ListForm;
+use mpd_command::{Request, Volume};
 use song_queue::Queue;
 use std::alloc::{AllocError, Global};
 use std::marker::Model;
@@ -27,6 +31,20 @@ pub enum PartitionFault {
     AtLimit,
     /// A growth was refused.
     NoMemory,
+}
+
+impl PartitionFault {
+    ghost use Rattle.partition.specs.Lists.{fault_text};
+
+    /// What an `ACK` says of it.
+    pub fn text(self) -> &'static str
+        ensures { result.now ≡ fault_text self }
+    {
+        match self {
+            PartitionFault::AtLimit => "player limit reached",
+            PartitionFault::NoMemory => "out of memory",
+        }
+    }
 }
 
 /// A player of one thread, and everything that happened to it.
@@ -95,7 +113,7 @@ impl Partition {
         ensures legal { IsPast self.old }
     {
         self.legal();
-        if self.state.made[usize::from(seat)] >= MAX_OWN {
+        if self.is_at_limit(seat) {
             return Err(PartitionFault::AtLimit);
         }
         let Ok(outcome) = record_event(self.alloc, &mut self.state, &mut self.history, seat, event)
@@ -103,6 +121,101 @@ impl Partition {
             return Err(PartitionFault::NoMemory);
         };
         Ok(outcome)
+    }
+
+    /// Runs the requests of a client's command list, each as an event of its own, side by side in the history, up to the first
+    /// that ends the list: one that is refused, or that closes the client.
+    ///
+    /// # Errors
+    ///
+    /// Where the player refuses an event, those before it stand.
+    pub fn run_list(
+        &mut self,
+        seat: u8,
+        client: u32,
+        form: ListForm,
+        requests: Vec<Request>,
+    ) -> Result<ListOutcome, ListFault>
+        requires { seat < 16 }
+        ensures ok { IfOk result (λ tolds. RunsList seat self.old self.new (entries_of seat self.old.present client form 0 requests.items) tolds) }
+        ensures err { IfErr result (λ stop. StopsList seat self.old self.new (entries_of seat self.old.present client form 0 requests.items) requests.items stop) }
+        ensures legal { IsPast self.old }
+    {
+        self.legal();
+        let mut outcomes = Vec::new(self.alloc);
+        if requests.is_empty() {
+            return Ok(ListOutcome { outcomes });
+        }
+        if outcomes.reserve(requests.len()).is_err() {
+            return Err(ListFault {
+                done: 0,
+                outcomes,
+                command: first_name(&requests),
+                cause: self.without_memory(seat),
+            });
+        }
+        self.run_requests(seat, client, form, requests, outcomes)
+    }
+
+    /// Runs requests side by side, and puts their outcomes where there is room for all.
+    fn run_requests(
+        &mut self,
+        seat: u8,
+        client: u32,
+        form: ListForm,
+        requests: Vec<Request>,
+        mut outcomes: Vec<Outcome>,
+    ) -> Result<ListOutcome, ListFault>
+        requires seat { seat < 16 }
+        requires empty { outcomes.items ≡ [] }
+        requires room { length requests.items ≤ vec_capacity outcomes }
+        ensures ok { IfOk result (λ tolds. RunsList seat self.old self.new (entries_of seat self.old.present client form 0 requests.items) tolds) }
+        ensures err { IfErr result (λ stop. StopsList seat self.old self.new (entries_of seat self.old.present client form 0 requests.items) requests.items stop) }
+    {
+        self.legal();
+        for request in requests {
+            let done = outcomes.len();
+            let command = request.name();
+            let event = Event::Line(client, Stand::InList(form, done), request);
+            match self.apply(seat, event) {
+                Ok(outcome) => {
+                    let ends = outcome.ends_list();
+                    outcomes.push_reserved(outcome);
+                    if ends {
+                        return Ok(ListOutcome { outcomes });
+                    }
+                }
+                Err(cause) => {
+                    return Err(ListFault {
+                        done,
+                        outcomes,
+                        command,
+                        cause,
+                    });
+                }
+            }
+        }
+        Ok(ListOutcome { outcomes })
+    }
+
+    /// Whether a seat made as many events as can be counted.
+    fn is_at_limit(&self, seat: u8) -> bool
+        requires { seat < 16 }
+        ensures { result ≡ nat_le (2 ^ 63 - 1) (slice_index_or self.now.present.shared.made seat 0) }
+    {
+        self.state.made[usize::from(seat)] >= MAX_OWN
+    }
+
+    /// Why an event of a seat is refused that finds no memory.
+    fn without_memory(&self, seat: u8) -> PartitionFault
+        requires { seat < 16 }
+        ensures { (result ≡ PartitionFault.AtLimit) ↔ (2 ^ 63 - 1 ≤ slice_index_or self.now.present.shared.made seat 0) }
+    {
+        if self.is_at_limit(seat) {
+            PartitionFault::AtLimit
+        } else {
+            PartitionFault::NoMemory
+        }
     }
 
     /// All that happened, the first event first.
@@ -175,5 +288,15 @@ impl Partition {
         ensures { result.now ≡ self.now.present.clients }
     {
         &self.state.clients
+    }
+}
+
+/// The name of the command that the first request asks for.
+fn first_name(requests: &[Request]) -> &'static str
+    ensures { result.now ≡ slice_index_or (map name_in requests.now) 0 [] }
+{
+    match requests {
+        [first, ..] => first.name(),
+        [] => "",
     }
 }

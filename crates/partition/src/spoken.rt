@@ -4,7 +4,8 @@ ghost use Rattle.std.specs.String.{string_bytes};
 ghost use Rattle.mpd_command.specs.Requests.{text_of_name};
 ghost use Rattle.partition.specs.Answers.{Said, ending, refuses as refuses_lem, shut as shut_lem, stays, succeeds as succeeds_lem, tells as tells_lem};
 
-use crate::event::{Asked, ListForm, Move, Next, Reply, Stand};
+use crate::event::{Asked, Move, Next, Reply, Stand};
+use command_lists::ListForm;
 use mpd_command::Name;
 use mpd_text::{Answer, ErrorNumber, SharedText};
 use std::alloc::{AllocError, Global};
@@ -107,7 +108,7 @@ fn end(lines: &mut Answer, stand: Stand) -> Result<(), AllocError>
     match stand {
         Stand::Alone => lines.ok(),
         Stand::InList(ListForm::Plain, _) => Ok(()),
-        Stand::InList(ListForm::Ok, _) => lines.list_ok(),
+        Stand::InList(ListForm::ListOk, _) => lines.list_ok(),
     }
 }
 
@@ -134,7 +135,7 @@ pub(crate) fn refuses_line(
     ensures { IfOk result (λ spoken. spoken ≡ stays (refuses_lem stand name number text.now)) }
 {
     let mut answer = Answer::new(alloc);
-    let place = stand.place() as usize;
+    let place = stand.place();
     answer.ack(number, place, name_text(name), text)?;
     Spoken::of(
         SharedText::of(answer.into_string())?,

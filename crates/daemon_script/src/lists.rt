@@ -1,0 +1,206 @@
+//! Command lists that have ended, and the lines that they print.
+ghost use Rattle.std.specs.Prelude.{◌≡◌, ◌≢◌, ◌++◌, ◌∷◌, [], None, map, string_bytes, IfOk, OnErr, OnOk};
+ghost use Rattle.std.specs.List.{flat_map};
+ghost use Rattle.partition.specs.Lists.{stop_text};
+ghost use Rattle.daemon_script.specs.Kinds.{images};
+ghost use Rattle.daemon_script.specs.Script.{commands_run, end_of as end_of_lem, ending_of, lines_for, notices_by_number, all_notices_to, client_numbers, notices_to, place_without, read_of, request_in as request_in_lem};
+
+use crate::client_lines::{SEAT, push_lines, push_notice};
+use crate::memory::Memory;
+use command_lists::{CommandList, ListLine};
+use mpd_command::{Ack, Request};
+use mpd_text::{Answer, ErrorNumber, Text};
+use partition::{ListFault, ListOutcome, Notice, Outcome, Partition, PartitionFault};
+use std::alloc::{AllocError, Global};
+
+/// The numbers of a script's clients.
+const CLIENT_NUMBERS: [u32; 9] = [1, 2, 3, 4, 5, 6, 7, 8, 9];
+
+/// Runs a command list, and appends what it prints: the whole answer to its client, and then the notices to others. The
+/// commands before one that cannot be read or run for want of memory stand.
+pub(crate) fn run_commands(
+    alloc: Global,
+    player: &mut Partition,
+    number: u32,
+    commands: &CommandList,
+    shown: &mut Vec<u8>,
+) -> Result<Memory, AllocError>
+    ensures player { IfOk result (λ memory. player.new.present ≡ (commands_run images player.old.present number commands.now memory).player) }
+    ensures text { IfOk result (λ memory. shown.new.items ≡ shown.old.items ++ (commands_run images player.old.present number commands.now memory).text) }
+    ensures connects { IfOk result (λ memory. memory ≢ Memory.NoneToConnect) }
+{
+    let (requests, memory) = read_all(alloc, commands.lines.items());
+    let end = end_of(alloc, memory)?;
+    match player.run_list(SEAT, number, commands.form, requests) {
+        Ok(outcome) => {
+            push_outcome(alloc, shown, number, &outcome, end.as_str())?;
+            Ok(memory)
+        }
+        Err(fault) => {
+            push_fault(alloc, shown, number, &fault)?;
+            Ok(Memory::NoneToRun(fault.done))
+        }
+    }
+}
+
+/// What the lines of a list ask for, up to the first that there was no memory to read.
+fn read_all(alloc: Global, lines: &[ListLine]) -> (Vec<Request>, Memory)
+    ensures read { result.0.items ≡ read_of result.1 (map request_in_lem lines.now) }
+    ensures runs { place_without result.1 ≡ None }
+    ensures connects { result.1 ≢ Memory.NoneToConnect }
+{
+    let mut requests = Vec::new(alloc);
+    for (place, line) in lines.iter().enumerate() {
+        let Ok(()) = push_request(alloc, &mut requests, line) else {
+            return (requests, Memory::NoneToRead(place));
+        };
+    }
+    (requests, Memory::Ample)
+}
+
+/// Puts what a line of a list asks for after other requests.
+fn push_request(
+    alloc: Global,
+    requests: &mut Vec<Request>,
+    line: &ListLine,
+) -> Result<(), AllocError>
+    ensures ok { OnOk result (requests.new.items ≡ requests.old.items ++ request_in_lem line.now ∷ []) }
+    ensures err { OnErr result (requests.new.items ≡ requests.old.items) }
+{
+    let request = request_in(alloc, line)?;
+    Ok(requests.push(request)?)
+}
+
+/// What a line of a list asks for.
+fn request_in(alloc: Global, line: &ListLine) -> Result<Request, AllocError>
+    ensures { IfOk result (λ request. request ≡ request_in_lem line.now) }
+{
+    match line {
+        ListLine::Text(line) => Request::of_line(alloc, line.as_str(), false),
+        ListLine::NotText => Ok(Request::Refused(Ack {
+            number: ErrorNumber::Argument,
+            command: None,
+            text: Text::new(alloc, "line is not UTF-8")?,
+        })),
+    }
+}
+
+/// What follows the answers where all commands that were read succeed.
+fn end_of(alloc: Global, memory: Memory) -> Result<String, AllocError>
+    ensures { IfOk result (λ end. string_bytes end ≡ end_of_lem memory) }
+{
+    let mut end = Answer::new(alloc);
+    match memory {
+        Memory::NoneToRead(place) => {
+            let text = PartitionFault::NoMemory.text();
+            end.ack(ErrorNumber::System, place, "", text)?;
+        }
+        Memory::Ample | Memory::NoneToConnect | Memory::NoneToRun(_) => end.ok()?,
+    }
+    Ok(end.into_string())
+}
+
+/// Appends what a list that ran makes clients hear; `end` follows the answers where all succeeded.
+fn push_outcome(
+    alloc: Global,
+    shown: &mut Vec<u8>,
+    number: u32,
+    outcome: &ListOutcome,
+    end: &str,
+) -> Result<(), AllocError>
+    ensures { OnOk result (shown.new.items ≡ shown.old.items ++ (lines_for number (flat_map (λ t. t.answer.text) outcome.now ++ ending_of end.now outcome.now) ++ notices_by_number outcome.now)) }
+{
+    let answer = whole_answer(alloc, outcome, end)?;
+    push_lines(alloc, shown, number, &answer)?;
+    push_notices_by_number(alloc, shown, outcome.outcomes())
+}
+
+/// The whole answer of a list that ran.
+fn whole_answer(alloc: Global, outcome: &ListOutcome, end: &str) -> Result<Vec<u8>, AllocError>
+    ensures { IfOk result (λ answer. answer.items ≡ flat_map (λ t. t.answer.text) outcome.now ++ ending_of end.now outcome.now) }
+{
+    let mut answer = Vec::new(alloc);
+    if outcome.closes() {
+        outcome.push_text_with("", &mut answer)?;
+        answer.extend_from_slice(b"closed\n")?;
+    } else {
+        outcome.push_text_with(end, &mut answer)?;
+    }
+    Ok(answer)
+}
+
+/// Appends what a list makes clients hear that was not run to its end.
+fn push_fault(
+    alloc: Global,
+    shown: &mut Vec<u8>,
+    number: u32,
+    fault: &ListFault,
+) -> Result<(), AllocError>
+    ensures { OnOk result (shown.new.items ≡ shown.old.items ++ (lines_for number (stop_text fault.now) ++ notices_by_number fault.now.tolds)) }
+{
+    let mut answer = Vec::new(alloc);
+    fault.push_text(alloc, &mut answer)?;
+    push_lines(alloc, shown, number, &answer)?;
+    push_notices_by_number(alloc, shown, &fault.outcomes)
+}
+
+/// Appends the notices of a list's commands, by rising client.
+#[tactic(auto, unfolding(crate::specs::Script::notices_by_number))]
+fn push_notices_by_number(
+    alloc: Global,
+    shown: &mut Vec<u8>,
+    outcomes: &[Outcome],
+) -> Result<(), AllocError>
+    ensures { OnOk result (shown.new.items ≡ shown.old.items ++ notices_by_number outcomes.now) }
+{
+    push_notices_in_turn(alloc, shown, &CLIENT_NUMBERS, outcomes)
+}
+
+/// Appends the notices to these clients, in the order of the list.
+fn push_notices_in_turn(
+    alloc: Global,
+    shown: &mut Vec<u8>,
+    numbers: &[u32],
+    outcomes: &[Outcome],
+) -> Result<(), AllocError>
+    ensures { OnOk result (shown.new.items ≡ shown.old.items ++ flat_map (λ number. all_notices_to number outcomes.now) numbers.now) }
+{
+    for number in numbers {
+        push_all_notices_to(alloc, shown, *number, outcomes)?;
+    }
+    Ok(())
+}
+
+/// Appends the notices to one client.
+#[tactic(auto, unfolding(crate::specs::Script::all_notices_to))]
+fn push_all_notices_to(
+    alloc: Global,
+    shown: &mut Vec<u8>,
+    number: u32,
+    outcomes: &[Outcome],
+) -> Result<(), AllocError>
+    ensures { OnOk result (shown.new.items ≡ shown.old.items ++ all_notices_to number outcomes.now) }
+{
+    for outcome in outcomes {
+        push_notices_to(alloc, shown, number, outcome.notices())?;
+    }
+    Ok(())
+}
+
+/// Appends those of some notices that are to one client.
+#[tactic(auto, unfolding(crate::specs::Script::notices_to))]
+fn push_notices_to(
+    alloc: Global,
+    shown: &mut Vec<u8>,
+    number: u32,
+    notices: &[Notice],
+) -> Result<(), AllocError>
+    ensures { OnOk result (shown.new.items ≡ shown.old.items ++ notices_to number notices.now) }
+{
+    for notice in notices {
+        if notice.client == number {
+            push_notice(alloc, shown, *notice)?;
+        }
+    }
+    Ok(())
+}

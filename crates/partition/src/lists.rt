@@ -1,0 +1,145 @@
+//! What command lists make clients hear.
+ghost use Rattle.std.specs.Prelude.{◌≡◌, ◌++◌, ℕ, List, OnErr, OnOk};
+ghost use Rattle.std.specs.List.{flat_map, list_any};
+ghost use Rattle.partition.specs.Clients.{closes};
+ghost use Rattle.partition.specs.Lists.{ends_list};
+
+use crate::event::{Next, Outcome};
+use crate::partition::PartitionFault;
+use mpd_text::{Answer, ErrorNumber};
+use std::alloc::{AllocError, Global};
+use std::marker::Model;
+
+/// What a command list that ran makes clients hear: the outcome of each command, in order.
+#[derive(Drop)]
+pub struct ListOutcome {
+    pub(crate) outcomes: Vec<Outcome>,
+}
+
+impl Model for ListOutcome {
+    ghost use Rattle.std.specs.Prelude.{List};
+    ghost use Rattle.partition.specs.Answers.{Told};
+
+    ghost Value = { List Told };
+
+    ghost view = { λ l. l.outcomes.items };
+}
+
+impl ListOutcome {
+    ghost use Rattle.partition.specs.Lists.{list_text, text_with};
+
+    /// The outcome of each command that was run.
+    pub fn outcomes(&self) -> &[Outcome]
+        ensures { result.now ≡ self.now }
+    {
+        &self.outcomes
+    }
+
+    /// Whether the client is closed.
+    pub fn closes(&self) -> bool
+        ensures { result ≡ list_any (λ t. closes t.answer.next) self.now }
+    {
+        self.outcomes
+            .iter()
+            .any(|outcome| matches!(outcome.reply().next(), Next::Closes))
+    }
+
+    /// Appends the whole answer, by one growth: the commands' answers, and `OK` if all succeeded. Without memory nothing
+    /// changes.
+    pub fn push_text(&self, bytes: &mut Vec<u8>) -> Result<(), AllocError>
+        ensures ok { OnOk result (bytes.new.items ≡ bytes.old.items ++ list_text self.now) }
+        ensures err { OnErr result (bytes.new.items ≡ bytes.old.items) }
+    {
+        self.push_text_with("OK\n", bytes)
+    }
+
+    /// Appends the commands' answers, and after them `end` if all succeeded.
+    pub fn push_text_with(&self, end: &str, bytes: &mut Vec<u8>) -> Result<(), AllocError>
+        ensures ok { OnOk result (bytes.new.items ≡ bytes.old.items ++ text_with end.now self.now) }
+        ensures err { OnErr result (bytes.new.items ≡ bytes.old.items) }
+    {
+        if any_ends(&self.outcomes) {
+            return push_whole(&self.outcomes, "", bytes);
+        }
+        push_whole(&self.outcomes, end, bytes)
+    }
+}
+
+/// Why a command list could not be run to its end. The commands before the one that was refused stand.
+#[derive(Drop)]
+pub struct ListFault {
+    /// How many commands were run. It is the place of the one that was refused.
+    pub done: usize,
+    /// What they make clients hear, in order.
+    pub outcomes: Vec<Outcome>,
+    /// The name of the command that was refused; empty where its line names none that is known.
+    pub command: &'static str,
+    pub cause: PartitionFault,
+}
+
+impl Model for ListFault {
+    ghost use Rattle.partition.specs.Lists.{Stop};
+
+    ghost Value = { Stop };
+
+    ghost view = { λ f. record { done = f.done; tolds = f.outcomes.items; command = f.command.now; cause = f.cause } };
+}
+
+impl ListFault {
+    ghost use Rattle.partition.specs.Lists.{stop_text};
+
+    /// Appends the whole answer, by one growth: those of the commands that were run, and the `ACK` of the one that was
+    /// refused. Without memory nothing changes.
+    pub fn push_text(&self, alloc: Global, bytes: &mut Vec<u8>) -> Result<(), AllocError>
+        ensures ok { OnOk result (bytes.new.items ≡ bytes.old.items ++ stop_text self.now) }
+        ensures err { OnErr result (bytes.new.items ≡ bytes.old.items) }
+    {
+        let mut refusal = Answer::new(alloc);
+        refusal.ack(
+            ErrorNumber::System,
+            self.done,
+            self.command,
+            self.cause.text(),
+        )?;
+        push_whole(&self.outcomes, refusal.into_string().as_str(), bytes)
+    }
+}
+
+/// Whether one of these outcomes ends its list.
+fn any_ends(outcomes: &[Outcome]) -> bool
+    ensures { result ≡ list_any ends_list outcomes.now }
+{
+    outcomes.iter().any(|outcome| outcome.ends_list())
+}
+
+/// Appends the answers of outcomes and then `end`, by one growth. Without memory nothing changes.
+fn push_whole(outcomes: &[Outcome], end: &str, bytes: &mut Vec<u8>) -> Result<(), AllocError>
+    ensures ok { OnOk result (bytes.new.items ≡ bytes.old.items ++ (flat_map (λ t. t.answer.text) outcomes.now ++ end.now)) }
+    ensures err { OnErr result (bytes.new.items ≡ bytes.old.items) }
+{
+    let before = bytes.len();
+    bytes.reserve(whole_len(outcomes, end))?;
+    let pushed = push_each(outcomes, end, bytes);
+    if pushed.is_err() {
+        bytes.truncate(before);
+    }
+    pushed
+}
+
+/// The bytes of the answers of outcomes and of `end`, as many as can be counted.
+fn whole_len(outcomes: &[Outcome], end: &str) -> usize {
+    outcomes.iter().fold(end.len(), |sum, outcome| {
+        sum.saturating_add(outcome.reply().text().len())
+    })
+}
+
+/// Appends the answers of outcomes and then `end`.
+fn push_each(outcomes: &[Outcome], end: &str, bytes: &mut Vec<u8>) -> Result<(), AllocError>
+    ensures ok { OnOk result (bytes.new.items ≡ bytes.old.items ++ (flat_map (λ t. t.answer.text) outcomes.now ++ end.now)) }
+    ensures front { (more : List ℕ) × (bytes.new.items ≡ bytes.old.items ++ more) }
+{
+    for outcome in outcomes {
+        bytes.extend_from_slice(outcome.reply().text().as_bytes())?;
+    }
+    bytes.extend_from_slice(end.as_bytes())
+}
