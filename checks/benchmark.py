@@ -98,6 +98,18 @@ def show_songs(path, start, queue):
     row('deleteid at the front (us each)', both(deleted.each(full, 1000)))
 
 
+def show_lists(path, start):
+    """A list of adds beside the same lines alone."""
+    before = start + ADD * 15000
+    alone = before + ADD * 1000
+    listed = before + b'1 command_list_begin\n' + ADD * 1000 + b'1 command_list_end\n'
+    with_ok = before + b'1 command_list_ok_begin\n' + ADD * 1000 + b'1 command_list_end\n'
+    none, lines, plain, ok = turns(path, [before, alone, listed, with_ok], PAIRS)
+    row('1000 add onto 15000, lines alone (us each)', both(median(lines, none, 1000)))
+    row('.. in a list (us each)', both(median(plain, none, 1000)), 'at most as the lines alone')
+    row('.. in a list with list_OK (us each)', both(median(ok, none, 1000)))
+
+
 def show_short_times(path, start, queue):
     row('median of %d differences of two runs' % PAIRS, ('passed', 'processor'), 'wanted')
     none, few, most, full, full_status, one, one_status = turns(path, [
@@ -135,6 +147,7 @@ def check(program):
     queue = start + ADD * ENTRIES
     show_long_times(program.path, queue)
     show_songs(program.path, start, queue)
+    show_lists(program.path, start)
     show_short_times(program.path, start, queue)
     show_memory(program)
     return 0

@@ -203,17 +203,13 @@ list_answer ran = flat_map (λ t. t.answer.text) ran.tolds ++ ran.ending
 unfoldable pub notices_to : ℕ → List Notice → List ℕ
 notices_to number notices = notices_for (filter (λ notice. notice.client == number) notices)
 
--- the notices that some events make for one client
-unfoldable pub all_notices_to : ℕ → List Told → List ℕ
-all_notices_to number tolds = flat_map (λ t. notices_to number t.notices) tolds
-
 -- the numbers of a script's clients
 abbrev pub client_numbers : List ℕ
 client_numbers = 1 ∷ 2 ∷ 3 ∷ 4 ∷ 5 ∷ 6 ∷ 7 ∷ 8 ∷ 9 ∷ []
 
 -- the notices of a list's commands, by rising client
 unfoldable pub notices_by_number : List Told → List ℕ
-notices_by_number tolds = flat_map (λ number. all_notices_to number tolds) client_numbers
+notices_by_number tolds = flat_map (λ number. notices_to number (flat_map (λ t. t.notices) tolds)) client_numbers
 
 -- the command list that a client has open, if it has one
 abbrev pub list_of : ℕ → List (Option CommandList) → Option CommandList

@@ -3,7 +3,7 @@ ghost use Rattle.std.specs.Prelude.{◌≡◌, ◌≢◌, ◌++◌, ◌∷◌, [
 ghost use Rattle.std.specs.List.{flat_map};
 ghost use Rattle.partition.specs.Lists.{stop_text};
 ghost use Rattle.daemon_script.specs.Kinds.{images};
-ghost use Rattle.daemon_script.specs.Script.{commands_run, end_of as end_of_lem, ending_of, lines_for, notices_by_number, all_notices_to, client_numbers, notices_to, place_without, read_of, request_in as request_in_lem};
+ghost use Rattle.daemon_script.specs.Script.{commands_run, end_of as end_of_lem, ending_of, lines_for, notices_by_number, client_numbers, notices_to, place_without, read_of, request_in as request_in_lem};
 
 use crate::client_lines::{SEAT, push_lines, push_notice};
 use crate::memory::Memory;
@@ -153,36 +153,32 @@ fn push_notices_by_number(
 ) -> Result<(), AllocError>
     ensures { OnOk result (shown.new.items ≡ shown.old.items ++ notices_by_number outcomes.now) }
 {
-    push_notices_in_turn(alloc, shown, &CLIENT_NUMBERS, outcomes)
+    let notices = all_notices(alloc, outcomes)?;
+    push_notices_in_turn(alloc, shown, &CLIENT_NUMBERS, &notices)
 }
 
-/// Appends the notices to these clients, in the order of the list.
+/// The notices of all these outcomes.
+fn all_notices(alloc: Global, outcomes: &[Outcome]) -> Result<Vec<Notice>, AllocError>
+    ensures { IfOk result (λ notices. notices.items ≡ flat_map (λ t. t.notices) outcomes.now) }
+{
+    let mut notices = Vec::new(alloc);
+    for outcome in outcomes {
+        notices.extend_from_slice(outcome.notices())?;
+    }
+    Ok(notices)
+}
+
+/// Appends those of some notices that are to these clients, in the order of the list.
 fn push_notices_in_turn(
     alloc: Global,
     shown: &mut Vec<u8>,
     numbers: &[u32],
-    outcomes: &[Outcome],
+    notices: &[Notice],
 ) -> Result<(), AllocError>
-    ensures { OnOk result (shown.new.items ≡ shown.old.items ++ flat_map (λ number. all_notices_to number outcomes.now) numbers.now) }
+    ensures { OnOk result (shown.new.items ≡ shown.old.items ++ flat_map (λ number. notices_to number notices.now) numbers.now) }
 {
     for number in numbers {
-        push_all_notices_to(alloc, shown, *number, outcomes)?;
-    }
-    Ok(())
-}
-
-/// Appends the notices to one client.
-#[tactic(auto, unfolding(crate::specs::Script::all_notices_to))]
-fn push_all_notices_to(
-    alloc: Global,
-    shown: &mut Vec<u8>,
-    number: u32,
-    outcomes: &[Outcome],
-) -> Result<(), AllocError>
-    ensures { OnOk result (shown.new.items ≡ shown.old.items ++ all_notices_to number outcomes.now) }
-{
-    for outcome in outcomes {
-        push_notices_to(alloc, shown, number, outcome.notices())?;
+        push_notices_to(alloc, shown, *number, notices)?;
     }
     Ok(())
 }

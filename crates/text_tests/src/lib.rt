@@ -11,6 +11,8 @@ mod devices;
 #[cfg(test)]
 mod lines;
 #[cfg(test)]
+mod list_lines;
+#[cfg(test)]
 mod long_devices;
 #[cfg(test)]
 mod notices;
