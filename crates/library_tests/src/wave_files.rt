@@ -440,19 +440,29 @@ fn is_blocked_head_refused<R: Abort>(rt: &R, alloc: Global) -> bool {
     is_head_refused(alloc, &mut blocked)
 }
 
+/// Ends the test where the reading of a head does not end in a fault at one of its calls.
+fn wants_failed_heads<R: Abort>(rt: &R, alloc: Global, calls: u64) {
+    for call in 1..=calls {
+        let told = failed_head(rt, alloc, call);
+        assert!(*rt; told == (true, 1), "call {call}");
+    }
+}
+
+/// The same of the seek and the read of the frames, which come after the calls for the head.
+fn wants_failed_frames<R: Abort>(rt: &R, alloc: Global, calls: u64) {
+    for call in 1..=2 {
+        let told = failed_frames(rt, alloc, calls.saturating_add(call));
+        assert!(*rt; told == (true, 2), "call {call} for the frames");
+    }
+}
+
 #[test]
 fn each_call_fails_in_turn(rt: HostRuntime) {
     let alloc = rt.alloc();
     let calls = calls_of_head(&rt, alloc);
     holds(&rt, calls > 3, "calls");
-    for call in 1..=calls {
-        assert!(rt; failed_head(&rt, alloc, call) == (true, 1), "call {call}");
-    }
-    // the seek and the read of the frames
-    for call in 1..=2 {
-        let call = calls.saturating_add(call);
-        assert!(rt; failed_frames(&rt, alloc, call) == (true, 2), "call {call}");
-    }
+    wants_failed_heads(&rt, alloc, calls);
+    wants_failed_frames(&rt, alloc, calls);
     holds(&rt, is_blocked_head_refused(&rt, alloc), "a blocked device");
 }
 

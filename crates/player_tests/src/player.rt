@@ -1,17 +1,33 @@
 //! Worked sessions of the player of one thread.
 //!
-//! The helpers have no clauses, so that a test knows nothing of what they give and is cheap to prove.
+//! A session is a text with a step in each line, and tells what is heard or shown at each. So few functions hold a player.
+use crate::tables::{first_word, number_of, song, wants, wants_made};
+use command_lists::ListForm;
 use mpd_command::{NAMES, Name, Request, Volume};
 use mpd_text::{Answer, Song};
 use partition::{
-    Event, Library, Limits, Next, Notice, Outcome, Partition, Stand, reads_pending, replays_worlds,
+    Event, Library, Limits, ListOutcome, Next, Notice, Outcome, Partition, Stand, reads_pending,
+    replays_worlds,
 };
 use song_db::{Db, Rate};
-use std::alloc::Global;
-use std::test::Fail;
+use std::alloc::{AllocError, Global};
+
+fn songs(alloc: Global) -> Result<Vec<Song>, AllocError> {
+    let mut songs = Vec::new(alloc);
+    songs.push(song(alloc)?)?;
+    Ok(songs)
+}
+
+fn library(alloc: Global) -> Result<Library, AllocError> {
+    let Ok(songs) = Db::of_songs(alloc, songs(alloc)?) else {
+        return Err(AllocError);
+    };
+    let rate = Rate::lowest();
+    Ok(Library { songs, rate })
+}
 
 /// A player over one song.
-fn opened(alloc: Global) -> Result<Partition, Fail> {
+fn opened(alloc: Global) -> Result<Partition, AllocError> {
     let limits = Limits {
         max_queue: 16384,
         max_version: 2147483647,
@@ -20,226 +36,452 @@ fn opened(alloc: Global) -> Result<Partition, Fail> {
     Ok(Partition::open(alloc, limits, library(alloc)?))
 }
 
-fn library(alloc: Global) -> Result<Library, Fail> {
-    let uri = String::from_str(alloc, "a.wav")?;
-    let mut songs = Vec::new(alloc);
-    songs.push(Song::new(uri, Vec::new(alloc), 8000).ok_or("a newline")?)?;
-    Ok(Library {
-        songs: Db::of_songs(alloc, songs)?,
-        rate: Rate::lowest(),
-    })
-}
-
-/// What clients hear of an event, as one text: the answer, `waits` or `closed` where the client does or is, and each notice after
-/// its client.
-fn heard(alloc: Global, outcome: &Outcome) -> Result<String, Fail> {
-    let mut text = String::from_str(alloc, outcome.reply().text())?;
-    text.push_str(match outcome.reply().next() {
+fn after(next: Next) -> &'static str {
+    match next {
         Next::Goes => "",
         Next::Waits => "waits\n",
         Next::Closes => "closed\n",
-    })?;
-    for notice in outcome.notices() {
-        text.push_str(told(alloc, notice)?.as_str())?;
     }
-    Ok(text)
 }
 
-fn told(alloc: Global, notice: &Notice) -> Result<String, Fail> {
+fn notice_told(alloc: Global, notice: &Notice) -> Result<String, AllocError> {
     let mut lines = Answer::new(alloc);
     notice.names.push_lines(&mut lines)?;
-    Ok(format!(in alloc; "{}: {}", notice.client, lines.as_str())?)
+    format!(in alloc; "{}: {}", notice.client, lines.as_str())
 }
 
-/// An event of seat 3.
-fn happens(player: &mut Partition, alloc: Global, event: Event) -> Result<String, Fail> {
-    let outcome = player.apply(3, event)?;
-    heard(alloc, &outcome)
-}
-
-/// An event of the last seat.
-fn arrives(player: &mut Partition, alloc: Global, event: Event) -> Result<String, Fail> {
-    let outcome = player.apply(15, event)?;
-    heard(alloc, &outcome)
-}
-
-fn comes(player: &mut Partition, alloc: Global, client: u32) -> Result<String, Fail> {
-    arrives(player, alloc, Event::Connect(client))
-}
-
-fn goes(player: &mut Partition, alloc: Global, client: u32) -> Result<String, Fail> {
-    arrives(player, alloc, Event::Disconnect(client))
-}
-
-fn says(player: &mut Partition, alloc: Global, client: u32, line: &str) -> Result<String, Fail> {
-    let request = Request::of_line(alloc, line, false)?;
-    happens(player, alloc, Event::Line(client, Stand::Alone, request))
-}
-
-/// What clients hear of these lines, each after its client's number and a space.
-fn session(player: &mut Partition, alloc: Global, lines: &str) -> Result<String, Fail> {
-    let mut text = String::new(alloc);
-    for line in lines.lines() {
-        let (client, said) = line.split_once(' ').ok_or("no space")?;
-        let client = client.parse::<u32>()?;
-        text.push_str(says(player, alloc, client, said)?.as_str())?;
+/// Adds what clients hear of an event: the answer, `waits` or `closed` where the client does or is, and each notice after its
+/// client.
+fn add_heard(all: &mut String, alloc: Global, outcome: &Outcome) -> Result<(), AllocError> {
+    all.push_str(outcome.reply().text())?;
+    all.push_str(after(outcome.reply().next()))?;
+    for notice in outcome.notices() {
+        all.push_str(notice_told(alloc, notice)?.as_str())?;
     }
-    Ok(text)
+    Ok(())
+}
+
+/// Applies an event, and adds what clients hear of it, or that it was not applied.
+fn happens(
+    player: &mut Partition,
+    alloc: Global,
+    seat: u8,
+    event: Event,
+    all: &mut String,
+) -> Result<(), AllocError> {
+    match player.apply(seat % 16, event) {
+        Ok(outcome) => add_heard(all, alloc, &outcome),
+        Err(_) => all.push_str("not applied\n"),
+    }
 }
 
 /// What the player shows of itself: the events of seats 15 and 3, the events that it keeps, its entries, its clients, its volume.
-fn counts(player: &Partition, alloc: Global) -> Result<String, Fail> {
+fn counts(player: &Partition, alloc: Global) -> Result<String, AllocError> {
     let (last, own) = (player.own(15), player.own(3));
     let kept = player.history().len();
     let entries = player.queue().len();
     let clients = player.clients().len();
     let volume = player.controls().volume.percent();
-    Ok(format!(in alloc; "{last} {own} {kept} {entries} {clients} {volume}")?)
+    format!(in alloc; "{last} {own} {kept} {entries} {clients} {volume}\n")
 }
 
 /// What is pending for the first client.
-fn pending(player: &Partition, alloc: Global) -> Result<String, Fail> {
-    let client = player.clients().first().ok_or("no client")?;
+fn pending(player: &Partition, alloc: Global) -> Result<String, AllocError> {
     let mut lines = Answer::new(alloc);
-    client.pending.changed().push_lines(&mut lines)?;
+    if let Some(client) = player.clients().first() {
+        client.pending.changed().push_lines(&mut lines)?;
+    }
     Ok(lines.into_string())
 }
 
 /// What clients heard of the last event that is kept.
-fn last_kept(player: &Partition, alloc: Global) -> Result<String, Fail> {
-    let last = player.history().last().ok_or("no history")?;
-    heard(alloc, &last.told)
-}
-
-fn has_client(player: &Partition, client: u32) -> bool {
-    player.has_client(client)
-}
-
-#[test]
-fn a_deletion_restamps_the_slot_after_it(rt: HostRuntime) -> Result<(), Fail> {
-    let mut player = opened(rt.alloc())?;
-    let greeting = comes(&mut player, rt.alloc(), 1)?;
-    assert_eq!(rt; greeting.as_str(), "OK MPD 0.23.0\n");
-    let lines = "1 add a.wav\n1 add a.wav/\n1 delete 0\n1 plchangesposid 3\n1 add b.wav\n";
-    let hears = session(&mut player, rt.alloc(), lines)?;
-    let wanted = "OK\nOK\nOK\ncpos: 0\nId: 2\nOK\nACK [50@0] {add} no such song\n";
-    assert_eq!(rt; hears.as_str(), wanted);
-    assert_eq!(rt; counts(&player, rt.alloc())?.as_str(), "1 5 6 1 1 100");
-    assert!(rt; has_client(&player, 1));
-    Ok(())
-}
-
-const WAITING: &str =
-    "2 idle mixer options\n1 add a.wav\n1 setvol 40\n1 repeat 1\n2 idle\n2 idle\n2 noidle\n2 idle\n2 ping\n";
-
-const WAITING_HEARS: &str =
-    "waits\nOK\nOK\n2: changed: mixer\nOK\nchanged: options\nOK\nwaits\nOK\nwaits\nclosed\n";
-
-#[test]
-fn a_waiting_client_hears_of_a_change_once(rt: HostRuntime) -> Result<(), Fail> {
-    let mut player = opened(rt.alloc())?;
-    comes(&mut player, rt.alloc(), 2)?;
-    comes(&mut player, rt.alloc(), 1)?;
-    let hears = session(&mut player, rt.alloc(), WAITING)?;
-    assert_eq!(rt; hears.as_str(), WAITING_HEARS);
-    assert_eq!(rt; counts(&player, rt.alloc())?.as_str(), "2 9 11 1 1 40");
-    assert!(rt; !has_client(&player, 2));
-    assert_eq!(rt; last_kept(&player, rt.alloc())?.as_str(), "closed\n");
-    let changed = pending(&player, rt.alloc())?;
-    assert_eq!(rt;
-        changed.as_str(),
-        "changed: playlist\nchanged: mixer\nchanged: options\n"
-    );
-    Ok(())
-}
-
-#[test]
-fn each_name_is_read_back(rt: HostRuntime) -> Result<(), Fail> {
-    for name in NAMES {
-        assert_eq!(rt; Name::of_word(name.text()), Some(name));
+fn last_kept(player: &Partition, alloc: Global) -> Result<String, AllocError> {
+    let mut all = String::new(alloc);
+    if let Some(last) = player.history().last() {
+        add_heard(&mut all, alloc, &last.told)?;
     }
-    assert_eq!(rt;
-        Request::of_line(rt.alloc(), "swap 0 1", false)?.name(),
-        "swap"
-    );
-    Ok(())
+    Ok(all)
 }
 
-#[test]
-fn a_sixty_fifth_client_is_closed(rt: HostRuntime) -> Result<(), Fail> {
-    let mut player = opened(rt.alloc())?;
-    for number in 1..=64 {
-        assert_eq!(rt;
-            comes(&mut player, rt.alloc(), number)?.as_str(),
-            "OK MPD 0.23.0\n"
-        );
+fn has_client(player: &Partition, client: u32) -> &'static str {
+    if player.has_client(client) {
+        "there\n"
+    } else {
+        "not there\n"
     }
-    assert_eq!(rt; comes(&mut player, rt.alloc(), 65)?.as_str(), "closed\n");
-    assert!(rt; !has_client(&player, 65));
-    assert_eq!(rt; counts(&player, rt.alloc())?.as_str(), "65 0 65 0 64 100");
-    goes(&mut player, rt.alloc(), 7)?;
-    assert_eq!(rt;
-        comes(&mut player, rt.alloc(), 65)?.as_str(),
-        "OK MPD 0.23.0\n"
-    );
-    Ok(())
 }
 
-#[test]
-fn all_clients_are_told_at_once(rt: HostRuntime) -> Result<(), Fail> {
-    let mut player = opened(rt.alloc())?;
-    for number in 1..=64 {
-        comes(&mut player, rt.alloc(), number)?;
+/// What the player shows where a step asks for it.
+fn shown(player: &Partition, alloc: Global, what: &str) -> Result<String, AllocError> {
+    if what == "counts" {
+        counts(player, alloc)
+    } else if what == "pending" {
+        pending(player, alloc)
+    } else if what == "kept" {
+        last_kept(player, alloc)
+    } else {
+        String::from_str(alloc, has_client(player, number_of(what)))
     }
-    let mut wanted = String::from_str(rt.alloc(), "OK\n")?;
-    for number in 2..=64 {
-        says(&mut player, rt.alloc(), number, "idle playlist")?;
-        wanted.push_str(format!(in rt.alloc(); "{number}: changed: playlist\n")?.as_str())?;
+}
+
+/// What is heard where a client says a line, at seat 3.
+fn says(
+    player: &mut Partition,
+    alloc: Global,
+    client: u32,
+    stand: Stand,
+    line: &str,
+    all: &mut String,
+) -> Result<(), AllocError> {
+    let request = Request::of_line(alloc, line, false)?;
+    happens(player, alloc, 3, Event::Line(client, stand, request), all)
+}
+
+/// The same of client 1 in a list, where the line comes after its place there.
+fn says_in_list(
+    player: &mut Partition,
+    alloc: Global,
+    form: ListForm,
+    rest: &str,
+    all: &mut String,
+) -> Result<(), AllocError> {
+    let (place, line) = first_word(rest);
+    let stand = Stand::InList(form, number_of(place) as usize);
+    says(player, alloc, 1, stand, line, all)
+}
+
+/// The requests of the lines of a list, with a semicolon between each two.
+fn requests(alloc: Global, lines: &str) -> Result<Vec<Request>, AllocError> {
+    let mut requests = Vec::new(alloc);
+    if lines == "" {
+        return Ok(requests);
     }
-    let hears = says(&mut player, rt.alloc(), 1, "add a.wav")?;
-    assert_eq!(rt; hears.as_str(), wanted.as_str());
+    for line in lines.split(';') {
+        requests.push(Request::of_line(alloc, line, false)?)?;
+    }
+    Ok(requests)
+}
+
+fn list_answer(alloc: Global, outcome: &ListOutcome) -> Result<String, AllocError> {
+    let mut answer = Vec::new(alloc);
+    outcome.push_text(&mut answer)?;
+    String::from_str(alloc, str::from_utf8(&answer).unwrap_or("no text\n"))
+}
+
+/// Adds what clients hear of a list: its whole answer, `closed` where the client is, and each notice after its client.
+fn add_list(all: &mut String, alloc: Global, outcome: &ListOutcome) -> Result<(), AllocError> {
+    let answer = list_answer(alloc, outcome)?;
+    all.push_str(answer.as_str())?;
+    all.push_str(if outcome.closes() { "closed\n" } else { "" })?;
+    for one in outcome.outcomes() {
+        for notice in one.notices() {
+            all.push_str(notice_told(alloc, notice)?.as_str())?;
+        }
+    }
     Ok(())
 }
 
-const QUEUE_LINES: &str =
-    "1 addid a.wav\n1 addid a.wav 0\n1 playlistid 1\n1 move 0:1 1\n1 prio 7 0\n1 plchanges 3 0:1\n1 swapid 1 2\n1 moveid 9 1\n1 kill\n1 delete 0:\n1 addid a.wav +0\n";
-
-const QUEUE_HEARS: &str =
-    "Id: 1\nOK\nId: 2\nOK\nfile: a.wav\nTime: 1\nduration: 1.000\nPos: 1\nId: 1\nOK\nOK\nOK\nfile: a.wav\nTime: 1\nduration: 1.000\nPos: 0\nId: 1\nPrio: 7\nOK\nOK\nACK [50@0] {moveid} no such song\nACK [4@0] {kill} no permission for \"kill\"\nOK\nACK [55@0] {addid} no current song\n";
-
-#[test]
-fn a_desktop_edits_the_queue(rt: HostRuntime) -> Result<(), Fail> {
-    let mut player = opened(rt.alloc())?;
-    comes(&mut player, rt.alloc(), 1)?;
-    let hears = session(&mut player, rt.alloc(), QUEUE_LINES)?;
-    assert_eq!(rt; hears.as_str(), QUEUE_HEARS);
-    Ok(())
+/// Runs a list of client 1 at seat 3, and adds what clients hear of it.
+fn runs_list(
+    player: &mut Partition,
+    alloc: Global,
+    form: ListForm,
+    lines: &str,
+    all: &mut String,
+) -> Result<(), AllocError> {
+    let requests = requests(alloc, lines)?;
+    match player.run_list(3, 1, form, requests) {
+        Ok(outcome) => add_list(all, alloc, &outcome),
+        Err(_) => all.push_str("not run\n"),
+    }
 }
 
-/// The answers to `add a.wav` and to an unknown name in a list of a form, at a place.
-fn answers_in_list(alloc: Global, form: partition::ListForm) -> Result<String, Fail> {
+fn show(player: &Partition, alloc: Global, what: &str, all: &mut String) -> Result<(), AllocError> {
+    let shown = shown(player, alloc, what)?;
+    all.push_str(shown.as_str())
+}
+
+/// Adds what is told at a step, by its first word: a client comes or goes, at the last seat; client 1 says a line in a list; something
+/// is shown; or a client says a line alone.
+fn step(
+    player: &mut Partition,
+    alloc: Global,
+    line: &str,
+    all: &mut String,
+) -> Result<(), AllocError> {
+    let (word, rest) = first_word(line);
+    if word == "comes" {
+        happens(player, alloc, 15, Event::Connect(number_of(rest)), all)
+    } else if word == "goes" {
+        happens(player, alloc, 15, Event::Disconnect(number_of(rest)), all)
+    } else if word == "plain_list" {
+        says_in_list(player, alloc, ListForm::Plain, rest, all)
+    } else if word == "ok_list" {
+        says_in_list(player, alloc, ListForm::ListOk, rest, all)
+    } else if word == "runs_plain" {
+        runs_list(player, alloc, ListForm::Plain, rest, all)
+    } else if word == "runs_ok" {
+        runs_list(player, alloc, ListForm::ListOk, rest, all)
+    } else if word == "show" {
+        show(player, alloc, rest, all)
+    } else {
+        says(player, alloc, number_of(word), Stand::Alone, rest, all)
+    }
+}
+
+/// What a session of these steps tells.
+fn session(alloc: Global, steps: &str) -> Result<String, AllocError> {
     let mut player = opened(alloc)?;
-    comes(&mut player, alloc, 1)?;
-    let mut text = String::new(alloc);
-    for (place, line) in ["add a.wav", "ping", "nosuch"].iter().enumerate() {
-        let request = Request::of_line(alloc, line, false)?;
-        let stand = Stand::InList(form, place as u32);
-        let hears = happens(&mut player, alloc, Event::Line(1, stand, request))?;
-        text.push_str(hears.as_str())?;
+    let mut all = String::new(alloc);
+    for line in steps.lines() {
+        step(&mut player, alloc, line, &mut all)?;
     }
-    Ok(text)
+    Ok(all)
+}
+
+const DELETION: &str = "comes 1
+1 add a.wav
+1 add a.wav/
+1 delete 0
+1 plchangesposid 3
+1 add b.wav
+show counts
+show 1";
+
+const DELETION_TELLS: &str = "OK MPD 0.23.0
+OK
+OK
+OK
+cpos: 0
+Id: 2
+OK
+ACK [50@0] {add} no such song
+1 5 6 1 1 100
+there
+";
+
+#[test]
+fn a_deletion_restamps_the_slot_after_it(rt: HostRuntime) {
+    wants(&rt, session(rt.alloc(), DELETION), DELETION_TELLS);
+}
+
+const WAITING: &str = "comes 2
+comes 1
+2 idle mixer options
+1 add a.wav
+1 setvol 40
+1 repeat 1
+2 idle
+2 idle
+2 noidle
+2 idle
+2 ping
+show counts
+show 2
+show kept
+show pending";
+
+const WAITING_TELLS: &str = "OK MPD 0.23.0
+OK MPD 0.23.0
+waits
+OK
+OK
+2: changed: mixer
+OK
+changed: options
+OK
+waits
+OK
+waits
+closed
+2 9 11 1 1 40
+not there
+closed
+changed: playlist
+changed: mixer
+changed: options
+";
+
+#[test]
+fn a_waiting_client_hears_of_a_change_once(rt: HostRuntime) {
+    wants(&rt, session(rt.alloc(), WAITING), WAITING_TELLS);
+}
+
+fn is_read_back(name: Name) -> bool {
+    Name::of_word(name.text()) == Some(name)
+}
+
+/// The name of a request.
+fn name_of(alloc: Global, line: &str) -> Result<String, AllocError> {
+    let request = Request::of_line(alloc, line, false)?;
+    String::from_str(alloc, request.name())
 }
 
 #[test]
-fn an_answer_in_a_list_has_no_ok(rt: HostRuntime) -> Result<(), Fail> {
-    let plain = answers_in_list(rt.alloc(), partition::ListForm::Plain)?;
-    assert_eq!(rt; plain.as_str(), "ACK [5@2] {} unknown command \"nosuch\"\n");
-    let with_ok = answers_in_list(rt.alloc(), partition::ListForm::Ok)?;
-    assert_eq!(rt;
-        with_ok.as_str(),
-        "list_OK\nlist_OK\nACK [5@2] {} unknown command \"nosuch\"\n"
+fn each_name_is_read_back(rt: HostRuntime) {
+    for name in NAMES {
+        assert!(rt; is_read_back(name));
+    }
+    wants(&rt, name_of(rt.alloc(), "swap 0 1"), "swap");
+}
+
+/// A line for each number from this one to 64, between two texts.
+fn numbered(alloc: Global, before: &str, first: u32, after: &str) -> Result<String, AllocError> {
+    let mut all = String::new(alloc);
+    for number in first..65 {
+        let line = format!(in alloc; "{before}{number}{after}\n")?;
+        all.push_str(line.as_str())?;
+    }
+    Ok(all)
+}
+
+/// What 64 clients hear that come.
+fn greetings(alloc: Global) -> Result<String, AllocError> {
+    "OK MPD 0.23.0\n".repeat(alloc, 64)
+}
+
+/// What is told where 64 clients come, then another, then one goes and that other one comes.
+fn crowd(alloc: Global) -> Result<String, AllocError> {
+    let come = numbered(alloc, "comes ", 1, "")?;
+    let steps = format!(in alloc; "{come}comes 65\nshow 65\nshow counts\ngoes 7\ncomes 65\n")?;
+    session(alloc, steps.as_str())
+}
+
+fn crowd_tells(alloc: Global) -> Result<String, AllocError> {
+    let mut all = greetings(alloc)?;
+    all.push_str("closed\nnot there\n65 0 65 0 64 100\nclosed\nOK MPD 0.23.0\n")?;
+    Ok(all)
+}
+
+#[test]
+fn a_sixty_fifth_client_is_closed(rt: HostRuntime) {
+    wants_made(&rt, crowd(rt.alloc()), crowd_tells(rt.alloc()));
+}
+
+/// What is told where 63 clients wait for a change of the queue, and another makes one.
+fn waiting_crowd(alloc: Global) -> Result<String, AllocError> {
+    let come = numbered(alloc, "comes ", 1, "")?;
+    let wait = numbered(alloc, "", 2, " idle playlist")?;
+    let steps = format!(in alloc; "{come}{wait}1 add a.wav\n")?;
+    session(alloc, steps.as_str())
+}
+
+fn waiting_crowd_tells(alloc: Global) -> Result<String, AllocError> {
+    let greetings = greetings(alloc)?;
+    let waits = "waits\n".repeat(alloc, 63)?;
+    let notices = numbered(alloc, "", 2, ": changed: playlist")?;
+    format!(in alloc; "{greetings}{waits}OK\n{notices}")
+}
+
+#[test]
+fn all_clients_are_told_at_once(rt: HostRuntime) {
+    wants_made(
+        &rt,
+        waiting_crowd(rt.alloc()),
+        waiting_crowd_tells(rt.alloc()),
     );
-    Ok(())
+}
+
+const EDITS: &str = "comes 1
+1 addid a.wav
+1 addid a.wav 0
+1 playlistid 1
+1 move 0:1 1
+1 prio 7 0
+1 plchanges 3 0:1
+1 swapid 1 2
+1 moveid 9 1
+1 kill
+1 delete 0:
+1 addid a.wav +0";
+
+const EDITS_TELL: &str = "OK MPD 0.23.0
+Id: 1
+OK
+Id: 2
+OK
+file: a.wav
+Time: 1
+duration: 1.000
+Pos: 1
+Id: 1
+OK
+OK
+OK
+file: a.wav
+Time: 1
+duration: 1.000
+Pos: 0
+Id: 1
+Prio: 7
+OK
+OK
+ACK [50@0] {moveid} no such song
+ACK [4@0] {kill} no permission for \"kill\"
+OK
+ACK [55@0] {addid} no current song
+";
+
+#[test]
+fn a_desktop_edits_the_queue(rt: HostRuntime) {
+    wants(&rt, session(rt.alloc(), EDITS), EDITS_TELL);
+}
+
+const PLAIN_LIST: &str = "comes 1
+plain_list 0 add a.wav
+plain_list 1 ping
+plain_list 2 nosuch";
+
+const PLAIN_LIST_TELLS: &str = "OK MPD 0.23.0
+ACK [5@2] {} unknown command \"nosuch\"
+";
+
+const OK_LIST: &str = "comes 1
+ok_list 0 add a.wav
+ok_list 1 ping
+ok_list 2 nosuch";
+
+const OK_LIST_TELLS: &str = "OK MPD 0.23.0
+list_OK
+list_OK
+ACK [5@2] {} unknown command \"nosuch\"
+";
+
+const LISTS: &str = "comes 1
+comes 2
+2 idle mixer
+runs_plain
+runs_ok add a.wav;setvol 40;ping
+runs_plain add a.wav;add nosuch;add a.wav
+runs_ok ping;close;add a.wav
+show counts
+show 1";
+
+const LISTS_TELL: &str = "OK MPD 0.23.0
+OK MPD 0.23.0
+waits
+OK
+list_OK
+list_OK
+list_OK
+OK
+2: changed: mixer
+ACK [50@1] {add} no such song
+list_OK
+closed
+2 8 10 2 1 40
+not there
+";
+
+#[test]
+fn lists_run_to_their_end_or_first_failure(rt: HostRuntime) {
+    wants(&rt, session(rt.alloc(), LISTS), LISTS_TELL);
+}
+
+#[test]
+fn an_answer_in_a_list_has_no_ok(rt: HostRuntime) {
+    wants(&rt, session(rt.alloc(), PLAIN_LIST), PLAIN_LIST_TELLS);
+    wants(&rt, session(rt.alloc(), OK_LIST), OK_LIST_TELLS);
 }
 
 #[test]
@@ -248,10 +490,20 @@ fn laws_can_be_called(_rt: HostRuntime) {
     reads_pending();
 }
 
+/// What a volume is kept as; 1,000 where there is none.
+fn kept_as(percent: u32) -> u32 {
+    match Volume::new(percent) {
+        Some(volume) => u32::from(volume.percent()),
+        None => 1_000,
+    }
+}
+
+fn full() -> u8 {
+    Volume::full().copied().percent()
+}
+
 #[test]
 fn a_volume_is_at_most_100(rt: HostRuntime) {
-    assert!(rt; Volume::new(0).is_some_and(|volume| volume.percent() == 0));
-    assert!(rt; Volume::new(100).is_some_and(|volume| volume.percent() == 100));
-    assert!(rt; Volume::new(101).is_none());
-    assert!(rt; Volume::full().copied().percent() == 100);
+    assert!(rt; kept_as(0) == 0 && kept_as(100) == 100);
+    assert!(rt; kept_as(101) == 1_000 && full() == 100);
 }

@@ -1,221 +1,259 @@
 //! Worked rows of the queue.
 //!
-//! Each edit is noted as one line: what is answered, the version, the length, and whether the parity was flipped. The helpers
-//! have no clauses, so that a test knows nothing of what they give and is cheap to prove.
-use mpd_text::Song;
-use song_db::SharedSong;
+//! Each edit tells one line: what is answered, the version, the length, and whether the parity was flipped.
+use crate::queues::{changed, edit, empty, entry, inserts, numbers, place_of, state};
+use crate::tables::{first_word, number_of, push_line, wants};
 use song_queue::{
-    Queue, QueueFault, edits_follow_past, ids_are_distinct, ids_never_return, parity_tells_changes,
+    Queue, edits_follow_past, ids_are_distinct, ids_never_return, parity_tells_changes,
     pasts_keep_queues, patches_give_present, states_follow_pasts,
 };
-use std::alloc::Global;
-use std::fmt::Write;
-use std::test::Fail;
+use std::alloc::{AllocError, Global};
 
 const ID_LIMIT: u32 = 2147483647;
 
-fn songs(alloc: Global, count: usize) -> Result<Vec<SharedSong>, Fail> {
-    let mut songs = Vec::new(alloc);
-    for _ in 0..count {
-        let uri = String::from_str(alloc, "a.wav")?;
-        let song = Song::new(uri, Vec::new(alloc), 8000).ok_or("a newline")?;
-        songs.push(SharedSong::new(alloc, song)?)?;
-    }
-    Ok(songs)
-}
-
-fn empty(alloc: Global, max_len: usize, max_version: u32, max_id: u32) -> Queue {
-    Queue::new(alloc, max_len, max_version.max(1), max_id)
-}
-
 /// A queue to which songs were added one by one.
-fn filled(alloc: Global, max_version: u32, count: usize) -> Result<Queue, Fail> {
+fn filled(alloc: Global, max_version: u32, count: usize) -> Result<Queue, AllocError> {
     let mut queue = empty(alloc, 16384, max_version, ID_LIMIT);
-    for _ in 0..count {
-        let at = queue.len();
-        queue.insert(at, songs(alloc, 1)?)?;
+    for at in 0..count {
+        let _ok = inserts(&mut queue, alloc, at, 1)?;
     }
     Ok(queue)
 }
 
-fn word(answer: Result<(), QueueFault>) -> &'static str {
-    match answer {
-        Ok(()) => "ok",
-        Err(QueueFault::NoSuchSong) => "no such song",
-        Err(QueueFault::BadIndex) => "bad index",
-        Err(QueueFault::Full) => "full",
-        Err(QueueFault::NoMoreIds) => "no more ids",
-        Err(QueueFault::NoMemory) => "no memory",
-    }
-}
-
 /// What an edit answered and left, where the parity before it was this.
-fn noted(
+fn noted(alloc: Global, queue: &Queue, answer: &str, before: bool) -> Result<String, AllocError> {
+    let (version, len, parity) = state(queue);
+    let flipped = if parity == before { "stays" } else { "flips" };
+    format!(in alloc; "{answer} {version} {len} {flipped}")
+}
+
+fn edited(
+    queue: &mut Queue,
     alloc: Global,
-    queue: &Queue,
-    answer: Result<(), QueueFault>,
-    parity: bool,
-) -> Result<String, Fail> {
-    let flipped = if parity == queue.parity() {
-        "stays"
+    word: &str,
+    given: &[usize],
+) -> Result<String, AllocError> {
+    let (_, _, before) = state(queue);
+    let answer = edit(queue, alloc, word, given)?;
+    noted(alloc, queue, answer, before)
+}
+
+/// The id at a place, and the place that is found for it, after a space.
+fn id(queue: &Queue, alloc: Global, place: usize) -> Result<String, AllocError> {
+    let (id, _) = entry(queue, place);
+    let found = place_of(queue, alloc, id)?;
+    format!(in alloc; " {id}@{found}")
+}
+
+/// The same from place to place.
+fn ids(queue: &Queue, alloc: Global) -> Result<String, AllocError> {
+    let mut all = String::new(alloc);
+    let (_, len, _) = state(queue);
+    for place in 0..len {
+        all.push_str(id(queue, alloc, place)?.as_str())?;
+    }
+    Ok(all)
+}
+
+/// How many bytes the places have that changed since a version.
+fn size_of_changed(queue: &Queue, alloc: Global, version: u32) -> Result<String, AllocError> {
+    let size = changed(queue, alloc, version)?.len();
+    format!(in alloc; "{size} bytes")
+}
+
+/// What is shown where a step asks for it.
+fn shown(queue: &Queue, alloc: Global, what: &str, number: u32) -> Result<String, AllocError> {
+    if what == "new" {
+        changed(queue, alloc, number)
+    } else if what == "size" {
+        size_of_changed(queue, alloc, number)
+    } else if what == "place" {
+        place_of(queue, alloc, number)
+    } else if what == "id" {
+        id(queue, alloc, number as usize)
     } else {
-        "flips"
-    };
-    let (version, len) = (queue.version(), queue.len());
-    Ok(format!(in alloc; "{} {version} {len} {flipped}", word(answer))?)
-}
-
-fn inserts(alloc: Global, queue: &mut Queue, at: usize, count: usize) -> Result<String, Fail> {
-    let parity = queue.parity();
-    let answer = queue.insert(at, songs(alloc, count)?);
-    noted(alloc, queue, answer, parity)
-}
-
-fn removes(alloc: Global, queue: &mut Queue, start: usize, end: usize) -> Result<String, Fail> {
-    let parity = queue.parity();
-    let answer = queue.remove(start..end);
-    noted(alloc, queue, answer, parity)
-}
-
-fn swaps(alloc: Global, queue: &mut Queue, a: usize, b: usize) -> Result<String, Fail> {
-    let parity = queue.parity();
-    let answer = queue.swap(a, b);
-    noted(alloc, queue, answer, parity)
-}
-
-/// The places that changed since a version.
-fn changed(alloc: Global, queue: &Queue, version: u32) -> Result<String, Fail> {
-    let mut text = String::new(alloc);
-    for place in &queue.changed_since(version)? {
-        write!(text, "{place} ")?;
+        ids(queue, alloc)
     }
-    Ok(text)
 }
 
-/// The ids from place to place, each with the place that is found for it.
-fn ids(alloc: Global, queue: &Queue) -> Result<String, Fail> {
-    let mut text = String::new(alloc);
-    for place in 0..queue.len() {
-        let entry = queue.get(place).ok_or("no entry")?;
-        let found = queue.position_of(entry.id).ok_or("not found")?;
-        write!(text, "{}@{found} ", entry.id)?;
+/// What a step tells: an edit, or `show` and what is asked for: `ids`, or, with a number, `new`, `size`, `place` or `id`.
+fn step(queue: &mut Queue, alloc: Global, line: &str) -> Result<String, AllocError> {
+    let (word, rest) = first_word(line);
+    if word == "show" {
+        let (what, number) = first_word(rest);
+        shown(queue, alloc, what, number_of(number))
+    } else {
+        let given = numbers(alloc, rest)?;
+        edited(queue, alloc, word, given.as_slice())
     }
-    Ok(text)
 }
 
-fn finds(queue: &Queue, id: u32) -> Option<usize> {
-    queue.position_of(id)
-}
-
-fn has_entry(queue: &Queue, place: usize) -> bool {
-    queue.get(place).is_some()
-}
-
-#[test]
-fn a_deletion_restamps_the_slots_after_it(rt: HostRuntime) -> Result<(), Fail> {
-    let mut queue = filled(rt.alloc(), 2147483647, 5)?;
-    let left = removes(rt.alloc(), &mut queue, 2, 3)?;
-    assert_eq!(rt; left.as_str(), "ok 7 4 flips");
-    assert_eq!(rt; changed(rt.alloc(), &queue, 6)?.as_str(), "2 3 ");
-    assert_eq!(rt; changed(rt.alloc(), &queue, 7)?.as_str(), "");
-    assert_eq!(rt; changed(rt.alloc(), &queue, 99)?.as_str(), "0 1 2 3 ");
-    assert_eq!(rt; ids(rt.alloc(), &queue)?.as_str(), "1@0 2@1 4@2 5@3 ");
-    assert_eq!(rt; finds(&queue, 3), None);
-    assert!(rt; !has_entry(&queue, 4));
-    Ok(())
-}
-
-#[test]
-fn versions_begin_anew(rt: HostRuntime) -> Result<(), Fail> {
-    let mut queue = filled(rt.alloc(), 4, 4)?;
-    let left = removes(rt.alloc(), &mut queue, 4, 4)?;
-    assert_eq!(rt; left.as_str(), "ok 1 4 stays");
-    assert_eq!(rt; changed(rt.alloc(), &queue, 1)?.as_str(), "0 1 2 3 ");
-    let left = removes(rt.alloc(), &mut queue, 3, 4)?;
-    assert_eq!(rt; left.as_str(), "ok 2 3 flips");
-    assert_eq!(rt; changed(rt.alloc(), &queue, 2)?.as_str(), "0 1 2 ");
-    removes(rt.alloc(), &mut queue, 1, 2)?;
-    assert_eq!(rt; changed(rt.alloc(), &queue, 3)?.as_str(), "0 ");
-    Ok(())
-}
-
-#[test]
-fn a_version_limit_of_one(rt: HostRuntime) -> Result<(), Fail> {
-    let mut queue = filled(rt.alloc(), 1, 2)?;
-    let left = inserts(rt.alloc(), &mut queue, 2, 1)?;
-    assert_eq!(rt; left.as_str(), "ok 1 3 flips");
-    assert_eq!(rt; changed(rt.alloc(), &queue, 1)?.as_str(), "0 1 2 ");
-    Ok(())
-}
-
-#[test]
-fn ranges_are_the_callers_to_cut(rt: HostRuntime) -> Result<(), Fail> {
-    let mut queue = filled(rt.alloc(), 2147483647, 3)?;
-    let left = removes(rt.alloc(), &mut queue, 3, 3)?;
-    assert_eq!(rt; left.as_str(), "ok 4 3 stays");
-    for (start, end) in [(2, 4), (4, 4), (2, 1)] {
-        let left = removes(rt.alloc(), &mut queue, start, end)?;
-        assert_eq!(rt; left.as_str(), "bad index 4 3 stays");
+/// What the steps tell, with a line for each.
+fn told(alloc: Global, mut queue: Queue, steps: &str) -> Result<String, AllocError> {
+    let mut all = String::new(alloc);
+    for line in steps.lines() {
+        push_line(&mut all, step(&mut queue, alloc, line)?.as_str())?;
     }
-    Ok(())
+    Ok(all)
+}
+
+/// The same of a queue to which so many songs were added one by one.
+fn told_of(
+    alloc: Global,
+    max_version: u32,
+    count: usize,
+    steps: &str,
+) -> Result<String, AllocError> {
+    told(alloc, filled(alloc, max_version, count)?, steps)
+}
+
+const DELETION: &str = "remove 2 3
+show new 6
+show new 7
+show new 99
+show ids
+show place 3
+show id 4";
+
+const DELETION_TELLS: &str = "ok 7 4 flips
+ 2 3
+
+ 0 1 2 3
+ 1@0 2@1 4@2 5@3
+nowhere
+ 0@nowhere
+";
+
+#[test]
+fn a_deletion_restamps_the_slots_after_it(rt: HostRuntime) {
+    let told = told_of(rt.alloc(), 2147483647, 5, DELETION);
+    wants(&rt, told, DELETION_TELLS);
+}
+
+const ANEW: &str = "remove 4 4
+show new 1
+remove 3 4
+show new 2
+remove 1 2
+show new 3";
+
+const ANEW_TELLS: &str = "ok 1 4 stays
+ 0 1 2 3
+ok 2 3 flips
+ 0 1 2
+ok 3 2 flips
+ 0
+";
+
+#[test]
+fn versions_begin_anew(rt: HostRuntime) {
+    let told = told_of(rt.alloc(), 4, 4, ANEW);
+    wants(&rt, told, ANEW_TELLS);
 }
 
 #[test]
-fn an_empty_insertion_changes_nothing(rt: HostRuntime) -> Result<(), Fail> {
-    let mut queue = filled(rt.alloc(), 2147483647, 3)?;
-    for at in 0..4 {
-        let left = inserts(rt.alloc(), &mut queue, at, 0)?;
-        assert_eq!(rt; left.as_str(), "ok 4 3 stays");
-    }
-    let left = inserts(rt.alloc(), &mut queue, 4, 0)?;
-    assert_eq!(rt; left.as_str(), "bad index 4 3 stays");
-    Ok(())
+fn a_version_limit_of_one(rt: HostRuntime) {
+    let told = told_of(rt.alloc(), 1, 2, "insert 2 1\nshow new 1");
+    wants(&rt, told, "ok 1 3 flips\n 0 1 2\n");
 }
 
-#[test]
-fn refusals_in_their_order(rt: HostRuntime) -> Result<(), Fail> {
-    let mut queue = empty(rt.alloc(), 2, 9, 3);
-    let mut log = String::new(rt.alloc());
-    for (at, count) in [(1, 4), (0, 4), (0, 2)] {
-        log.push_str(inserts(rt.alloc(), &mut queue, at, count)?.as_str())?;
-        log.push_str("\n")?;
-    }
-    assert_eq!(rt;
-        log.as_str(),
-        "bad index 1 0 stays\nfull 1 0 stays\nok 2 2 flips\n"
-    );
-    removes(rt.alloc(), &mut queue, 0, 2)?;
-    let left = inserts(rt.alloc(), &mut queue, 0, 2)?;
-    assert_eq!(rt; left.as_str(), "no more ids 3 0 stays");
-    inserts(rt.alloc(), &mut queue, 0, 1)?;
-    assert_eq!(rt; ids(rt.alloc(), &queue)?.as_str(), "3@0 ");
-    Ok(())
-}
+const RANGES: &str = "remove 3 3
+remove 2 4
+remove 4 4
+remove 2 1";
+
+const RANGES_TELL: &str = "ok 4 3 stays
+bad index 4 3 stays
+bad index 4 3 stays
+bad index 4 3 stays
+";
 
 #[test]
-fn songs_are_put_in_the_middle(rt: HostRuntime) -> Result<(), Fail> {
-    let mut queue = filled(rt.alloc(), 2147483647, 3)?;
-    inserts(rt.alloc(), &mut queue, 1, 2)?;
-    assert_eq!(rt; ids(rt.alloc(), &queue)?.as_str(), "1@0 4@1 5@2 2@3 3@4 ");
-    assert_eq!(rt; changed(rt.alloc(), &queue, 4)?.as_str(), "1 2 3 4 ");
-    Ok(())
+fn ranges_are_the_callers_to_cut(rt: HostRuntime) {
+    let told = told_of(rt.alloc(), 2147483647, 3, RANGES);
+    wants(&rt, told, RANGES_TELL);
 }
 
+const NO_SONGS: &str = "insert 0 0
+insert 1 0
+insert 2 0
+insert 3 0
+insert 4 0";
+
+const NO_SONGS_TELL: &str = "ok 4 3 stays
+ok 4 3 stays
+ok 4 3 stays
+ok 4 3 stays
+bad index 4 3 stays
+";
+
 #[test]
-fn a_swap_back_is_shown(rt: HostRuntime) -> Result<(), Fail> {
-    let mut queue = filled(rt.alloc(), 99, 2)?;
-    let mut log = String::new(rt.alloc());
-    for (a, b) in [(0, 1), (0, 1), (0, 0), (0, 5), (2, 0)] {
-        log.push_str(swaps(rt.alloc(), &mut queue, a, b)?.as_str())?;
-        log.push_str("\n")?;
-    }
-    let wanted =
-        "ok 4 2 flips\nok 5 2 flips\nok 5 2 stays\nbad index 5 2 stays\nbad index 5 2 stays\n";
-    assert_eq!(rt; log.as_str(), wanted);
-    assert_eq!(rt; changed(rt.alloc(), &queue, 3)?.as_str(), "0 1 ");
-    assert_eq!(rt; changed(rt.alloc(), &queue, 99)?.as_str(), "0 1 ");
-    assert_eq!(rt; ids(rt.alloc(), &queue)?.as_str(), "1@0 2@1 ");
-    Ok(())
+fn an_empty_insertion_changes_nothing(rt: HostRuntime) {
+    let told = told_of(rt.alloc(), 2147483647, 3, NO_SONGS);
+    wants(&rt, told, NO_SONGS_TELL);
+}
+
+const REFUSALS: &str = "insert 1 4
+insert 0 4
+insert 0 2
+remove 0 2
+insert 0 2
+insert 0 1
+show ids";
+
+const REFUSALS_TELL: &str = "bad index 1 0 stays
+full 1 0 stays
+ok 2 2 flips
+ok 3 0 flips
+no more ids 3 0 stays
+ok 4 1 flips
+ 3@0
+";
+
+#[test]
+fn refusals_in_their_order(rt: HostRuntime) {
+    let told = told(rt.alloc(), empty(rt.alloc(), 2, 9, 3), REFUSALS);
+    wants(&rt, told, REFUSALS_TELL);
+}
+
+const MIDDLE: &str = "insert 1 2
+show ids
+show new 4";
+
+const MIDDLE_TELLS: &str = "ok 5 5 flips
+ 1@0 4@1 5@2 2@3 3@4
+ 1 2 3 4
+";
+
+#[test]
+fn songs_are_put_in_the_middle(rt: HostRuntime) {
+    let told = told_of(rt.alloc(), 2147483647, 3, MIDDLE);
+    wants(&rt, told, MIDDLE_TELLS);
+}
+
+const SWAPS: &str = "swap 0 1
+swap 0 1
+swap 0 0
+swap 0 5
+swap 2 0
+show new 3
+show new 99
+show ids";
+
+const SWAPS_TELL: &str = "ok 4 2 flips
+ok 5 2 flips
+ok 5 2 stays
+bad index 5 2 stays
+bad index 5 2 stays
+ 0 1
+ 0 1
+ 1@0 2@1
+";
+
+#[test]
+fn a_swap_back_is_shown(rt: HostRuntime) {
+    let told = told_of(rt.alloc(), 99, 2, SWAPS);
+    wants(&rt, told, SWAPS_TELL);
 }
 
 #[test]
@@ -229,18 +267,27 @@ fn the_laws_do_nothing() {
     states_follow_pasts();
 }
 
+const FULL: &str = "insert 0 16384
+show place 16384
+show size 1
+insert 16384 1
+remove 0 16383
+show ids
+insert 1 16383
+show place 32767";
+
+const FULL_TELLS: &str = "ok 2 16384 flips
+16383
+87194 bytes
+full 2 16384 stays
+ok 3 1 flips
+ 16384@0
+ok 4 16384 flips
+16383
+";
+
 #[test]
-fn a_full_queue(rt: HostRuntime) -> Result<(), Fail> {
-    let mut queue = empty(rt.alloc(), 16_384, 2_147_483_647, ID_LIMIT);
-    let left = inserts(rt.alloc(), &mut queue, 0, 16_384)?;
-    assert_eq!(rt; left.as_str(), "ok 2 16384 flips");
-    assert_eq!(rt; finds(&queue, 16_384), Some(16_383));
-    assert_eq!(rt; changed(rt.alloc(), &queue, 1)?.len(), 87_194);
-    let left = inserts(rt.alloc(), &mut queue, 16_384, 1)?;
-    assert_eq!(rt; left.as_str(), "full 2 16384 stays");
-    removes(rt.alloc(), &mut queue, 0, 16_383)?;
-    assert_eq!(rt; ids(rt.alloc(), &queue)?.as_str(), "16384@0 ");
-    inserts(rt.alloc(), &mut queue, 1, 16_383)?;
-    assert_eq!(rt; finds(&queue, 32_767), Some(16_383));
-    Ok(())
+fn a_full_queue(rt: HostRuntime) {
+    let queue = empty(rt.alloc(), 16_384, 2_147_483_647, ID_LIMIT);
+    wants(&rt, told(rt.alloc(), queue, FULL), FULL_TELLS);
 }

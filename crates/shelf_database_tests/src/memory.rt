@@ -1,9 +1,9 @@
 //! A shelf over a database in memory.
 
-use shelf::{Shelf, ShelfFault};
+use shelf::ShelfFault;
 use shelf_database::SqlShelf;
-use shelf_tests::playlists::{self, wants};
-use shelf_tests::stickers;
+use shelf_tests::calls::wants;
+use shelf_tests::cases::{Case, look_at};
 use sqlite::{Connection, MemStore};
 use std::alloc::Global;
 use std::test::Fail;
@@ -17,38 +17,6 @@ fn over(alloc: Global, connection: Connection<MemStore>) -> Result<SqlShelf<MemS
 
 fn opened(alloc: Global) -> Result<SqlShelf<MemStore>, Fail> {
     Ok(over(alloc, Connection::open_in_memory(alloc)?)?)
-}
-
-/// What is looked at on a shelf.
-#[derive(Clone, Copy)]
-enum Case {
-    ListIsKept,
-    RefusalsInOrder,
-    NamesRise,
-    LongNamesTaken,
-    LongNamesRefused,
-    LongUris,
-    LongestList,
-    StickerIsKept,
-    StickersRise,
-    AnyText,
-    LongStickers,
-}
-
-fn look_at<S: Shelf>(alloc: Global, shelf: &mut S, case: Case) -> Result<(), Fail> {
-    match case {
-        Case::ListIsKept => playlists::a_list_is_kept_and_renamed(alloc, shelf),
-        Case::RefusalsInOrder => playlists::refusals_have_their_order(alloc, shelf),
-        Case::NamesRise => playlists::names_rise_by_bytes(alloc, shelf),
-        Case::LongNamesTaken => playlists::names_of_255_bytes_are_taken(alloc, shelf),
-        Case::LongNamesRefused => playlists::names_of_256_bytes_are_refused(alloc, shelf),
-        Case::LongUris => playlists::long_uris_come_back(alloc, shelf),
-        Case::LongestList => playlists::the_longest_list_is_kept(alloc, shelf),
-        Case::StickerIsKept => stickers::a_sticker_is_kept(shelf),
-        Case::StickersRise => stickers::stickers_rise_by_bytes(shelf),
-        Case::AnyText => stickers::any_text_comes_back(shelf),
-        Case::LongStickers => stickers::long_stickers_come_back(alloc, shelf),
-    }
 }
 
 /// Here alone it is proved that this is a shelf: once, and not in each test.
@@ -148,15 +116,17 @@ fn is_refused(alloc: Global, is_shelf: bool, statements: &str) -> Result<(), Fai
     }
 }
 
-#[test]
-fn other_tables_are_refused(rt: HostRuntime) -> Result<(), Fail> {
-    for statements in REFUSED_CHANGES.lines() {
-        is_refused(rt.alloc(), true, statements)?;
-    }
-    for statements in REFUSED_TABLES.lines() {
-        is_refused(rt.alloc(), false, statements)?;
+fn are_refused(alloc: Global, is_shelf: bool, lines: &str) -> Result<(), Fail> {
+    for statements in lines.lines() {
+        is_refused(alloc, is_shelf, statements)?;
     }
     Ok(())
+}
+
+#[test]
+fn other_tables_are_refused(rt: HostRuntime) -> Result<(), Fail> {
+    are_refused(rt.alloc(), true, REFUSED_CHANGES)?;
+    are_refused(rt.alloc(), false, REFUSED_TABLES)
 }
 
 #[test]

@@ -5,12 +5,12 @@
 //! that died leaves them, with all that was written, and once as a lost supply does, with what was synced alone. A stop before the
 //! call leaves the maps from before it, a stop in the call those from before it or after it, and a stop after it those from after it.
 
-use shelf::{Shelf, ShelfFault};
+use shelf::{Entry, Shelf, ShelfFault};
 use shelf_database::SqlShelf;
-use shelf_tests::playlists::{keep, texts, wants};
+use shelf_tests::calls::{keep, texts, wants};
 use sqlite::{Alter, Connection, FileStore, Files, Options};
 use sqlite_disk::{Crash, Disk, Fuse, Memory};
-use std::alloc::Global;
+use std::alloc::{AllocError, Global};
 use std::process::Abort;
 use std::test::Fail;
 
@@ -93,30 +93,54 @@ fn fill<S: Shelf>(shelf: &mut S, uris: &[String]) -> Result<(), ShelfFault> {
     shelf.set_sticker("a.wav", "r", "5")
 }
 
+/// Appends a list: its name, and each URI with a comma after it.
+fn add_list(shown: &mut String, name: &str, uris: &[String]) -> Result<(), AllocError> {
+    shown.push_str(name)?;
+    shown.push('=')?;
+    for uri in uris {
+        shown.push_str(uri.as_str())?;
+        shown.push(',')?;
+    }
+    shown.push(';')
+}
+
+fn show_list<S: Shelf>(shelf: &mut S, name: &str, shown: &mut String) -> Result<(), ShelfFault> {
+    let uris = shelf.list(name)?;
+    Ok(add_list(shown, name, uris.as_slice())?)
+}
+
 /// Appends the shelf's lists.
 fn show_lists<S: Shelf>(shelf: &mut S, shown: &mut String) -> Result<(), ShelfFault> {
     for name in &shelf.lists()? {
-        shown.push_str(name.as_str())?;
-        shown.push('=')?;
-        for uri in &shelf.list(name.as_str())? {
-            shown.push_str(uri.as_str())?;
-            shown.push(',')?;
-        }
-        shown.push(';')?;
+        show_list(shelf, name.as_str(), shown)?;
     }
     Ok(())
+}
+
+fn add_sticker(shown: &mut String, entry: &Entry) -> Result<(), AllocError> {
+    shown.push_str(entry.key.as_str())?;
+    shown.push(':')?;
+    shown.push_str(entry.value.as_str())?;
+    shown.push(';')
+}
+
+fn add_stickers(shown: &mut String, entries: &[Entry]) -> Result<(), AllocError> {
+    for entry in entries {
+        add_sticker(shown, entry)?;
+    }
+    Ok(())
+}
+
+/// Appends the stickers of one name.
+fn show_stickers<S: Shelf>(shelf: &mut S, shown: &mut String) -> Result<(), ShelfFault> {
+    let entries = shelf.find_stickers("r")?;
+    Ok(add_stickers(shown, entries.as_slice())?)
 }
 
 /// Appends all that the shelf shows, as one text.
 fn show<S: Shelf>(shelf: &mut S, shown: &mut String) -> Result<(), ShelfFault> {
     show_lists(shelf, shown)?;
-    for entry in &shelf.find_stickers("r")? {
-        shown.push_str(entry.key.as_str())?;
-        shown.push(':')?;
-        shown.push_str(entry.value.as_str())?;
-        shown.push(';')?;
-    }
-    Ok(())
+    show_stickers(shelf, shown)
 }
 
 fn run_visit<S: Shelf>(
@@ -132,6 +156,27 @@ fn run_visit<S: Shelf>(
     }
 }
 
+/// The shelf over a connection, or else the step that was stopped, and the store.
+fn over<S: Alter + Drop>(
+    alloc: Global,
+    connection: Connection<S>,
+) -> Result<SqlShelf<S>, (Step, S)> {
+    match SqlShelf::over(alloc, connection) {
+        Ok(shelf) => Ok(shelf),
+        Err((_, connection)) => Err((Step::Over, connection.into_store())),
+    }
+}
+
+/// Whether a visit was not stopped. Here alone it is proved that this is a shelf.
+fn visited<S: Alter + Drop>(
+    shelf: &mut SqlShelf<S>,
+    what: Visit,
+    uris: &[String],
+    shown: &mut String,
+) -> bool {
+    run_visit(shelf, what, uris, shown).is_ok()
+}
+
 /// The connection after a run that was not stopped, or else the step that was, and the store.
 fn run_over<S: Alter + Drop>(
     alloc: Global,
@@ -140,15 +185,13 @@ fn run_over<S: Alter + Drop>(
     uris: &[String],
     shown: &mut String,
 ) -> Result<Connection<S>, (Step, S)> {
-    let mut shelf = match SqlShelf::over(alloc, connection) {
-        Ok(shelf) => shelf,
-        Err((_, connection)) => return Err((Step::Over, connection.into_store())),
-    };
-    let answer = run_visit(&mut shelf, what, uris, shown);
+    let mut shelf = over(alloc, connection)?;
+    let is_visited = visited(&mut shelf, what, uris, shown);
     let connection = shelf.into_connection();
-    match answer {
-        Ok(()) => Ok(connection),
-        Err(_) => Err((Step::Call, connection.into_store())),
+    if is_visited {
+        Ok(connection)
+    } else {
+        Err((Step::Call, connection.into_store()))
     }
 }
 

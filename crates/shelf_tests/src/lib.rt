@@ -1,8 +1,8 @@
-//! Tests of a shelf of any kind, and those of the shelf in memory. Each answers an error in place of stopping, so that the tests of
-//! other shelves can use this crate.
+//! Tests of a shelf of any kind, as functions that answer an error in place of stopping. They run in the crate `shelf_database_tests`,
+//! over the shelf in memory and over a database: so this crate is proved once, without tests.
 #![tactic(auto)]
 
-#[cfg(test)]
-mod memory;
+pub mod calls;
+pub mod cases;
 pub mod playlists;
 pub mod stickers;

@@ -100,7 +100,8 @@ impl Db {
 
     /// All songs, in byte order of URI.
     pub fn songs(&self) -> &[SharedSong]
-        ensures { result.now ≡ self.now }
+        ensures songs { result.now ≡ self.now }
+        ensures library { IsLibrary self.now }
     {
         self.songs.as_slice()
     }

@@ -7,3 +7,5 @@ mod kernels;
 mod rings;
 #[cfg(test)]
 mod settlement;
+#[cfg(test)]
+mod tables;

@@ -3,6 +3,7 @@ ghost use Rattle.std.specs.Prelude.{◌≡◌, IfOk};
 ghost use Rattle.output_ring.specs.Rings.{AreEndsAfter};
 ghost use Rattle.frame_ledger.specs.Balance.{IsBlankOf};
 
+use crate::tables::wants;
 use frame_ledger::{AtLimit, Blanks, Books, SettleFault, Settled, Tally, settle};
 use mpd_text::{FailAt, FailurePoint};
 use output_ring::{Cut, Drainer, Fates, FeederEnd, Live, ring};
@@ -17,14 +18,6 @@ struct Turn {
     cut: u64,
     paused: bool,
     reported: bool,
-}
-
-fn playing(cut: u64, reported: bool) -> Turn {
-    Turn {
-        cut,
-        paused: false,
-        reported,
-    }
 }
 
 // A run of one ring, whose feeder takes so many frames of cut 1.
@@ -99,14 +92,32 @@ fn settled(
     settled_at::<Brand, Brand, Brand>(alloc, blanks, run, decoded, fates)
 }
 
-fn numbers(decoded: u64, written: u64, discarded: u64, left: u64, torn: u8) -> Answer {
-    Ok(Settled {
-        decoded,
-        written,
-        discarded,
-        left,
-        torn,
-    })
+// What is settled: the frames decoded, written, discarded and left, and the bytes of a torn one.
+fn answer_told(alloc: Global, answer: Answer) -> Result<String, AllocError> {
+    match answer {
+        Ok(found) => {
+            let (decoded, written, discarded) = (found.decoded, found.written, found.discarded);
+            let (left, torn) = (found.left, found.torn);
+            format!(in alloc; "{decoded} {written} {discarded} {left} {torn}\n")
+        }
+        Err(SettleFault::Mismatch) => String::from_str(alloc, "mismatch\n"),
+        Err(_) => String::from_str(alloc, "another fault\n"),
+    }
+}
+
+// The same for these books: the frames decoded, written and discarded.
+fn book_told(alloc: Global, run: Run<'_>, book: [u64; 3]) -> Result<String, AllocError> {
+    let answer = settled(alloc, run, book[0], book[1], book[2])?;
+    answer_told(alloc, answer)
+}
+
+// The same for each of several books.
+fn told_of(alloc: Global, run: Run<'_>, books: &[[u64; 3]]) -> Result<String, AllocError> {
+    let mut all = String::new(alloc);
+    for book in books {
+        all.push_str(book_told(alloc, run, *book)?.as_str())?;
+    }
+    Ok(all)
 }
 
 // Twelve frames through a ring of eight and a hand of three.
@@ -120,72 +131,89 @@ fn run_of(turns: &[Turn]) -> Run<'_> {
     }
 }
 
+const PLAYED: Turn = Turn {
+    cut: 1,
+    paused: false,
+    reported: true,
+};
+
+const CUT_OFF: Turn = Turn {
+    cut: 2,
+    paused: false,
+    reported: true,
+};
+
+const UNREPORTED: Turn = Turn {
+    cut: 2,
+    paused: false,
+    reported: false,
+};
+
+const PAUSED: Turn = Turn {
+    cut: 1,
+    paused: true,
+    reported: true,
+};
+
 #[test]
-fn an_old_cut_is_settled(rt: HostRuntime) -> Result<(), Fail> {
-    let turns = [playing(1, true), playing(2, true), playing(2, true)];
-    let run = run_of(&turns);
-    for (books, want) in [
-        ((12, 3, 5), numbers(12, 3, 5, 4, 0)),
-        ((12, 3, 6), Err(SettleFault::Mismatch)),
-        ((12, 2, 5), Err(SettleFault::Mismatch)),
-        ((11, 3, 5), Err(SettleFault::Mismatch)),
-    ] {
-        let answer = settled(rt.alloc(), run, books.0, books.1, books.2)?;
-        assert_eq!(rt; answer, want);
-    }
-    Ok(())
+fn an_old_cut_is_settled(rt: HostRuntime) {
+    let run = run_of(&[PLAYED, CUT_OFF, CUT_OFF]);
+    let books = &[[12, 3, 5], [12, 3, 6], [12, 2, 5], [11, 3, 5]];
+    let told = told_of(rt.alloc(), run, books);
+    wants(&rt, told, "12 3 5 4 0\nmismatch\nmismatch\nmismatch\n");
 }
 
 #[test]
-fn an_unreported_turn_is_counted(rt: HostRuntime) -> Result<(), Fail> {
-    let turns = [playing(1, true), playing(2, true), playing(2, false)];
-    let run = run_of(&turns);
-    let answer = settled(rt.alloc(), run, 12, 3, 3)?;
-    assert_eq!(rt; answer, numbers(12, 3, 5, 4, 0));
-    let answer = settled(rt.alloc(), run, 12, 3, 5)?;
-    assert_eq!(rt; answer, Err(SettleFault::Mismatch));
-    Ok(())
+fn an_unreported_turn_is_counted(rt: HostRuntime) {
+    let run = run_of(&[PLAYED, CUT_OFF, UNREPORTED]);
+    let told = told_of(rt.alloc(), run, &[[12, 3, 3], [12, 3, 5]]);
+    wants(&rt, told, "12 3 5 4 0\nmismatch\n");
 }
 
-#[test]
-fn kept_and_torn_frames_are_settled(rt: HostRuntime) -> Result<(), Fail> {
-    let pause = Turn {
-        cut: 1,
-        paused: true,
-        reported: true,
-    };
-    let turns = [pause, playing(1, true)];
-    let paused = Run {
+// A pause and a turn: a ring of four, a hand of two and three frames.
+fn paused_told(alloc: Global) -> Result<String, AllocError> {
+    let run = Run {
         capacity: 4,
         hand: 2,
         frames: 3,
-        ..run_of(&turns)
+        point: FailurePoint::Never,
+        turns: &[PAUSED, PLAYED],
     };
-    let answer = settled(rt.alloc(), paused, 3, 2, 0)?;
-    assert_eq!(rt; answer, numbers(3, 2, 0, 1, 0));
-    let turns = [playing(1, true)];
-    let torn = Run {
+    told_of(alloc, run, &[[3, 2, 0]])
+}
+
+// A writer that fails within the second of three frames.
+fn torn_told(alloc: Global) -> Result<String, AllocError> {
+    let run = Run {
+        capacity: 8,
+        hand: 3,
         frames: 3,
         point: FailurePoint::Byte(6),
-        ..run_of(&turns)
+        turns: &[PLAYED],
     };
-    let answer = settled(rt.alloc(), torn, 3, 1, 2)?;
-    assert_eq!(rt; answer, numbers(3, 1, 2, 0, 2));
-    Ok(())
+    told_of(alloc, run, &[[3, 1, 2]])
 }
 
 #[test]
-fn a_block_through_the_greatest_ring_is_settled(rt: HostRuntime) -> Result<(), Fail> {
-    let turns = [playing(1, true)];
+fn kept_and_torn_frames_are_settled(rt: HostRuntime) {
+    wants(&rt, paused_told(rt.alloc()), "3 2 0 1 0\n");
+    wants(&rt, torn_told(rt.alloc()), "3 1 2 0 2\n");
+}
+
+fn block_told(alloc: Global) -> Result<String, AllocError> {
     let run = Run {
         capacity: 65_536,
         hand: 1_024,
         frames: 1_024,
-        ..run_of(&turns)
+        point: FailurePoint::Never,
+        turns: &[PLAYED],
     };
-    let answer = settled(rt.alloc(), run, 1_024, 1_024, 0)?;
-    assert_eq!(rt; answer, numbers(1_024, 1_024, 0, 0, 0));
-    Ok(())
+    told_of(alloc, run, &[[1_024, 1_024, 0]])
+}
+
+#[test]
+fn a_block_through_the_greatest_ring_is_settled(rt: HostRuntime) {
+    wants(&rt, block_told(rt.alloc()), "1024 1024 0 0 0\n");
 }
 
 // The first of eight outputs has all that a book can count, and the last one asks for one more.

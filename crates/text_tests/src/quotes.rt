@@ -1,7 +1,8 @@
 //! Texts in quotes.
-use mpd_text::{WordsFault, quote, words, words_read_quotes};
+use crate::tables::{Reads, compared, wants};
+use crate::words;
+use mpd_text::{quote, words_read_quotes};
 use std::alloc::{AllocError, Global};
-use std::test::Fail;
 
 /// One of many texts, each with a space, both characters that are escaped, and one of several bytes.
 fn text(alloc: Global, number: u32) -> Result<String, AllocError> {
@@ -33,48 +34,39 @@ fn barred(alloc: Global, count: u32) -> Result<String, AllocError> {
     Ok(all)
 }
 
-/// The words of a line with a bar after each, or the fault's name.
-fn read(alloc: Global, line: &str) -> Result<String, AllocError> {
-    let mut all = String::new(alloc);
-    match words(alloc, line) {
-        Ok(found) => {
-            for word in &found {
-                all.push_str(word.as_str())?;
-                all.push('|')?;
-            }
-        }
-        Err(WordsFault::NoMemory) => return Err(AllocError),
-        Err(fault) => all = format!(in alloc; "{fault:?}")?,
-    }
-    Ok(all)
+/// A text in quotes.
+pub fn read_quoted(alloc: Global, text: &str) -> Result<String, AllocError> {
+    quote(alloc, text)
+}
+
+// The third is the reference's example of a filter, and of the same as an argument.
+const QUOTED: &str = "a\"b\\ => \"a\\\"b\\\\\"
+ => \"\"
+(Artist == \"foo\\'bar\\\"\") => \"(Artist == \\\"foo\\\\'bar\\\\\\\"\\\")\"
+Zo\u{eb}\t\u{1f3b5} => \"Zo\u{eb}\t\u{1f3b5}\"";
+
+#[test]
+fn a_text_in_quotes(rt: HostRuntime) {
+    let told = compared(rt.alloc(), Reads::Quoted, QUOTED);
+    wants(&rt, told, "4 lines agree");
+}
+
+/// What is read of a line of so many texts in quotes.
+fn read_back(alloc: Global, count: u32) -> Result<String, AllocError> {
+    let line = quoted(alloc, count)?;
+    words::read(alloc, line.as_str())
+}
+
+/// Whether so many texts in quotes are read back.
+fn are_read_back(alloc: Global, count: u32) -> Result<bool, AllocError> {
+    let told = read_back(alloc, count)?;
+    Ok(told.as_str() == barred(alloc, count)?.as_str())
 }
 
 #[test]
-fn a_text_in_quotes(rt: HostRuntime) -> Result<(), Fail> {
-    for (text, want) in [
-        ("a\"b\\", "\"a\\\"b\\\\\""),
-        ("", "\"\""),
-        // The reference's example of a filter, and of the same as an argument.
-        (
-            "(Artist == \"foo\\'bar\\\"\")",
-            "\"(Artist == \\\"foo\\\\'bar\\\\\\\"\\\")\"",
-        ),
-        ("Zo\u{eb}\t\u{1f3b5}", "\"Zo\u{eb}\t\u{1f3b5}\""),
-    ] {
-        assert_eq!(rt; quote(rt.alloc(), text)?.as_str(), want);
-    }
-    Ok(())
-}
-
-#[test]
-fn quoted_texts_are_read_back(rt: HostRuntime) -> Result<(), Fail> {
-    let alloc = rt.alloc();
-    let line = quoted(alloc, 65)?;
-    let want = barred(alloc, 65)?;
-    assert_eq!(rt; read(alloc, line.as_str())?.as_str(), want.as_str());
-    let line = quoted(alloc, 66)?;
-    assert_eq!(rt; read(alloc, line.as_str())?.as_str(), "TooMany");
-    Ok(())
+fn quoted_texts_are_read_back(rt: HostRuntime) {
+    assert!(rt; are_read_back(rt.alloc(), 65) == Ok(true));
+    wants(&rt, read_back(rt.alloc(), 66), "TooMany");
 }
 
 #[test]

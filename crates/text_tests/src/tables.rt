@@ -1,5 +1,5 @@
 //! Tables of worked cases, with a line for each.
-use crate::{answers, script, words};
+use crate::{answers, quotes, script, words};
 use std::alloc::{AllocError, Global};
 use std::process::Abort;
 
@@ -10,6 +10,8 @@ pub enum Reads {
     Number,
     /// The words of a client's line.
     Words,
+    /// A text in quotes.
+    Quoted,
     /// The kind of a script's line.
     Head,
     /// A step of a script.
@@ -21,6 +23,7 @@ fn read(alloc: Global, reads: Reads, text: &str) -> Result<String, AllocError> {
     match reads {
         Reads::Number => answers::read_number(alloc, text),
         Reads::Words => words::read(alloc, text),
+        Reads::Quoted => quotes::read_quoted(alloc, text),
         Reads::Head => script::read_head(alloc, text),
         Reads::Step => script::read_step(alloc, text),
     }

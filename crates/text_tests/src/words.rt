@@ -74,10 +74,17 @@ fn one_word_too_many(rt: HostRuntime) {
     }
 }
 
+fn is_last(words: &[String], last: &str) -> bool {
+    match words.last() {
+        Some(word) => word.as_str() == last,
+        None => false,
+    }
+}
+
 /// Whether a line has so many words, and this is the last.
 fn ends_in(alloc: Global, line: &str, count: usize, last: &str) -> bool {
     match words(alloc, line) {
-        Ok(found) => found.len() == count && found.last().is_some_and(|word| word.as_str() == last),
+        Ok(found) => found.len() == count && is_last(found.as_slice(), last),
         Err(_) => false,
     }
 }

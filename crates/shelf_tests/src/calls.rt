@@ -1,0 +1,212 @@
+//! The calls of a shelf, of which each tells one text.
+
+use shelf::{Entry, Shelf, ShelfFault, are_single_lines};
+use std::alloc::{AllocError, Global};
+use std::test::Fail;
+
+/// A call, with names, URIs and texts as the trait has them.
+#[derive(Clone, Copy)]
+pub enum Call<'a> {
+    Create(&'a str, &'a [&'a str]),
+    Put(&'a str, &'a [&'a str]),
+    Rename(&'a str, &'a str),
+    Remove(&'a str),
+    List(&'a str),
+    Lists,
+    SetSticker(&'a str, &'a str, &'a str),
+    Sticker(&'a str, &'a str),
+    FindStickers(&'a str),
+    StickersOf(&'a str),
+    DeleteSticker(&'a str, &'a str),
+    DeleteStickers(&'a str),
+}
+
+/// A call and what it tells: `ok`, the fault, or each text of the answer with a bar after it, and `=` between the texts of an entry.
+pub type Step<'a> = (Call<'a>, &'a str);
+
+/// What a fault is called.
+pub fn fault_name(fault: ShelfFault) -> &'static str {
+    match fault {
+        ShelfFault::NoSuchList => "no such list",
+        ShelfFault::Exists => "exists",
+        ShelfFault::BadName => "bad name",
+        ShelfFault::NoSticker => "no sticker",
+        ShelfFault::StoreFault => "store fault",
+        ShelfFault::NoMemory => "no memory",
+    }
+}
+
+fn done(answer: Result<(), ShelfFault>) -> &'static str {
+    match answer {
+        Ok(()) => "ok",
+        Err(fault) => fault_name(fault),
+    }
+}
+
+/// Puts the URIs at the name by `create`, or else by `put`. A URI with a newline is answered `StoreFault`.
+pub fn keep<S: Shelf>(
+    shelf: &mut S,
+    name: &str,
+    uris: &[String],
+    is_new: bool,
+) -> Result<(), ShelfFault> {
+    if !are_single_lines(uris) {
+        return Err(ShelfFault::StoreFault);
+    }
+    if is_new {
+        shelf.create(name, uris)
+    } else {
+        shelf.put(name, uris)
+    }
+}
+
+/// What is answered where these URIs are put at a name that is new.
+pub fn created<S: Shelf>(shelf: &mut S, name: &str, uris: &[String]) -> &'static str {
+    done(keep(shelf, name, uris, true))
+}
+
+fn put<S: Shelf>(shelf: &mut S, name: &str, uris: &[String]) -> &'static str {
+    done(keep(shelf, name, uris, false))
+}
+
+pub fn renamed<S: Shelf>(shelf: &mut S, name: &str, new_name: &str) -> &'static str {
+    done(shelf.rename(name, new_name))
+}
+
+fn removed<S: Shelf>(shelf: &mut S, name: &str) -> &'static str {
+    done(shelf.remove(name))
+}
+
+fn sticker_set<S: Shelf>(shelf: &mut S, uri: &str, name: &str, value: &str) -> &'static str {
+    done(shelf.set_sticker(uri, name, value))
+}
+
+fn sticker_deleted<S: Shelf>(shelf: &mut S, uri: &str, name: &str) -> &'static str {
+    done(shelf.delete_sticker(uri, name))
+}
+
+fn stickers_deleted<S: Shelf>(shelf: &mut S, uri: &str) -> &'static str {
+    done(shelf.delete_stickers(uri))
+}
+
+/// These texts, each in memory of its own.
+pub fn texts(alloc: Global, parts: &[&str]) -> Result<Vec<String>, AllocError> {
+    let mut texts = Vec::new(alloc);
+    for part in parts {
+        texts.push(String::from_str(alloc, part)?)?;
+    }
+    Ok(texts)
+}
+
+/// The texts with a bar after each, or the fault.
+fn texts_told(
+    alloc: Global,
+    answer: Result<Vec<String>, ShelfFault>,
+) -> Result<String, AllocError> {
+    match answer {
+        Ok(texts) => joined(alloc, texts.as_slice()),
+        Err(fault) => String::from_str(alloc, fault_name(fault)),
+    }
+}
+
+fn joined(alloc: Global, texts: &[String]) -> Result<String, AllocError> {
+    let mut all = String::new(alloc);
+    for text in texts {
+        all.push_str(text.as_str())?;
+        all.push('|')?;
+    }
+    Ok(all)
+}
+
+fn entries_told(
+    alloc: Global,
+    answer: Result<Vec<Entry>, ShelfFault>,
+) -> Result<String, AllocError> {
+    match answer {
+        Ok(entries) => joined_entries(alloc, entries.as_slice()),
+        Err(fault) => String::from_str(alloc, fault_name(fault)),
+    }
+}
+
+fn joined_entries(alloc: Global, entries: &[Entry]) -> Result<String, AllocError> {
+    let mut all = String::new(alloc);
+    for entry in entries {
+        let (key, value) = (entry.key.as_str(), entry.value.as_str());
+        all.push_str(format!(in alloc; "{key}={value}|")?.as_str())?;
+    }
+    Ok(all)
+}
+
+fn list<S: Shelf>(alloc: Global, shelf: &mut S, name: &str) -> Result<String, AllocError> {
+    texts_told(alloc, shelf.list(name))
+}
+
+fn lists<S: Shelf>(alloc: Global, shelf: &mut S) -> Result<String, AllocError> {
+    texts_told(alloc, shelf.lists())
+}
+
+fn sticker<S: Shelf>(
+    alloc: Global,
+    shelf: &mut S,
+    uri: &str,
+    name: &str,
+) -> Result<String, AllocError> {
+    match shelf.sticker(uri, name) {
+        Ok(value) => format!(in alloc; "{value}|"),
+        Err(fault) => String::from_str(alloc, fault_name(fault)),
+    }
+}
+
+fn found<S: Shelf>(alloc: Global, shelf: &mut S, name: &str) -> Result<String, AllocError> {
+    entries_told(alloc, shelf.find_stickers(name))
+}
+
+fn stickers<S: Shelf>(alloc: Global, shelf: &mut S, uri: &str) -> Result<String, AllocError> {
+    entries_told(alloc, shelf.stickers_of(uri))
+}
+
+/// What a call tells.
+fn told<S: Shelf>(alloc: Global, shelf: &mut S, call: Call<'_>) -> Result<String, AllocError> {
+    let answer = match call {
+        Call::List(name) => return list(alloc, shelf, name),
+        Call::Lists => return lists(alloc, shelf),
+        Call::Sticker(uri, name) => return sticker(alloc, shelf, uri, name),
+        Call::FindStickers(name) => return found(alloc, shelf, name),
+        Call::StickersOf(uri) => return stickers(alloc, shelf, uri),
+        Call::Create(name, uris) => created(shelf, name, texts(alloc, uris)?.as_slice()),
+        Call::Put(name, uris) => put(shelf, name, texts(alloc, uris)?.as_slice()),
+        Call::Rename(name, new_name) => renamed(shelf, name, new_name),
+        Call::Remove(name) => removed(shelf, name),
+        Call::SetSticker(uri, name, value) => sticker_set(shelf, uri, name, value),
+        Call::DeleteSticker(uri, name) => sticker_deleted(shelf, uri, name),
+        Call::DeleteStickers(uri) => stickers_deleted(shelf, uri),
+    };
+    String::from_str(alloc, answer)
+}
+
+/// Fails with the words where a test's fact does not hold.
+pub fn wants(holds: bool, words: &str) -> Result<(), Fail> {
+    if holds { Ok(()) } else { Err(Fail::new(words)) }
+}
+
+/// Fails with what is told where it is not what is wanted.
+pub fn wants_text(alloc: Global, told: &str, wanted: &str) -> Result<(), Fail> {
+    if told == wanted {
+        return Ok(());
+    }
+    let words = format!(in alloc; "{told}, and not {wanted}")?;
+    Err(Fail::new(words.as_str()))
+}
+
+fn follow_one<S: Shelf>(alloc: Global, shelf: &mut S, step: &Step<'_>) -> Result<(), Fail> {
+    let told = told(alloc, shelf, step.0)?;
+    wants_text(alloc, told.as_str(), step.1)
+}
+
+/// Makes the calls one after the other, and fails where one tells something else.
+pub fn follow<S: Shelf>(alloc: Global, shelf: &mut S, steps: &[Step<'_>]) -> Result<(), Fail> {
+    for step in steps {
+        follow_one(alloc, shelf, step)?;
+    }
+    Ok(())
+}
