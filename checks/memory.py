@@ -35,6 +35,28 @@ def refusals(program, steps, place):
     return {before + refused[0] + rest} | {before + greeting + answer + connected for answer in refused}
 
 
+def list_refusals(program, steps, place):
+    """The right outputs where a command of the list that this step ends found no memory: those before it are run and stand."""
+    end = steps[place][0]
+    client = end[:2]
+    if end != client + b'command_list_end\n':
+        return set()
+    begin = max((at for at in range(place) if steps[at][0].startswith(client + b'command_list_')), default=place)
+    inside = [at for at in range(begin + 1, place) if steps[at][0].startswith(client)]
+    right = set()
+    for count, first in enumerate(inside):
+        cut = set(inside[count:])
+        lines = [(at, line) for at, (line, _) in enumerate(steps) if at not in cut]
+        before = program.run(b''.join(line for at, line in lines if at < place)).output
+        upto = program.run(b''.join(line for at, line in lines if at <= place)).output
+        whole = program.run(b''.join(line for _, line in lines)).output
+        answers, _, notices = upto[len(before):].rpartition(client + b'OK\n')
+        for name in (b'', *steps[first][0][2:].split()[:1]):
+            refusal = client + b'ACK [52@%d] {%s} out of memory\n' % (count, name)
+            right.add(before + answers + refusal + notices + whole[len(upto):])
+    return right
+
+
 def sort_of(run, full, refused):
     """What a run was; `refused` has the right outputs with a refusal, each with its sort."""
     if run.status == 0 and not run.errors:
@@ -51,6 +73,7 @@ def check_session(program, steps):
     for place, (line, _) in enumerate(steps):
         sort = STEP if line.startswith(b'! ') else LINE
         refused.update((output, sort) for output in refusals(program, steps, place))
+        refused.update((output, LINE) for output in list_refusals(program, steps, place))
     sorts = dict.fromkeys((RIGHT, LINE, STEP, ENDED, FAILED), 0)
     failures, number, none_refused = [], 0, False
     while not none_refused and len(failures) < MOST_FAILURES:
