@@ -108,7 +108,9 @@ const LIST_LINES: usize = 209_715;
 /// A list as large as a list may be, of which the queue takes 16,384 songs.
 fn largest_list(alloc: Global) -> Result<String, AllocError> {
     let adds = "1 add a.wav\n".repeat(alloc, LIST_LINES)?;
-    format!(in alloc; "! song a.wav 8000\n1 command_list_begin\n{adds}1 command_list_end\n1 plchangesposid 16385\n")
+    format!(in alloc;
+        "! song a.wav 8000\n1 command_list_begin\n{adds}1 command_list_end\n1 plchangesposid 16385\n"
+    )
 }
 
 const LARGEST_LIST_PRINTS: &str =

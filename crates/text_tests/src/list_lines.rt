@@ -46,11 +46,7 @@ fn taken(
 }
 
 fn is_open(collector: &ListCollector) -> &'static str {
-    if collector.is_open() {
-        " open\n"
-    } else {
-        "\n"
-    }
+    if collector.is_open() { " open\n" } else { "\n" }
 }
 
 /// What lines are taken as, and whether a list is open after each. `?` stands for a line that is no text, and at `!` the open
