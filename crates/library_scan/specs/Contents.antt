@@ -1,0 +1,31 @@
+-- What a scan keeps of a file, by what its bytes mean.
+use Rattle.std.specs.Prelude.{◌≡◌, ◌<◌, ⊤, ℕ, List, length, codes, Result, Ok, Err}
+use Rattle.wave.specs.Waves.{Wave}
+use Rattle.wave.specs.declared.fault.WaveFault.{WaveFault}
+use Rattle.wave.specs.declared.fault.WaveFault.TheVariants.{NotRiff, NoFormat, Unsupported, NoData}
+use Rattle.library_scan.specs.declared.content.Content.{Content}
+use Rattle.library_scan.specs.declared.content.Content.TheVariants.{Song, Empty, Refused}
+use Rattle.library_scan.specs.declared.content.Refusal.{Refusal}
+use Rattle.library_scan.specs.declared.content.Refusal.TheVariants as refusal
+
+-- a refusal of the bytes is theirs; one of the device says nothing of them
+abbrev pub Refuses : Refusal → Result Wave WaveFault → Type 0
+Refuses refusal.NotRiff meaning = meaning ≡ Err NotRiff
+Refuses refusal.NoFormat meaning = meaning ≡ Err NoFormat
+Refuses refusal.Unsupported meaning = meaning ≡ Err Unsupported
+Refuses refusal.NoData meaning = meaning ≡ Err NoData
+Refuses refusal.ReadFault meaning = ⊤
+
+-- a song has the tags and the number of frames that the bytes mean, of which there is one at least
+abbrev pub Keeps : Content → Result Wave WaveFault → Type 0
+Keeps (Song tags frames) meaning = (wave : Wave) × (meaning ≡ Ok wave) × (tags.items ≡ wave.tags) × (frames ≡ length wave.frames) × (0 < frames)
+Keeps Empty meaning = (wave : Wave) × (meaning ≡ Ok wave) × (length wave.frames ≡ 0)
+Keeps (Refused r) meaning = Refuses r meaning
+
+-- the name that a refusal is shown by
+abbrev pub name_of : Refusal → List ℕ
+name_of refusal.NotRiff = codes "NotRiff"
+name_of refusal.NoFormat = codes "NoFormat"
+name_of refusal.Unsupported = codes "Unsupported"
+name_of refusal.NoData = codes "NoData"
+name_of refusal.ReadFault = codes "ReadFault"

@@ -1,0 +1,4 @@
+pub mod Steps
+pub mod Contents
+pub mod Scans
+pub mod Windows

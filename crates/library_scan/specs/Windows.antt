@@ -1,0 +1,24 @@
+-- Files that are read some kilobytes at a time.
+use Rattle.std.specs.Prelude.{◌≡◌, ℕ, nat_le, ◌+◌, ◌-◌, ◌==◌, List, length, [], take, drop, Option, Some, None, if◌then◌else◌}
+
+-- all bytes of a file, where they are known and as many as it had when it was looked at
+abbrev pub whole : Option (List ℕ) → ℕ → Option (List ℕ)
+whole None len = None
+whole (Some all) len = if length all == len then Some all else None
+
+-- those from a place on
+abbrev pub from_place : ℕ → Option (List ℕ) → Option (List ℕ)
+from_place place None = None
+from_place place (Some all) = Some (drop place all)
+
+-- bytes that were read stand in the file at a place
+abbrev pub StandAt : Option (List ℕ) → ℕ → List ℕ → Type 0
+StandAt file place bytes = (all : List ℕ) → file ≡ Some all → take (length bytes) (drop place all) ≡ bytes
+
+-- how many of so many bytes, which were read at a place, are still to be given from another place on
+abbrev pub left : ℕ → ℕ → ℕ → ℕ
+left place start filled = if nat_le start place then start + filled - place else 0
+
+-- no byte stands from a place on, where the file is as long as was told
+abbrev pub IsEnd : Option (List ℕ) → ℕ → ℕ → Type 0
+IsEnd file len place = (all : List ℕ) → file ≡ Some all → length all ≡ len → drop place all ≡ []

@@ -1,0 +1,90 @@
+//! What a scan keeps of a file.
+ghost use Rattle.std.specs.Prelude.{◌≡◌, IfSome, IfOk};
+ghost use Rattle.wave.specs.Waves.{wave_of};
+ghost use Rattle.library_scan.specs.Contents.{Keeps, name_of};
+ghost use Rattle.library_scan.specs.Windows.{whole};
+
+use crate::window::Windowed;
+use mpd_text::{Counting, Media, ReadSeek, Tag};
+use song_db::Rate;
+use std::alloc::{AllocError, Global};
+use wave::{WaveFault, read_head};
+
+/// Why a file is no song.
+#[derive(Clone, Copy, Debug, PartialEq, Eq)]
+pub enum Refusal {
+    /// The first twelve bytes are not those of a RIFF WAVE file.
+    NotRiff,
+    /// No whole format comes before the data, or there is neither.
+    NoFormat,
+    /// The format is none that is played, or its rate is another.
+    Unsupported,
+    /// There is no data.
+    NoData,
+    /// It could not be opened or read.
+    ReadFault,
+}
+
+impl Refusal {
+    /// The name that it is shown by.
+    pub fn name(self) -> &'static str
+        ensures { result.now ≡ name_of self }
+    {
+        match self {
+            Refusal::NotRiff => "NotRiff",
+            Refusal::NoFormat => "NoFormat",
+            Refusal::Unsupported => "Unsupported",
+            Refusal::NoData => "NoData",
+            Refusal::ReadFault => "ReadFault",
+        }
+    }
+}
+
+/// What a scan keeps of a file.
+#[derive(Drop)]
+pub enum Content {
+    /// A song of these tags and so many frames, one at least.
+    Song(Vec<Tag>, u64),
+    /// Nothing: it has no frames.
+    Empty,
+    /// Its refusal.
+    Refused(Refusal),
+}
+
+/// What a scan at this rate keeps of a file.
+pub fn content_of<M: Media>(
+    alloc: Global,
+    media: &mut M,
+    rate: &Rate,
+) -> Result<Content, AllocError>
+    // It is what the whole bytes mean.
+    ensures value { IfSome (M.all_bytes media.old) (λ bytes. IfOk result (λ content. Keeps content (wave_of rate.now bytes))) }
+{
+    match read_head(alloc, media, rate.frames()) {
+        Ok(head) if head.frames() == 0 => Ok(Content::Empty),
+        Ok(head) => {
+            let frames = head.frames();
+            Ok(Content::Song(head.into_tags(), frames))
+        }
+        Err(WaveFault::NotRiff) => Ok(Content::Refused(Refusal::NotRiff)),
+        Err(WaveFault::NoFormat) => Ok(Content::Refused(Refusal::NoFormat)),
+        Err(WaveFault::Unsupported) => Ok(Content::Refused(Refusal::Unsupported)),
+        Err(WaveFault::NoData) => Ok(Content::Refused(Refusal::NoData)),
+        Err(WaveFault::ReadFault) => Ok(Content::Refused(Refusal::ReadFault)),
+        Err(WaveFault::NoMemory) => Err(AllocError),
+    }
+}
+
+/// What a scan at this rate keeps of a file of this length, which is read some kilobytes at a time.
+pub fn content_in<F: ReadSeek + Drop>(
+    alloc: Global,
+    file: F,
+    len: u64,
+    rate: &Rate,
+) -> Result<Content, AllocError>
+    // It is what the whole bytes mean, where there are as many.
+    ensures value { IfSome (whole (F.known_bytes file) len) (λ bytes. IfOk result (λ content. Keeps content (wave_of rate.now bytes))) }
+{
+    let mut media = Counting::new(Windowed::new(file, len));
+    content_of(alloc, &mut media, rate)
+}

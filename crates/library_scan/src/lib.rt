@@ -1,0 +1,18 @@
+//! A folder of WAVE files as the songs of a library, and why others of its files are none.
+#![tactic(auto)]
+
+mod content;
+mod fault;
+mod found;
+mod order;
+mod scanned;
+mod step;
+mod walk;
+mod window;
+
+pub use content::{Content, Refusal, content_in, content_of};
+pub use fault::ScanFault;
+pub use found::MAX_NAMES;
+pub use scanned::{Refused, Scanned};
+pub use step::{Kind, MAX_DEPTH, MAX_URI, Step, step_of};
+pub use walk::{Unwatched, Watcher, scan};

@@ -1,0 +1,4 @@
+pub mod Truth
+pub mod Answers
+pub mod Texts
+pub mod Folders

@@ -1,0 +1,10 @@
+//! What is asked of a song library: the songs that meet a filter, the texts of a tag, and what lies in a folder.
+#![tactic(auto)]
+
+mod folders;
+mod search;
+mod texts;
+
+pub use folders::{Listing, is_folder, list_folder, under};
+pub use search::{Count, counted, find, listed, meets_is_truth};
+pub use texts::ascending_has_each_once;
