@@ -1,18 +1,58 @@
-"""Statuses of the program by its words: success is silent, and a refused command line prints one line on standard error."""
+"""Statuses of the program by its words: success is silent on empty input, help and the version are shown, and refused words say why.
+The launcher at the top has the same texts of help and the version, which it shows before the program is built."""
+import os
+import re
 
-WANTED = [(('script',), 0), ((), 2), (('nosuch',), 2), (('script', 'x'), 2), (('',), 2), ((b'\xff',), 2)]
+LAUNCHER = os.path.join(os.path.dirname(os.path.dirname(os.path.abspath(__file__))), 'music_daemon')
+TEXTS = {'help': ('--help',), 'help_scan': ('scan', '--help'), 'help_script': ('script', '--help')}
+
+SUCCESS, SHOWN, REFUSED = range(3)
+
+WANTED = [
+    (('script',), SUCCESS),
+    (('--help',), SHOWN), (('-h',), SHOWN), (('help',), SHOWN), (('help', 'scan'), SHOWN), (('scan', '--help'), SHOWN),
+    (('script', '-h'), SHOWN), (('--version',), SHOWN), (('-V',), SHOWN),
+    ((), REFUSED), (('nosuch',), REFUSED), (('script', 'x'), REFUSED), (('',), REFUSED), ((b'\xff',), REFUSED), (('serve',), REFUSED),
+    (('scan',), REFUSED), (('scan', 'a', 'b'), REFUSED), (('scan', '--rate', '7999', '.'), REFUSED), (('scan', '--rate', '192001', '.'), REFUSED),
+    (('scan', '--rate', 'x', '.'), REFUSED), (('scan', '--rate', '-8000', '.'), REFUSED), (('scan', '--rate', '8000'), REFUSED),
+    (('scan', '.', '--rate'), REFUSED), (('scan', '--rate', '8000', '--rate', '9000', '.'), REFUSED),
+    (('--rate', '8000', 'scan', '.'), REFUSED), (('script', '--version'), REFUSED), (('--', 'script'), REFUSED),
+]
+
+VERSION = b'music_daemon MPD protocol 0.23.0\n'
+
+
+def is_right(run, words, wanted):
+    if wanted == SUCCESS:
+        return run.status == 0 and not run.output and not run.errors
+    if wanted == SHOWN:
+        text = run.output == VERSION if words[0] in ('--version', '-V') else b'Usage: ' in run.output
+        return run.status == 0 and text and not run.errors
+    return run.status == 2 and not run.output and run.errors.startswith(b'error: ')
+
+
+def check_launcher(program):
+    """The launcher's texts are the program's."""
+    with open(LAUNCHER, encoding='utf-8') as launcher:
+        text = launcher.read()
+    wrong = [] if 'echo "%s"' % VERSION.decode().strip() in text else ['version']
+    for name, words in TEXTS.items():
+        found = re.search(r"^%s\(\) \{\n  cat <<'TEXT'\n(.*?)^TEXT$" % name, text, re.MULTILINE | re.DOTALL)
+        if not found or found.group(1).encode() != program.run(b'', words).output:
+            wrong.append(name)
+    print('  the launcher at the top: %s' % ('FAILED: other texts of ' + ', '.join(wrong) if wrong else 'the same texts'))
+    return len(wrong)
 
 
 def check(program):
     """Prints a table; the number of failures."""
     print('Statuses, on empty input')
-    print('  %-32s %7s %7s' % ('words', 'wanted', 'status'))
+    print('  %-44s %7s %7s' % ('words', 'wanted', 'status'))
     failed = 0
     for words, wanted in WANTED:
         run = program.run(b'', words)
-        lines = 0 if wanted == 0 else 1
-        right = run.status == wanted and not run.output and run.errors.count(b'\n') == lines
+        right = is_right(run, words, wanted)
         failed += not right
         shown = ' '.join(repr(word) for word in words) or '(none)'
-        print('  %-32s %7d %7s%s' % (shown, wanted, run.status, '' if right else '  FAILED: ' + run.told()))
-    return failed
+        print('  %-44s %7d %7s%s' % (shown, 2 if wanted == REFUSED else 0, run.status, '' if right else '  FAILED: ' + run.told()))
+    return failed + check_launcher(program)

@@ -19,6 +19,11 @@ abbrev pub list_word : LineData → Option ListWord
 list_word None = None
 list_word (Some text) = word_of text
 
+abbrev pub ends : Option ListWord → Bool
+ends None = false
+ends (Some (Begin form)) = false
+ends (Some End) = true
+
 -- a line as a list has it
 abbrev pub kept : LineData → ListLine
 kept None = NotText

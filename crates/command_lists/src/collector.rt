@@ -1,4 +1,8 @@
 //! The collector of a client's command list.
+ghost use Rattle.std.specs.Prelude.{◌≡◌};
+ghost use Rattle.std.specs.Option.{option_copied};
+ghost use Rattle.command_lists.specs.Lists.{ends, list_word};
+
 use crate::list::{CommandList, OpenList};
 use crate::word::ListWord;
 use std::alloc::{AllocError, Global};
@@ -67,14 +71,13 @@ impl ListCollector {
     }
 
     /// Whether the open list would be too large with a line. Asked before [`ListCollector::take`], it lets a caller close
-    /// the client first, and keep the list where it could not.
+    /// the client first, and keep the list where it could not. What the line says is looked at only where there is no room.
     pub fn is_too_large_with(&self, line: Option<&str>) -> bool
         ensures { result ≡ is_too_large (outcome_of self.now (option_copied line.entry)).taken }
     {
-        let word = line.and_then(ListWord::of_line);
-        match (&self.open_list, word) {
-            (None, _) | (Some(_), Some(ListWord::End)) => false,
-            (Some(list), _) => !list.has_room(line),
+        match &self.open_list {
+            Some(list) if !list.has_room(line) => !is_end(line),
+            _ => false,
         }
     }
 
@@ -112,4 +115,11 @@ impl ListCollector {
     {
         self.open_list.is_some()
     }
+}
+
+/// Whether a line is the word that ends a list.
+fn is_end(line: Option<&str>) -> bool
+    ensures { result ≡ ends (list_word (option_copied line.entry)) }
+{
+    matches!(line.and_then(ListWord::of_line), Some(ListWord::End))
 }

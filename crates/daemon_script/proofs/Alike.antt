@@ -14,21 +14,21 @@ use Rattle.script_lines.specs.Steps.{step_of}
 use Rattle.script_lines.specs.declared.limit.LimitName.{LimitName}
 use Rattle.script_lines.specs.declared.limit.LimitName.TheVariants.{MaxQueue, MaxVersion, MaxId}
 use Rattle.script_lines.specs.declared.step.Step.{Step}
-use Rattle.script_lines.specs.declared.step.Step.TheVariants.{Song, Limit, Gone}
+use Rattle.script_lines.specs.declared.step.Step.TheVariants.{Song, Limit, Gone, Scanned}
 use Rattle.partition.specs.Answers.{Told}
 use Rattle.partition.specs.Lists.{ends_list}
 use Rattle.mpd_command.specs.Requests.{request_of}
 use Rattle.mpd_command.specs.declared.request.Request.{Request}
 use Rattle.partition.specs.declared.event.Event.{Event}
 use Rattle.partition.specs.declared.event.Stand.TheVariants.{Alone, InList}
-use Rattle.partition.specs.declared.event.Event.TheVariants.{Connect, Disconnect, Line}
+use Rattle.partition.specs.declared.event.Event.TheVariants.{Connect, Disconnect, Line, ScanResult}
 use Rattle.partition.specs.declared.partition.PartitionFault.{PartitionFault}
 use Rattle.partition.specs.declared.state.Limits.{Limits}
 use Rattle.daemon_script.specs.declared.memory.Memory.{Memory}
 use Rattle.daemon_script.specs.declared.memory.Memory.TheVariants.{Ample, NoneToConnect, NoneToRead, NoneToRun}
 use Rattle.daemon_script.specs.Kinds.{PlayerKind}
 use Rattle.daemon_script.specs.Output.{Run, script_after, text_of}
-use Rattle.daemon_script.specs.Script.{ScriptData, Shown, LineRun, bad, collects, lowers, limits_with, has_uri, told_for, notices_for, fault_of, connects, sent_off, sends_off, shown_step, step_line, request_run, alone_run, runs, request_in, read_of, end_of, place_without, is_at, closed_line, ListRun, list_goes, list_step, list_run, notices_by_number, lines_for, list_of, with_list, commands_run, collected_run, too_large_run, taken_run, line_run, connect_run, line_after, client_run, shown_client, shown_kind, shown_of}
+use Rattle.daemon_script.specs.Script.{ScriptData, Shown, LineRun, bad, collects, lowers, limits_with, has_uri, told_for, notices_for, fault_of, connects, sent_off, sends_off, scan_ended, ends_scan, report_text, shown_step, step_line, request_run, alone_run, runs, request_in, read_of, end_of, place_without, is_at, closed_line, ListRun, list_goes, list_step, list_run, notices_by_number, lines_for, list_of, with_list, commands_run, collected_run, too_large_run, taken_run, line_run, connect_run, line_after, client_run, shown_client, shown_kind, shown_of}
 use Rattle.daemon_script.proofs.Ranges.{limit_at_least_one}
 
 -- two kinds agree: a relation of their players holds at the opening and is kept by events, and related players answer alike
@@ -159,7 +159,7 @@ module _ {P Q : Type 0} (m : PlayerKind P) (n : PlayerKind Q) (R : P → Q → T
 
   commands_same : (p : P) (q : Q) (number : ℕ) (commands : CommandList) (memory : Memory) → R p q → SameRun R (commands_run m p number commands memory) (commands_run n q number commands memory)
   commands_same p q number commands memory r =
-      let ran = list_same p q number commands.form 0 (read_of memory (map request_in commands.lines)) (place_without memory) (end_of memory) r in
+      let ran = list_same p q number commands.form 0 (read_of memory (map request_in commands.lines)) (place_without memory) (end_of memory (length commands.lines)) r in
       record {
         player = ran.player;
         list = refl;
@@ -247,12 +247,34 @@ module _ {P Q : Type 0} (m : PlayerKind P) (n : PlayerKind Q) (R : P → Q → T
       subst (λ (made : ℕ). SameShown R (sent_off m s p number (fault_of true (m.made p))) (sent_off n (over R s (Some q)) q number (fault_of true made)))
       (agree.made p q r) (sent_same s p q number (fault_of true (m.made p)) above r r)
 
+  ended_same : (s : ScriptData P) (p : P) (q : Q) (event : Event) (fault : Option PartitionFault) → 1 ≤ s.limits.max_version → SamePlayer R s.player (Some q) → R p q
+      → SameShown R (scan_ended m s p event fault) (scan_ended n (over R s (Some q)) q event fault)
+  ended_same s p q event (Some fault) above has r = shows_same R _ s (Some q) above has
+  ended_same s p q event None above has r =
+      record {
+        script = same R (record s { player = Some (m.after p event) }) (Some (n.after q event)) above (agree.after p q event r);
+        text = ap (λ (t : Told). report_text t.report ++ notices_for t.notices) (agree.told p q event r);
+      }
+
+  -- by the player that is there
+  ends_same : (limits : Limits) (songs : List SongData) (lists : List (Option CommandList)) (p : Option P) (q : Option Q) → 1 ≤ limits.max_version → SamePlayer R p q
+      → SameShown R (ends_scan m (record { limits = limits; songs = songs; lists = lists; player = p }) p) (ends_scan n (record { limits = limits; songs = songs; lists = lists; player = q }) q)
+  ends_same limits songs lists None None above r = shows_same R _ (record { limits = limits; songs = songs; lists = lists; player = None }) None above r
+  ends_same limits songs lists None (Some q) above r = absurd r
+  ends_same limits songs lists (Some p) None above r = absurd r
+  ends_same limits songs lists (Some p) (Some q) above r =
+      let s : ScriptData P = record { limits = limits; songs = songs; lists = lists; player = Some p } in
+      let event : Event = ScanResult (Some (in_byte_order songs)) in
+      subst (λ (made : ℕ). SameShown R (scan_ended m s p event (fault_of true (m.made p))) (scan_ended n (over R s (Some q)) q event (fault_of true made)))
+      (agree.made p q r) (ended_same s p q event (fault_of true (m.made p)) above r r)
+
   step_same : (s : ScriptData P) (q : Option Q) (rest : List ℕ) (step : Option Step) → step_of rest ≡ step → 1 ≤ s.limits.max_version → SamePlayer R s.player q
       → SameShown R (shown_step m s step) (shown_step n (over R s q) step)
   step_same s q rest None e above r = shows_same R _ s q above r
   step_same s q rest (Some (Song song)) e above r = collects_same R s q song above r
   step_same s q rest (Some (Limit name number)) e above r = lowers_same R s q name number above (limit_at_least_one rest name number (sym e)) r
   step_same s q rest (Some (Gone number)) e above r = sends_same s.limits s.songs s.lists s.player q number above r
+  step_same s q rest (Some Scanned) e above r = ends_same s.limits s.songs s.lists s.player q above r
 
   step_line_same : (s : ScriptData P) (q : Option Q) (rest : List ℕ) (memory : Memory) → 1 ≤ s.limits.max_version → SamePlayer R s.player q
       → SameShown R (step_line m s rest memory) (step_line n (over R s q) rest memory)

@@ -11,7 +11,7 @@ use Rattle.mpd_text.specs.declared.lines.quoting.WordsFault.{WordsFault}
 use Rattle.script_lines.specs.Cuts.{before, after}
 use Rattle.script_lines.specs.Lines.{LineData, ClientLine, StepLine, BadLine, by_head, script_line_of}
 use Rattle.script_lines.specs.Limits.{limit_named, greatest_of, within, number_within}
-use Rattle.script_lines.specs.Steps.{step_of, step_if_read, song_of, song_with, is_uri, limit_of, limit_with, limit_to, gone_of, gone_with}
+use Rattle.script_lines.specs.Steps.{step_of, step_if_read, song_of, song_with, is_uri, limit_of, limit_with, limit_to, gone_of, gone_with, scanned_of}
 use Rattle.script_lines.specs.Tags.{is_tag, tags_of}
 use Rattle.script_lines.specs.declared.limit.LimitName.{LimitName}
 use Rattle.script_lines.specs.declared.step.Step.TheVariants.{Song, Limit}
@@ -63,17 +63,22 @@ gones_no_limit [] found n e = cc
 gones_no_limit (a ∷ []) found n e = gone_no_limit (number_within 9 a) found n e
 gones_no_limit (a ∷ b ∷ more) found n e = cc
 
-step_if : (a b c : Bool) (words : List (List ℕ)) (found : LimitName) (n : ℕ)
-    → cond a (song_of words) (cond b (limit_of words) (cond c (gone_of words) None)) ≡ Some (Limit found n) → 1 ≤ n
-step_if true b c words found n e = songs_no_limit words found n e
-step_if false true c words found n e = limits_positive words found n e
-step_if false false true words found n e = gones_no_limit words found n e
-step_if false false false words found n e = cc
+scanned_no_limit : (words : List (List ℕ)) (found : LimitName) (n : ℕ) → scanned_of words ≡ Some (Limit found n) → 1 ≤ n
+scanned_no_limit [] found n e = cc
+scanned_no_limit (a ∷ more) found n e = cc
+
+step_if : (a b c d : Bool) (words : List (List ℕ)) (found : LimitName) (n : ℕ)
+    → cond a (song_of words) (cond b (limit_of words) (cond c (gone_of words) (cond d (scanned_of words) None))) ≡ Some (Limit found n) → 1 ≤ n
+step_if true b c d words found n e = songs_no_limit words found n e
+step_if false true c d words found n e = limits_positive words found n e
+step_if false false true d words found n e = gones_no_limit words found n e
+step_if false false false true words found n e = scanned_no_limit words found n e
+step_if false false false false words found n e = cc
 
 step_positive : (r : Result (List (List ℕ)) WordsFault) (found : LimitName) (n : ℕ) → step_if_read r ≡ Some (Limit found n) → 1 ≤ n
 step_positive (Err fault) found n e = cc
 step_positive (Ok []) found n e = cc
-step_positive (Ok (word ∷ words)) found n e = step_if (bytes_eq word (codes "song")) (bytes_eq word (codes "limit")) (bytes_eq word (codes "gone")) words found n e
+step_positive (Ok (word ∷ words)) found n e = step_if (bytes_eq word (codes "song")) (bytes_eq word (codes "limit")) (bytes_eq word (codes "gone")) (bytes_eq word (codes "scanned")) words found n e
 
 -- a limit that a step sets is at least 1
 pub limit_at_least_one : (rest : List ℕ) (found : LimitName) (n : ℕ) → Some (Limit found n) ≡ step_of rest → 1 ≤ n

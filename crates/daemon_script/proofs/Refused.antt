@@ -10,7 +10,9 @@ use Rattle.std.specs.Result.{OnOk, IfOk}
 use Rattle.partition.specs.declared.partition.PartitionFault.TheVariants.{AtLimit, NoMemory}
 use Rattle.daemon_script.specs.declared.memory.Memory.{Memory}
 use Rattle.daemon_script.specs.declared.memory.Memory.TheVariants.{NoneToRun}
-use Rattle.daemon_script.specs.Script.{ScriptData, fault_of, gone_line, refusal_text, sends_off, sent_off}
+use Rattle.daemon_script.specs.Script.{ScriptData, fault_of, ends_scan, gone_line, refusal_text, scan_ended, scanned_line, sends_off, sent_off}
+use Rattle.song_db.specs.Library.{in_byte_order}
+use Rattle.partition.specs.declared.event.Event.TheVariants.{ScanResult}
 
 -- the line of a step that was refused is what a line prints that found no memory to run
 pub refused_text : {E : Type 0} (r : Result Memory E) (text : Memory → List ℕ) (old new : List ℕ) → text (NoneToRun 0) ≡ refusal_text NoMemory
@@ -34,3 +36,11 @@ gone_refused s player number AtLimit there iff =
     ap (λ (p : Option Image). (sends_off images s p number).text) there
     ∙ ap (λ (f : Option PartitionFault). (sent_off images s player number f).text) (fault_at_limit (images.made player) (iff.0 refl))
 gone_refused s player number NoMemory there iff = refl
+
+-- a scan that could not be ended
+pub scan_refused : {T : Type 0} (s : ScriptData Image) (player : Image) (fault : PartitionFault) → s.player ≡ Some player
+    → (IsErrOf {T = T} (Err fault) AtLimit ↔ (2 ^ 63 - 1 ≤ images.made player)) → (scanned_line images s (memory_of fault)).text ≡ refusal_text fault
+scan_refused s player AtLimit there iff =
+    ap (λ (p : Option Image). (ends_scan images s p).text) there
+    ∙ ap (λ (f : Option PartitionFault). (scan_ended images s player (ScanResult (Some (in_byte_order s.songs))) f).text) (fault_at_limit (images.made player) (iff.0 refl))
+scan_refused s player NoMemory there iff = refl

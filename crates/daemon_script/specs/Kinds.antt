@@ -4,17 +4,19 @@ use Rattle.mpd_text.specs.Songs.Song.{SongData}
 use Rattle.partition.specs.Answers.{Told}
 use Rattle.partition.specs.History.{own}
 use Rattle.partition.specs.Image.{Image, opening, client_of}
+use Rattle.partition.specs.Scans.{never_scanned}
 use Rattle.partition.specs.Step.{next_image, told}
 use Rattle.partition.specs.World.{Life, Moment, is_there, image_of, life_after_event, opening_life}
 use Rattle.partition.specs.declared.event.Event.{Event}
 use Rattle.partition.specs.declared.event.Happened.{Happened}
 use Rattle.partition.specs.declared.event.Next.TheVariants.{Goes}
+use Rattle.partition.specs.declared.scan.Report.TheVariants.{Nothing}
 use Rattle.partition.specs.declared.state.Library.{Library}
 use Rattle.partition.specs.declared.state.Limits.{Limits}
 
 -- a script's songs have 8,000 frames a second
 abbrev pub library_of : List SongData → Library
-library_of songs = record { songs = songs; rate = 8000 }
+library_of songs = record { songs = songs; rate = 8000; scan = never_scanned }
 
 -- what a script asks of a player: to be opened over a library, whether a client is there, how many events it had, and what
 -- an event makes of it and makes clients hear
@@ -42,8 +44,8 @@ pub record Lived : Type 0 where
 
 -- what the latest of these moments made clients hear
 abbrev pub told_at : List Moment → Told
-told_at [] = record { answer = record { text = []; next = Goes; refused = false }; notices = [] }
-told_at (moment ∷ moments) = record { answer = moment.turn.said.answer; notices = moment.notices }
+told_at [] = record { answer = record { text = []; next = Goes; refused = false }; notices = []; report = Nothing }
+told_at (moment ∷ moments) = record { answer = moment.turn.said.answer; notices = moment.notices; report = moment.turn.report }
 
 abbrev pub lived_after : Lived → Event → Lived
 lived_after lived event =

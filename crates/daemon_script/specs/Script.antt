@@ -16,7 +16,7 @@ use Rattle.script_lines.specs.Steps.{step_of}
 use Rattle.script_lines.specs.declared.limit.LimitName.{LimitName}
 use Rattle.script_lines.specs.declared.limit.LimitName.TheVariants.{MaxQueue, MaxVersion, MaxId}
 use Rattle.script_lines.specs.declared.step.Step.{Step}
-use Rattle.script_lines.specs.declared.step.Step.TheVariants.{Song, Limit, Gone}
+use Rattle.script_lines.specs.declared.step.Step.TheVariants.{Song, Limit, Gone, Scanned}
 use Rattle.partition.specs.Answers.{Answer, Told}
 use Rattle.partition.specs.Commands.Status.{notice_text}
 use Rattle.mpd_command.specs.Requests.{request_of, name_in}
@@ -26,7 +26,10 @@ use Rattle.mpd_text.specs.declared.answers.answer.ErrorNumber.TheVariants.{Argum
 use Rattle.partition.specs.Clients.{closes}
 use Rattle.partition.specs.Lists.{ends_list, fault_text}
 use Rattle.partition.specs.declared.event.Stand.TheVariants.{Alone, InList}
-use Rattle.partition.specs.declared.event.Event.TheVariants.{Connect, Disconnect, Line}
+use Rattle.partition.specs.declared.event.Event.{Event}
+use Rattle.partition.specs.declared.event.Event.TheVariants.{Connect, Disconnect, Line, ScanResult}
+use Rattle.partition.specs.declared.scan.Report.{Report}
+use Rattle.partition.specs.declared.scan.Report.TheVariants.{Nothing, ToScan, ScanEnded}
 use Rattle.partition.specs.declared.event.Next.{Next}
 use Rattle.partition.specs.declared.event.Next.TheVariants.{Goes, Waits, Closes}
 use Rattle.partition.specs.declared.event.Notice.{Notice}
@@ -125,6 +128,12 @@ fault_of ample made = if nat_le 9223372036854775807 made then Some AtLimit else 
 abbrev pub refusal_text : PartitionFault → List ℕ
 refusal_text fault = codes "! refused " ++ (fault_text fault ++ codes "\n")
 
+-- what is printed of the end of a scan
+abbrev pub report_text : Report → List ℕ
+report_text Nothing = []
+report_text (ToScan number) = []
+report_text (ScanEnded ended) = if ended then codes "! ok\n" else codes "! none\n"
+
 -- what a client line makes of the player and of the command list that its client has open, what it prints, and whether its
 -- client was there when it was run
 pub record LineRun (P : Type 0) : Type 0 where
@@ -160,10 +169,10 @@ abbrev pub read_of : Memory → List Request → List Request
 read_of (NoneToRead place) requests = take place requests
 read_of _ requests = requests
 
--- what follows the answers where all commands that were read succeed
-abbrev pub end_of : Memory → List ℕ
-end_of (NoneToRead place) = ack_line 52 place [] (fault_text NoMemory)
-end_of _ = codes "OK\n"
+-- what follows the answers where all commands that were read succeed, of a list of so many commands
+abbrev pub end_of : Memory → ℕ → List ℕ
+end_of (NoneToRead place) count = if nat_lt place count then ack_line 52 place [] (fault_text NoMemory) else codes "OK\n"
+end_of _ count = codes "OK\n"
 
 -- the place whose command finds no memory, if one does
 abbrev pub place_without : Memory → Option ℕ
@@ -236,11 +245,29 @@ module _ {P : Type 0} (kind : PlayerKind P) where
   gone_line s number Ample = sends_off s s.player number
   gone_line s number _ = refused s
 
+  abbrev pub scan_ended : ScriptData P → P → Event → Option PartitionFault → Shown P
+  scan_ended s player event (Some fault) = record { script = s; text = refusal_text fault }
+  scan_ended s player event None =
+      record {
+        script = record s { player = Some (kind.after player event) };
+        text = report_text (kind.told player event).report ++ notices_for (kind.told player event).notices;
+      }
+
+  -- the scan that runs ends, once the player is there, with all songs that were collected
+  abbrev pub ends_scan : ScriptData P → Option P → Shown P
+  ends_scan s None = bad s
+  ends_scan s (Some player) = scan_ended s player (ScanResult (Some (in_byte_order s.songs))) (fault_of true (kind.made player))
+
+  abbrev pub scanned_line : ScriptData P → Memory → Shown P
+  scanned_line s Ample = ends_scan s s.player
+  scanned_line s _ = refused s
+
   abbrev pub shown_step : ScriptData P → Option Step → Shown P
   shown_step s None = bad s
   shown_step s (Some (Song song)) = collects s song
   shown_step s (Some (Limit name n)) = lowers s name n
   shown_step s (Some (Gone number)) = sends_off s s.player number
+  shown_step s (Some Scanned) = ends_scan s s.player
 
   abbrev pub step_line : ScriptData P → List ℕ → Memory → Shown P
   step_line s rest Ample = shown_step s (step_of rest)
@@ -275,7 +302,7 @@ module _ {P : Type 0} (kind : PlayerKind P) where
   -- a list that has ended is run under other clients' eyes: first comes its whole answer, and then the notices to others
   abbrev pub commands_run : P → ℕ → CommandList → Memory → LineRun P
   commands_run player number commands memory =
-      let ran = list_run player number commands.form 0 (read_of memory (map request_in commands.lines)) (place_without memory) (end_of memory) in
+      let ran = list_run player number commands.form 0 (read_of memory (map request_in commands.lines)) (place_without memory) (end_of memory (length commands.lines)) in
       record { player = ran.player; list = None; text = lines_for number (list_answer ran) ++ notices_by_number ran.tolds; connected = true }
 
   -- a line that is collected prints nothing

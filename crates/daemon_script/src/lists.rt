@@ -30,14 +30,14 @@ pub(crate) fn run_commands(
     ensures connects { IfOk result (λ memory. memory ≢ Memory.NoneToConnect) }
 {
     let (requests, memory) = read_all(alloc, commands.lines.items());
-    let end = end_of(alloc, memory)?;
+    let end = end_of(alloc, memory, commands.lines.items().len())?;
     match player.run_list(SEAT, number, commands.form, requests) {
         Ok(outcome) => {
-            push_outcome(alloc, shown, number, &outcome, end.as_str())?;
+            push_list_outcome(alloc, shown, number, &outcome, end.as_str())?;
             Ok(memory)
         }
         Err(fault) => {
-            push_fault(alloc, shown, number, &fault)?;
+            push_list_fault(alloc, shown, number, &fault)?;
             Ok(Memory::NoneToRun(fault.done))
         }
     }
@@ -85,23 +85,23 @@ fn request_in(alloc: Global, line: &ListLine) -> Result<Request, AllocError>
     }
 }
 
-/// What follows the answers where all commands that were read succeed.
-fn end_of(alloc: Global, memory: Memory) -> Result<String, AllocError>
-    ensures { IfOk result (λ end. string_bytes end ≡ end_of_lem memory) }
+/// What follows the answers where all commands that were read succeed, of a list of `count` commands.
+fn end_of(alloc: Global, memory: Memory, count: usize) -> Result<String, AllocError>
+    ensures { IfOk result (λ end. string_bytes end ≡ end_of_lem memory count) }
 {
     let mut end = Answer::new(alloc);
     match memory {
-        Memory::NoneToRead(place) => {
+        Memory::NoneToRead(place) if place < count => {
             let text = PartitionFault::NoMemory.text();
             end.ack(ErrorNumber::System, place, "", text)?;
         }
-        Memory::Ample | Memory::NoneToConnect | Memory::NoneToRun(_) => end.ok()?,
+        _ => end.ok()?,
     }
     Ok(end.into_string())
 }
 
 /// Appends what a list that ran makes clients hear; `end` follows the answers where all succeeded.
-fn push_outcome(
+fn push_list_outcome(
     alloc: Global,
     shown: &mut Vec<u8>,
     number: u32,
@@ -130,7 +130,7 @@ fn whole_answer(alloc: Global, outcome: &ListOutcome, end: &str) -> Result<Vec<u
 }
 
 /// Appends what a list makes clients hear that was not run to its end.
-fn push_fault(
+fn push_list_fault(
     alloc: Global,
     shown: &mut Vec<u8>,
     number: u32,

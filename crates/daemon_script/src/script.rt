@@ -1,19 +1,19 @@
 //! A script: what it collects, and its player.
-ghost use Rattle.std.specs.Prelude.{◌≡◌, ◌<◌, ◌≤◌, ◌++◌, codes, None, IfOk, OnOk};
+ghost use Rattle.std.specs.Prelude.{◌≡◌, ◌<◌, ◌≤◌, ◌++◌, length, false, codes, None, IfOk, OnOk};
 ghost use Rattle.mpd_text.specs.Lines.Split.{view as view_of_line};
-ghost use Rattle.song_db.specs.Library.{in_byte_order};
+ghost use Rattle.song_db.specs.Library.{in_byte_order, is_twice_named};
 ghost use Rattle.partition.specs.Image.{opening};
 ghost use Rattle.daemon_script.specs.Kinds.{images, library_of};
 ghost use Rattle.daemon_script.specs.Pieces.{memory_of};
-ghost use Rattle.daemon_script.specs.Script.{no_lists as no_lists_lem, client_run, list_of, with_list, opening_script, shown_of, step_line, collect_line, gone_line, lowers, shown_client, refusal_text, has_uri as has_uri_lem};
+ghost use Rattle.daemon_script.specs.Script.{no_lists as no_lists_lem, client_run, list_of, with_list, opening_script, shown_of, step_line, collect_line, gone_line, scanned_line, report_text, lowers, shown_client, refusal_text, has_uri as has_uri_lem};
 
 use crate::client_lines::{LineRun, SEAT, push_fault, push_notices, run_line};
 use crate::memory::Memory;
 use command_lists::ListCollector;
 use mpd_text::{Line, Song, Tag};
-use partition::{Event, Library, Limits, Partition, PartitionFault};
+use partition::{Event, Library, Limits, Partition, PartitionFault, Report, Scan};
 use script_lines::{LimitName, MAX_ID, MAX_QUEUE, MAX_VERSION, ScriptLine, Step};
-use song_db::{Db, DbFault, MAX_SONGS, Rate};
+use song_db::{Db, DbFault, MAX_SONGS, Rate, SharedDb};
 use std::alloc::{AllocError, Global};
 use std::marker::Model;
 
@@ -83,6 +83,7 @@ impl Script {
             Ok(Some(Step::Song(song))) => self.collect(song, shown),
             Ok(Some(Step::Limit(name, n))) => self.lower(name, n, shown),
             Ok(Some(Step::Gone(number))) => self.send_off(number, shown),
+            Ok(Some(Step::Scanned)) => self.end_scan(shown),
             Ok(None) => push_bad(shown),
             Err(AllocError) => push_refusal(shown, PartitionFault::NoMemory),
         }
@@ -129,6 +130,27 @@ impl Script {
         match player.apply(SEAT, Event::Disconnect(number)) {
             Ok(outcome) => {
                 drop_list_of(&mut self.lists, number);
+                push_notices(self.alloc, shown, outcome.notices())?;
+                Ok(Memory::Ample)
+            }
+            Err(fault) => push_refusal(shown, fault),
+        }
+    }
+
+    /// The scan that runs ends, once the player is there, with all songs that were collected.
+    fn end_scan(&mut self, shown: &mut Vec<u8>) -> Result<Memory, AllocError>
+        ensures script { IfOk result (λ memory. self.new ≡ (scanned_line images self.old memory).script) }
+        ensures text { IfOk result (λ memory. shown.new.items ≡ shown.old.items ++ (scanned_line images self.old memory).text) }
+    {
+        let Some(player) = &mut self.player else {
+            return push_bad(shown);
+        };
+        let Ok(songs) = collected(self.alloc, &self.songs) else {
+            return push_refusal(shown, PartitionFault::NoMemory);
+        };
+        match player.apply(SEAT, Event::ScanResult(Some(songs))) {
+            Ok(outcome) => {
+                push_report(shown, outcome.report())?;
                 push_notices(self.alloc, shown, outcome.notices())?;
                 Ok(Memory::Ample)
             }
@@ -183,16 +205,25 @@ impl Script {
     fn opened(&self) -> Result<Partition, AllocError>
         ensures { IfOk result (λ player. player.present ≡ opening self.now.limits (library_of (in_byte_order self.now.songs))) }
     {
-        let songs = copies(self.alloc, &self.songs)?;
-        match Db::of_songs(self.alloc, songs) {
-            Ok(songs) => {
-                let rate = Rate::lowest();
-                let library = Library { songs, rate };
-                Ok(Partition::open(self.alloc, self.limits, library))
-            }
-            Err(DbFault::NoMemory) => Err(AllocError),
-            Err(DbFault::TwiceNamed | DbFault::TooMany) => unreachable!(),
-        }
+        let library = Library {
+            songs: collected(self.alloc, &self.songs)?,
+            rate: Rate::lowest(),
+            scan: Scan::never(),
+        };
+        Partition::open(self.alloc, self.limits, library)
+    }
+}
+
+/// The library of all songs that were collected.
+fn collected(alloc: Global, songs: &[Song]) -> Result<SharedDb, AllocError>
+    requires few { length songs.now ≤ 100000 }
+    requires distinct { is_twice_named songs.now ≡ false }
+    ensures { IfOk result (λ db. db ≡ in_byte_order songs.now) }
+{
+    match Db::of_songs(alloc, copies(alloc, songs)?) {
+        Ok(db) => SharedDb::new(alloc, db),
+        Err(DbFault::NoMemory) => Err(AllocError),
+        Err(DbFault::TwiceNamed | DbFault::TooMany) => unreachable!(),
     }
 }
 
@@ -255,6 +286,17 @@ fn push_bad(shown: &mut Vec<u8>) -> Result<Memory, AllocError>
 {
     shown.extend_from_slice(b"! bad\n")?;
     Ok(Memory::Ample)
+}
+
+/// Appends what is printed of the end of a scan.
+fn push_report(shown: &mut Vec<u8>, report: Report) -> Result<(), AllocError>
+    ensures { OnOk result (shown.new.items ≡ shown.old.items ++ report_text report) }
+{
+    match report {
+        Report::Nothing | Report::ToScan(_) => Ok(()),
+        Report::ScanEnded(true) => shown.extend_from_slice(b"! ok\n"),
+        Report::ScanEnded(false) => shown.extend_from_slice(b"! none\n"),
+    }
 }
 
 /// Appends the line of a step that was refused.

@@ -85,5 +85,8 @@ read_answers text r h = elim (reads_or r (parsed text) h) [ inl none ↦ inl non
 pub read_only : (text : List ℕ) (r : Result Expression FilterFault) → Reads r (parsed text) → (exact : Result Expression FilterFault) → IsAnswer text exact → OrNoMemory r exact
 read_only text r h exact is = subst (OrNoMemory r) (sym (answer_read text exact is)) (reads_or r (parsed text) h)
 
+pub parsed_answers : (text : List ℕ) → IsAnswer text (parsed text)
+parsed_answers text = is_answer text (parsed text) refl
+
 pub has_one_answer : (text : List ℕ) → HasOneAnswer text
-has_one_answer text = record { answer = parsed text; is = is_answer text (parsed text) refl; only = answer_read text }
+has_one_answer text = record { answer = parsed text; is = parsed_answers text; only = answer_read text }

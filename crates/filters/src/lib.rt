@@ -12,4 +12,4 @@ pub use expression::{Field, Filter, Test};
 pub use matching::Case;
 pub use pairs::Pair;
 pub use place::MAX_DEPTH;
-pub use reading::{FilterFault, one_answer};
+pub use reading::{FilterFault, one_answer, parsed_is_the_answer};

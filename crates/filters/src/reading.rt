@@ -54,6 +54,8 @@ impl Filter {
         ensures answer { (result ≡ Err NoMemory) ⊎ IsAnswer text.now result }
         // A text is refused for nothing else, and says nothing else.
         ensures only { (exact : Result Expression Fault) → IsAnswer text.now exact → OrNoMemory result exact }
+        // The same as a function of the text, which is that answer by a law of its own.
+        ensures exact { OrNoMemory result (parsed text.now) }
     {
         read(alloc, text.as_bytes())
     }
@@ -62,6 +64,11 @@ impl Filter {
 /// A law: by the grammar each text has exactly one answer. A caller has it by a call.
 pub fn one_answer()
     ensures { (text : List ℕ) → HasOneAnswer text }
+{}
+
+/// A law: that answer is what the text is read as, byte by byte.
+pub fn parsed_is_the_answer()
+    ensures { (text : List ℕ) → IsAnswer text (parsed text) }
 {}
 
 /// The filter that the bytes of a text are.

@@ -1,5 +1,5 @@
 -- Arguments that are read one after the other.
-use Rattle.std.proofs.Common.{◌≡◌, ℕ, List, [], ◌∷◌, ◌++◌, Option, Result, Ok, Err, refl, ap, sym, ◌∙◌, append_assoc}
+use Rattle.std.proofs.Common.{◌≡◌, ℕ, List, [], ◌∷◌, ◌++◌, Option, Result, Ok, Err, refl, ap, sym, append_assoc}
 use Rattle.mpd_command.specs.declared.readers.Misread.{Misread}
 use Rattle.mpd_command.specs.Readers.{argument_of, both, many_of, map_ok}
 

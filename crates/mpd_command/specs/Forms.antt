@@ -1,10 +1,16 @@
 -- The forms of arguments (MPD protocol reference, Requests).
-use Rattle.std.specs.Prelude.{ℕ, ◌-◌, nat_le, Bool, true, false, List, [], ◌∷◌, length, take, drop, ◌==◌, slice_index, Option, Some, None, option_map, if◌then◌else◌, codes}
-use Rattle.std.specs.Str.{bytes_eq}
+use Rattle.std.specs.Prelude.{ℕ, ◌-◌, nat_le, Bool, true, false, List, [], ◌∷◌, length, take, drop, ◌==◌, slice_index, Option, Some, None, option_map, if◌then◌else◌, codes, find}
+use Rattle.std.specs.Str.{bytes_eq, str_eq_ignore_ascii_case}
 use Rattle.mpd_text.specs.Answers.Number.{number_of}
+use Rattle.mpd_text.specs.Answers.Range.{range_of}
+use Rattle.mpd_text.specs.Songs.Tags.{tag_names, tag_text}
+use Rattle.mpd_text.specs.declared.answers.ranges.Range.{Range}
+use Rattle.mpd_text.specs.declared.answers.ranges.Range.TheVariants.{Lone, Between, From}
+use Rattle.mpd_text.specs.declared.songs.song.TagName.{TagName}
 use Rattle.mpd_command.specs.declared.forms.Uri.{Uri}
 use Rattle.mpd_command.specs.declared.forms.Place.{Place}
 use Rattle.mpd_command.specs.declared.forms.Place.TheVariants.{At, After, Before}
+use Rattle.mpd_command.specs.declared.forms.Window.{Window}
 
 -- a URI, without one slash at its end
 abbrev pub uri_of : List ℕ → Option Uri
@@ -39,3 +45,18 @@ place_of word =
     if first_is 43 word then option_map After (number_of (drop 1 word))
     else (if first_is 45 word then option_map Before (number_of (drop 1 word))
     else option_map At (number_of word))
+
+-- a tag, in any ASCII case
+unfoldable pub tag_of : List ℕ → Option TagName
+tag_of word = find (λ name. str_eq_ignore_ascii_case (tag_text name) word) tag_names
+
+-- a range that has both ends
+abbrev pub with_ends : Option Range → Option Window
+with_ends (Some (Between start end)) = Some (record { start = start; end = end })
+with_ends (Some (Lone place)) = None
+with_ends (Some (From start)) = None
+with_ends None = None
+
+-- START:END, where the start is not above the end
+abbrev pub window_of : List ℕ → Option Window
+window_of word = with_ends (range_of word)

@@ -1,5 +1,6 @@
 pub mod Names
 pub mod Forms
 pub mod Readers
+pub mod Wanted
 pub mod Commands
 pub mod Requests

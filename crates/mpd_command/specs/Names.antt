@@ -2,18 +2,24 @@
 use Rattle.std.specs.Prelude.{ℕ, Bool, true, false, List, [], ◌∷◌, Option, codes, find}
 use Rattle.std.specs.Str.{bytes_eq}
 use Rattle.mpd_command.specs.declared.name.Name.{Name}
-use Rattle.mpd_command.specs.declared.name.Name.TheVariants.{Add, AddId, Clear, Close, Delete, DeleteId, GetVol, Idle, Kill, Move, MoveId, NoIdle, Ping, PlaylistId, PlaylistInfo, PlChanges, PlChangesPosId, Prio, PrioId, Repeat, SetVol, Status, Swap, SwapId, TagTypes}
+use Rattle.mpd_command.specs.declared.name.Name.TheVariants.{Add, AddId, Clear, Close, Count, Delete, DeleteId, Find, FindAdd, GetVol, Idle, Kill, List as ListTag, ListAll, LsInfo, Move, MoveId, NoIdle, Ping, PlaylistId, PlaylistInfo, PlChanges, PlChangesPosId, Prio, PrioId, Repeat, Rescan, Search, SearchAdd, SetVol, Status, Swap, SwapId, TagTypes, Update}
 
 abbrev pub text_of : Name → List ℕ
 text_of Add = codes "add"
 text_of AddId = codes "addid"
 text_of Clear = codes "clear"
 text_of Close = codes "close"
+text_of Count = codes "count"
 text_of Delete = codes "delete"
 text_of DeleteId = codes "deleteid"
+text_of Find = codes "find"
+text_of FindAdd = codes "findadd"
 text_of GetVol = codes "getvol"
 text_of Idle = codes "idle"
 text_of Kill = codes "kill"
+text_of ListTag = codes "list"
+text_of ListAll = codes "listall"
+text_of LsInfo = codes "lsinfo"
 text_of Move = codes "move"
 text_of MoveId = codes "moveid"
 text_of NoIdle = codes "noidle"
@@ -25,15 +31,19 @@ text_of PlChangesPosId = codes "plchangesposid"
 text_of Prio = codes "prio"
 text_of PrioId = codes "prioid"
 text_of Repeat = codes "repeat"
+text_of Rescan = codes "rescan"
+text_of Search = codes "search"
+text_of SearchAdd = codes "searchadd"
 text_of SetVol = codes "setvol"
 text_of Status = codes "status"
 text_of Swap = codes "swap"
 text_of SwapId = codes "swapid"
 text_of TagTypes = codes "tagtypes"
+text_of Update = codes "update"
 
 -- all commands, in the byte order of their names
 abbrev pub all_names : List Name
-all_names = Add ∷ AddId ∷ Clear ∷ Close ∷ Delete ∷ DeleteId ∷ GetVol ∷ Idle ∷ Kill ∷ Move ∷ MoveId ∷ NoIdle ∷ Ping ∷ PlaylistId ∷ PlaylistInfo ∷ PlChanges ∷ PlChangesPosId ∷ Prio ∷ PrioId ∷ Repeat ∷ SetVol ∷ Status ∷ Swap ∷ SwapId ∷ TagTypes ∷ []
+all_names = Add ∷ AddId ∷ Clear ∷ Close ∷ Count ∷ Delete ∷ DeleteId ∷ Find ∷ FindAdd ∷ GetVol ∷ Idle ∷ Kill ∷ ListTag ∷ ListAll ∷ LsInfo ∷ Move ∷ MoveId ∷ NoIdle ∷ Ping ∷ PlaylistId ∷ PlaylistInfo ∷ PlChanges ∷ PlChangesPosId ∷ Prio ∷ PrioId ∷ Repeat ∷ Rescan ∷ Search ∷ SearchAdd ∷ SetVol ∷ Status ∷ Swap ∷ SwapId ∷ TagTypes ∷ Update ∷ []
 
 -- the command of a name
 unfoldable pub name_of : List ℕ → Option Name

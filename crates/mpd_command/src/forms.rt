@@ -1,13 +1,14 @@
 //! The forms of arguments: what one word can be read as.
 ghost use Rattle.std.specs.Prelude.{◌≡◌, ℕ, List, Option, Some, None, IfOk, MatchOption, ◌<◌, true, false, drop, option_map};
+ghost use Rattle.std.specs.Str.{str_eq_ignore_ascii_case};
 ghost use Rattle.mpd_text.specs.Answers.Number.{number_of};
 ghost use Rattle.mpd_text.specs.Answers.Range.{range_of};
 ghost use Rattle.idle_notes.specs.Names.{subsystem_of};
-ghost use Rattle.mpd_command.specs.Forms.{first_is, uri_of, switch_of, volume_of, byte_of, place_of};
+ghost use Rattle.mpd_command.specs.Forms.{first_is, uri_of, switch_of, volume_of, byte_of, place_of, tag_of, window_of};
 
 use crate::volume::Volume;
 use idle_notes::Subsystem;
-use mpd_text::{Range, Text, number};
+use mpd_text::{Range, TAG_NAMES, TagName, Text, number};
 use std::alloc::{AllocError, Global};
 
 /// What one word can be read as.
@@ -79,6 +80,49 @@ impl Form for Subsystem {
     }
 }
 
+impl Form for TagName {
+    ghost read_gives = { tag_of };
+
+    fn read(_alloc: Global, word: &str) -> Result<Option<TagName>, AllocError> {
+        Ok(tag(word))
+    }
+}
+
+/// The tag of a word, in any ASCII case.
+#[tactic(auto, unfolding(crate::specs::Forms::tag_of))]
+fn tag(word: &str) -> Option<TagName>
+    ensures { result ≡ tag_of word.now }
+{
+    TAG_NAMES
+        .iter()
+        .copied()
+        .find(|name| same_word(name.text(), word))
+}
+
+fn same_word(word: &str, other: &str) -> bool
+    ensures { result ≡ str_eq_ignore_ascii_case word.now other.now }
+{
+    word.eq_ignore_ascii_case(other)
+}
+
+/// Songs of an answer: those from a place on, up to another place without it. The start is not above the end.
+#[derive(Clone, Copy, Debug, PartialEq, Eq)]
+pub struct Window {
+    pub start: u32,
+    pub end: u32,
+}
+
+impl Form for Window {
+    ghost read_gives = { window_of };
+
+    fn read(_alloc: Global, word: &str) -> Result<Option<Window>, AllocError> {
+        match Range::parse(word) {
+            Some(Range::Between(start, end)) => Ok(Some(Window { start, end })),
+            _ => Ok(None),
+        }
+    }
+}
+
 /// A name in the library. One slash at its end is dropped.
 #[derive(Drop)]
 pub struct Uri(pub Text);
@@ -125,7 +169,7 @@ impl Form for Place {
     }
 }
 
-fn after_sign(word: &str, sign: char) -> Option<&str>
+pub(crate) fn after_sign(word: &str, sign: char) -> Option<&str>
     requires { sign < 128 }
     ensures { MatchOption result (first_is sign word.now ≡ false) (λ rest. (first_is sign word.now ≡ true) × (rest.now ≡ drop 1 word.now)) }
 {

@@ -7,9 +7,11 @@ mod name;
 mod readers;
 mod request;
 mod volume;
+mod wanted;
 
 pub use command::Command;
-pub use forms::{Place, Uri};
+pub use forms::{Place, Uri, Window};
 pub use name::{NAMES, Name};
 pub use request::{Ack, CommandFault, Request};
 pub use volume::Volume;
+pub use wanted::Wanted;

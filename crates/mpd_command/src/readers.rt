@@ -35,7 +35,7 @@ impl<T: Drop> From<AllocFailed<T>> for Misread {
 }
 
 /// The value of a word.
-fn read_word<A: Form>(alloc: Global, word: &str) -> Result<A, Misread>
+pub(crate) fn read_word<A: Form>(alloc: Global, word: &str) -> Result<A, Misread>
     ensures { Gives result (argument_of A.read_gives word.now) }
 {
     match A::read(alloc, word)? {

@@ -1,52 +1,91 @@
-//! The program: `music_daemon script` runs standard input as a script, and writes to standard output.
+//! The program: what its words ask for, done with standard input, standard output and the files of the system.
 #![tactic(auto)]
 
+use command_line::{LineFault, Program, command_line};
 use daemon_script::{ScriptFault, run_script};
+use library_scan::{ScanFault, scan};
 use mpd_text::Counting;
-use std::io::ErrorKind;
+use scan_report::{Progress, report_of};
+use song_db::Rate;
+use std::io::{ErrorKind, IsTerminal, Write};
 use std::process::ExitCode;
 use std::{env, io};
 
 /// Status 0 on success, 1 after one line on standard error, 2 for a command line that is refused.
 fn main(rt: HostRuntime) -> io::Result<ExitCode> {
-    let asked = match asks_for_script(&rt) {
-        Ok(asked) => asked,
-        Err(error) if error.kind() == ErrorKind::OutOfMemory => {
-            return fail(&rt, ScriptFault::NoMemory);
-        }
-        // A word that is no text is another word.
-        Err(_) => false,
+    let words = match words_of(&rt) {
+        Ok(words) => words,
+        Err(error) if error.kind() == ErrorKind::OutOfMemory => return fail(&rt, "out of memory"),
+        Err(_) => return refuse_bytes(&rt),
     };
-    if !asked {
-        eprintln!(rt; "usage: music_daemon script")?;
-        return Ok(ExitCode::from(2));
+    match command_line(rt.alloc(), &words) {
+        Ok(Program::Scan(rate, folder)) => print_scan(&rt, folder, &rate),
+        Ok(Program::Script) => run_input(&rt),
+        Err(fault) => refuse(&rt, &fault),
     }
+}
+
+/// The words of the command line, the program's name first.
+fn words_of(rt: &HostRuntime) -> io::Result<Vec<String>> {
+    Ok(env::args(rt)?.collect(rt.alloc())?)
+}
+
+/// Refuses a command line with a word that is no text, in clap's words.
+fn refuse_bytes(rt: &HostRuntime) -> io::Result<ExitCode> {
+    eprintln!(rt;
+        "error: invalid UTF-8 was detected in one or more arguments\n\nUsage: music_daemon <COMMAND>\n\nFor more information, try '--help'."
+    )?;
+    Ok(ExitCode::from(2))
+}
+
+/// Prints help, the version, or why the words are refused.
+fn refuse(rt: &HostRuntime, fault: &LineFault) -> io::Result<ExitCode> {
+    match fault {
+        LineFault::Refused(error) => error.print(rt)?,
+        LineFault::NoMemory => eprintln!(rt; "music_daemon: out of memory")?,
+    }
+    Ok(ExitCode::from(fault.status()))
+}
+
+/// Runs standard input as a script.
+fn run_input(rt: &HostRuntime) -> io::Result<ExitCode> {
     let mut reader = Counting::new(rt.stdin());
     let mut writer = Counting::new(rt.stdout());
     match run_script(rt.alloc(), &mut reader, &mut writer) {
         Ok(()) => Ok(ExitCode::SUCCESS),
-        Err(fault) => fail(&rt, fault),
+        Err(ScriptFault::ReadFault) => fail(rt, "read fault"),
+        Err(ScriptFault::WriteFault) => fail(rt, "write fault"),
+        Err(ScriptFault::NoMemory) => fail(rt, "out of memory"),
     }
 }
 
-/// Whether the command line is the one word `script`.
-fn asks_for_script(rt: &HostRuntime) -> io::Result<bool> {
-    let mut words = env::args(rt)?.skip(1);
-    let Some(first) = words.next() else {
-        return Ok(false);
+/// Prints the songs of a folder, and on standard error why other files are none.
+fn print_scan(rt: &HostRuntime, folder: &str, rate: &Rate) -> io::Result<ExitCode> {
+    let mut progress = Progress::new(rt, rt.stderr().is_terminal());
+    let found = scan(rt, rt.alloc(), folder, rate, &mut progress);
+    progress.end();
+    let scanned = match found {
+        Ok(scanned) => scanned,
+        Err(ScanFault::NoFolder) => {
+            eprintln!(rt; "music_daemon: cannot read folder {folder}")?;
+            return Ok(ExitCode::FAILURE);
+        }
+        Err(ScanFault::TooMany) => return fail(rt, "too many songs"),
+        Err(ScanFault::NoMemory) => return fail(rt, "out of memory"),
     };
-    Ok(first.as_str() == "script" && words.next().is_none())
-}
-
-fn fail(rt: &HostRuntime, fault: ScriptFault) -> io::Result<ExitCode> {
-    eprintln!(rt; "music_daemon: {}", line_of(fault))?;
-    Ok(ExitCode::FAILURE)
-}
-
-fn line_of(fault: ScriptFault) -> &'static str {
-    match fault {
-        ScriptFault::ReadFault => "read fault",
-        ScriptFault::WriteFault => "write fault",
-        ScriptFault::NoMemory => "out of memory",
+    let Ok(report) = report_of(rt.alloc(), &scanned, rate) else {
+        return fail(rt, "out of memory");
+    };
+    if rt.stdout().write_all(report.songs.bytes()).is_err() {
+        return fail(rt, "write fault");
     }
+    if rt.stderr().write_all(report.refused.bytes()).is_err() {
+        return fail(rt, "write fault");
+    }
+    Ok(ExitCode::SUCCESS)
+}
+
+fn fail(rt: &HostRuntime, fault: &str) -> io::Result<ExitCode> {
+    eprintln!(rt; "music_daemon: {fault}")?;
+    Ok(ExitCode::FAILURE)
 }

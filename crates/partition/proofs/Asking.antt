@@ -13,7 +13,7 @@ use Rattle.mpd_command.specs.declared.name.Name.{Name}
 use Rattle.mpd_command.specs.declared.request.Request.{Request}
 use Rattle.mpd_command.specs.declared.request.Request.TheVariants.{Run, Refused}
 use Rattle.partition.specs.declared.event.Event.{Event}
-use Rattle.partition.specs.declared.event.Event.TheVariants.{Connect, Disconnect, Line}
+use Rattle.partition.specs.declared.event.Event.TheVariants.{Connect, Disconnect, Line, ScanQuestion, ScanResult}
 use Rattle.partition.specs.declared.event.Move.{Move}
 use Rattle.partition.specs.declared.event.Move.TheVariants.{Stay, Wait, Learn, Resume, Join}
 use Rattle.partition.specs.declared.event.Stand.{Stand}
@@ -131,6 +131,8 @@ kind_of part library clients (Connect number) =
     let full : Bool = nat_le 64 (length clients) in
     inl (quiet_said (is_some (client_of number clients)) (stays (tells (codes ""))) (if full then stays shut else greeting) tt (quiet_said full (stays shut) greeting tt tt))
 kind_of part library clients (Disconnect number) = inl tt
+kind_of part library clients ScanQuestion = inl tt
+kind_of part library clients (ScanResult songs) = inl tt
 kind_of part library clients (Line number stand request) =
     let cases : (o : Option Client) → client_of number clients ≡ o → Quiet (move_of (turn_line part library o stand request).said) ⊎ IsAsking clients (Line number stand request) =
     λ o. elim o as (λ o. client_of number clients ≡ o → Quiet (move_of (turn_line part library o stand request).said) ⊎ IsAsking clients (Line number stand request))

@@ -18,18 +18,13 @@ pub AreTold-append : (i : Image) (hs : List Happened) (h : Happened) → AreTold
 AreTold-append i [] h all e = (e, tt)
 AreTold-append i (g ∷ gs) h all e = (all.0, AreTold-append (next_image g.seat i g.event) gs h all.1 e)
 
--- an event leaves the library
-pub next-library : (seat : ℕ) (i : Image) (event : Event) → (next_image seat i event).shared.library ≡ i.shared.library
-unfolding next_image
-next-library seat i event = refl
-
 -- a player with its history goes on by one event
-pub goes_on : (limits : Limits) (library library' : Library) (i i' : Image) (hs hs' : List Happened) (h : Happened)
-    → library' ≡ library → i ≡ replay (opening limits library) hs → AreTold (opening limits library) hs
+pub goes_on : (limits : Limits) (library : Library) (i i' : Image) (hs hs' : List Happened) (h : Happened)
+    → i ≡ replay (opening limits library) hs → AreTold (opening limits library) hs
     → i' ≡ next_image h.seat i h.event → h.told ≡ told i h.event → hs' ≡ hs ++ h ∷ []
-    → (i' ≡ replay (opening limits library') hs') × AreTold (opening limits library') hs'
-goes_on limits library library' i i' hs hs' h same was rightly step tells more =
-    rw (same, more) (
+    → (i' ≡ replay (opening limits library) hs') × AreTold (opening limits library) hs'
+goes_on limits library i i' hs hs' h was rightly step tells more =
+    rw more (
       step ∙ ap (λ (j : Image). next_image h.seat j h.event) was ∙ sym (replay-append (opening limits library) hs h),
       AreTold-append (opening limits library) hs h rightly (tells ∙ ap (λ (j : Image). told j h.event) was),
     )

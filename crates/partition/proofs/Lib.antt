@@ -1,6 +1,7 @@
 pub mod Asking
 pub mod Chronicles
 pub mod Counts
+pub mod Entries
 pub mod Flags
 pub mod Gathers
 pub mod Notified
@@ -13,7 +14,9 @@ pub mod Pending
 pub mod Raised
 pub mod Rises
 pub mod Sends
+pub mod Songs
 pub mod Settled
 pub mod Tells
+pub mod Windows
 pub mod Worlds
 mod ListRuns

@@ -24,8 +24,8 @@ use Rattle.partition.specs.declared.state.Client.{Client}
 use Rattle.partition.specs.Answers.{Said}
 use Rattle.partition.specs.Clients.{notified, move_of, closes, Rising}
 use Rattle.partition.specs.Commands.Status.{idles}
-use Rattle.partition.specs.Image.{Image, Turn, client_of}
-use Rattle.partition.specs.Step.{turn, turn_of, turn_line, speaker, raised_by, after_turn, told_by}
+use Rattle.partition.specs.Image.{Image, Turn, client_of, library_after}
+use Rattle.partition.specs.Step.{turn, turn_of, turn_line, speaker, mover, raised_by, after_turn, told_by}
 use Rattle.partition.specs.World.{Listener, Moment, Life, PartDiffers, IsPending, raised_at, is_there, is_learning, is_told, begins_anew, pending_for, client_in, listener_of, image_of, past_after, world_after_turn}
 use Rattle.partition.specs.Notices.{Raises, IsIn, WaitsFor, HasChanged, Meets, HasNews, IsSent, IsClear, Asks, IsToldNews, Tells}
 use Rattle.partition.proofs.Asking.{wish_is, turn_idle, Quiet, quiet_unheard, quiet_unwaiting, IsAsking, kind_of, is_found, of_any, notified_some, does_some, of_moved}
@@ -33,7 +33,7 @@ use Rattle.partition.proofs.Members.{in_map, of_map, any_in, same_sets, has_meet
 use Rattle.partition.proofs.Parts.{raised_differ, agree}
 use Rattle.partition.proofs.Pending.{has_union, has_none, pending_more, reads_pending}
 use Rattle.partition.proofs.Rises.{rising_staying}
-use Rattle.partition.proofs.Sends.{found, news, waiter_moves, notices_rise, does, does_keeps, does_other, does_none, does_wait, notified_none, told_none, untold_waits, of_sent, is_sent, kept, kept_was, others_kept, open_kept, lands, there_kept}
+use Rattle.partition.proofs.Sends.{found, news, waiter_moves, notices_rise, does, does_keeps, does_other, does_none, does_wait, notified_none, told_none, untold_waits, is_other_speaker, of_sent, is_sent, kept, kept_was, others_kept, open_kept, lands, there_kept}
 use Rattle.partition.proofs.Worlds.{same_raised}
 
 both : (a b : Bool) → a ≡ true → b ≡ true → (a && b) ≡ true
@@ -80,22 +80,22 @@ module _ (life : Life) (done : List Happened) (event : Event) (above : 1 ≤ lif
   t = turn i event
 
   abbrev r : Subsystems
-  r = raised_by i.part t
+  r = raised_by i.part i.shared.library t
 
   abbrev ms : List Moment
   ms = life.moments
 
   abbrev n : ℕ
-  n = speaker event
+  n = mover event
 
   abbrev m : Moment
   m = moment_of life done event
 
   is_raised : raised_at m ≡ r
-  is_raised = same_raised life.world.limits life.world.past life.world.controls t.controls t.edit above some
+  is_raised = same_raised life.world.limits life.world.past life.world.library (library_after life.world.library t.scan) life.world.controls t.controls t.edit above some
 
   pub raises : Raises m
-  raises = record { each = λ x. raised_differ m.before m.after x; all = λ none. agree m.before m.after t.edit refl refl refl none }
+  raises = record { each = λ x. raised_differ m.before m.after x; all = λ none. agree m.before m.after t.edit t.scan refl refl refl none }
 
   differs : (x : Subsystem) → (has r x ≡ true) ↔ PartDiffers x m.before m.after
   differs x = subst (λ (s : Subsystems). (has s x ≡ true) ↔ PartDiffers x m.before m.after) is_raised (raised_differ m.before m.after x)
@@ -198,20 +198,30 @@ module _ (life : Life) (done : List Happened) (event : Event) (above : 1 ≤ lif
             (inl (any_in (λ (x : Notice). x.client == number) (record { client = number; names = names }) m.notices e (eq-eqb number number refl))));
       }
 
-  on : (number : ℕ) (named : Subsystems) → number ≢ speaker m.event → WaitsFor number named m.before → ((names : Subsystems) → IsSent number names m → ⊥)
-      → WaitsFor number named m.after
-  on number named other waited unsent =
+  -- a client that waits, stays and makes no move waits on, if it is sent nothing
+  still : (number : ℕ) (named : Subsystems) → ((names : Subsystems) → IsSent number names m → ⊥) → IsIn (client number (Some named)) (kept n r t.said i.clients)
+      → does n r (move_of t.said) (notified r (client number (Some named))) ≡ notified r (client number (Some named)) → WaitsFor number named m.after
+  still number named unsent stays unmoved =
       let k : Client = client number (Some named) in
-      let apart : (number == n) ≡ false = ne_eqb number n other in
-      let stays : IsIn k (kept n r t.said i.clients) = others_kept n r t.said i.clients k (listed number (Some named) waited) apart in
       let cases : (b : Bool) → is_nonempty (news n r k) ≡ b → WaitsFor number named m.after =
       λ b. elim b as (λ b. is_nonempty (news n r k) ≡ b → WaitsFor number named m.after) [
         | true ↦ λ e. absurd (unsent (news n r k) (is_sent n r t.said i.clients k stays e))
         | false ↦ λ e.
             after_of k number (Some named) stays refl
-            (ap (λ (c : Client). c.pending.waiting) (does_other n r (move_of t.said) (notified r k) apart) ∙ untold_waits n r k e)
+            (ap (λ (c : Client). c.pending.waiting) unmoved ∙ untold_waits n r k e)
       ] in
       cases (is_nonempty (news n r k)) refl
+
+  on : (number : ℕ) (named : Subsystems) → speaker m.event ≢ Some number → WaitsFor number named m.before → ((names : Subsystems) → IsSent number names m → ⊥)
+      → WaitsFor number named m.after
+  on number named other waited unsent =
+      let k : Client = client number (Some named) in
+      elim (is_other_speaker i.part i.shared.library i.clients event number other) [
+        | inl apart ↦ still number named unsent (others_kept n r t.said i.clients k (listed number (Some named) waited) apart)
+            (does_other n r (move_of t.said) (notified r k) apart)
+        | inr unsaid ↦ still number named unsent (open_kept n r t.said i.clients k (listed number (Some named) waited) (ap (λ (s : Said). closes s.answer.next) unsaid))
+            (ap (λ (s : Said). does n r (move_of s) (notified r k)) unsaid)
+      ]
 
   -- what a client that asks is told
   module _ (number : ℕ) (named : Subsystems) (asks : Asks number named m) where
@@ -227,11 +237,11 @@ module _ (life : Life) (done : List Happened) (event : Event) (above : 1 ≤ lif
         ∙ ap (λ (o : Option Client). turn_line i.part i.shared.library o Alone (Run asks.name (Idle named))) (found k i.clients rising (listed number None asks.free))
 
     pub speaks : n ≡ number
-    speaks = ap speaker asks.event
+    speaks = ap mover asks.event
 
     same_parts : (x : Subsystem) → PartDiffers x m.before m.after → ⊥
-    same_parts Database e = e
-    same_parts Update e = e
+    same_parts Database e = e (ap (λ (u : Turn). (library_after life.world.library u.scan).songs) (sym turn_is))
+    same_parts Update e = e (ap (λ (u : Turn). (library_after life.world.library u.scan).scan.runs) (sym turn_is))
     same_parts StoredPlaylist e = e
     same_parts Playlist e = e (ap (λ (u : Turn). present (past_after life.world.past u.edit)) (sym turn_is))
     same_parts Player e = e

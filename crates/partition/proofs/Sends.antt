@@ -1,8 +1,8 @@
 -- Which clients are sent a notice, and what becomes of each.
-use Rattle.std.proofs.Common.{◌≡◌, inl, inr, ℕ, ◌<◌, ◌==◌, Bool, true, false, not, ◌&&◌, Option, List, [], ◌∷◌, ◌++◌, Some, None, is_some, map, refl, ap, sym, subst, ◌∙◌, arith, if◌then◌else◌}
+use Rattle.std.proofs.Common.{◌≡◌, ◌≢◌, ◌⊎◌, inl, inr, ℕ, ◌<◌, ◌==◌, Bool, true, false, not, ◌&&◌, Option, List, [], ◌∷◌, ◌++◌, Some, None, is_some, map, refl, ap, sym, subst, ◌∙◌, arith, if◌then◌else◌}
 use Rattle.std.specs.Prelude.{filter, insert, nat_lt}
 use Rattle.std.specs.List.{flat_map, position_or_len}
-use Rattle.std.proofs.lemmas.Bool.{eq-eqb, eqb-true}
+use Rattle.std.proofs.lemmas.Bool.{eq-eqb, eqb-true, ne_eqb}
 use Rattle.std.proofs.lemmas.Bool.Decides.{nat_tests}
 use Rattle.idle_notes.specs.declared.sets.Subsystems.{Subsystems}
 use Rattle.idle_notes.specs.Sets.{is_nonempty}
@@ -16,7 +16,7 @@ use Rattle.partition.specs.declared.event.Asked.{Asked}
 use Rattle.partition.specs.declared.event.Stand.{Stand}
 use Rattle.partition.specs.declared.event.Stand.TheVariants.{Alone, InList}
 use Rattle.partition.specs.declared.event.Event.{Event}
-use Rattle.partition.specs.declared.event.Event.TheVariants.{Connect, Disconnect, Line}
+use Rattle.partition.specs.declared.event.Event.TheVariants.{Connect, Disconnect, Line, ScanQuestion, ScanResult}
 use Rattle.partition.specs.declared.event.Move.{Move}
 use Rattle.partition.specs.declared.event.Move.TheVariants.{Stay, Wait, Learn, Resume, Join}
 use Rattle.partition.specs.declared.event.Notice.{Notice}
@@ -26,7 +26,7 @@ use Rattle.partition.specs.Answers.{Said, shut, stays}
 use Rattle.partition.specs.Commands.Status.{Wish, ToWait, ToGoOn, wish_of}
 use Rattle.partition.specs.Clients.{notified, is_other, at, moved, notice_to, notice_for, notices_after, clients_after, staying, move_of, closes, AllAbove, Rising}
 use Rattle.partition.specs.Image.{client_of}
-use Rattle.partition.specs.Step.{deed_of, ends_by, quiet, turn_of, turn_line, turn_wished, speaker}
+use Rattle.partition.specs.Step.{deed_of, ends_by, quiet, turn_of, turn_line, turn_wished, speaker, mover, unspoken}
 use Rattle.partition.specs.Notices.{IsIn, AllBeyond, NoticesRise}
 use Rattle.partition.proofs.Members.{in_filter, of_filter, in_insert, in_map, of_map, in_flat_map, of_flat_map}
 use Rattle.partition.proofs.Rises.{at_keeps}
@@ -66,10 +66,21 @@ module _ (part : Part) (library : Library) (k : Client) (named names : Subsystem
 
 -- a client that waits does not begin to wait
 pub waiter_moves : (part : Part) (library : Library) (ks : List Client) (event : Event) (k : Client) (named names : Subsystems)
-    → client_of (speaker event) ks ≡ Some k → k.pending.waiting ≡ Some named → move_of (turn_of part library ks event).said ≡ Wait names → ⊥
+    → client_of (mover event) ks ≡ Some k → k.pending.waiting ≡ Some named → move_of (turn_of part library ks event).said ≡ Wait names → ⊥
 waiter_moves part library ks (Connect number) k named names e w m = (let n = rw e at m in cc)
 waiter_moves part library ks (Disconnect number) k named names e w m = cc
+waiter_moves part library ks ScanQuestion k named names e w m = cc
+waiter_moves part library ks (ScanResult songs) k named names e w m = cc
 waiter_moves part library ks (Line number stand request) k named names e w m = line_moves part library k named names stand request w (rw e at m)
+
+-- an event of another speaker is of another client, or of no client: then nothing is said
+pub is_other_speaker : (part : Part) (library : Library) (ks : List Client) (event : Event) (number : ℕ) → speaker event ≢ Some number
+    → ((number == mover event) ≡ false) ⊎ ((turn_of part library ks event).said ≡ unspoken)
+is_other_speaker part library ks (Connect c) number ne = inl (ne_eqb number c (λ e. ne (ap Some (sym e))))
+is_other_speaker part library ks (Disconnect c) number ne = inl (ne_eqb number c (λ e. ne (ap Some (sym e))))
+is_other_speaker part library ks (Line c stand request) number ne = inl (ne_eqb number c (λ e. ne (ap Some (sym e))))
+is_other_speaker part library ks ScanQuestion number ne = inr refl
+is_other_speaker part library ks (ScanResult songs) number ne = inr refl
 
 module _ (n : ℕ) (r : Subsystems) where
   -- what of a client's named set changed

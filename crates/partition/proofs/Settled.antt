@@ -25,11 +25,16 @@ use Rattle.partition.specs.Answers.{Said, shut, stays}
 use Rattle.partition.specs.Clients.{notified, notice_for, notice_to, is_other, at, joined, moved, staying, move_of, clients_after, Rising}
 use Rattle.partition.specs.Commands.Status.{Wish, idles}
 use Rattle.partition.specs.History.{replay}
-use Rattle.partition.specs.Image.{Image, Turn, client_of, state_after}
+use Rattle.partition.specs.declared.scan.ScanMove.{ScanMove}
+use Rattle.partition.specs.declared.scan.ScanMove.TheVariants.{Stay as StayScan}
+use Rattle.partition.specs.Scans.{scan_after}
+use Rattle.partition.specs.Clients.{same_songs}
+use Rattle.partition.proofs.Songs.{same_songs-refl}
+use Rattle.partition.specs.Image.{Image, Turn, client_of, songs_after, state_after}
 use Rattle.partition.specs.Notices.{IsIn}
 use Rattle.partition.specs.Rooms.{is_waiting}
 use Rattle.partition.specs.Settled.{IsSettled, AllSettled, most_notices}
-use Rattle.partition.specs.Step.{turn, turn_of, turn_line, turn_wished, deed_of, ends_by, quiet, speaker, raised_by, next_image}
+use Rattle.partition.specs.Step.{turn, turn_of, turn_line, turn_wished, deed_of, ends_by, quiet, mover, raised_by, next_image}
 use Rattle.partition.proofs.Asking.{quiet_unwaiting, IsAsking, kind_of, turn_idle}
 use Rattle.partition.proofs.Raised.{differ-self}
 use Rattle.partition.proofs.Rises.{rising_after}
@@ -55,17 +60,19 @@ union_none s = λ i. record {
   message = or_false s.message i;
 }
 
--- what leaves the queue and the controls as they are raises nothing
-pub same_raises : (part : Part) (t : Turn) → t.edit ≡ None → t.controls.volume ≡ part.controls.volume → t.controls.modes.repeat ≡ part.controls.modes.repeat
-    → raised_by part t ≡ none
-same_raises part t edit volume repeat = λ i. record none {
+-- what leaves the queue, the controls and the scans as they are raises nothing
+pub same_raises : (part : Part) (library : Library) (t : Turn) → t.scan ≡ StayScan → t.edit ≡ None → t.controls.volume ≡ part.controls.volume → t.controls.modes.repeat ≡ part.controls.modes.repeat
+    → raised_by part library t ≡ none
+same_raises part library t scan edit volume repeat = λ i. record none {
+  database = (ap (λ (m : ScanMove). not (same_songs library.songs (songs_after library m))) scan ∙ ap not (same_songs-refl library.songs)) i;
+  update = (ap (λ (m : ScanMove). differ library.scan.runs (scan_after library.scan m).runs) scan ∙ differ-self library.scan.runs) i;
   playlist = (ap (λ (e : Option Edit). not (same_queue (queue_of part.queue) (queue_of (state_after part.queue e)))) edit ∙ ap not (same_queue-refl (queue_of part.queue))) i;
   mixer = not (eq-eqb part.controls.volume t.controls.volume (sym volume) i);
   options = (ap (differ part.controls.modes.repeat) repeat ∙ differ-self part.controls.modes.repeat) i;
 }
 
-pub quiet_raises : (part : Part) (said : Said) → raised_by part (quiet part said) ≡ none
-quiet_raises part said = same_raises part (quiet part said) refl refl refl
+pub quiet_raises : (part : Part) (library : Library) (said : Said) → raised_by part library (quiet part said) ≡ none
+quiet_raises part library said = same_raises part library (quiet part said) refl refl refl refl
 
 -- a client that heard is settled
 notified_settled : (r : Subsystems) (k : Client) → IsSettled (notified r k)
@@ -143,7 +150,7 @@ module _ (part : Part) (library : Library) (ks : List Client) (event : Event) (r
 
   -- the clients once one of them waits, after the turn by which it does
   abbrev Waiting : ℕ → Subsystems → Turn → Type 0
-  Waiting n names u = AllSettled (map (at n (waits names)) (map (notified (raised_by part u)) (staying n u.said ks)))
+  Waiting n names u = AllSettled (map (at n (waits names)) (map (notified (raised_by part library u)) (staying n u.said ks)))
 
   abbrev asked_by : IsAsking ks event → Asked
   asked_by a = record { name = a.name; stand = Alone }
@@ -156,37 +163,37 @@ module _ (part : Part) (library : Library) (ks : List Client) (event : Event) (r
       ∙ ap (λ (w : Option Subsystems). if is_some w && true then quiet part (stays shut) else turn_idle part a.client a.named) a.free
 
   -- a client waits only where nothing of what it names is pending for it
-  asked : (a : IsAsking ks event) (names : Subsystems) → move_of t.said ≡ Wait names → Waiting (speaker event) names t
+  asked : (a : IsAsking ks event) (names : Subsystems) → move_of t.said ≡ Wait names → Waiting (mover event) names t
   asked a names moves =
       let d : Subsystems = meet a.client.pending.changed a.named in
       let answers : Bool → Turn = λ b. quiet part (idles a.named (if b then Some d else None)) in
-      let cases : (b : Bool) → is_nonempty d ≡ b → t ≡ answers b → Waiting (speaker event) names t =
-      λ b. elim b as (λ b. is_nonempty d ≡ b → t ≡ answers b → Waiting (speaker event) names t) [
+      let cases : (b : Bool) → is_nonempty d ≡ b → t ≡ answers b → Waiting (mover event) names t =
+      λ b. elim b as (λ b. is_nonempty d ≡ b → t ≡ answers b → Waiting (mover event) names t) [
         | true ↦ λ e is. (let clash : Learn ≡ Wait names = sym (ap (λ (u : Turn). move_of u.said) is) ∙ moves in cc)
         | false ↦ λ e is.
             let named : Wait a.named ≡ Wait names = sym (ap (λ (u : Turn). move_of u.said) is) ∙ moves in
             let same : a.named ≡ names = cc in
-            let number : a.number ≡ speaker event = sym (ap speaker a.is) in
+            let number : a.number ≡ mover event = sym (ap mover a.is) in
             let each : AllSettled (map (at a.number (waits a.named)) (map (notified none) ks)) =
             all_in (at a.number (waits a.named)) (notified none) ks (one_waits a.number a.named a.client ks rising a.found e) in
             let heard : Waiting a.number a.named (answers false) =
-            subst (λ (r : Subsystems). AllSettled (map (at a.number (waits a.named)) (map (notified r) ks))) (sym (quiet_raises part (idles a.named None))) each in
-            subst (Waiting (speaker event) names) (sym is)
+            subst (λ (r : Subsystems). AllSettled (map (at a.number (waits a.named)) (map (notified r) ks))) (sym (quiet_raises part library (idles a.named None))) each in
+            subst (Waiting (mover event) names) (sym is)
             (subst (λ (x : ℕ). Waiting x names (answers false)) number (subst (λ (s : Subsystems). Waiting a.number s (answers false)) same heard))
       ] in
       cases (is_nonempty d) refl (idle_is a)
 
-  pub settled_after : AllSettled (clients_after (speaker event) (raised_by part t) t.said ks)
+  pub settled_after : AllSettled (clients_after (mover event) (raised_by part library t) t.said ks)
   settled_after =
-      settled_moved (speaker event) (move_of t.said) (map (notified (raised_by part t)) (staying (speaker event) t.said ks))
+      settled_moved (mover event) (move_of t.said) (map (notified (raised_by part library t)) (staying (mover event) t.said ks))
       (λ names moves. elim (kind_of part library ks event) [ inl quiet ↦ absurd (quiet_unwaiting (move_of t.said) names quiet moves) | inr a ↦ asked a names moves ])
-      (all_notified (raised_by part t) (staying (speaker event) t.said ks))
+      (all_notified (raised_by part library t) (staying (mover event) t.said ks))
 
 next_settled : (seat : ℕ) (i : Image) (event : Event) → Rising i.clients → Rising (next_image seat i event).clients × AllSettled (next_image seat i event).clients
 unfolding next_image
 next_settled seat i event rising =
     let t : Turn = turn i event in
-    (rising_after (speaker event) (raised_by i.part t) t.said i.clients rising, settled_after i.part i.shared.library i.clients event rising)
+    (rising_after (mover event) (raised_by i.part i.shared.library t) t.said i.clients rising, settled_after i.part i.shared.library i.clients event rising)
 
 -- over every history
 pub replay_settled : (hs : List Happened) (i : Image) → Rising i.clients → AllSettled i.clients → AllSettled (replay i hs).clients
@@ -257,8 +264,8 @@ fewer_wanted raised number ks =
     [ true ↦ less | false ↦ omega arith ]
 
 -- no more notices than clients that wait, and none where nothing is raised
-pub no_room : (part : Part) (t : Turn) (ks : List Client) (may : Bool) → (may ≡ false → raised_by part t ≡ none)
-    → most_notices (raised_by part t) ks ≤ (if may then count_by is_waiting ks else 0)
-no_room part t ks true raises =
-    elim (is_nonempty (raised_by part t)) as (λ b. (if b then count_by is_waiting ks else 0) ≤ count_by is_waiting ks) [ true ↦ omega arith | false ↦ omega arith ]
-no_room part t ks false raises = subst (λ (r : Subsystems). most_notices r ks ≤ 0) (sym (raises refl)) (omega arith)
+pub no_room : (part : Part) (library : Library) (t : Turn) (ks : List Client) (may : Bool) → (may ≡ false → raised_by part library t ≡ none)
+    → most_notices (raised_by part library t) ks ≤ (if may then count_by is_waiting ks else 0)
+no_room part library t ks true raises =
+    elim (is_nonempty (raised_by part library t)) as (λ b. (if b then count_by is_waiting ks else 0) ≤ count_by is_waiting ks) [ true ↦ omega arith | false ↦ omega arith ]
+no_room part library t ks false raises = subst (λ (r : Subsystems). most_notices r ks ≤ 0) (sym (raises refl)) (omega arith)

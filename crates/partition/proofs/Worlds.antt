@@ -20,9 +20,9 @@ use Rattle.partition.specs.declared.state.Controls.{Controls}
 use Rattle.partition.specs.declared.state.Limits.{Limits}
 use Rattle.partition.specs.Clients.{raised, notified, closes, Rising}
 use Rattle.partition.specs.History.{made_of, replay}
-use Rattle.partition.specs.Image.{Image, Turn, client_of, state_after, first_controls, opening}
+use Rattle.partition.specs.Image.{Image, Turn, client_of, library_after, state_after, first_controls, opening}
 use Rattle.partition.specs.Legal.{ReplaysWorlds}
-use Rattle.partition.specs.Step.{turn, speaker, raised_by, after_turn, told_by, next_image}
+use Rattle.partition.specs.Step.{turn, mover, raised_by, after_turn, told_by, next_image}
 use Rattle.partition.specs.World.{Listener, Moment, Life, raised_at, is_there, begins_anew, pending_for, client_in, listener_of, image_of, past_after, world_after_turn, lived, life_after_event, life_from, opening_life}
 use Rattle.partition.proofs.Counts.{made_of-more}
 use Rattle.partition.proofs.Notified.{Each, flagged, all_stand}
@@ -42,13 +42,13 @@ follows limits past None above some = refl
 follows limits past (Some edit) above some = sym (after_edit limits.max_queue limits.max_version limits.max_id (omega arith) past edit some)
 
 -- what an event raised by the worlds is what its turn raises
-pub same_raised : (limits : Limits) (past : List (List Entry)) (before after : Controls) (edit : Option Edit) → 1 ≤ limits.max_version → 0 < length past
-    → raised (record { queue = present past; controls = before }) (record { queue = present (past_after past edit); controls = after })
-    ≡ raised (record { queue = queue_of (state_at limits past); controls = before }) (record { queue = queue_of (state_after (state_at limits past) edit); controls = after })
-same_raised limits past before after edit above some =
+pub same_raised : (limits : Limits) (past : List (List Entry)) (was found : Library) (before after : Controls) (edit : Option Edit) → 1 ≤ limits.max_version → 0 < length past
+    → raised (record { library = was; queue = present past; controls = before }) (record { library = found; queue = present (past_after past edit); controls = after })
+    ≡ raised (record { library = was; queue = queue_of (state_at limits past); controls = before }) (record { library = found; queue = queue_of (state_after (state_at limits past) edit); controls = after })
+same_raised limits past was found before after edit above some =
     let shows : (p : List (List Entry)) → present p ≡ queue_of (state_at limits p) = λ p. sym (pasts_keep_queues.shows limits.max_queue limits.max_version limits.max_id p) in
-    ap (λ (q : List Entry). raised (record { queue = q; controls = before }) (record { queue = present (past_after past edit); controls = after })) (shows past)
-    ∙ ap (λ (q : List Entry). raised (record { queue = queue_of (state_at limits past); controls = before }) (record { queue = q; controls = after }))
+    ap (λ (q : List Entry). raised (record { library = was; queue = q; controls = before }) (record { library = found; queue = present (past_after past edit); controls = after })) (shows past)
+    ∙ ap (λ (q : List Entry). raised (record { library = was; queue = queue_of (state_at limits past); controls = before }) (record { library = found; queue = q; controls = after }))
     (shows (past_after past edit) ∙ ap queue_of (follows limits past edit above some))
 
 same_first : (n : ℕ) → (n == n) ≡ true
@@ -103,13 +103,13 @@ module _ (life : Life) (done : List Happened) (event : Event) (above : 1 ≤ lif
   t = turn i event
 
   abbrev r : Subsystems
-  r = raised_by i.part t
+  r = raised_by i.part i.shared.library t
 
   abbrev m : Moment
   m = record { before = life.world; event = event; turn = t; notices = (told_by i event t).notices; after = world_after_turn life.world i event t }
 
   is_raised : raised_at m ≡ r
-  is_raised = same_raised life.world.limits life.world.past life.world.controls t.controls t.edit above some
+  is_raised = same_raised life.world.limits life.world.past life.world.library (library_after life.world.library t.scan) life.world.controls t.controls t.edit above some
 
   grows : (n : ℕ) → pending_for n (m ∷ life.moments) ≡ (if begins_anew n m then none else union (pending_for n life.moments) r)
   grows n =
@@ -120,16 +120,16 @@ module _ (life : Life) (done : List Happened) (event : Event) (above : 1 ≤ lif
   clients_stand : map (client_in (m ∷ life.moments)) (map listener_of (after_turn i event t).clients) ≡ (after_turn i event t).clients
   clients_stand =
       all_same (m ∷ life.moments) (after_turn i event t).clients
-      (all_stand r (λ n. pending_for n life.moments) (λ n. pending_for n (m ∷ life.moments)) (λ n. is_there n life.world) (speaker event)
+      (all_stand r (λ n. pending_for n life.moments) (λ n. pending_for n (m ∷ life.moments)) (λ n. is_there n life.world) (mover event)
       i.clients rising (with_flags life.moments (λ n. is_there n life.world) life.world.clients (all_among life.moments life.world.clients))
-      (closes t.said.answer.next) t.said.move grows (absent life.moments r (speaker event) life.world.clients))
+      (closes t.said.answer.next) t.said.move grows (absent life.moments r (mover event) life.world.clients))
 
   pub image_of-step : (h : Happened) → h.event ≡ event → image_of (lived life i event t) (done ++ h ∷ []) ≡ next_image h.seat i event
   unfolding next_image
   image_of-step h same =
       let all : List Client → QueueState → List ℕ → Image = λ k q made. record {
         part = record { queue = q; controls = t.controls };
-        shared = record { library = life.world.library; made = made };
+        shared = record { library = library_after life.world.library t.scan; made = made };
         clients = k;
       } in
       ap (λ k. all k (state_at life.world.limits (past_after life.world.past t.edit)) (made_of (done ++ h ∷ []))) clients_stand
@@ -137,7 +137,7 @@ module _ (life : Life) (done : List Happened) (event : Event) (above : 1 ≤ lif
       ∙ ap (all (after_turn i event t).clients (state_after i.part.queue t.edit)) (sym (made_of-more done h))
 
   pub rising-step : (h : Happened) → Rising (image_of (lived life i event t) (done ++ h ∷ [])).clients
-  rising-step h = subst Rising (sym clients_stand) (rising_after (speaker event) r t.said i.clients rising)
+  rising-step h = subst Rising (sym clients_stand) (rising_after (mover event) r t.said i.clients rising)
 
 from : (life : Life) (done hs : List Happened) → 1 ≤ life.world.limits.max_version → 0 < length life.world.past → Rising (image_of life done).clients
     → (replay (image_of life done) hs ≡ image_of (life_from done life hs) (done ++ hs)) × Rising (image_of (life_from done life hs) (done ++ hs)).clients

@@ -10,6 +10,7 @@ use Rattle.partition.specs.declared.event.Move.TheVariants.{Stay}
 use Rattle.partition.specs.declared.event.Next.{Next}
 use Rattle.partition.specs.declared.event.Next.TheVariants.{Goes, Closes}
 use Rattle.partition.specs.declared.event.Notice.{Notice}
+use Rattle.partition.specs.declared.scan.Report.{Report}
 use Rattle.partition.specs.declared.event.Stand.{Stand}
 use Rattle.partition.specs.declared.event.Stand.TheVariants.{Alone, InList}
 
@@ -24,10 +25,12 @@ pub record Said : Type 0 where
   pub answer : Answer
   pub move : Move
 
--- what an event makes clients hear: the answer to the client that it comes from, and the notices to others
+-- what an event makes others hear: the answer to the client that it comes from, the notices to other clients, and what is told
+-- to a part of the daemon that is no client
 pub record Told : Type 0 where
   pub answer : Answer
   pub notices : List Notice
+  pub report : Report
 
 -- what follows the lines of a success: `OK`; in a list nothing, or `list_OK` where its form wants it
 abbrev pub ending : Stand → List ℕ

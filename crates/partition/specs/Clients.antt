@@ -1,12 +1,14 @@
 -- Who is told of what changed, and what becomes of the clients (MPD protocol reference, Querying MPD's status, `idle`).
 use Rattle.std.specs.Prelude.{ℕ, ◌<◌, ◌==◌, nat_eq, nat_lt, Bool, true, false, not, List, [], ◌∷◌, Option, Some, None, is_some, map, filter, insert, if◌then◌else◌}
 use Rattle.std.specs.List.{flat_map, position_or_len}
+use lib.Pointwise.{pointwise}
+use Rattle.mpd_text.specs.Songs.Song.{SongData}
 use Rattle.idle_notes.specs.declared.pending.Pending.{Pending}
 use Rattle.idle_notes.specs.declared.sets.Subsystems.{Subsystems}
 use Rattle.idle_notes.specs.Sets.{none}
 use Rattle.idle_notes.specs.Notes.{fresh, noted, waits, cancelled, notice_of, settled}
 use Rattle.song_queue.specs.declared.entry.Entry.{Entry}
-use Rattle.song_queue.specs.Entries.{same_queue}
+use Rattle.song_queue.specs.Entries.{same_queue, same_song}
 use Rattle.song_queue.specs.State.{queue_of, differ}
 use Rattle.partition.specs.declared.event.Move.{Move}
 use Rattle.partition.specs.declared.event.Move.TheVariants.{Stay, Wait, Learn, Resume, Join}
@@ -15,21 +17,29 @@ use Rattle.partition.specs.declared.event.Next.TheVariants.{Goes, Waits, Closes}
 use Rattle.partition.specs.declared.event.Notice.{Notice}
 use Rattle.partition.specs.declared.state.Client.{Client}
 use Rattle.partition.specs.declared.state.Controls.{Controls}
+use Rattle.partition.specs.declared.state.Library.{Library}
 use Rattle.partition.specs.declared.state.Part.{Part}
 use Rattle.partition.specs.Answers.{Said}
 use Rattle.partition.specs.Image.{client_of}
 
 -- the parts of a player that its subsystems speak of
 pub record Parts : Type 0 where
+  pub library : Library
   pub queue : List Entry
   pub controls : Controls
 
-abbrev pub parts_of : Part → Parts
-parts_of part = record { queue = queue_of part.queue; controls = part.controls }
+abbrev pub parts_of : Part → Library → Parts
+parts_of part library = record { library = library; queue = queue_of part.queue; controls = part.controls }
 
--- the subsystems whose parts differ before and after an event: the queue, the volume, the modes
+-- whether two libraries have the same songs
+unfoldable pub same_songs : List SongData → List SongData → Bool
+same_songs = pointwise same_song
+
+-- the subsystems whose parts differ before and after an event: the songs, whether a scan runs, the queue, the volume, the modes
 abbrev pub raised : Parts → Parts → Subsystems
 raised before after = record none {
+  database = not (same_songs before.library.songs after.library.songs);
+  update = differ before.library.scan.runs after.library.scan.runs;
   playlist = not (same_queue before.queue after.queue);
   mixer = not (nat_eq before.controls.volume after.controls.volume);
   options = differ before.controls.modes.repeat after.controls.modes.repeat;

@@ -3,4 +3,5 @@ pub mod Deeds
 pub mod Connection
 pub mod Options
 pub mod Queue
+pub mod Library
 pub mod Status

@@ -1,4 +1,5 @@
 pub mod Answers
+pub mod Scans
 pub mod Image
 pub mod Plans
 pub mod Clients

@@ -1,10 +1,11 @@
 -- Command lists (MPD protocol reference, Command lists; that each command is an event of its own is this profile's).
-use Rattle.std.specs.Prelude.{◌≡◌, ℕ, ◌+◌, ◌-◌, ◌<◌, ◌≤◌, ◌^◌, ◌↔◌, Bool, ◌||◌, List, [], ◌∷◌, ◌++◌, length, map, take, codes, slice_index_or, if◌then◌else◌}
+use Rattle.std.specs.Prelude.{◌≡◌, ℕ, ◌+◌, ◌-◌, ◌<◌, ◌≤◌, ◌^◌, ◌↔◌, Bool, true, false, ◌||◌, List, [], ◌∷◌, ◌++◌, length, map, take, codes, slice_index_or, if◌then◌else◌}
 use Rattle.std.specs.List.{flat_map, list_any}
 use Rattle.command_lists.specs.declared.word.ListForm.{ListForm}
 use Rattle.mpd_command.specs.Requests.{name_in}
 use Rattle.mpd_command.specs.declared.request.Request.{Request}
 use Rattle.mpd_text.specs.Answers.Answer.{ack_line}
+use Rattle.partition.specs.declared.event.Event.{Event}
 use Rattle.partition.specs.declared.event.Event.TheVariants.{Line}
 use Rattle.partition.specs.declared.event.Happened.{Happened}
 use Rattle.partition.specs.declared.event.Stand.TheVariants.{InList}
@@ -12,7 +13,7 @@ use Rattle.partition.specs.declared.partition.PartitionFault.{PartitionFault}
 use Rattle.partition.specs.declared.partition.PartitionFault.TheVariants.{AtLimit, NoMemory}
 use Rattle.partition.specs.Answers.{Told}
 use Rattle.partition.specs.Clients.{closes}
-use Rattle.partition.specs.History.{Chronicle, replay}
+use Rattle.partition.specs.History.{Chronicle, replay, AreTold}
 use Rattle.partition.specs.Image.{Image}
 use Rattle.partition.specs.Step.{next_image, told}
 
@@ -27,6 +28,23 @@ entries_of seat i client form place (request ∷ requests) =
     let event = Line client (InList form place) request in
     record { seat = seat; event = event; told = told i event }
     ∷ (if ends_list (told i event) then [] else entries_of seat (next_image seat i event) client form (place + 1) requests)
+
+-- the events of requests, from a place of their list on
+abbrev pub events_of : ℕ → ListForm → ℕ → List Request → List Event
+events_of client form place [] = []
+events_of client form place (request ∷ requests) = Line client (InList form place) request ∷ events_of client form (place + 1) requests
+
+-- What the entries of a list are, said of them as a whole: the events of its first requests, all of one seat; each told what
+-- the player tells at its place; nothing follows one that ends the list; and where none does, no request is left out.
+pub record AreEntries (seat : ℕ) (i : Image) (client : ℕ) (form : ListForm) (place : ℕ) (requests : List Request) (entries : List Happened) : Type 0 where
+  pub events : map {B = ℕ × Event} (λ h. (h.seat, h.event)) entries ≡ take (length entries) (map {B = ℕ × Event} (λ event. (seat, event)) (events_of client form place requests))
+  pub told : AreTold i entries
+  pub last : (front : List Happened) (entry : Happened) (more : List Happened) → entries ≡ front ++ entry ∷ more → ends_list entry.told ≡ true → more ≡ []
+  pub whole : (list_any (λ h. ends_list h.told) entries ≡ false) → length entries ≡ length requests
+
+abbrev pub EntriesAre : Type 0
+EntriesAre = (seat : ℕ) (i : Image) (client : ℕ) (form : ListForm) (place : ℕ) (requests : List Request)
+    → AreEntries seat i client form place requests (entries_of seat i client form place requests)
 
 -- answers side by side, and after them this end, unless one of them ended the list
 abbrev pub text_with : List ℕ → List Told → List ℕ

@@ -99,7 +99,7 @@ pub record Tells (moment : Moment) (earlier : List Moment) : Type 0 where
   pub sent : (number : ℕ) (names : Subsystems) → IsSent number names moment ↔ HasNews number names moment earlier
   pub clear : (number : ℕ) (names : Subsystems) → IsSent number names moment → IsClear number moment earlier
   pub rising : NoticesRise moment.notices
-  pub waits_on : (number : ℕ) (named : Subsystems) → number ≢ speaker moment.event → WaitsFor number named moment.before
+  pub waits_on : (number : ℕ) (named : Subsystems) → speaker moment.event ≢ Some number → WaitsFor number named moment.before
       → ((names : Subsystems) → IsSent number names moment → ⊥) → WaitsFor number named moment.after
   pub answered : (number : ℕ) (named names : Subsystems) → Asks number named moment → Meets number named names moment earlier
       → (moment.turn.said.answer ≡ record { text = changed_lines names ++ codes "OK\n"; next = Goes; refused = false }) × IsClear number moment earlier
@@ -116,7 +116,7 @@ EachMoment P (moment ∷ earlier) = P moment earlier × EachMoment P earlier
 
 -- an event, and what clients heard at it
 abbrev pub heard_at : Moment → Event × Told
-heard_at moment = (moment.event, record { answer = moment.turn.said.answer; notices = moment.notices })
+heard_at moment = (moment.event, record { answer = moment.turn.said.answer; notices = moment.notices; report = moment.turn.report })
 
 abbrev pub heard_then : Happened → Event × Told
 heard_then happened = (happened.event, happened.told)

@@ -20,8 +20,8 @@ use Rattle.partition.specs.declared.state.Library.{Library}
 use Rattle.partition.specs.declared.state.Limits.{Limits}
 use Rattle.partition.specs.Clients.{Parts, raised, move_of}
 use Rattle.partition.specs.History.{made_of}
-use Rattle.partition.specs.Image.{Image, Turn, first_controls}
-use Rattle.partition.specs.Step.{turn, speaker, after_turn, told_by}
+use Rattle.partition.specs.Image.{Image, Turn, first_controls, library_after}
+use Rattle.partition.specs.Step.{turn, mover, after_turn, told_by}
 
 -- a client, and what it waits for, if it waits
 pub record Listener : Type 0 where
@@ -50,12 +50,12 @@ pub record Life : Type 0 where
   pub moments : List Moment
 
 abbrev pub parts_in : World → Parts
-parts_in w = record { queue = present w.past; controls = w.controls }
+parts_in w = record { library = w.library; queue = present w.past; controls = w.controls }
 
 -- the part of a player that a subsystem speaks of differs between two worlds
 abbrev pub PartDiffers : Subsystem → World → World → Type 0
-PartDiffers Database before after = ⊥
-PartDiffers Update before after = ⊥
+PartDiffers Database before after = before.library.songs ≢ after.library.songs
+PartDiffers Update before after = before.library.scan.runs ≢ after.library.scan.runs
 PartDiffers StoredPlaylist before after = ⊥
 PartDiffers Playlist before after = present before.past ≢ present after.past
 PartDiffers Player before after = ⊥
@@ -82,7 +82,7 @@ is_learning Join = false
 
 -- a client was sent a notice: after another's event, or as the answer to its own `idle`
 abbrev pub is_told : ℕ → Moment → Bool
-is_told number m = list_any (λ n. n.client == number) m.notices || ((number == speaker m.event) && is_learning (move_of m.turn.said))
+is_told number m = list_any (λ n. n.client == number) m.notices || ((number == mover m.event) && is_learning (move_of m.turn.said))
 
 -- the client was not there before the event, or was sent a notice at it
 abbrev pub begins_anew : ℕ → Moment → Bool
@@ -140,6 +140,7 @@ past_after past (Some edit) = after_event past (queue_after past edit)
 abbrev pub world_after_turn : World → Image → Event → Turn → World
 world_after_turn w i event t = record w {
   past = past_after w.past t.edit;
+  library = library_after w.library t.scan;
   controls = t.controls;
   clients = map listener_of (after_turn i event t).clients;
 }

@@ -12,7 +12,7 @@ use crate::state::Client;
 use idle_notes::{Pending, Subsystems};
 
 /// The client of a number, if it is there.
-pub(crate) fn find(clients: &[Client], number: u32) -> Option<Client>
+pub(crate) fn find_client(clients: &[Client], number: u32) -> Option<Client>
     ensures { result ≡ client_of number clients.now }
 {
     for client in clients {
@@ -174,7 +174,7 @@ fn join(clients: &mut Vec<Client>, number: u32)
     requires { vec_len clients.old < vec_capacity clients.old }
     ensures { clients.new.items ≡ joined number clients.old.items }
 {
-    if find(clients, number).is_some() {
+    if find_client(clients, number).is_some() {
         return;
     }
     let client = Client {

@@ -1,5 +1,6 @@
 //! What commands ask of the player, by the groups of the command reference. Each finds out what to do and changes nothing.
 pub(crate) mod connection;
+pub(crate) mod library;
 pub(crate) mod options;
 pub(crate) mod queue_edits;
 pub(crate) mod queue_songs;

@@ -3,10 +3,12 @@ ghost use Rattle.std.specs.Prelude.{◌≡◌};
 ghost use Rattle.partition.specs.Answers.{Answer, Told, place_of};
 
 use crate::notices::Notices;
+use crate::scan::Report;
 use command_lists::ListForm;
 use idle_notes::Subsystems;
 use mpd_command::{Name, Request};
 use mpd_text::SharedText;
+use song_db::SharedDb;
 use std::marker::Model;
 
 /// Something that happens to the player. Each is applied whole.
@@ -18,7 +20,14 @@ pub enum Event {
     Disconnect(u32),
     /// A line of a client, and how it comes.
     Line(u32, Stand, Request),
+    /// Whether a scan is to be made.
+    ScanQuestion,
+    /// The library that a scan found; one that failed found none.
+    ScanResult(Option<SharedDb>),
 }
+
+/// Drops an event. It is a function of its own so that the proofs of what holds one do not go through every kind of event.
+pub(crate) fn discard(_event: Event) {}
 
 /// How a line comes.
 #[derive(Clone, Copy, Debug, PartialEq, Eq)]
@@ -122,6 +131,7 @@ impl Reply {
 pub struct Outcome {
     pub(crate) reply: Reply,
     pub(crate) notices: Notices,
+    pub(crate) report: Report,
 }
 
 impl Model for Outcome {
@@ -130,7 +140,7 @@ impl Model for Outcome {
 
     ghost Value = { Told };
 
-    ghost view = { λ o. record { answer = o.reply; notices = listed o.notices } };
+    ghost view = { λ o. record { answer = o.reply; notices = listed o.notices; report = o.report } };
 }
 
 impl Outcome {
@@ -148,6 +158,13 @@ impl Outcome {
         ensures { result ≡ ends_list self.now }
     {
         self.reply.refused || matches!(self.reply.next, Next::Closes)
+    }
+
+    /// What is told to a part of the daemon that is no client.
+    pub fn report(&self) -> Report
+        ensures { result ≡ self.now.report }
+    {
+        self.report
     }
 
     /// What others are told that waited, by rising client.

@@ -2,19 +2,21 @@
 ghost use Rattle.std.specs.Prelude.{◌≡◌, ◌<◌, ◌≤◌, ◌+◌, ◌-◌, ◌^◌, ◌++◌, ◌∷◌, [], length, map, vec_len, vec_capacity, IfOk, OnErr, OnOk, not, false, nat_eq, slice_index_or};
 ghost use Rattle.std.specs.List.{flat_map};
 ghost use Rattle.idle_notes.specs.Sets.{none};
-ghost use Rattle.partition.specs.Clients.{clients_after, closes as closes_lem, notice_for, notices_after, notified};
-ghost use Rattle.partition.specs.Image.{image_of_state};
+ghost use Rattle.partition.specs.Clients.{same_songs as same_songs_lem, clients_after, closes as closes_lem, notice_for, notices_after, notified};
+ghost use Rattle.partition.specs.Image.{image_of_state, songs_after};
 ghost use Rattle.partition.specs.Rooms.{listed, room_in};
 ghost use Rattle.partition.specs.Settled.{AllSettled, most_notices};
-ghost use Rattle.partition.specs.Step.{after_turn, next_image, raised_by, speaker as speaker_lem, told, told_by, turn};
+ghost use Rattle.partition.specs.Step.{after_turn, next_image, raised_by, mover as mover_lem, told, told_by, turn};
 ghost use Rattle.song_queue.specs.State.{differ};
 
 use crate::clients::{leave, list_notices, make_move, notify_all, waiting};
-use crate::event::{Event, Happened, Next, Outcome};
+use crate::event::{Event, Happened, Next, Outcome, discard};
 use crate::notices::Notices;
-use crate::plan::{Plan, carry_out};
+use crate::plan::{Plan, Telling, carry_out};
+use crate::same::same_songs;
+use crate::scan::ScanMove;
 use crate::spoken::Spoken;
-use crate::state::{Client, Modes, Part, State};
+use crate::state::{Client, Library, Modes, Part, State};
 use crate::turns::plan_turn;
 use idle_notes::Subsystems;
 use std::alloc::{AllocError, Global};
@@ -22,9 +24,37 @@ use std::alloc::{AllocError, Global};
 /// What an event made clients hear; the notices twice, to hand out and to keep.
 #[derive(Drop)]
 struct Applied {
-    spoken: Spoken,
+    telling: Telling,
     given: Notices,
     kept: Notices,
+}
+
+impl Applied {
+    /// What is handed out, and what is kept.
+    fn into_outcomes(self) -> (Outcome, Outcome)
+        ensures given { result.0 ≡ record { answer = self.telling.spoken.answer; notices = listed self.given; report = self.telling.report } }
+        ensures kept { result.1 ≡ record { answer = self.telling.spoken.answer; notices = listed self.kept; report = self.telling.report } }
+    {
+        let Applied {
+            telling,
+            given,
+            kept,
+        } = self;
+        let Telling { spoken, report } = telling;
+        let (reply, kept_reply) = spoken.into_replies();
+        (
+            Outcome {
+                reply,
+                notices: given,
+                report,
+            },
+            Outcome {
+                reply: kept_reply,
+                notices: kept,
+                report,
+            },
+        )
+    }
 }
 
 /// Runs one event and keeps it. It fails only for memory, and then changes nothing.
@@ -45,55 +75,50 @@ pub(crate) fn record_event(
     ensures unchanged { OnErr result (image_of_state state.new ≡ image_of_state state.old) }
     ensures unkept { OnErr result (history.new.items ≡ history.old.items) }
 {
-    history.reserve(1)?;
-    let Applied {
-        spoken,
-        given,
-        kept,
-    } = apply_event(alloc, state, &event)?;
+    if history.reserve(1).is_err() {
+        discard(event);
+        return Err(AllocError);
+    }
+    let Ok(applied) = apply_event(alloc, state, &event) else {
+        discard(event);
+        return Err(AllocError);
+    };
     state.made[usize::from(seat)] += 1;
-    let (reply, kept_reply) = spoken.into_replies();
-    let _ = history.push(Happened {
-        seat,
-        event,
-        told: Outcome {
-            reply: kept_reply,
-            notices: kept,
-        },
-    });
-    Ok(Outcome {
-        reply,
-        notices: given,
-    })
+    let (given, told) = applied.into_outcomes();
+    history.push_reserved(Happened { seat, event, told });
+    Ok(given)
 }
 
 /// Applies an event, all but the count of its seat. It fails only for memory, and then changes nothing.
 fn apply_event(alloc: Global, state: &mut State, event: &Event) -> Result<Applied, AllocError>
     requires settled { AllSettled state.old.clients.items }
     ensures image { OnOk result (image_of_state state.new ≡ after_turn (image_of_state state.old) event.now (turn (image_of_state state.old) event.now)) }
-    ensures answer { IfOk result (λ applied. applied.spoken.answer ≡ (turn (image_of_state state.old) event.now).said.answer) }
+    ensures answer { IfOk result (λ applied. applied.telling.spoken.answer ≡ (turn (image_of_state state.old) event.now).said.answer) }
+    ensures report { IfOk result (λ applied. applied.telling.report ≡ (turn (image_of_state state.old) event.now).report) }
     ensures given { IfOk result (λ applied. listed applied.given ≡ (told_by (image_of_state state.old) event.now (turn (image_of_state state.old) event.now)).notices) }
     ensures kept { IfOk result (λ applied. listed applied.kept ≡ (told_by (image_of_state state.old) event.now (turn (image_of_state state.old) event.now)).notices) }
     ensures err { OnErr result (image_of_state state.new ≡ image_of_state state.old) }
 {
     state.clients.reserve(1)?;
     let plan = plan_turn(alloc, &state.part, &state.library, &state.clients, event)?;
-    let room = room_wanted(&plan, &state.part, &state.clients);
+    let room = room_wanted(&plan, &state.part, &state.library, &state.clients);
     let mut given = Notices::with_room(alloc, room)?;
     let mut kept = Notices::with_room(alloc, room)?;
-    let before = signs_of(&state.part);
-    let spoken = carry_out(&mut state.part, plan)?;
-    let raised = changed_parts(before, signs_of(&state.part));
+    let database = changes_songs(&plan, &state.library);
+    let before = signs_of(&state.part, &state.library);
+    let telling = carry_out(&mut state.part, &mut state.library, plan)?;
+    let after = signs_of(&state.part, &state.library);
+    let raised = changed_parts(database, before, after);
     tell_clients(
         &mut state.clients,
-        speaker(event),
+        mover(event),
         raised,
-        &spoken,
+        &telling.spoken,
         &mut given,
     );
     kept.push_all(given.as_slice());
     Ok(Applied {
-        spoken,
+        telling,
         given: given.trimmed(),
         kept: kept.trimmed(),
     })
@@ -102,30 +127,37 @@ fn apply_event(alloc: Global, state: &mut State, event: &Event) -> Result<Applie
 /// What tells, before an event and after it, whether a part of the player changed.
 #[derive(Clone, Copy)]
 struct Signs {
+    scans: bool,
     parity: bool,
     volume: u8,
     modes: Modes,
 }
 
-fn signs_of(part: &Part) -> Signs
-    ensures { result ≡ record { parity = part.now.queue.parity; volume = part.now.controls.volume; modes = part.now.controls.modes } }
+fn signs_of(part: &Part, library: &Library) -> Signs
+    ensures { result ≡ record { scans = library.now.scan.runs; parity = part.now.queue.parity; volume = part.now.controls.volume; modes = part.now.controls.modes } }
 {
     Signs {
+        scans: library.scan.running().is_some(),
         parity: part.queue.parity(),
         volume: part.controls.volume.percent(),
         modes: part.controls.modes,
     }
 }
 
-/// The subsystems whose parts differ: the queue, where its parity does; the volume; the modes.
-fn changed_parts(before: Signs, after: Signs) -> Subsystems
+/// The subsystems whose parts differ: the songs, where they are told to; whether a scan runs; the queue, where its parity does;
+/// the volume; the modes.
+fn changed_parts(database: bool, before: Signs, after: Signs) -> Subsystems
     ensures { result ≡ record none {
+      database = database;
+      update = differ before.scans after.scans;
       playlist = differ before.parity after.parity;
       mixer = not (nat_eq before.volume after.volume);
       options = differ before.modes.repeat after.modes.repeat;
     } }
 {
     Subsystems {
+        database,
+        update: before.scans != after.scans,
         playlist: before.parity != after.parity,
         mixer: before.volume != after.volume,
         options: before.modes.repeat != after.modes.repeat,
@@ -133,12 +165,26 @@ fn changed_parts(before: Signs, after: Signs) -> Subsystems
     }
 }
 
+/// Whether a plan changes the songs of a library.
+#[tactic(auto, using(crate::proofs::Songs::unchanged))]
+fn changes_songs(plan: &Plan, library: &Library) -> bool
+    ensures { result ≡ not (same_songs_lem library.now.songs (songs_after library.now plan.now.scan)) }
+{
+    let ScanMove::End(Some(songs)) = &plan.scan else {
+        return false;
+    };
+    if library.scan.running().is_none() {
+        return false;
+    }
+    !same_songs(library.songs.db().songs(), songs.db().songs())
+}
+
 /// How many notices a plan can give at most. For one that changes nothing no client is looked at.
 #[tactic(auto, using(crate::proofs::Settled::no_room))]
-fn room_wanted(plan: &Plan, part: &Part, clients: &[Client]) -> usize
-    ensures { most_notices (raised_by part.now plan.now) clients.now ≤ result }
+fn room_wanted(plan: &Plan, part: &Part, library: &Library, clients: &[Client]) -> usize
+    ensures { most_notices (raised_by part.now library.now plan.now) clients.now ≤ result }
 {
-    if plan.changes(part) {
+    if plan.changes(part, library) {
         waiting(clients)
     } else {
         0
@@ -196,10 +242,12 @@ fn closes(next: Next) -> bool
     }
 }
 
-fn speaker(event: &Event) -> u32
-    ensures { result ≡ speaker_lem event.now }
+/// The client whose answer and move are an event's; 0 where it comes from none, which makes no move.
+fn mover(event: &Event) -> u32
+    ensures { result ≡ mover_lem event.now }
 {
     match event {
         Event::Connect(number) | Event::Disconnect(number) | Event::Line(number, _, _) => *number,
+        Event::ScanQuestion | Event::ScanResult(_) => 0,
     }
 }

@@ -1,5 +1,6 @@
 //! Laws of the definitions. A caller that calls one may use it; each does nothing.
 ghost use Rattle.partition.specs.Legal.{ReadsPending, ReplaysWorlds};
+ghost use Rattle.partition.specs.Lists.{EntriesAre};
 
 /// A replay from a player to which nothing happened is the image of the life with every past queue and every moment.
 pub fn replays_worlds()
@@ -9,4 +10,9 @@ pub fn replays_worlds()
 /// What is read as pending for a client is everything that was raised since its connect or last notice.
 pub fn reads_pending()
     ensures { ReadsPending }
+{}
+
+/// The entries that a list makes, request by request, are those that are told of them as a whole.
+pub fn entries_are_whole()
+    ensures { EntriesAre }
 {}

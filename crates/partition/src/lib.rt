@@ -10,12 +10,15 @@ mod lists;
 mod notices;
 mod partition;
 mod plan;
+mod same;
+mod scan;
 mod spoken;
 mod state;
 mod turns;
 
 pub use event::{Event, Happened, Move, Next, Notice, Outcome, Reply, Stand};
-pub use laws::{reads_pending, replays_worlds};
+pub use laws::{entries_are_whole, reads_pending, replays_worlds};
 pub use lists::{ListFault, ListOutcome};
 pub use partition::{Partition, PartitionFault};
+pub use scan::{Report, Scan, ScanMove};
 pub use state::{Client, Controls, Library, Limits, MAX_CLIENTS, MAX_OWN, Modes, Part};

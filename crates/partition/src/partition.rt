@@ -12,8 +12,8 @@ ghost use Rattle.partition.specs.Notices.{AreHeard, EachMoment, Raises, Tells};
 ghost use Rattle.partition.specs.Settled.{AllSettled};
 ghost use Rattle.partition.specs.Step.{next_image, told};
 
-use crate::clients::find;
-use crate::event::{Event, Happened, Outcome, Stand};
+use crate::clients::find_client;
+use crate::event::{Event, Happened, Outcome, Stand, discard};
 use crate::happen::record_event;
 use crate::laws::replays_worlds;
 use crate::lists::{ListFault, ListOutcome};
@@ -52,6 +52,8 @@ impl PartitionFault {
 pub struct Partition {
     alloc: Global,
     limits: Limits,
+    /// The library that it was opened with.
+    opened: Library,
     state: State,
     history: Vec<Happened>,
 }
@@ -62,6 +64,12 @@ impl Model for Partition {
 
     ghost Value = { Chronicle };
 
+    // A filter, which an event may have, holds itself, so its code is named.
+    ghost use Rattle.filters.specs.contracts.expression.Filter as filter;
+    ghost use Rattle.std.specs.Coded.{codes};
+
+    ghost coded = { Prim.hlevel (codes, filter.the_row.coded) };
+
     ghost view = { chronicle_of };
 
     ghost invariant = { IsReplayed };
@@ -69,19 +77,21 @@ impl Model for Partition {
 
 impl Partition {
     /// A player over a library, to which nothing happened.
-    pub fn open(alloc: Global, limits: Limits, library: Library) -> Partition
+    pub fn open(alloc: Global, limits: Limits, library: Library) -> Result<Partition, AllocError>
         requires { 1 ≤ limits.max_version }
-        ensures { result ≡ record { base = opening limits library; window = []; present = opening limits library } }
+        ensures { IfOk result (λ partition. partition ≡ record { base = opening limits library; window = []; present = opening limits library }) }
     {
+        let opened = library.shared()?;
         let queue = Queue::new(
             alloc,
             limits.max_queue as usize,
             limits.max_version,
             limits.max_id,
         );
-        Partition {
+        Ok(Partition {
             alloc,
             limits,
+            opened,
             state: State {
                 part: Part {
                     queue,
@@ -95,7 +105,7 @@ impl Partition {
                 clients: Vec::new(alloc),
             },
             history: Vec::new(alloc),
-        }
+        })
     }
 
     /// Applies an event of a seat, and keeps it with what it made clients hear.
@@ -114,6 +124,7 @@ impl Partition {
     {
         self.legal();
         if self.is_at_limit(seat) {
+            discard(event);
             return Err(PartitionFault::AtLimit);
         }
         let Ok(outcome) = record_event(self.alloc, &mut self.state, &mut self.history, seat, event)
@@ -273,7 +284,7 @@ impl Partition {
     pub fn has_client(&self, number: u32) -> bool
         ensures { result ≡ is_some (client_of number self.now.present.clients) }
     {
-        find(&self.state.clients, number).is_some()
+        find_client(&self.state.clients, number).is_some()
     }
 
     /// What the player is set to.

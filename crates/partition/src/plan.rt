@@ -1,14 +1,15 @@
 //! What an event is to do, found out before anything changes.
 ghost use Rattle.std.specs.Prelude.{◌≡◌, false, IfOk, OnOk, OnErr};
 ghost use Rattle.idle_notes.specs.Sets.{none};
-ghost use Rattle.partition.specs.Commands.Deeds.{adjusts, bad_index as bad_index_lem, edits, no_such_song as no_such_song_lem, only, refusal, shows as shows_lem};
-ghost use Rattle.partition.specs.Image.{part_after, turn_by};
+ghost use Rattle.partition.specs.Commands.Deeds.{adjusts, begins_scan as begins_scan_lem, bad_index as bad_index_lem, edits, no_such_song as no_such_song_lem, only, refusal, shows as shows_lem};
+ghost use Rattle.partition.specs.Image.{library_after, part_after, turn_by};
 ghost use Rattle.partition.specs.Plans.{Fits};
-ghost use Rattle.partition.specs.Step.{quiet, raised_by};
+ghost use Rattle.partition.specs.Step.{quiet, raised_by, unspoken};
 
-use crate::event::Asked;
-use crate::spoken::{Spoken, refuses, shows, succeeds};
-use crate::state::{Controls, Part};
+use crate::event::{Asked, Move};
+use crate::scan::{Report, ScanMove};
+use crate::spoken::{Spoken, refuses, shows, succeeds, tells};
+use crate::state::{Controls, Library, Part};
 use mpd_text::{Answer, ErrorNumber};
 use song_queue::Edit;
 use std::alloc::{AllocError, Global};
@@ -19,7 +20,9 @@ use std::marker::Model;
 pub(crate) struct Plan {
     pub(crate) edit: Option<Edit>,
     pub(crate) controls: Controls,
+    pub(crate) scan: ScanMove,
     pub(crate) spoken: Spoken,
+    pub(crate) report: Report,
 }
 
 impl Model for Plan {
@@ -27,7 +30,7 @@ impl Model for Plan {
 
     ghost Value = { Turn };
 
-    ghost view = { λ p. record { edit = p.edit; controls = p.controls; said = p.spoken } };
+    ghost view = { λ p. record { edit = p.edit; controls = p.controls; scan = p.scan; said = p.spoken; report = p.report } };
 }
 
 impl Plan {
@@ -38,7 +41,9 @@ impl Plan {
         Plan {
             edit: None,
             controls: part.controls.copied(),
+            scan: ScanMove::Stay,
             spoken,
+            report: Report::Nothing,
         }
     }
 
@@ -54,7 +59,9 @@ impl Plan {
         Ok(Plan {
             edit: Some(edit),
             controls: part.controls.copied(),
+            scan: ScanMove::Stay,
             spoken: shows(asked, lines)?,
+            report: Report::Nothing,
         })
     }
 
@@ -69,7 +76,40 @@ impl Plan {
         Ok(Plan {
             edit: None,
             controls,
+            scan: ScanMove::Stay,
             spoken: succeeds(alloc, asked)?,
+            report: Report::Nothing,
+        })
+    }
+
+    /// A scan begins, and these lines are shown.
+    pub(crate) fn begins_scan(asked: Asked, part: &Part, lines: Answer) -> Result<Plan, AllocError>
+        ensures { IfOk result (λ plan. plan ≡ turn_by (begins_scan_lem asked part.now lines)) }
+    {
+        Ok(Plan {
+            edit: None,
+            controls: part.controls.copied(),
+            scan: ScanMove::Begin,
+            spoken: shows(asked, lines)?,
+            report: Report::Nothing,
+        })
+    }
+
+    /// The part stays as it is, and this is told to a part of the daemon that is no client.
+    pub(crate) fn reports(
+        alloc: Global,
+        part: &Part,
+        scan: ScanMove,
+        report: Report,
+    ) -> Result<Plan, AllocError>
+        ensures { IfOk result (λ plan. plan ≡ record (quiet part.now unspoken) { scan = scan; report = report }) }
+    {
+        Ok(Plan {
+            edit: None,
+            controls: part.controls.copied(),
+            scan,
+            spoken: tells(String::new(alloc), Move::Stay)?,
+            report,
         })
     }
 
@@ -104,32 +144,63 @@ impl Plan {
         Plan::refuses(alloc, asked, part, ErrorNumber::NoExist, "no such song")
     }
 
-    /// Whether it may change the part.
+    /// Whether it may change what clients are told of.
     #[tactic(auto, using(crate::proofs::Settled::same_raises))]
-    pub(crate) fn changes(&self, part: &Part) -> bool
-        ensures { result ≡ false → raised_by part.now self.now ≡ none }
+    pub(crate) fn changes(&self, part: &Part, library: &Library) -> bool
+        ensures { result ≡ false → raised_by part.now library.now self.now ≡ none }
     {
-        self.edit.is_some()
+        !matches!(self.scan, ScanMove::Stay)
+            || self.edit.is_some()
             || self.controls.volume.percent() != part.controls.volume.percent()
             || self.controls.modes != part.controls.modes
     }
 }
 
-/// Edits a part as a plan asks, and gives what is answered. It fails only for memory, and then changes nothing.
-pub(crate) fn carry_out(part: &mut Part, plan: Plan) -> Result<Spoken, AllocError>
+/// What is told at an event.
+#[derive(Drop)]
+pub(crate) struct Telling {
+    pub(crate) spoken: Spoken,
+    pub(crate) report: Report,
+}
+
+/// Changes a part and a library as a plan asks, and gives what is told. It fails only for memory, and then changes nothing.
+pub(crate) fn carry_out(
+    part: &mut Part,
+    library: &mut Library,
+    plan: Plan,
+) -> Result<Telling, AllocError>
     requires { Fits part.old.queue plan.edit }
     ensures part { OnOk result (part.new ≡ part_after part.old plan) }
-    ensures said { IfOk result (λ spoken. spoken ≡ plan.said) }
+    ensures library { OnOk result (library.new ≡ library_after library.old plan.scan) }
+    ensures said { IfOk result (λ telling. telling.spoken ≡ plan.said) }
+    ensures report { IfOk result (λ telling. telling.report ≡ plan.report) }
     ensures err { OnErr result (part.new ≡ part.old) }
+    ensures err_library { OnErr result (library.new ≡ library.old) }
 {
     let Plan {
         edit,
         controls,
+        scan,
         spoken,
+        report,
     } = plan;
     if let Some(edit) = edit {
         part.queue.edit(edit)?;
     }
     part.controls = controls;
-    Ok(spoken)
+    move_scan(library, scan);
+    Ok(Telling { spoken, report })
+}
+
+/// Begins or ends a scan; what one that ran found takes the place of the songs.
+fn move_scan(library: &mut Library, scan: ScanMove)
+    ensures { library.new ≡ library_after library.old scan }
+{
+    let scans = library.scan.after(&scan);
+    if let ScanMove::End(Some(songs)) = scan {
+        if library.scan.running().is_some() {
+            library.songs = songs;
+        }
+    }
+    library.scan = scans;
 }

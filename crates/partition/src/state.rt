@@ -1,10 +1,12 @@
 //! The state of a player.
-ghost use Rattle.std.specs.Prelude.{◌≡◌};
+ghost use Rattle.std.specs.Prelude.{◌≡◌, IfOk};
 
+use crate::scan::Scan;
 use idle_notes::Pending;
 use mpd_command::Volume;
-use song_db::{Db, Rate};
+use song_db::{Rate, SharedDb};
 use song_queue::Queue;
+use std::alloc::AllocError;
 
 /// The most clients that may be connected.
 pub const MAX_CLIENTS: usize = 64;
@@ -56,12 +58,35 @@ pub struct Client {
     pub pending: Pending,
 }
 
-/// What can be played.
+/// What can be played, and the scans that look for it.
 #[derive(Drop)]
 pub struct Library {
-    pub songs: Db,
+    pub songs: SharedDb,
     /// The rate of all songs.
     pub rate: Rate,
+    pub scan: Scan,
+}
+
+impl Library {
+    /// A second owner of the same songs.
+    pub(crate) fn shared(&self) -> Result<Library, AllocError>
+        ensures { IfOk result (λ library. library ≡ self.now) }
+    {
+        Ok(Library {
+            songs: self.songs.clone()?,
+            rate: same_rate(&self.rate),
+            scan: self.scan.copied(),
+        })
+    }
+}
+
+fn same_rate(rate: &Rate) -> Rate
+    ensures { result ≡ rate.now }
+{
+    match Rate::new(rate.frames()) {
+        Some(same) => same,
+        None => unreachable!(),
+    }
 }
 
 /// What one player owns.

@@ -1,11 +1,13 @@
 //! What each event is to do, and what it answers.
 ghost use Rattle.std.specs.Prelude.{◌≡◌, Some, None, IfOk};
+ghost use Rattle.std.specs.Option.{option_copied};
 ghost use Rattle.partition.specs.Plans.{Fits};
-ghost use Rattle.partition.specs.Step.{deed_of, ends_waiting as ends_waiting_lem, said_to_new, turn_command, turn_line, turn_of, turn_request};
+ghost use Rattle.partition.specs.Step.{deed_of, ends_waiting as ends_waiting_lem, quiet, unspoken, said_to_new, turn_command, turn_line, turn_of, turn_request};
 ghost use Rattle.partition.specs.Image.{turn_by};
 
-use crate::clients::find;
+use crate::clients::find_client;
 use crate::commands::connection::{ping, tag_types};
+use crate::commands::library::{count, find, find_add, list, list_all, list_info, update};
 use crate::commands::options::{get_volume, repeat, set_volume};
 use crate::commands::queue_edits::{
     add, add_id, clear, delete, delete_id, move_id, move_range, prio, prio_id, swap, swap_id,
@@ -14,9 +16,12 @@ use crate::commands::queue_songs::{changed_places, changes, playlist_id, playlis
 use crate::commands::status::{idle, no_idle, status};
 use crate::event::{Asked, Event, Move, Stand};
 use crate::plan::Plan;
+use crate::scan::{Report, ScanMove};
 use crate::spoken::{Spoken, refuses_line, shut, tells};
 use crate::state::{Client, Library, MAX_CLIENTS, Part};
+use filters::Case;
 use mpd_command::{Command, Request};
+use song_db::SharedDb;
 use std::alloc::{AllocError, Global};
 
 /// What an event asks of a part.
@@ -33,17 +38,40 @@ pub(crate) fn plan_turn(
     match event {
         Event::Connect(number) => Ok(Plan::only(part, connect(alloc, clients, *number)?)),
         Event::Disconnect(_) => Ok(Plan::only(part, shut(alloc)?)),
-        Event::Line(number, stand, request) => match find(clients, *number) {
+        Event::Line(number, stand, request) => match find_client(clients, *number) {
             Some(client) => answer_line(alloc, part, library, client, *stand, request),
             None => Ok(Plan::only(part, shut(alloc)?)),
         },
+        Event::ScanQuestion => {
+            let report = Report::ToScan(library.scan.running());
+            Plan::reports(alloc, part, ScanMove::Stay, report)
+        }
+        Event::ScanResult(songs) => end_scan(alloc, part, library, songs.as_ref()),
     }
+}
+
+/// Ends the scan that runs, with the library that it found.
+fn end_scan(
+    alloc: Global,
+    part: &Part,
+    library: &Library,
+    songs: Option<&SharedDb>,
+) -> Result<Plan, AllocError>
+    ensures plan { IfOk result (λ plan. plan ≡ record (quiet part.now unspoken) { scan = ScanMove.End (option_copied songs.entry); report = Report.ScanEnded library.now.scan.runs }) }
+    ensures fits { IfOk result (λ plan. Fits part.now.queue plan.edit) }
+{
+    let found = match songs {
+        Some(songs) => Some(songs.clone()?),
+        None => None,
+    };
+    let ended = library.scan.running().is_some();
+    Plan::reports(alloc, part, ScanMove::End(found), Report::ScanEnded(ended))
 }
 
 fn connect(alloc: Global, clients: &[Client], number: u32) -> Result<Spoken, AllocError>
     ensures { IfOk result (λ spoken. spoken ≡ said_to_new clients.now number) }
 {
-    if find(clients, number).is_some() {
+    if find_client(clients, number).is_some() {
         return tells(String::new(alloc), Move::Stay);
     }
     if clients.len() >= MAX_CLIENTS {
@@ -133,11 +161,17 @@ fn run(alloc: Global, asked: Asked, part: &Part, library: &Library, command: &Co
         Command::AddId(uri, place) => add_id(alloc, asked, part, library, uri, *place),
         Command::Clear => clear(alloc, asked, part),
         Command::Close => Ok(Plan::only(part, shut(alloc)?)),
+        Command::Count(wanted) => count(alloc, asked, part, library, wanted),
         Command::Delete(range) => delete(alloc, asked, part, *range),
         Command::DeleteId(id) => delete_id(alloc, asked, part, *id),
+        Command::Find(wanted, window) => find(alloc, asked, part, library, Case::Heeded, wanted, *window),
+        Command::FindAdd(wanted) => find_add(alloc, asked, part, library, Case::Heeded, wanted),
         Command::GetVol => get_volume(alloc, asked, part),
         Command::Idle(_) => Ok(Plan::only(part, shut(alloc)?)),
         Command::Kill => Ok(Plan::only(part, shut(alloc)?)),
+        Command::List(name, wanted) => list(alloc, asked, part, library, *name, wanted.as_ref()),
+        Command::ListAll(uri) => list_all(alloc, asked, part, library, uri.as_ref()),
+        Command::LsInfo(uri) => list_info(alloc, asked, part, library, uri.as_ref()),
         Command::Move(range, to) => move_range(alloc, asked, part, *range, *to),
         Command::MoveId(id, to) => move_id(alloc, asked, part, *id, *to),
         Command::NoIdle => Ok(Plan::only(part, shut(alloc)?)),
@@ -149,10 +183,14 @@ fn run(alloc: Global, asked: Asked, part: &Part, library: &Library, command: &Co
         Command::Prio(priority, ranges) => prio(alloc, asked, part, *priority, ranges.items()),
         Command::PrioId(priority, ids) => prio_id(alloc, asked, part, *priority, ids.items()),
         Command::Repeat(on) => repeat(alloc, asked, part, *on),
+        Command::Rescan(_) => update(alloc, asked, part, library),
+        Command::Search(wanted, window) => find(alloc, asked, part, library, Case::Ignored, wanted, *window),
+        Command::SearchAdd(wanted) => find_add(alloc, asked, part, library, Case::Ignored, wanted),
         Command::SetVol(volume) => set_volume(alloc, asked, part, volume),
-        Command::Status => status(alloc, asked, part),
+        Command::Status => status(alloc, asked, part, library),
         Command::Swap(first, second) => swap(alloc, asked, part, *first, *second),
         Command::SwapId(first, second) => swap_id(alloc, asked, part, *first, *second),
         Command::TagTypes => Ok(Plan::only(part, tag_types(alloc, asked)?)),
+        Command::Update(_) => update(alloc, asked, part, library),
     }
 }

@@ -6,10 +6,10 @@ use command_lists::ListForm;
 use mpd_command::{NAMES, Name, Request, Volume};
 use mpd_text::{Answer, Song};
 use partition::{
-    Event, Library, Limits, ListOutcome, Next, Notice, Outcome, Partition, Stand, reads_pending,
-    replays_worlds,
+    Event, Library, Limits, ListOutcome, Next, Notice, Outcome, Partition, Report, Scan, Stand,
+    reads_pending, replays_worlds,
 };
-use song_db::{Db, Rate};
+use song_db::{Db, Rate, SharedDb};
 use std::alloc::{AllocError, Global};
 
 fn songs(alloc: Global) -> Result<Vec<Song>, AllocError> {
@@ -22,8 +22,11 @@ fn library(alloc: Global) -> Result<Library, AllocError> {
     let Ok(songs) = Db::of_songs(alloc, songs(alloc)?) else {
         return Err(AllocError);
     };
-    let rate = Rate::lowest();
-    Ok(Library { songs, rate })
+    Ok(Library {
+        songs: SharedDb::new(alloc, songs)?,
+        rate: Rate::lowest(),
+        scan: Scan::never(),
+    })
 }
 
 /// A player over one song.
@@ -33,7 +36,7 @@ fn opened(alloc: Global) -> Result<Partition, AllocError> {
         max_version: 2147483647,
         max_id: 2147483647,
     };
-    Ok(Partition::open(alloc, limits, library(alloc)?))
+    Partition::open(alloc, limits, library(alloc)?)
 }
 
 fn after(next: Next) -> &'static str {
@@ -50,15 +53,26 @@ fn notice_told(alloc: Global, notice: &Notice) -> Result<String, AllocError> {
     format!(in alloc; "{}: {}", notice.client, lines.as_str())
 }
 
+/// What is told to a scanner.
+fn report_told(alloc: Global, report: Report) -> Result<String, AllocError> {
+    match report {
+        Report::Nothing => Ok(String::new(alloc)),
+        Report::ToScan(Some(number)) => format!(in alloc; "scan {number}\n"),
+        Report::ToScan(None) => String::from_str(alloc, "no scan\n"),
+        Report::ScanEnded(true) => String::from_str(alloc, "ended\n"),
+        Report::ScanEnded(false) => String::from_str(alloc, "none ran\n"),
+    }
+}
+
 /// Adds what clients hear of an event: the answer, `waits` or `closed` where the client does or is, and each notice after its
-/// client.
+/// client; and what a scanner is told.
 fn add_heard(all: &mut String, alloc: Global, outcome: &Outcome) -> Result<(), AllocError> {
     all.push_str(outcome.reply().text())?;
     all.push_str(after(outcome.reply().next()))?;
     for notice in outcome.notices() {
         all.push_str(notice_told(alloc, notice)?.as_str())?;
     }
-    Ok(())
+    all.push_str(report_told(alloc, outcome.report())?.as_str())
 }
 
 /// Applies an event, and adds what clients hear of it, or that it was not applied.
@@ -201,8 +215,38 @@ fn show(player: &Partition, alloc: Global, what: &str, all: &mut String) -> Resu
     all.push_str(shown.as_str())
 }
 
-/// Adds what is told at a step, by its first word: a client comes or goes, at the last seat; client 1 says a line in a list; something
-/// is shown; or a client says a line alone.
+/// A library of the song that a word names, or nothing for the word `fails`.
+fn found(alloc: Global, word: &str) -> Result<Option<SharedDb>, AllocError> {
+    if word == "fails" {
+        return Ok(None);
+    }
+    let mut songs = Vec::new(alloc);
+    if let Some(song) = Song::new(String::from_str(alloc, word)?, Vec::new(alloc), 8000) {
+        songs.push(song)?;
+    }
+    match Db::of_songs(alloc, songs) {
+        Ok(songs) => Ok(Some(SharedDb::new(alloc, songs)?)),
+        Err(_) => Err(AllocError),
+    }
+}
+
+/// What a scanner asks or brings, at seat 5.
+fn scans(
+    player: &mut Partition,
+    alloc: Global,
+    word: &str,
+    all: &mut String,
+) -> Result<(), AllocError> {
+    let event = if word == "asks" {
+        Event::ScanQuestion
+    } else {
+        Event::ScanResult(found(alloc, word)?)
+    };
+    happens(player, alloc, 5, event, all)
+}
+
+/// Adds what is told at a step, by its first word: a client comes or goes, at the last seat; client 1 says a line in a list; a scanner
+/// asks or brings something; something is shown; or a client says a line alone.
 fn step(
     player: &mut Partition,
     alloc: Global,
@@ -222,6 +266,8 @@ fn step(
         runs_list(player, alloc, ListForm::Plain, rest, all)
     } else if word == "runs_ok" {
         runs_list(player, alloc, ListForm::ListOk, rest, all)
+    } else if word == "scan" {
+        scans(player, alloc, rest, all)
     } else if word == "show" {
         show(player, alloc, rest, all)
     } else {
@@ -305,6 +351,48 @@ changed: options
 #[test]
 fn a_waiting_client_hears_of_a_change_once(rt: HostRuntime) {
     wants(&rt, session(rt.alloc(), WAITING), WAITING_TELLS);
+}
+
+const SCANS: &str = "comes 1
+scan asks
+1 update
+scan asks
+comes 2
+2 idle database update
+scan fails
+1 add a.wav
+1 rescan
+2 idle database
+scan b.wav
+1 add a.wav
+1 add b.wav
+scan b.wav
+show counts";
+
+const SCANS_TELL: &str = "OK MPD 0.23.0
+no scan
+updating_db: 1
+OK
+scan 1
+OK MPD 0.23.0
+waits
+2: changed: update
+ended
+OK
+updating_db: 2
+OK
+waits
+2: changed: database
+ended
+ACK [50@0] {add} no such song
+OK
+none ran
+2 7 14 2 2 100
+";
+
+#[test]
+fn a_scan_that_ends_is_told(rt: HostRuntime) {
+    wants(&rt, session(rt.alloc(), SCANS), SCANS_TELL);
 }
 
 fn is_read_back(name: Name) -> bool {

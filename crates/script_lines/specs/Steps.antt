@@ -9,7 +9,7 @@ use Rattle.script_lines.specs.Limits.{limit_named, greatest_of, number_within}
 use Rattle.script_lines.specs.Tags.{is_tag, tags_of}
 use Rattle.script_lines.specs.declared.limit.LimitName.{LimitName}
 use Rattle.script_lines.specs.declared.step.Step.{Step}
-use Rattle.script_lines.specs.declared.step.Step.TheVariants.{Song, Limit, Gone}
+use Rattle.script_lines.specs.declared.step.Step.TheVariants.{Song, Limit, Gone, Scanned}
 
 -- 1 to 1,024 bytes without a newline
 unfoldable pub is_uri : List ℕ → Bool
@@ -47,6 +47,11 @@ abbrev pub gone_of : List (List ℕ) → Option Step
 gone_of (number ∷ []) = gone_with (number_within 9 number)
 gone_of _ = None
 
+-- nothing after the word
+abbrev pub scanned_of : List (List ℕ) → Option Step
+scanned_of [] = Some Scanned
+scanned_of (word ∷ words) = None
+
 -- the step of its words
 abbrev pub step_of_words : List (List ℕ) → Option Step
 step_of_words [] = None
@@ -54,7 +59,8 @@ step_of_words (word ∷ arguments) =
     if bytes_eq word (codes "song") then song_of arguments
     else (if bytes_eq word (codes "limit") then limit_of arguments
     else (if bytes_eq word (codes "gone") then gone_of arguments
-    else None))
+    else (if bytes_eq word (codes "scanned") then scanned_of arguments
+    else None)))
 
 abbrev pub step_if_read : Result (List (List ℕ)) WordsFault → Option Step
 step_if_read (Ok words) = step_of_words words

@@ -1,7 +1,7 @@
 //! Steps of a script.
 ghost use Rattle.std.specs.Prelude.{◌≡◌, IfOk, map, string_bytes, Some, true};
 ghost use Rattle.mpd_text.specs.Lines.Cut.{HasNoNewline};
-ghost use Rattle.script_lines.specs.Steps.{is_uri as is_uri_lem, song_with as song_with_lem, song_of, limit_of, gone_of, step_of_words, step_of};
+ghost use Rattle.script_lines.specs.Steps.{is_uri as is_uri_lem, song_with as song_with_lem, song_of, limit_of, gone_of, scanned_of, step_of_words, step_of};
 
 use crate::cut::has;
 use crate::limit::{LimitName, number_within};
@@ -24,11 +24,13 @@ pub enum Step {
     Limit(LimitName, u32),
     /// A client, from 1 to 9, leaves.
     Gone(u32),
+    /// The scan that runs ends, with the songs so far.
+    Scanned,
 }
 
 impl Step {
     /// The step that follows a step's head; `None` where it is bad: its words cannot be read, the first one is
-    /// not `song`, `limit` or `gone`, or the others are not what it takes. `Err` where memory runs out.
+    /// not `song`, `limit`, `gone` or `scanned`, or the others are not what it takes. `Err` where memory runs out.
     #[tactic(auto, unfolding(crate::specs::Steps::step_of))]
     pub fn of_line(alloc: Global, rest: &str) -> Result<Option<Step>, AllocError>
         ensures { IfOk result (λ step. step ≡ step_of rest.now) }
@@ -52,6 +54,8 @@ impl Step {
             Ok(limit(arguments))
         } else if word.as_str() == "gone" {
             Ok(gone(arguments))
+        } else if word.as_str() == "scanned" {
+            Ok(scanned(arguments))
         } else {
             Ok(None)
         }
@@ -116,4 +120,14 @@ fn gone(arguments: &[String]) -> Option<Step>
     };
     let number = number_within(number.as_str(), MAX_CLIENT)?;
     Some(Step::Gone(number))
+}
+
+fn scanned(arguments: &[String]) -> Option<Step>
+    ensures { result ≡ scanned_of (map string_bytes arguments.now) }
+{
+    if arguments.is_empty() {
+        Some(Step::Scanned)
+    } else {
+        None
+    }
 }

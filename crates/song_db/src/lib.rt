@@ -3,10 +3,12 @@
 
 mod db;
 mod rate;
+mod shared_db;
 mod shared_song;
 mod song_lines;
 
 pub use db::{Db, DbFault, MAX_SONGS};
 pub use rate::Rate;
+pub use shared_db::SharedDb;
 pub use shared_song::SharedSong;
 pub use song_lines::push_song;

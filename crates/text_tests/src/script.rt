@@ -40,6 +40,7 @@ pub fn read_step(alloc: Global, rest: &str) -> Result<String, AllocError> {
         Some(Step::Song(song)) => songs::shown(alloc, &song),
         Some(Step::Limit(name, value)) => format!(in alloc; "{name:?} {value}"),
         Some(Step::Gone(number)) => format!(in alloc; "gone {number}"),
+        Some(Step::Scanned) => String::from_str(alloc, "scanned"),
         None => String::from_str(alloc, "bad"),
     }
 }
@@ -88,7 +89,10 @@ limit MAX_QUEUE 5 => bad
 gone 9 => gone 9
 gone 0 => bad
 gone 10 => bad
-gone 1 2 => bad";
+gone 1 2 => bad
+scanned => scanned
+scanned now => bad
+Scanned => bad";
 
 /// Whether a word is this limit's name, whose greatest value is this.
 fn is_limit(word: &str, name: LimitName, greatest: u32) -> bool {
@@ -98,7 +102,7 @@ fn is_limit(word: &str, name: LimitName, greatest: u32) -> bool {
 #[test]
 fn limits(rt: HostRuntime) {
     let told = compared(rt.alloc(), Reads::Step, LIMITS);
-    wants(&rt, told, "18 lines agree");
+    wants(&rt, told, "21 lines agree");
     assert!(rt; is_limit("max_id", LimitName::MaxId, 2_147_483_647));
     assert!(rt; is_limit("max_queue", LimitName::MaxQueue, 16_384));
     assert!(rt; is_limit("max_version", LimitName::MaxVersion, 2_147_483_647));

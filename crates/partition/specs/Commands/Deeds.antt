@@ -5,13 +5,14 @@ use Rattle.mpd_text.specs.declared.answers.answer.ErrorNumber.TheVariants.{Argum
 use Rattle.song_queue.specs.declared.edit.Edit.{Edit}
 use Rattle.partition.specs.Answers.{Answer, refuses, succeeds}
 use Rattle.partition.specs.declared.event.Asked.{Asked}
+use Rattle.partition.specs.declared.scan.ScanMove.TheVariants.{Stay, Begin}
 use Rattle.partition.specs.declared.state.Controls.{Controls}
 use Rattle.partition.specs.declared.state.Part.{Part}
 use Rattle.partition.specs.Image.{Deed}
 
 -- the player stays as it is
 abbrev pub only : Part → Answer → Deed
-only part answer = record { edit = None; controls = part.controls; answer = answer }
+only part answer = record { edit = None; controls = part.controls; scan = Stay; answer = answer }
 
 -- it shows these lines
 abbrev pub shows : Asked → Part → List ℕ → Deed
@@ -19,11 +20,15 @@ shows asked part lines = only part (succeeds asked.stand lines)
 
 -- the queue is edited, and these lines are shown
 abbrev pub edits : Asked → Part → Edit → List ℕ → Deed
-edits asked part edit lines = record { edit = Some edit; controls = part.controls; answer = succeeds asked.stand lines }
+edits asked part edit lines = record { edit = Some edit; controls = part.controls; scan = Stay; answer = succeeds asked.stand lines }
 
 -- the controls become these
 abbrev pub adjusts : Asked → Controls → Deed
-adjusts asked after = record { edit = None; controls = after; answer = succeeds asked.stand (codes "") }
+adjusts asked after = record { edit = None; controls = after; scan = Stay; answer = succeeds asked.stand (codes "") }
+
+-- a scan begins, and these lines are shown
+abbrev pub begins_scan : Asked → Part → List ℕ → Deed
+begins_scan asked part lines = record { edit = None; controls = part.controls; scan = Begin; answer = succeeds asked.stand lines }
 
 -- the command is refused
 abbrev pub refusal : Asked → Part → ErrorNumber → List ℕ → Deed

@@ -15,6 +15,7 @@ use Rattle.song_queue.specs.declared.edit.Edit.TheVariants.{Insert, Remove, Move
 use Rattle.song_queue.specs.declared.entry.Entry.{Entry}
 use Rattle.song_queue.specs.Entries.{rows_at}
 use Rattle.song_queue.specs.State.{QueueState, queue_of, changed, position_of}
+use Rattle.song_search.specs.Folders.{is_folder, under}
 use Rattle.partition.specs.Commands.Deeds.{bad_index, edits, no_such_song, refusal, shows}
 use Rattle.partition.specs.declared.event.Asked.{Asked}
 use Rattle.partition.specs.declared.state.Library.{Library}
@@ -24,20 +25,34 @@ use Rattle.partition.specs.Image.{Deed}
 abbrev pub count : Part → ℕ
 count part = length (queue_of part.queue)
 
--- so many songs are added, where there is room first and then an id for each
+-- why so many songs cannot be added, if they cannot: there is no room for all of them, or no id for each
+abbrev pub lack : Part → ℕ → Option (List ℕ)
+lack part songs =
+    if nat_lt part.queue.max_len (count part + songs) then Some (codes "playlist is full")
+    else (if nat_lt part.queue.max_id (part.queue.greatest_id + songs) then Some (codes "no more song ids") else None)
+
+abbrev pub unless_lacking : Asked → Part → Option (List ℕ) → Deed → Deed
+unless_lacking asked part None added = added
+unless_lacking asked part (Some text) added = refusal asked part PlaylistMax text
+
+-- so many songs are added, where nothing lacks
 abbrev pub with_room : Asked → Part → ℕ → Deed → Deed
-with_room asked part songs added =
-    if nat_lt part.queue.max_len (count part + songs) then refusal asked part PlaylistMax (codes "playlist is full")
-    else (if nat_lt part.queue.max_id (part.queue.greatest_id + songs) then refusal asked part PlaylistMax (codes "no more song ids")
-    else added)
+with_room asked part songs added = unless_lacking asked part (lack part songs) added
 
--- a song goes to the end of the queue
-abbrev pub add_song : Asked → Part → Option SongData → Deed
-add_song asked part None = no_such_song asked part
-add_song asked part (Some song) = with_room asked part 1 (edits asked part (Insert (count part) (song ∷ [])) (codes ""))
+-- songs go to the end of the queue: all of them, or none
+abbrev pub add_songs : Asked → Part → List SongData → Deed
+add_songs asked part songs = with_room asked part (length songs) (edits asked part (Insert (count part) songs) (codes ""))
 
+abbrev pub add_folder : Asked → Part → Library → List ℕ → Deed
+add_folder asked part library folder = if is_folder folder library.songs then add_songs asked part (under folder library.songs) else no_such_song asked part
+
+abbrev pub add_song_or_folder : Asked → Part → Library → Option SongData → List ℕ → Deed
+add_song_or_folder asked part library (Some song) uri = add_songs asked part (song ∷ [])
+add_song_or_folder asked part library None uri = add_folder asked part library uri
+
+-- a song is added, or all songs under a folder; a name that is a song's is taken as the song
 abbrev pub add : Asked → Part → Library → List ℕ → Deed
-add asked part library uri = add_song asked part (song_of library.songs uri)
+add asked part library uri = add_song_or_folder asked part library (song_of library.songs uri) uri
 
 -- a song goes to a place, and its id is told
 abbrev pub insert_at : Asked → Part → SongData → ℕ → Deed

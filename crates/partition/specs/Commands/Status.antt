@@ -1,5 +1,5 @@
 -- The commands that ask how the player is, and what changed (MPD protocol reference, Querying MPD's status).
-use Rattle.std.specs.Prelude.{ℕ, Bool, true, false, List, ◌++◌, Option, Some, None, is_some, length, if◌then◌else◌, codes, decimal}
+use Rattle.std.specs.Prelude.{ℕ, Bool, true, false, List, [], ◌++◌, Option, Some, None, is_some, length, if◌then◌else◌, codes, decimal}
 use Rattle.idle_notes.specs.declared.sets.Subsystems.{Subsystems}
 use Rattle.idle_notes.specs.Names.{changed_lines}
 use Rattle.idle_notes.specs.Notes.{waits, notice_of}
@@ -16,7 +16,10 @@ use Rattle.partition.specs.declared.event.Stand.{Stand}
 use Rattle.partition.specs.declared.event.Stand.TheVariants.{Alone, InList}
 use Rattle.partition.specs.declared.state.Client.{Client}
 use Rattle.partition.specs.declared.state.Part.{Part}
+use Rattle.partition.specs.declared.state.Library.{Library}
 use Rattle.partition.specs.Image.{Deed}
+use Rattle.partition.specs.Scans.{running}
+use Rattle.mpd_text.specs.Answers.Answer.{pair_line}
 
 -- what a client asks that changes nothing but how it waits: to wait for these, or to wait no more
 pub data Wish : Type 0 where
@@ -61,5 +64,11 @@ abbrev pub status_lines : ℕ → ℕ → ℕ → ℕ → List ℕ
 status_lines volume repeat version length =
     codes "volume: " ++ (decimal volume ++ (codes "\nrepeat: " ++ (decimal repeat ++ (codes "\nrandom: 0\nsingle: 0\nconsume: 0\npartition: default\nplaylist: " ++ (decimal version ++ (codes "\nplaylistlength: " ++ (decimal length ++ codes "\nstate: stop\n")))))))
 
-abbrev pub status : Asked → Part → Deed
-status asked part = shows asked part (status_lines part.controls.volume (digit part.controls.modes.repeat) part.queue.version (length (queue_of part.queue)))
+-- the number of the scan that runs is shown while one does
+abbrev pub scan_line : Option ℕ → List ℕ
+scan_line None = []
+scan_line (Some number) = pair_line (codes "updating_db") (decimal number)
+
+abbrev pub status : Asked → Part → Library → Deed
+status asked part library =
+    shows asked part (status_lines part.controls.volume (digit part.controls.modes.repeat) part.queue.version (length (queue_of part.queue)) ++ scan_line (running library.scan))

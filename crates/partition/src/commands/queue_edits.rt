@@ -1,8 +1,9 @@
 //! The commands that edit the queue (MPD protocol reference, The queue).
-ghost use Rattle.std.specs.Prelude.{◌≡◌, ◌≤◌, ◌∷◌, [], Option, Some, None, IfOk, IfSome, All, length};
+ghost use Rattle.std.specs.Prelude.{◌≡◌, ◌≤◌, ◌∷◌, [], Option, Some, None, IfOk, IfSome, IfNone, All, length, map, ◌+◌};
+ghost use Rattle.std.specs.Option.{option_copied};
 ghost use Rattle.song_queue.specs.State.{queue_of};
 ghost use Rattle.partition.specs.Commands.Deeds.{edits};
-ghost use Rattle.partition.specs.Commands.Queue.{add as add_lem, add_id as add_id_lem, insert_song as insert_song_lem, insert_at as insert_at_lem, clear as clear_lem, delete as delete_lem, delete_id as delete_id_lem, move as move_lem, move_id as move_id_lem, swap as swap_lem, swap_id as swap_id_lem, prio as prio_lem, prio_id as prio_id_lem, all_within, all_with_ids, place_with, with_room};
+ghost use Rattle.partition.specs.Commands.Queue.{add as add_lem, add_folder as add_folder_lem, add_songs, lack as lack_lem, add_id as add_id_lem, insert_song as insert_song_lem, insert_at as insert_at_lem, clear as clear_lem, delete as delete_lem, delete_id as delete_id_lem, move as move_lem, move_id as move_id_lem, swap as swap_lem, swap_id as swap_id_lem, prio as prio_lem, prio_id as prio_id_lem, all_within, all_with_ids, place_with, with_room};
 ghost use Rattle.partition.specs.Image.{turn_by};
 ghost use Rattle.partition.specs.Plans.{Fits};
 
@@ -13,6 +14,7 @@ use mpd_command::{Place, Uri};
 use mpd_text::{Answer, ErrorNumber, Range, Sequence};
 use song_db::SharedSong;
 use song_queue::{Edit, Queue};
+use song_search::{is_folder, under};
 use std::alloc::{AllocError, Global};
 use std::ops;
 
@@ -26,17 +28,88 @@ pub(crate) fn add(
     ensures plan { IfOk result (λ plan. plan ≡ turn_by (add_lem asked part.now library.now uri.now.0)) }
     ensures fits { IfOk result (λ plan. Fits part.now.queue plan.edit) }
 {
-    let Some(song) = library.songs.share(uri.0.as_str())? else {
+    match library.songs.db().share(uri.0.as_str())? {
+        Some(song) => {
+            let end = part.queue.len();
+            insert_one(alloc, asked, part, song, end, Answer::new(alloc))
+        }
+        None => add_folder(alloc, asked, part, library, uri.0.as_str()),
+    }
+}
+
+/// Adds all songs under a folder.
+fn add_folder(
+    alloc: Global,
+    asked: Asked,
+    part: &Part,
+    library: &Library,
+    folder: &str,
+) -> Result<Plan, AllocError>
+    ensures plan { IfOk result (λ plan. plan ≡ turn_by (add_folder_lem asked part.now library.now folder.now)) }
+    ensures fits { IfOk result (λ plan. Fits part.now.queue plan.edit) }
+{
+    if !is_folder(library.songs.db(), folder) {
         return Plan::no_such_song(alloc, asked, part);
-    };
-    insert_one(
-        alloc,
-        asked,
-        part,
-        song,
-        part.queue.len(),
-        Answer::new(alloc),
-    )
+    }
+    let songs = under(library.songs.db(), folder);
+    if let Some(text) = lack(part, songs.len()) {
+        return Plan::refuses(alloc, asked, part, ErrorNumber::PlaylistMax, text);
+    }
+    let edit = Edit::Insert(part.queue.len(), shares(alloc, songs)?);
+    Plan::edits(asked, part, edit, Answer::new(alloc))
+}
+
+/// A handle to each of some songs.
+fn shares(alloc: Global, songs: &[SharedSong]) -> Result<Sequence<SharedSong>, AllocError>
+    ensures { IfOk result (λ shared. shared ≡ songs.now) }
+{
+    let mut shared = Sequence::new(alloc);
+    for song in songs {
+        shared.push(song.clone()?).map_err(AllocError::from)?;
+    }
+    Ok(shared)
+}
+
+/// Adds songs that were found.
+pub(crate) fn add_found(
+    alloc: Global,
+    asked: Asked,
+    part: &Part,
+    songs: &[&SharedSong],
+) -> Result<Plan, AllocError>
+    ensures plan { IfOk result (λ plan. plan ≡ turn_by (add_songs asked part.now (map (λ song. song.now) songs.now))) }
+    ensures fits { IfOk result (λ plan. Fits part.now.queue plan.edit) }
+{
+    if let Some(text) = lack(part, songs.len()) {
+        return Plan::refuses(alloc, asked, part, ErrorNumber::PlaylistMax, text);
+    }
+    let edit = Edit::Insert(part.queue.len(), shares_of_found(alloc, songs)?);
+    Plan::edits(asked, part, edit, Answer::new(alloc))
+}
+
+/// A handle to each of some songs that were found.
+fn shares_of_found(alloc: Global, songs: &[&SharedSong]) -> Result<Sequence<SharedSong>, AllocError>
+    ensures { IfOk result (λ shared. shared ≡ map (λ song. song.now) songs.now) }
+{
+    let mut shared = Sequence::new(alloc);
+    for song in songs {
+        shared.push((*song).clone()?).map_err(AllocError::from)?;
+    }
+    Ok(shared)
+}
+
+/// Why so many songs cannot be added, if they cannot.
+fn lack(part: &Part, songs: usize) -> Option<&'static str>
+    ensures text { option_copied result ≡ lack_lem part.now songs }
+    ensures room { IfNone result ((length (queue_of part.now.queue) + songs ≤ part.now.queue.max_len) × (part.now.queue.greatest_id + songs ≤ part.now.queue.max_id)) }
+{
+    if !part.queue.has_room(songs) {
+        return Some("playlist is full");
+    }
+    if !part.queue.has_ids(songs) {
+        return Some("no more song ids");
+    }
+    None
 }
 
 /// Puts a song in where there is room and an id, and shows these lines.
@@ -52,12 +125,7 @@ fn insert_one(
     ensures plan { IfOk result (λ plan. plan ≡ turn_by (with_room asked part.now 1 (edits asked part.now (Edit.Insert place (song ∷ [])) lines))) }
     ensures fits { IfOk result (λ plan. Fits part.now.queue plan.edit) }
 {
-    if !part.queue.has_room(1) {
-        let text = "playlist is full";
-        return Plan::refuses(alloc, asked, part, ErrorNumber::PlaylistMax, text);
-    }
-    if !part.queue.has_ids(1) {
-        let text = "no more song ids";
+    if let Some(text) = lack(part, 1) {
         return Plan::refuses(alloc, asked, part, ErrorNumber::PlaylistMax, text);
     }
     let mut songs = Sequence::new(alloc);
@@ -76,7 +144,7 @@ pub(crate) fn add_id(
     ensures plan { IfOk result (λ plan. plan ≡ turn_by (add_id_lem asked part.now library.now uri.now.0 place)) }
     ensures fits { IfOk result (λ plan. Fits part.now.queue plan.edit) }
 {
-    match library.songs.share(uri.0.as_str())? {
+    match library.songs.db().share(uri.0.as_str())? {
         Some(song) => insert_song(alloc, asked, part, song, place),
         None => Plan::no_such_song(alloc, asked, part),
     }

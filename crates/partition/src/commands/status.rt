@@ -1,8 +1,8 @@
 //! The commands that ask how the player is, and what changed (MPD protocol reference, Querying MPD's status).
-ghost use Rattle.std.specs.Prelude.{◌≡◌, Option, Some, None, IfOk, codes, length};
+ghost use Rattle.std.specs.Prelude.{◌≡◌, Option, Some, None, IfOk, OnOk, ◌++◌, codes, length};
 ghost use Rattle.idle_notes.specs.Notes.{waits, notice_of};
 ghost use Rattle.song_queue.specs.State.{queue_of};
-ghost use Rattle.partition.specs.Commands.Status.{ToWait, ToGoOn, digit as digit_lem, idles, resumes, status as status_lem, status_lines, wished};
+ghost use Rattle.partition.specs.Commands.Status.{ToWait, ToGoOn, digit as digit_lem, idles, resumes, scan_line, status as status_lem, status_lines, wished};
 ghost use Rattle.mpd_text.specs.declared.answers.answer.ErrorNumber.TheVariants.{Argument};
 ghost use Rattle.partition.specs.Answers.{refuses as refuses_lem, stays};
 ghost use Rattle.partition.specs.Image.{turn_by};
@@ -10,16 +10,32 @@ ghost use Rattle.partition.specs.Image.{turn_by};
 use crate::event::{Asked, Move, Next, Stand};
 use crate::plan::Plan;
 use crate::spoken::{Spoken, refuses, tells};
-use crate::state::{Client, Part};
+use crate::state::{Client, Library, Part};
 use idle_notes::Subsystems;
 use mpd_text::{Answer, ErrorNumber, SharedText};
 use std::alloc::{AllocError, Global};
 
-pub(crate) fn status(alloc: Global, asked: Asked, part: &Part) -> Result<Plan, AllocError>
-    ensures { IfOk result (λ plan. plan ≡ turn_by (status_lem asked part.now)) }
+pub(crate) fn status(
+    alloc: Global,
+    asked: Asked,
+    part: &Part,
+    library: &Library,
+) -> Result<Plan, AllocError>
+    ensures { IfOk result (λ plan. plan ≡ turn_by (status_lem asked part.now library.now)) }
 {
-    let lines = lines_of(alloc, part)?;
+    let mut lines = lines_of(alloc, part)?;
+    push_scan(&mut lines, library.scan.running())?;
     Plan::shows(asked, part, lines)
+}
+
+/// Shows the number of the scan that runs.
+fn push_scan(lines: &mut Answer, number: Option<u64>) -> Result<(), AllocError>
+    ensures { OnOk result (lines.new ≡ lines.old ++ scan_line number) }
+{
+    match number {
+        Some(number) => lines.pair("updating_db", number),
+        None => Ok(()),
+    }
 }
 
 fn lines_of(alloc: Global, part: &Part) -> Result<Answer, AllocError>

@@ -1,0 +1,4 @@
+pub mod Walks
+pub mod Scans
+pub mod Numbers
+pub mod Lines

@@ -1,0 +1,4 @@
+pub mod Arguments
+pub mod Programs
+pub mod Known
+pub mod Readings

@@ -1,0 +1,45 @@
+-- What some command lines mean, word by word (this profile's). The program's name may be any.
+use Rattle.std.specs.Prelude.{◌≡◌, ℕ, List, [], ◌∷◌, None, Some, codes}
+use Rattle.clap.specs.Lexer.{strip_byte}
+use Rattle.clap.specs.Words.{Kinds, Row, Text, fault_of, subcommand_of}
+use Rattle.clap.specs.declared.error.kind.ErrorKind.TheVariants.{DisplayHelp, DisplayVersion, InvalidSubcommand, MissingRequiredArgument, MissingSubcommand, UnknownArgument, ValueValidation}
+use Rattle.command_line.specs.Arguments.{daemon}
+use Rattle.command_line.specs.Programs.{IsScan}
+
+-- a word that does not begin with a hyphen
+abbrev pub IsPlain : Text → Type 0
+IsPlain word = strip_byte 45 word ≡ None
+
+-- the words are taken, and ask for a scan at this rate of this folder
+pub record AsksScan (words : List Text) (rate : ℕ) (folder : Text) : Type 0 where
+  pub taken : fault_of daemon words ≡ []
+  pub read : (p : Text × List Row) × (subcommand_of daemon words ≡ Some p) × IsScan p rate folder
+
+-- the words are taken, and ask for a script
+pub record AsksScript (words : List Text) : Type 0 where
+  pub taken : fault_of daemon words ≡ []
+  pub read : (p : Text × List Row) × (subcommand_of daemon words ≡ Some p) × (p.0 ≡ codes "script")
+
+-- the words are refused, by one of these kinds
+abbrev pub Refuses : List Text → Kinds → Type 0
+Refuses words kinds = fault_of daemon words ≡ kinds
+
+pub record Readings : Type 0 where
+  -- `scan DIR`, at 44,100 a second
+  pub scan : (name folder : Text) → IsPlain folder → AsksScan (name ∷ codes "scan" ∷ folder ∷ []) 44100 folder
+  -- `scan --rate N DIR`, from 8,000 to 192,000
+  pub least : (name folder : Text) → IsPlain folder → AsksScan (name ∷ codes "scan" ∷ codes "--rate" ∷ codes "8000" ∷ folder ∷ []) 8000 folder
+  pub most : (name folder : Text) → IsPlain folder → AsksScan (name ∷ codes "scan" ∷ codes "--rate" ∷ codes "192000" ∷ folder ∷ []) 192000 folder
+  pub too_low : (name folder : Text) → IsPlain folder → Refuses (name ∷ codes "scan" ∷ codes "--rate" ∷ codes "7999" ∷ folder ∷ []) (ValueValidation ∷ [])
+  pub too_high : (name folder : Text) → IsPlain folder → Refuses (name ∷ codes "scan" ∷ codes "--rate" ∷ codes "192001" ∷ folder ∷ []) (ValueValidation ∷ [])
+  -- no folder
+  pub no_folder : (name : Text) → Refuses (name ∷ codes "scan" ∷ []) (MissingRequiredArgument ∷ [])
+  -- `script`, and nothing more
+  pub script : (name : Text) → AsksScript (name ∷ codes "script" ∷ [])
+  pub one_more : (name word : Text) → IsPlain word → Refuses (name ∷ codes "script" ∷ word ∷ []) (UnknownArgument ∷ [])
+  -- no word, and one that names no command
+  pub no_word : (name : Text) → Refuses (name ∷ []) (MissingSubcommand ∷ [])
+  pub serve : (name : Text) → Refuses (name ∷ codes "serve" ∷ []) (UnknownArgument ∷ InvalidSubcommand ∷ [])
+  -- help and the version
+  pub help : (name : Text) → Refuses (name ∷ codes "--help" ∷ []) (DisplayHelp ∷ [])
+  pub version : (name : Text) → Refuses (name ∷ codes "--version" ∷ []) (DisplayVersion ∷ [])

@@ -1,0 +1,67 @@
+//! The commands and their arguments.
+ghost use Rattle.std.specs.Prelude.{◌≡◌, false, IfOk};
+ghost use Rattle.clap.specs.Words.{app_of, rule_of};
+ghost use Rattle.clap.specs.declared.builder.command.Command.TheViews.{out-Command as fields_of};
+ghost use Rattle.command_line.specs.Arguments as arguments;
+
+use clap::{Arg, ArgAction, Command};
+use std::alloc::{AllocError, Global};
+
+/// The whole command line.
+pub(crate) fn daemon<'a>(alloc: Global) -> Result<Command<'a>, AllocError>
+    ensures { IfOk result (λ command. app_of command ≡ arguments.daemon) }
+{
+    let scan = scan(alloc)?;
+    let script = script(alloc);
+    bare(alloc).subcommand(scan)?.subcommand(script)
+}
+
+fn bare<'a>(alloc: Global) -> Command<'a>
+    ensures { app_of result ≡ arguments.bare }
+{
+    Command::new(alloc, "music_daemon")
+        .about("A Music Player Daemon for PCM libraries")
+        .version("MPD protocol 0.23.0")
+        .subcommand_required(true)
+}
+
+fn scan<'a>(alloc: Global) -> Result<Command<'a>, AllocError>
+    ensures shape { IfOk result (λ command. app_of command ≡ arguments.scan) }
+    ensures local { IfOk result (λ command. (fields_of command).has_globals ≡ false) }
+{
+    Command::new(alloc, "scan")
+        .about("Prints the songs of a folder, and on standard error why other files are none")
+        .arg(rate(alloc))?
+        .arg(folder(alloc))
+}
+
+fn script<'a>(alloc: Global) -> Command<'a>
+    ensures shape { app_of result ≡ arguments.script }
+    ensures local { (fields_of result).has_globals ≡ false }
+{
+    Command::new(alloc, "script").about("Runs standard input as a script")
+}
+
+fn rate<'a>(alloc: Global) -> Arg<'a>
+    ensures rule { rule_of result ≡ arguments.rate }
+    ensures local { result.global ≡ false }
+{
+    Arg::new(alloc, "rate")
+        .long("rate")
+        .value_name("N")
+        .help("Frames a second that a file must have, 8000 to 192000")
+        .action(ArgAction::Set)
+        .default_value("44100")
+        .value_parser(clap::value_parser!(u32).range(8000..=192000))
+}
+
+fn folder<'a>(alloc: Global) -> Arg<'a>
+    ensures rule { rule_of result ≡ arguments.folder }
+    ensures local { result.global ≡ false }
+{
+    Arg::new(alloc, "folder")
+        .value_name("DIR")
+        .help("The folder to scan")
+        .required(true)
+        .action(ArgAction::Set)
+}

@@ -1,0 +1,174 @@
+//! What songs are asked for: the words of a filter, and of a window after it.
+ghost use Rattle.std.specs.Prelude.{◌≡◌, ◌≤◌, List, ℕ, Result, Ok, IfOk, length, string_bytes, map};
+ghost use Rattle.filters.specs.Answers.{OrNoMemory};
+ghost use Rattle.filters.specs.Expressions.{Expression};
+ghost use Rattle.filters.specs.Machine.{parsed};
+ghost use Rattle.filters.specs.declared.reading.FilterFault.{FilterFault as Fault};
+ghost use Rattle.mpd_command.specs.Readers.{Gives, none_of};
+ghost use Rattle.mpd_command.specs.Wanted.{asked as asked_lem, fault_text as fault_text_lem, is_alone as is_alone_lem, pairs_of, paired as paired_lem, filter_of, filter_length as filter_length_lem, perhaps_window_of, filter_window_of, perhaps_filter_of, one_filter_of};
+
+use crate::forms::{Form, Window, after_sign};
+use crate::readers::{Misread, read_word};
+use filters::{Filter, FilterFault, Pair, Test};
+use mpd_text::{Sequence, Text};
+use std::alloc::{AllocError, Global};
+
+/// What songs are asked for.
+#[derive(Drop)]
+pub enum Wanted {
+    /// Those that meet a filter.
+    Meeting(Filter),
+    /// None: why the filter cannot be read, as an `ACK` says it.
+    Refused(Text),
+}
+
+/// A filter.
+pub(crate) fn filter(alloc: Global, words: &[String], test: Test) -> Result<Wanted, Misread>
+    ensures { Gives result (filter_of test (map string_bytes words.now)) }
+{
+    match words {
+        [] => Err(Misread::WrongNumber),
+        [word, more @ ..] if is_alone(word.as_str()) => alone(alloc, word.as_str(), more),
+        _ => paired(alloc, words, test),
+    }
+}
+
+/// Whether a word is a filter alone.
+fn is_alone(word: &str) -> bool
+    ensures { result ≡ is_alone_lem word.now }
+{
+    after_sign(word, '(').is_some()
+}
+
+/// What a word asks for that is a filter alone: no more words may follow.
+fn alone(alloc: Global, word: &str, more: &[String]) -> Result<Wanted, Misread>
+    ensures { Gives result (none_of (asked_lem (parsed word.now)) (map string_bytes more.now)) }
+{
+    if !more.is_empty() {
+        return Err(Misread::WrongNumber);
+    }
+    asked(alloc, Filter::parse(alloc, word))
+}
+
+/// What words ask for that are pairs.
+fn paired(alloc: Global, words: &[String], test: Test) -> Result<Wanted, Misread>
+    ensures { Gives result (paired_lem test (map string_bytes words.now)) }
+{
+    let pairs = pairs(alloc, words)?;
+    asked(alloc, Filter::of_pairs(alloc, pairs.items(), test))
+}
+
+/// Words by twos.
+fn pairs(alloc: Global, words: &[String]) -> Result<Sequence<Pair>, Misread>
+    ensures { Gives result (pairs_of (map string_bytes words.now)) }
+{
+    let mut pairs = Sequence::new(alloc);
+    let mut rest = words;
+    while let [name, text, more @ ..] = rest {
+        let name = Text::new(alloc, name.as_str())?;
+        let text = Text::new(alloc, text.as_str())?;
+        pairs.push(Pair { name, text })?;
+        rest = more;
+    }
+    if rest.is_empty() {
+        Ok(pairs)
+    } else {
+        Err(Misread::WrongNumber)
+    }
+}
+
+/// What a filter asks for, as it was read.
+fn asked(alloc: Global, read: Result<Filter, FilterFault>) -> Result<Wanted, Misread>
+    ensures { (exact : Result Expression Fault) → OrNoMemory read exact → Gives result (Ok (asked_lem exact)) }
+{
+    match read {
+        Ok(filter) => Ok(Wanted::Meeting(filter)),
+        Err(FilterFault::NoMemory) => Err(Misread::NoMemory),
+        Err(fault) => Ok(Wanted::Refused(fault_text(alloc, &fault)?)),
+    }
+}
+
+/// Why a filter cannot be read.
+fn fault_text(alloc: Global, fault: &FilterFault) -> Result<Text, AllocError>
+    ensures { IfOk result (λ text. text ≡ fault_text_lem fault.now) }
+{
+    match fault {
+        FilterFault::Syntax(place) => Ok(Text::of(format!(in alloc;
+            "bad filter at byte {place}"
+        )?)),
+        FilterFault::UnknownTag(word) => {
+            let word = word.as_str();
+            Ok(Text::of(format!(in alloc; "unknown tag \"{word}\"")?))
+        }
+        FilterFault::TooDeep => Text::new(alloc, "filter too deep"),
+        FilterFault::NoMemory => Text::new(alloc, ""),
+    }
+}
+
+/// A filter, and perhaps a window after it.
+pub(crate) fn filter_window(
+    alloc: Global,
+    words: &[String],
+    test: Test,
+) -> Result<(Wanted, Option<Window>), Misread>
+    ensures { Gives result (filter_window_of test (map string_bytes words.now)) }
+{
+    let (front, back) = words.split_at(filter_length(words));
+    let wanted = filter(alloc, front, test)?;
+    let window = perhaps_window(alloc, back)?;
+    Ok((wanted, window))
+}
+
+/// How many of the words are the filter's.
+fn filter_length(words: &[String]) -> usize
+    ensures length { result ≡ filter_length_lem (map string_bytes words.now) }
+    ensures inside { result ≤ length words.now }
+{
+    match words {
+        [word, ..] if is_alone(word.as_str()) => 1,
+        [.., _, _, word, _] if word.as_str() == "window" => words.len() - 2,
+        _ => words.len(),
+    }
+}
+
+/// A window or no words.
+fn perhaps_window(alloc: Global, words: &[String]) -> Result<Option<Window>, Misread>
+    ensures { Gives result (perhaps_window_of (map string_bytes words.now)) }
+{
+    match words {
+        [] => Ok(None),
+        [word, places] => {
+            if word.as_str() != "window" {
+                return Err(Misread::Bad(Text::new(alloc, word.as_str())?));
+            }
+            Ok(Some(read_word(alloc, places.as_str())?))
+        }
+        _ => Err(Misread::WrongNumber),
+    }
+}
+
+/// A filter or no words.
+fn perhaps_filter(alloc: Global, words: &[String], test: Test) -> Result<Option<Wanted>, Misread>
+    ensures { Gives result (perhaps_filter_of test (map string_bytes words.now)) }
+{
+    if words.is_empty() {
+        return Ok(None);
+    }
+    Ok(Some(filter(alloc, words, test)?))
+}
+
+/// One argument, and perhaps a filter after it.
+pub(crate) fn one_filter<A: Form>(
+    alloc: Global,
+    words: &[String],
+    test: Test,
+) -> Result<(A, Option<Wanted>), Misread>
+    ensures { Gives result (one_filter_of A.read_gives test (map string_bytes words.now)) }
+{
+    let Some((first, rest)) = words.split_first() else {
+        return Err(Misread::WrongNumber);
+    };
+    let wanted = perhaps_filter(alloc, rest, test)?;
+    let first = read_word(alloc, first.as_str())?;
+    Ok((first, wanted))
+}

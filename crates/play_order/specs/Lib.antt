@@ -1,0 +1,5 @@
+pub mod Draws
+pub mod Order
+pub mod Ends
+pub mod Scans
+pub mod Rows

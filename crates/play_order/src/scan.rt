@@ -1,0 +1,219 @@
+//! Goes through what is left of a queue when the entries from one place up to another are taken out.
+ghost use Rattle.std.specs.Prelude.{◌≡◌, ◌≤◌, ◌+◌, ◌++◌, fold, length, slice_get, ◌-◌, false, All, IfOk, OnErr, OnOk, vec_capacity, vec_len};
+ghost use Rattle.std.specs.List.{slice_range};
+ghost use Rattle.std.specs.Option.{option_copied};
+ghost use Rattle.song_queue.specs.declared.edit.Edit.TheVariants.{Insert};
+ghost use Rattle.song_queue.specs.Laws.{Takes};
+ghost use Rattle.song_queue.specs.State.{inserted, queue_of};
+ghost use Rattle.play_order.specs.Draws.{ids_of, is_among};
+ghost use Rattle.play_order.specs.Order.{at_or_first, comes_before as comes_before_lem, entry_of, first_of, ids_taken, left_by, new_ids, unplayed};
+ghost use Rattle.play_order.specs.Scans.{better as better_lem};
+
+use crate::played::Played;
+use crate::ranks::Ranks;
+use mpd_text::Sequence;
+use song_db::SharedSong;
+use song_queue::{Edit, Entry, Queue};
+use std::alloc::{AllocError, Global};
+
+/// The unplayed entry that comes first of what is left.
+pub(crate) fn first_left<'a>(
+    ranks: &Ranks,
+    played: &Played,
+    queue: &'a Queue,
+    from: usize,
+    end: usize,
+) -> Option<&'a Entry>
+    requires order { from ≤ end }
+    requires within { end ≤ length (queue_of queue.now) }
+    ensures { option_copied result ≡ first_of ranks.now (unplayed played.now (left_by (queue_of queue.now) from end)) }
+{
+    let best = first_within(ranks, played, queue, 0, from, None);
+    first_within(ranks, played, queue, end, queue.len(), best)
+}
+
+/// The entry that comes first of the best so far and the unplayed ones from a place up to another.
+fn first_within<'a>(
+    ranks: &Ranks,
+    played: &Played,
+    queue: &'a Queue,
+    from: usize,
+    end: usize,
+    best: Option<&'a Entry>,
+) -> Option<&'a Entry>
+    requires order { from ≤ end }
+    requires within { end ≤ length (queue_of queue.now) }
+    ensures { option_copied result ≡ fold (better_lem ranks.now) (option_copied best.entry) (unplayed played.now (slice_range (queue_of queue.now) from end)) }
+{
+    let mut first = best;
+    for place in from..end {
+        if let Some(entry) = queue.get(place) {
+            if !played.has(entry.id) {
+                first = better(ranks, first, entry);
+            }
+        }
+    }
+    first
+}
+
+/// The one of two entries that comes first.
+fn better<'a>(ranks: &Ranks, best: Option<&'a Entry>, entry: &'a Entry) -> Option<&'a Entry>
+    ensures { option_copied result ≡ better_lem ranks.now (option_copied best.entry) entry.now }
+{
+    match best {
+        None => Some(entry),
+        Some(other) => {
+            if comes_before(ranks, entry, other) {
+                Some(entry)
+            } else {
+                Some(other)
+            }
+        }
+    }
+}
+
+fn comes_before(ranks: &Ranks, a: &Entry, b: &Entry) -> bool
+    ensures { result ≡ comes_before_lem ranks.now a.now b.now }
+{
+    if a.priority != b.priority {
+        return b.priority < a.priority;
+    }
+    let rank_a = ranks.rank(a.id);
+    let rank_b = ranks.rank(b.id);
+    rank_a < rank_b || (rank_a == rank_b && a.id < b.id)
+}
+
+/// The entry at a place of what is left; with repeat the first one, if there is none.
+pub(crate) fn at_or_first_left(
+    queue: &Queue,
+    repeat: bool,
+    from: usize,
+    end: usize,
+    place: usize,
+) -> Option<&Entry>
+    requires order { from ≤ end }
+    requires within { end ≤ length (queue_of queue.now) }
+    ensures { option_copied result ≡ at_or_first repeat (left_by (queue_of queue.now) from end) place }
+{
+    match get_left(queue, from, end, place) {
+        Some(entry) => Some(entry),
+        None => {
+            if repeat {
+                get_left(queue, from, end, 0)
+            } else {
+                None
+            }
+        }
+    }
+}
+
+/// The entry at a place of what is left.
+fn get_left(queue: &Queue, from: usize, end: usize, place: usize) -> Option<&Entry>
+    requires order { from ≤ end }
+    requires within { end ≤ length (queue_of queue.now) }
+    ensures { option_copied result ≡ slice_get (left_by (queue_of queue.now) from end) place }
+{
+    let taken = end - from;
+    if place < from {
+        return queue.get(place);
+    }
+    if place >= queue.len() - taken {
+        return None;
+    }
+    queue.get(place + taken)
+}
+
+/// The entry with an id.
+pub(crate) fn entry_with(queue: &Queue, id: u32) -> Option<&Entry>
+    ensures { option_copied result ≡ entry_of (queue_of queue.now) id }
+{
+    match queue.position_of(id) {
+        Some(place) => queue.get(place),
+        None => None,
+    }
+}
+
+/// The ids of the entries from a place up to another.
+pub(crate) fn taken_ids(
+    alloc: Global,
+    queue: &Queue,
+    from: usize,
+    end: usize,
+) -> Result<Vec<u32>, AllocError>
+    requires order { from ≤ end }
+    requires within { end ≤ length (queue_of queue.now) }
+    ensures ids { IfOk result (λ ids. ids.items ≡ ids_taken (queue_of queue.now) from end) }
+
+    // They are not those of what is left.
+    ensures apart { IfOk result (λ ids. All (λ e. is_among e.id ids.items ≡ false) (left_by (queue_of queue.now) from end)) }
+{
+    // That ids are distinct comes with the length.
+    let _len = queue.len();
+    let mut ids = Vec::new(alloc);
+    push_ids(&mut ids, queue, from, end)?;
+    Ok(ids)
+}
+
+/// The ids of what is left.
+pub(crate) fn ids_left(
+    alloc: Global,
+    queue: &Queue,
+    from: usize,
+    end: usize,
+) -> Result<Vec<u32>, AllocError>
+    requires order { from ≤ end }
+    requires within { end ≤ length (queue_of queue.now) }
+    ensures { IfOk result (λ ids. ids.items ≡ ids_of (left_by (queue_of queue.now) from end)) }
+{
+    let mut ids = Vec::new(alloc);
+    push_ids(&mut ids, queue, 0, from)?;
+    push_ids(&mut ids, queue, end, queue.len())?;
+    Ok(ids)
+}
+
+/// The ids of the entries from a place up to another come after some ids.
+fn push_ids(ids: &mut Vec<u32>, queue: &Queue, from: usize, end: usize) -> Result<(), AllocError>
+    requires order { from ≤ end }
+    requires within { end ≤ length (queue_of queue.now) }
+    ensures { OnOk result (ids.new.items ≡ ids.old.items ++ ids_taken (queue_of queue.now) from end) }
+{
+    for place in from..end {
+        if let Some(entry) = queue.get(place) {
+            ids.push(entry.id)?;
+        }
+    }
+    Ok(())
+}
+
+/// Puts songs into a queue that can take them, and gives the ids of their entries. Where memory is wanted, nothing changes.
+pub(crate) fn put_in(
+    alloc: Global,
+    queue: &mut Queue,
+    at: usize,
+    songs: Sequence<SharedSong>,
+) -> Result<Vec<u32>, AllocError>
+    requires { Takes queue.old (Insert at songs) }
+    ensures ids { IfOk result (λ ids. ids.items ≡ new_ids queue.old songs) }
+    ensures queue { OnOk result (queue.new ≡ inserted queue.old at songs) }
+    ensures err { OnErr result (queue.new ≡ queue.old) }
+{
+    let mut ids = Vec::with_capacity(alloc, songs.items().len())?;
+    let after = queue.len() - at;
+    queue.edit(Edit::Insert(at, songs))?;
+    fill_ids(&mut ids, queue, at, queue.len() - after);
+    Ok(ids)
+}
+
+/// The ids of the entries from a place up to another come after some ids, where there is room for them.
+fn fill_ids(ids: &mut Vec<u32>, queue: &Queue, from: usize, end: usize)
+    requires order { from ≤ end }
+    requires within { end ≤ length (queue_of queue.now) }
+    requires room { vec_len ids.old + (end - from) ≤ vec_capacity ids.old }
+    ensures { ids.new.items ≡ ids.old.items ++ ids_taken (queue_of queue.now) from end }
+{
+    for place in from..end {
+        if let Some(entry) = queue.get(place) {
+            let _ = ids.push(entry.id);
+        }
+    }
+}

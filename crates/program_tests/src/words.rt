@@ -1,0 +1,95 @@
+//! Command lines.
+use crate::helpers::{owned, wants};
+use command_line::{LineFault, Program, command_line};
+use std::alloc::Global;
+use std::process::Abort;
+
+/// The words of a line, with the program's name before them.
+fn words_of<R: Abort>(rt: &R, alloc: Global, line: &str) -> Vec<String> {
+    let mut words = Vec::new(alloc);
+    words
+        .push(owned(rt, alloc, "music_daemon"))
+        .expect(rt, "no memory");
+    for word in line.split(' ') {
+        if !word.is_empty() {
+            words.push(owned(rt, alloc, word)).expect(rt, "no memory");
+        }
+    }
+    words
+}
+
+/// The program that a line asks for, or the exit status and the first line of what is printed in its place.
+fn told<R: Abort>(rt: &R, alloc: Global, line: &str) -> String {
+    let words = words_of(rt, alloc, line);
+    match command_line(alloc, &words) {
+        Ok(Program::Scan(rate, folder)) => {
+            let frames = rate.frames();
+            format!(in alloc; "Scan({frames}, {folder})").expect(rt, "no memory")
+        }
+        Ok(Program::Script) => owned(rt, alloc, "Script"),
+        Err(fault) => refused(rt, alloc, &fault),
+    }
+}
+
+fn refused<R: Abort>(rt: &R, alloc: Global, fault: &LineFault) -> String {
+    let status = fault.status();
+    match fault {
+        LineFault::Refused(error) => {
+            let text = format!(in alloc; "{error}").expect(rt, "no memory");
+            let first = text.as_str().split('\n').next().unwrap_or("");
+            format!(in alloc; "{status}: {first}").expect(rt, "no memory")
+        }
+        LineFault::NoMemory => owned(rt, alloc, "no memory"),
+    }
+}
+
+/// Lines, each with what it is to come to.
+const LINES: [(&str, &str); 18] = [
+    ("script", "Script"),
+    ("scan DIR", "Scan(44100, DIR)"),
+    ("scan --rate 8000 DIR", "Scan(8000, DIR)"),
+    ("scan --rate 192000 DIR", "Scan(192000, DIR)"),
+    ("scan --rate=48000 DIR", "Scan(48000, DIR)"),
+    ("scan DIR --rate 8000", "Scan(8000, DIR)"),
+    ("scan -- --rate", "Scan(44100, --rate)"),
+    (
+        "scan --rate 7999 DIR",
+        "2: error: invalid value '7999' for '--rate <N>': 7999 is not in 8000..=192000",
+    ),
+    (
+        "scan --rate 192001 DIR",
+        "2: error: invalid value '192001' for '--rate <N>': 192001 is not in 8000..=192000",
+    ),
+    (
+        "scan --rate x DIR",
+        "2: error: invalid value 'x' for '--rate <N>': invalid digit found in string",
+    ),
+    (
+        "scan",
+        "2: error: the following required arguments were not provided:",
+    ),
+    (
+        "scan DIR more",
+        "2: error: unexpected argument 'more' found",
+    ),
+    ("script x", "2: error: unexpected argument 'x' found"),
+    ("nosuch", "2: error: unrecognized subcommand 'nosuch'"),
+    (
+        "",
+        "2: error: 'music_daemon' requires a subcommand but one was not provided",
+    ),
+    ("--help", "0: A Music Player Daemon for PCM libraries"),
+    ("help script", "0: Runs standard input as a script"),
+    ("--version", "0: music_daemon MPD protocol 0.23.0"),
+];
+
+fn check_lines<R: Abort>(rt: &R, alloc: Global) {
+    for (line, wanted) in LINES {
+        wants(rt, line, told(rt, alloc, line).as_str(), wanted);
+    }
+}
+
+#[test]
+fn lines(rt: HostRuntime) {
+    check_lines(&rt, rt.alloc());
+}
