@@ -1,6 +1,6 @@
 -- What is remembered of a random order: ranks, played songs, and the generator that ranks are drawn from (MPD protocol
 -- reference, Playback options, `random`; that an order goes in rounds, and how ranks are drawn, is this profile's).
-use Rattle.std.specs.Prelude.{ℕ, Bool, ◌==◌, not, List, [], ◌∷◌, ◌++◌, map, filter, find}
+use Rattle.std.specs.Prelude.{ℕ, zero, suc, Bool, ◌==◌, not, List, [], ◌∷◌, ◌++◌, map, filter, find}
 use Rattle.std.specs.List.{list_any}
 use Rattle.std.specs.Option.{option_map_or}
 use Rattle.rand_pcg.specs.Lcg.{Lcg}
@@ -24,6 +24,16 @@ ranks_drawn g (id ∷ ids) = record { id = id; rank = (pcg32 g).0 } ∷ ranks_dr
 abbrev pub generator_after : Lcg → List ℕ → Lcg
 generator_after g [] = g
 generator_after g (id ∷ ids) = generator_after (pcg32 g).1 ids
+
+-- so many words, drawn one after another
+abbrev pub words_drawn : Lcg → ℕ → List ℕ
+words_drawn g zero = []
+words_drawn g (suc count) = (pcg32 g).0 ∷ words_drawn (pcg32 g).1 count
+
+-- the generator when so many words were drawn
+abbrev pub generator_after_words : Lcg → ℕ → Lcg
+generator_after_words g zero = g
+generator_after_words g (suc count) = generator_after_words (pcg32 g).1 count
 
 -- the rank of an id; 0, if it has none
 abbrev pub rank_of : List Rank → ℕ → ℕ
@@ -57,6 +67,10 @@ without round ids = record round {
   ranks = filter (λ r. not (is_among r.id ids)) round.ranks;
   played = filter (λ id. not (is_among id ids)) round.played;
 }
+
+-- so many words are drawn: ranks and played songs stay
+abbrev pub drawn_from : RoundState → ℕ → RoundState
+drawn_from round count = record round { generator = generator_after_words round.generator count }
 
 -- a new round: nothing was played, and each of the ids draws a rank
 abbrev pub renewed : RoundState → List ℕ → RoundState

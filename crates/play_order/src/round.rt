@@ -1,12 +1,12 @@
 //! Rounds of a random order, and what follows when a song ends.
-ghost use Rattle.std.specs.Prelude.{◌≡◌, ◌≤◌, ◌+◌, ℕ, List, [], ◌∷◌, false, true, ◌≢◌, length, All, AllPairs, IfOk, OnOk, OnErr, slice_get, None, is_some};
+ghost use Rattle.std.specs.Prelude.{◌≡◌, ◌≤◌, ◌+◌, ◌-◌, ℕ, List, [], ◌∷◌, false, true, ◌≢◌, length, All, AllPairs, IfOk, OnOk, OnErr, slice_get, None, is_some};
 ghost use Rattle.std.specs.Option.{option_copied};
 ghost use Rattle.rand_core.specs.Pcg32Seed.{pcg32_seed};
 ghost use Rattle.rand_pcg.specs.Pcg.{pcg32_of_seed};
-ghost use Rattle.song_queue.specs.State.{edited, inserted, queue_of, removed as removed_lem};
+ghost use Rattle.song_queue.specs.State.{edited, inserted, queue_of, removed as removed_lem, shuffled_state};
 ghost use Rattle.song_queue.specs.declared.edit.Edit.TheVariants.{Insert};
 ghost use Rattle.song_queue.specs.Laws.{Takes};
-ghost use Rattle.play_order.specs.Draws.{RoundState, added as added_lem, emptied as emptied_lem, generator_after, ids_of, is_among, opened, ranks_drawn, renewed, without};
+ghost use Rattle.play_order.specs.Draws.{RoundState, added as added_lem, drawn_from, emptied as emptied_lem, generator_after, generator_after_words, ids_of, is_among, opened, ranks_drawn, renewed, without, words_drawn};
 ghost use Rattle.play_order.specs.Order.{begun, first_anew, ids_taken, left_by, new_ids, next_of, opening_of, randomized as randomized_lem, round_for, started as started_lem};
 ghost use Rattle.play_order.specs.Ends.{after_end as after_end_lem, after_next as after_next_lem, ahead_after as ahead_after_lem, before as before_lem, consume_after as consume_after_lem, consumes as consumes_lem, ending_of, entries_left, id_of, again as again_lem, alone, peek as peek_lem, gone_back, next_after_removal, place_after, round_after, round_after_removal, round_before, round_left, single_after as single_after_lem};
 
@@ -17,9 +17,10 @@ use crate::ranks::Ranks;
 use crate::scan::{at_or_first_left, entry_with, first_left, ids_left, taken_ids};
 use mpd_text::Sequence;
 use rand_core::SeedableRng;
+use rand_core::utils::NextWord;
 use rand_pcg::Lcg64Xsh32;
 use song_db::SharedSong;
-use song_queue::{Entry, Queue};
+use song_queue::{Edit, Entry, Queue};
 use std::alloc::{AllocError, Global};
 use std::marker::Model;
 use std::ops::Range;
@@ -76,6 +77,25 @@ impl Round {
         ensures err_queue { OnErr result (queue.new ≡ queue.old) }
     {
         self.ranks.insert(&mut self.generator, queue, at, songs)
+    }
+
+    /// Shuffles the entries of a range of the queue by words of the generator, one for each place of it but the first. Ranks
+    /// and played songs stay. Where memory is wanted, nothing changes.
+    pub fn shuffle(&mut self, queue: &mut Queue, range: Range<usize>) -> Result<(), AllocError>
+        requires order { range.start ≤ range.end }
+        requires within { range.end ≤ length (queue_of queue.old) }
+        ensures round { OnOk result (self.new ≡ drawn_from self.old (range.end - range.start - 1)) }
+        ensures queue { OnOk result (queue.new ≡ shuffled_state queue.old range.start range.end (words_drawn self.old.generator (range.end - range.start - 1))) }
+        ensures err { OnErr result (self.new ≡ self.old) }
+        ensures err_queue { OnErr result (queue.new ≡ queue.old) }
+    {
+        let Range { start, end } = range;
+        let mut generator = self.generator.clone()?;
+        let count = (end - start).saturating_sub(1);
+        let words = draw_words(self.ranks.allocator(), &mut generator, count)?;
+        queue.edit(Edit::Shuffle(start, end, words))?;
+        self.generator = generator;
+        Ok(())
     }
 
     /// Entries with these ids left the queue. It takes no memory.
@@ -576,4 +596,21 @@ fn modes_after(modes: Modes) -> Modes
         consume,
         ..modes
     }
+}
+
+/// So many words, drawn one after another.
+fn draw_words(
+    alloc: Global,
+    generator: &mut Lcg64Xsh32,
+    count: usize,
+) -> Result<Sequence<u32>, AllocError>
+    ensures words { IfOk result (λ words. words ≡ words_drawn generator.old count) }
+    ensures drawn { OnOk result (generator.new ≡ generator_after_words generator.old count) }
+{
+    let mut words = Sequence::new(alloc);
+    for _ in 0..count {
+        let word = generator.next_word();
+        words.push(word).map_err(AllocError::from)?;
+    }
+    Ok(words)
 }

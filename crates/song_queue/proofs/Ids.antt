@@ -7,11 +7,12 @@ use Rattle.mpd_text.specs.Songs.Song.{SongData}
 use Rattle.song_queue.specs.Entries.{entries_for, same_queue}
 use Rattle.song_queue.specs.Past.{present, after_event, greatest_in, greatest_id}
 use Rattle.song_queue.specs.declared.edit.Edit.{Edit}
-use Rattle.song_queue.specs.declared.edit.Edit.TheVariants.{Insert, Remove, Move, Prioritize, Swap}
+use Rattle.song_queue.specs.declared.edit.Edit.TheVariants.{Insert, Remove, Move, Prioritize, Swap, Shuffle}
 use Rattle.song_queue.specs.Laws.{FitsIn, AllFitIn, queue_after, past_after, Lacks, IdsNeverReturn, IdsAreDistinct, PastsKeepQueues}
 use Rattle.song_queue.proofs.Same.{same_queue-true}
 use Rattle.song_queue.proofs.Edits.{Distinct, AtMost-more, Distinct-put, Distinct-cut, length-entries_for, get_or-entries_for}
 use Rattle.song_queue.proofs.Swaps.{All-swap, Distinct-swap}
+use Rattle.song_queue.proofs.Shuffles.{All-shuffled, Distinct-shuffled}
 use Rattle.song_queue.proofs.Moves.{All-moved_to, Distinct-moved_to}
 use Rattle.song_queue.proofs.Priorities.{All-with_priority, Distinct-with_priority}
 use Rattle.song_queue.proofs.Pasts.{entries_of-slots_of}
@@ -46,6 +47,7 @@ Lacks-queue_after past (Remove start end) id given lacks =
 Lacks-queue_after past (Move start end to) id given lacks = All-moved_to (λ e. e.id ≢ id) (present past) start end to lacks
 Lacks-queue_after past (Prioritize ranges priority) id given lacks = All-with_priority (λ n. n ≢ id) (present past) ranges priority lacks
 Lacks-queue_after past (Swap a b) id given lacks = All-swap (λ e. e.id ≢ id) (present past) a b lacks
+Lacks-queue_after past (Shuffle start end words) id given lacks = All-shuffled (λ e. e.id ≢ id) (present past) start end words lacks
 
 pub ids_never_return : IdsNeverReturn
 ids_never_return past [] id some given lacks = lacks
@@ -65,6 +67,7 @@ Distinct-queue_after past (Remove start end) fits distinct = Distinct-cut (prese
 Distinct-queue_after past (Move start end to) fits distinct = Distinct-moved_to (present past) start end to fits.0 distinct
 Distinct-queue_after past (Prioritize ranges priority) fits distinct = Distinct-with_priority (present past) ranges priority distinct
 Distinct-queue_after past (Swap a b) fits distinct = Distinct-swap (present past) a b fits.0 fits.1 distinct
+Distinct-queue_after past (Shuffle start end words) fits distinct = Distinct-shuffled (present past) start end words fits.1 distinct
 
 distinct_after : (past : List (List Entry)) (edits : List Edit) → AllFitIn past edits → Distinct (present past) → Distinct (present (past_after past edits))
 distinct_after past [] fit distinct = distinct

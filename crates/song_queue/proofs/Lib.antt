@@ -5,6 +5,7 @@ pub mod Patches
 pub mod Lists
 pub mod Edits
 pub mod Swaps
+pub mod Shuffles
 pub mod Moves
 pub mod Priorities
 pub mod Runs

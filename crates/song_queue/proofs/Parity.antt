@@ -4,8 +4,9 @@ use Rattle.std.specs.Prelude.{swap}
 use Rattle.std.proofs.lemmas.Bool.{cond-true, cond-false, cases_Bool}
 use Rattle.song_queue.specs.declared.entry.Entry.{Entry}
 use Rattle.song_queue.specs.Entries.{same_queue, entries_for, moved_to, with_priority}
+use Rattle.song_queue.specs.Shuffles.{shuffled}
 use Rattle.song_queue.specs.State.{QueueState, queue_of, edited, wraps, next_version, differ}
-use Rattle.song_queue.specs.declared.edit.Edit.TheVariants.{Insert, Remove, Move, Prioritize, Swap}
+use Rattle.song_queue.specs.declared.edit.Edit.TheVariants.{Insert, Remove, Move, Prioritize, Swap, Shuffle}
 use Rattle.song_queue.specs.Laws.{ParityTellsChanges}
 use Rattle.song_queue.proofs.Same.{same_queue-refl}
 use Rattle.song_queue.proofs.Edits.{stepped, entries_of-restamped}
@@ -37,3 +38,4 @@ parity_tells_changes q (Remove start end) = tells q (take start (queue_of q) ++ 
 parity_tells_changes q (Move start end to) = tells q (moved_to (queue_of q) start end to)
 parity_tells_changes q (Prioritize ranges priority) = tells q (with_priority (queue_of q) ranges priority)
 parity_tells_changes q (Swap a b) = tells q (swap (queue_of q) a b)
+parity_tells_changes q (Shuffle start end words) = tells q (shuffled (queue_of q) start end words)

@@ -8,13 +8,15 @@ use Rattle.std.proofs.Math.Nat.{mod-eq_of_lt}
 use Rattle.song_queue.specs.declared.entry.Entry.{Entry}
 use Rattle.mpd_text.specs.Songs.Song.{SongData}
 use Rattle.song_queue.specs.Entries.{entries_for, moved_to, with_priority, same_queue}
+use Rattle.song_queue.specs.Shuffles.{shuffled}
 use Rattle.song_queue.specs.Past.{present, after_event, greatest_in, greatest_id, state_of}
 use Rattle.song_queue.specs.State.{QueueState, opened, edited, inserted, queue_of}
 use Rattle.song_queue.specs.declared.edit.Edit.{Edit}
-use Rattle.song_queue.specs.declared.edit.Edit.TheVariants.{Insert, Remove, Move, Prioritize, Swap}
+use Rattle.song_queue.specs.declared.edit.Edit.TheVariants.{Insert, Remove, Move, Prioritize, Swap, Shuffle}
 use Rattle.song_queue.specs.Laws.{queue_after, past_after, state_after_edit, state_after, StatesFollowPasts}
 use Rattle.song_queue.proofs.Edits.{AtMost, AtMost-more, length-entries_for}
 use Rattle.song_queue.proofs.Swaps.{All-swap}
+use Rattle.song_queue.proofs.Shuffles.{All-shuffled}
 use Rattle.song_queue.proofs.Moves.{All-moved_to}
 use Rattle.song_queue.proofs.Priorities.{All-with_priority}
 use Rattle.song_queue.proofs.Pasts.{state_with, edited-state_with, entries_of-slots_of}
@@ -138,6 +140,7 @@ module _ (max_len k max_id : ℕ) (above : 0 < k) where
   after_edit past (Move start end to) some = kept-at_end past (λ x. moved_to x start end to) some (λ P. All-moved_to (λ e. P e.id) (present past) start end to)
   after_edit past (Prioritize ranges priority) some = kept-at_end past (λ x. with_priority x ranges priority) some (λ P. All-with_priority P (present past) ranges priority)
   after_edit past (Swap a b) some = kept-at_end past (λ x. swap x a b) some (λ P. All-swap (λ e. P e.id) (present past) a b)
+  after_edit past (Shuffle start end words) some = kept-at_end past (λ x. shuffled x start end words) some (λ P. All-shuffled (λ e. P e.id) (present past) start end words)
 
   pub after_edits : (past : List (List Entry)) (edits : List Edit) → 0 < length past → state_after (at_end past) edits ≡ at_end (past_after past edits)
   after_edits past [] some = refl

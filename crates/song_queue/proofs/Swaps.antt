@@ -13,10 +13,10 @@ use Rattle.song_queue.proofs.Same.{same_entry-refl, same_entry-other}
 use Rattle.song_queue.proofs.Edits.{Distinct, IsQueue-stays, edited-changed, edited-same}
 
 -- a swap brings no entry in, wherever its places are
-pub All-swap : (P : Entry → Type 0) (es : List Entry) (a b : ℕ) → All P es → All P (swap es a b)
+pub All-swap : {X : Type 0} (P : X → Type 0) (es : List X) (a b : ℕ) → All P es → All P (swap es a b)
 All-swap P [] a b all = all
 All-swap P (e ∷ es) a b all =
-    let list : List Entry = e ∷ es in
+    let list = e ∷ es in
     let first : P e = all 0 e (omega arith) in
     let read : (k : ℕ) → P (get_or list k e) = λ k. elim (cases_lt k (length list)) [
       | inl within ↦ All-get_or P list k e within all

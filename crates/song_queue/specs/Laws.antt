@@ -1,14 +1,13 @@
 -- Laws of the definitions, over every list of edits (this profile's, from the MPD protocol reference, The queue).
 use Rattle.std.specs.Prelude.{ℕ, ◌≡◌, ◌≢◌, ◌+◌, ◌-◌, ◌<◌, ◌≤◌, ◌⊎◌, not, List, [], ◌∷◌, ◌++◌, length, take, drop, swap, All, AllPairs, IsPermutation}
 use Rattle.std.specs.List.{slice_range}
-use Rattle.std.specs.declared.ops.Range.{Range}
-use Rattle.mpd_text.specs.Songs.Song.{SongData}
 use Rattle.song_queue.specs.declared.edit.Edit.{Edit}
-use Rattle.song_queue.specs.declared.edit.Edit.TheVariants.{Insert, Remove, Move, Prioritize, Swap}
+use Rattle.song_queue.specs.declared.edit.Edit.TheVariants.{Insert, Remove, Move, Prioritize, Swap, Shuffle}
 use Rattle.song_queue.specs.declared.entry.Entry.{Entry}
 use Rattle.song_queue.specs.Entries.{same_queue, entries_for, moved_to, with_priority, patch, rows_at}
+use Rattle.song_queue.specs.Shuffles.{shuffled}
 use Rattle.song_queue.specs.Past.{present, number, version_of, after_event, greatest_id, state_of}
-use Rattle.song_queue.specs.State.{QueueState, queue_of, opened, inserted, removed, moved, prioritized, swapped, changed, differ}
+use Rattle.song_queue.specs.State.{QueueState, queue_of, opened, inserted, removed, moved, prioritized, swapped, shuffled_state, changed, differ}
 
 -- the queue that an edit leaves
 abbrev pub queue_after : List (List Entry) → Edit → List Entry
@@ -17,6 +16,7 @@ queue_after past (Remove start end) = take start (present past) ++ drop end (pre
 queue_after past (Move start end to) = moved_to (present past) start end to
 queue_after past (Prioritize ranges priority) = with_priority (present past) ranges priority
 queue_after past (Swap a b) = swap (present past) a b
+queue_after past (Shuffle start end words) = shuffled (present past) start end words
 
 -- the past after edits
 abbrev pub past_after : List (List Entry) → List Edit → List (List Entry)
@@ -30,6 +30,7 @@ state_after_edit q (Remove start end) = removed q start end
 state_after_edit q (Move start end to) = moved q start end to
 state_after_edit q (Prioritize ranges priority) = prioritized q ranges priority
 state_after_edit q (Swap a b) = swapped q a b
+state_after_edit q (Shuffle start end words) = shuffled_state q start end words
 
 -- the state after edits
 abbrev pub state_after : QueueState → List Edit → QueueState
@@ -43,6 +44,7 @@ FitsIn queue (Remove start end) = (start ≤ end) × (end ≤ length queue)
 FitsIn queue (Move start end to) = (start ≤ end) × (end ≤ length queue) × ((start ≡ end) ⊎ (to + (end - start) ≤ length queue))
 FitsIn queue (Prioritize ranges priority) = All (λ r. (r.start ≤ r.end) × (r.end ≤ length queue)) ranges
 FitsIn queue (Swap a b) = (a < length queue) × (b < length queue)
+FitsIn queue (Shuffle start end words) = (start ≤ end) × (end ≤ length queue)
 
 -- the queue can take the edit: its places lie in it, and what is put in finds room and ids
 abbrev pub Takes : QueueState → Edit → Type 0
@@ -51,6 +53,7 @@ Takes q (Remove start end) = (start ≤ end) × (end ≤ length (queue_of q))
 Takes q (Move start end to) = (start ≤ end) × (end ≤ length (queue_of q)) × ((start ≡ end) ⊎ (to + (end - start) ≤ length (queue_of q)))
 Takes q (Prioritize ranges priority) = All (λ r. (r.start ≤ r.end) × (r.end ≤ length (queue_of q))) ranges
 Takes q (Swap a b) = (a < length (queue_of q)) × (b < length (queue_of q))
+Takes q (Shuffle start end words) = (start ≤ end) × (end ≤ length (queue_of q))
 
 -- each edit's places lie in the queue that it finds
 abbrev pub AllFitIn : List (List Entry) → List Edit → Type 0
@@ -104,6 +107,12 @@ pub record MovesKeepEntries : Type 0 where
       → slice_range (moved_to queue start end to) to (to + (end - start)) ≡ slice_range queue start end
   pub others : (queue : List Entry) (start end to : ℕ) → start ≤ end → end ≤ length queue → to + (end - start) ≤ length queue
       → take to (moved_to queue start end to) ++ drop (to + (end - start)) (moved_to queue start end to) ≡ take start queue ++ drop end queue
+
+-- a shuffle keeps each entry, and those outside of its range stay at their places
+pub record ShufflesPermute : Type 0 where
+  pub permutes : (queue : List Entry) (start end : ℕ) (words : List ℕ) → end ≤ length queue → IsPermutation queue (shuffled queue start end words)
+  pub before : (queue : List Entry) (start end : ℕ) (words : List ℕ) → take start (shuffled queue start end words) ≡ take start queue
+  pub behind : (queue : List Entry) (start end : ℕ) (words : List ℕ) → drop end (shuffled queue start end words) ≡ drop end queue
 
 -- no entry has this id
 abbrev pub Lacks : ℕ → List Entry → Type 0

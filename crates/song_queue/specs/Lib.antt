@@ -1,4 +1,5 @@
 pub mod Entries
+pub mod Shuffles
 pub mod Past
 pub mod State
 pub mod Laws

@@ -7,7 +7,7 @@ use Rattle.song_queue.specs.Entries.{patch}
 use Rattle.song_queue.specs.Past.{present, state_of}
 use Rattle.song_queue.specs.State.{opened, changed, queue_of}
 use Rattle.song_queue.specs.declared.edit.Edit.{Edit}
-use Rattle.song_queue.specs.declared.edit.Edit.TheVariants.{Insert, Remove, Move, Prioritize, Swap}
+use Rattle.song_queue.specs.declared.edit.Edit.TheVariants.{Insert, Remove, Move, Prioritize, Swap, Shuffle}
 use Rattle.song_queue.specs.Laws.{past_after, state_after}
 
 abbrev song : ℕ → SongData
@@ -105,3 +105,26 @@ overlapping = refl
 
 again_the_same : (state_after (opened 10 100 100) (four ++ Prioritize first 7 ∷ Prioritize first 7 ∷ Prioritize [] 9 ∷ [])).version ≡ 6
 again_the_same = refl
+
+-- four songs shuffled: the fourth changes places with the second, the third with the first, and the second stays
+shuffled_four : map (λ e. e.id) (queue_of (state_after (opened 10 100 100) (four ++ Shuffle 0 4 (5 ∷ 3 ∷ 1 ∷ []) ∷ []))) ≡ 3 ∷ 4 ∷ 1 ∷ 2 ∷ []
+shuffled_four = refl
+
+-- the last three alone: places are counted from the first of them, and a word left over is not taken
+shuffled_behind : map (λ e. e.id) (queue_of (state_after (opened 10 100 100) (four ++ Shuffle 1 4 (4 ∷ 2 ∷ 7 ∷ []) ∷ []))) ≡ 1 ∷ 4 ∷ 2 ∷ 3 ∷ []
+shuffled_behind = refl
+
+-- words that end early leave the places before as they are then
+shuffled_early : map (λ e. e.id) (queue_of (state_after (opened 10 100 100) (four ++ Shuffle 0 4 (0 ∷ []) ∷ []))) ≡ 4 ∷ 2 ∷ 3 ∷ 1 ∷ []
+shuffled_early = refl
+
+-- a shuffle is one change, and shows the slots alone whose entry is another one
+shuffled_shown : ids (changed (state_after (opened 10 100 100) (four ++ Shuffle 0 4 (0 ∷ 1 ∷ 1 ∷ []) ∷ [])) 5) ≡ (0, 4) ∷ (1, 3) ∷ (2, 2) ∷ (3, 1) ∷ []
+shuffled_shown = refl
+
+shuffled_part_shown : ids (changed (state_of 10 100 100 (past_of (four ++ Shuffle 0 4 (0 ∷ 2 ∷ 1 ∷ []) ∷ []))) 5) ≡ (0, 4) ∷ (3, 1) ∷ []
+shuffled_part_shown = refl
+
+-- each song at its place again: no change
+shuffled_nowhere : (state_after (opened 10 100 100) (four ++ Shuffle 0 4 (3 ∷ 2 ∷ 1 ∷ []) ∷ Shuffle 2 3 [] ∷ [])).version ≡ 5
+shuffled_nowhere = refl

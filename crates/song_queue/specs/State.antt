@@ -8,6 +8,7 @@ use Rattle.mpd_text.specs.Songs.Song.{SongData}
 use Rattle.song_queue.specs.declared.entry.Entry.{Entry}
 use Rattle.song_queue.specs.declared.entry.Slot.{Slot}
 use Rattle.song_queue.specs.Entries.{same_entry, same_queue, entries_for, moved_to, with_priority}
+use Rattle.song_queue.specs.Shuffles.{shuffled}
 
 -- slots, the version of the last change, the greatest id that was given, the limits, and whether the number of changes
 -- is odd, so that two readings of it tell whether an edit between them changed the queue
@@ -50,6 +51,12 @@ restamped version wraps slots [] = []
 restamped version wraps [] (e ∷ es) = written version wraps e ∷ restamped version wraps [] es
 restamped version wraps (s ∷ ss) (e ∷ es) = (if same_entry s.entry e then kept wraps s else written version wraps e) ∷ restamped version wraps ss es
 
+-- the slots after those are written whose entry has another id than this one, and the others kept
+abbrev pub stamped_by : ℕ → Bool → List ℕ → List Slot → List Slot
+stamped_by version wraps [] slots = slots
+stamped_by version wraps (id ∷ ids) [] = []
+stamped_by version wraps (id ∷ ids) (s ∷ ss) = (if s.entry.id == id then kept wraps s else written version wraps s.entry) ∷ stamped_by version wraps ids ss
+
 -- whether the next version begins anew
 abbrev pub wraps : QueueState → Bool
 wraps q = q.version == q.max_version
@@ -81,6 +88,10 @@ prioritized q ranges priority = edited q (with_priority (queue_of q) ranges prio
 -- the entries at two places change places
 abbrev pub swapped : QueueState → ℕ → ℕ → QueueState
 swapped q a b = edited q (swap (queue_of q) a b)
+
+-- the entries from start up to end are shuffled by words
+abbrev pub shuffled_state : QueueState → ℕ → ℕ → List ℕ → QueueState
+shuffled_state q start end words = edited q (shuffled (queue_of q) start end words)
 
 -- the place of the entry with an id
 abbrev pub position_of : QueueState → ℕ → Option ℕ

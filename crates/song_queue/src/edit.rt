@@ -21,6 +21,8 @@ pub enum Edit {
     Prioritize(Sequence<Range<usize>>, u8),
     /// The entries at two places change round.
     Swap(usize, usize),
+    /// The entries from a start up to an end are shuffled by words.
+    Shuffle(usize, usize, Sequence<u32>),
 }
 
 impl Queue {
@@ -36,6 +38,7 @@ impl Queue {
             Edit::Move(start, end, to) => self.move_range(start..end, to),
             Edit::Prioritize(ranges, priority) => self.set_prio(ranges.items(), priority),
             Edit::Swap(a, b) => self.swap(a, b),
+            Edit::Shuffle(start, end, words) => self.shuffle(start..end, words.items()),
         };
         match made {
             Ok(()) => Ok(()),

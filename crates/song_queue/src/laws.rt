@@ -1,5 +1,5 @@
 //! Laws of the definitions. A caller that calls one may use it; each does nothing.
-ghost use Rattle.song_queue.specs.Laws.{EditsFollowPast, IdsAreDistinct, IdsNeverReturn, MovesKeepEntries, ParityTellsChanges, PastsKeepQueues, PatchesGivePresent, StatesFollowPasts};
+ghost use Rattle.song_queue.specs.Laws.{EditsFollowPast, IdsAreDistinct, IdsNeverReturn, MovesKeepEntries, ParityTellsChanges, PastsKeepQueues, PatchesGivePresent, ShufflesPermute, StatesFollowPasts};
 
 /// A past ends in the queue that the last event left, and its state has that queue.
 pub fn pasts_keep_queues()
@@ -34,6 +34,11 @@ pub fn ids_are_distinct()
 /// A move keeps each entry, puts the moved ones where they are to be, and leaves the order of the others.
 pub fn moves_keep_entries()
     ensures { MovesKeepEntries }
+{}
+
+/// A shuffle keeps each entry, and leaves those outside of its range at their places.
+pub fn shuffles_permute()
+    ensures { ShufflesPermute }
 {}
 
 /// An id that was given, and that no entry has any more, never comes back.

@@ -11,6 +11,7 @@ pub use edit::Edit;
 pub use entry::{Entry, Slot};
 pub use laws::{
     edits_follow_past, ids_are_distinct, ids_never_return, moves_keep_entries,
-    parity_tells_changes, pasts_keep_queues, patches_give_present, states_follow_pasts,
+    parity_tells_changes, pasts_keep_queues, patches_give_present, shuffles_permute,
+    states_follow_pasts,
 };
 pub use queue::{Queue, QueueFault};

@@ -2,13 +2,13 @@
 ghost use Rattle.std.specs.Prelude.{◌≡◌, ◌≢◌, ◌↔◌, ◌+◌, ◌-◌, ◌<◌, ◌≤◌, ◌⊎◌, All, Any, length, map, IfOk, IfSome, nat_le, OnOk, OnErr, IsErrOf, IsOkUnless, slice_get, vec_len};
 ghost use Rattle.std.specs.Option.{option_copied};
 ghost use Rattle.std.specs.Bool.{OnTrue, OnFalse};
-ghost use Rattle.song_queue.specs.State.{QueueState, IsQueue, queue_of, position_of, inserted, removed, moved, prioritized, swapped, changed, opened};
+ghost use Rattle.song_queue.specs.State.{QueueState, IsQueue, queue_of, position_of, inserted, removed, moved, prioritized, swapped, shuffled_state, changed, opened};
 ghost use Rattle.song_queue.specs.Laws.{PatchesEarlier};
 
 use crate::entry::{Entry, Slot};
 use crate::slots::{
-    changed_places, exchange, have_priority, move_part, new_slots, prioritize, put_in, take_out,
-    version_after,
+    changed_places, exchange, have_ids, have_priority, ids_of, move_part, new_slots, prioritize,
+    put_in, shuffle_part, stamp_others, take_out, version_after,
 };
 use song_db::SharedSong;
 use std::alloc::{AllocError, Global};
@@ -276,6 +276,33 @@ impl Queue {
         }
         let (version, wraps) = version_after(self.version, self.max_version);
         exchange(self.slots.as_mut_slice(), a, b, version, wraps);
+        self.version = version;
+        self.parity = !self.parity;
+        Ok(())
+    }
+
+    /// Shuffles the entries of a range. From its last place down to its second, each takes a word; where words end early,
+    /// the places before stay as they are then. It is one change, or none where each entry is at its place again.
+    pub fn shuffle(&mut self, range: Range<usize>, words: &[u32]) -> Result<(), QueueFault>
+        ensures ok { OnOk result (self.new ≡ shuffled_state self.old range.start range.end words.now) }
+        ensures bad_index { IsErrOf result QueueFault.BadIndex ↔ ((range.end < range.start) ⊎ (length (queue_of self.old) < range.end)) }
+        ensures no_such_song { IsErrOf result QueueFault.NoSuchSong → ⊥ }
+        ensures full { IsErrOf result QueueFault.Full → ⊥ }
+        ensures no_more_ids { IsErrOf result QueueFault.NoMoreIds → ⊥ }
+        ensures err { OnErr result (self.new ≡ self.old) }
+    {
+        let Range { start, end } = range;
+        if lies_outside(start, end, self.slots.len()) {
+            return Err(QueueFault::BadIndex);
+        }
+        let alloc = *self.slots.allocator();
+        let ids = ids_of(alloc, &self.slots)?;
+        shuffle_part(self.slots.as_mut_slice(), start, end, words);
+        if have_ids(&self.slots, &ids) {
+            return Ok(());
+        }
+        let (version, wraps) = version_after(self.version, self.max_version);
+        stamp_others(self.slots.as_mut_slice(), &ids, version, wraps);
         self.version = version;
         self.parity = !self.parity;
         Ok(())

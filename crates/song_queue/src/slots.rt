@@ -1,8 +1,9 @@
 //! Lists of slots: what edits write and keep.
 ghost use Rattle.std.specs.Prelude.{◌≡◌, ◌+◌, ◌<◌, ◌≤◌, ◌++◌, ◌==◌, ◌-◌, ◌^◌, ◌||◌, ◌≢◌, ◌↔◌, nat_lt, length, map, take, drop, swap, filter, vec_len, true, IfOk, OnOk, OnErr, IsTrue, All, AllPairs, if◌then◌else◌};
 ghost use Rattle.std.specs.List.{enumerate_from, slice_range};
-ghost use Rattle.song_queue.specs.State.{kept, written, write_at, entries_of, restamped, prioritized_slot};
+ghost use Rattle.song_queue.specs.State.{kept, written, write_at, entries_of, restamped, prioritized_slot, stamped_by};
 ghost use Rattle.song_queue.specs.Entries.{entries_for, moved_to, with_priority};
+ghost use Rattle.song_queue.specs.Shuffles.{shuffled};
 
 use crate::entry::{Entry, Slot};
 use song_db::SharedSong;
@@ -196,6 +197,64 @@ fn prioritize_one(slot: &mut Slot, priority: u8, version: u32, wraps: bool)
         slot.entry.priority = priority;
         slot.stamp = version;
         slot.marked = wraps;
+    }
+}
+
+/// The id of the entry in each slot.
+pub fn ids_of(alloc: Global, slots: &[Slot]) -> Result<Vec<u32>, AllocError>
+    ensures { IfOk result (λ ids. ids.items ≡ map (λ s. s.entry.id) slots.now) }
+{
+    slots.iter().map(|slot| slot.entry.id).collect(alloc)
+}
+
+/// Shuffles the slots from `start` up to `end` by words. Each keeps its stamp and mark for now.
+pub fn shuffle_part(slots: &mut [Slot], start: usize, mut end: usize, words: &[u32])
+    requires order { start ≤ end }
+    requires within { end ≤ length slots.old }
+    ensures { slots.new ≡ shuffled slots.old start end words.now }
+{
+    for word in words {
+        if end - start <= 1 {
+            return;
+        }
+        end -= 1;
+        let chosen = start + *word as usize % (end - start + 1);
+        slots.swap(end, chosen);
+    }
+}
+
+/// Whether the entries in slots have these ids.
+pub fn have_ids(slots: &[Slot], ids: &[u32]) -> bool
+    requires { length ids.now ≡ length slots.now }
+    ensures { IsTrue result ↔ (map (λ s. s.entry.id) slots.now ≡ ids.now) }
+{
+    for (place, id) in ids.iter().enumerate() {
+        if slots[place].entry.id != *id {
+            return false;
+        }
+    }
+    true
+}
+
+/// Writes the slots whose entry has another id than these, place by place, and keeps the others.
+pub fn stamp_others(slots: &mut [Slot], ids: &[u32], version: u32, wraps: bool)
+    requires { length ids.now ≡ length slots.old }
+    ensures { slots.new ≡ stamped_by version wraps ids.now slots.old }
+{
+    for (place, id) in ids.iter().enumerate() {
+        stamp_other(&mut slots[place], *id, version, wraps);
+    }
+}
+
+/// Writes a slot whose entry has another id than this, and keeps it else.
+fn stamp_other(slot: &mut Slot, id: u32, version: u32, wraps: bool)
+    ensures { slot.new ≡ (if slot.old.entry.id == id then kept wraps slot.old else written version wraps slot.old.entry) }
+{
+    if slot.entry.id != id {
+        slot.stamp = version;
+        slot.marked = wraps;
+    } else {
+        slot.marked = wraps || slot.marked;
     }
 }
 

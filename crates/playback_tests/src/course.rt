@@ -1,0 +1,316 @@
+//! A round and the queue that it orders, led by steps.
+//!
+//! A step is a line, of a word and numbers, and tells what starts. These functions are the only ones that hold a round.
+use crate::tables::{first_word, number_of, push_line, song};
+use mpd_text::Sequence;
+use play_order::{Consume, Ending, Modes, Round, Single};
+use song_db::SharedSong;
+use song_queue::{Entry, Queue};
+use std::alloc::{AllocError, Global};
+
+#[derive(Drop)]
+pub struct Course {
+    round: Round,
+    queue: Queue,
+    modes: Modes,
+}
+
+/// An empty queue in its own order, and a generator that was made of the seed 0.
+fn opened(alloc: Global) -> Course {
+    Course {
+        round: Round::new(alloc, 0),
+        queue: Queue::new(alloc, 16384, 2147483647, 2147483647),
+        modes: Modes {
+            repeat: false,
+            random: false,
+            single: Single::Off,
+            consume: Consume::Off,
+        },
+    }
+}
+
+fn songs(alloc: Global, count: usize) -> Result<Sequence<SharedSong>, AllocError> {
+    let mut songs = Sequence::new(alloc);
+    for _ in 0..count {
+        songs.push(SharedSong::new(alloc, song(alloc)?)?)?;
+    }
+    Ok(songs)
+}
+
+/// Puts so many songs at the end.
+fn add(course: &mut Course, alloc: Global, count: usize) -> Result<&'static str, AllocError> {
+    let songs = songs(alloc, count)?;
+    let len = songs.items().len();
+    if !course.queue.has_room(len) || !course.queue.has_ids(len) {
+        return Ok("full");
+    }
+    let at = course.queue.len();
+    course.round.insert(&mut course.queue, at, songs)?;
+    Ok("ok")
+}
+
+fn single_of(number: u32) -> Single {
+    match number {
+        0 => Single::Off,
+        1 => Single::On,
+        _ => Single::Oneshot,
+    }
+}
+
+fn consume_of(number: u32) -> Consume {
+    match number {
+        0 => Consume::Off,
+        1 => Consume::On,
+        _ => Consume::Oneshot,
+    }
+}
+
+/// Sets the modes from four numbers: repeat, random, single and consume, where 2 is oneshot.
+fn set_modes(course: &mut Course, given: &str) {
+    let (repeat, rest) = first_word(given);
+    let (random, rest) = first_word(rest);
+    let (single, consume) = first_word(rest);
+    course.modes = Modes {
+        repeat: repeat == "1",
+        random: random == "1",
+        single: single_of(number_of(single)),
+        consume: consume_of(number_of(consume)),
+    };
+}
+
+/// An id, or that there is none.
+fn id_text(alloc: Global, id: Option<u32>) -> Result<String, AllocError> {
+    match id {
+        Some(id) => format!(in alloc; "{id}"),
+        None => String::from_str(alloc, "none"),
+    }
+}
+
+fn entry_text(alloc: Global, entry: Option<&Entry>) -> Result<String, AllocError> {
+    match entry {
+        Some(entry) => id_text(alloc, Some(entry.id)),
+        None => id_text(alloc, None),
+    }
+}
+
+fn single_text(single: Single) -> &'static str {
+    match single {
+        Single::Off => "off",
+        Single::On => "on",
+        Single::Oneshot => "oneshot",
+    }
+}
+
+fn consume_text(consume: Consume) -> &'static str {
+    match consume {
+        Consume::Off => "off",
+        Consume::On => "on",
+        Consume::Oneshot => "oneshot",
+    }
+}
+
+/// What an end led to; the modes that it left are those of the next step.
+fn ended(course: &mut Course, alloc: Global, ending: Ending) -> Result<String, AllocError> {
+    course.modes = ending.modes;
+    let starts = id_text(alloc, ending.starts)?;
+    let current = id_text(alloc, ending.current)?;
+    let single = single_text(ending.modes.single);
+    let consume = consume_text(ending.modes.consume);
+    let len = course.queue.len();
+    format!(in alloc; "{starts}, current {current}, single {single}, consume {consume}, {len} left")
+}
+
+fn natural_end(course: &mut Course, id: u32) -> Result<Ending, AllocError> {
+    course.round.after_end(course.modes, &mut course.queue, id)
+}
+
+fn next(course: &mut Course, id: u32) -> Result<Ending, AllocError> {
+    course.round.after_next(course.modes, &mut course.queue, id)
+}
+
+fn previous(course: &mut Course, id: u32) -> Result<Option<u32>, AllocError> {
+    course.round.after_previous(course.modes, &course.queue, id)
+}
+
+fn opening(course: &mut Course) -> Result<Option<u32>, AllocError> {
+    course.round.opening(course.modes, &course.queue)
+}
+
+/// Takes the entries of a range out, of which one is current or none.
+fn take_out(
+    course: &mut Course,
+    alloc: Global,
+    given: &str,
+    is_current: bool,
+) -> Result<String, AllocError> {
+    let (start, end) = first_word(given);
+    let start = number_of(start) as usize;
+    let end = number_of(end) as usize;
+    if start > end || end > course.queue.len() {
+        return String::from_str(alloc, "bad index");
+    }
+    if !is_current {
+        course.round.remove(&mut course.queue, start..end)?;
+        return String::from_str(alloc, "ok");
+    }
+    let starts = course
+        .round
+        .starts_after_removal(course.modes, &course.queue, start..end);
+    let id = course
+        .round
+        .after_removal(course.modes, &mut course.queue, start..end)?;
+    foretold(alloc, starts, id)
+}
+
+/// What starts, and whether that something does was said before.
+fn foretold(alloc: Global, starts: bool, id: Option<u32>) -> Result<String, AllocError> {
+    if starts == id.is_some() {
+        id_text(alloc, id)
+    } else {
+        String::from_str(alloc, "not as foretold")
+    }
+}
+
+/// Turns random order on, with a current song or none.
+fn randomize(course: &mut Course, current: Option<u32>) -> Result<(), AllocError> {
+    course.modes.random = true;
+    course.round.randomized(&course.queue, current)
+}
+
+fn prioritize(course: &mut Course, given: &str) -> &'static str {
+    let (priority, place) = first_word(given);
+    let place = number_of(place) as usize;
+    let priority = (number_of(priority) % 256) as u8;
+    match course.queue.set_prio(&[place..place + 1], priority) {
+        Ok(()) => "ok",
+        Err(_) => "refused",
+    }
+}
+
+/// Shuffles the entries of a range.
+fn shuffle(course: &mut Course, given: &str) -> Result<&'static str, AllocError> {
+    let (start, end) = first_word(given);
+    let start = number_of(start) as usize;
+    let end = number_of(end) as usize;
+    if start > end || end > course.queue.len() {
+        return Ok("bad index");
+    }
+    course.round.shuffle(&mut course.queue, start..end)?;
+    Ok("ok")
+}
+
+/// The ids of the queue, with a space before each.
+fn ids(course: &Course, alloc: Global) -> Result<String, AllocError> {
+    let mut all = String::new(alloc);
+    for place in 0..course.queue.len() {
+        if let Some(entry) = course.queue.get(place) {
+            let id = entry.id;
+            all.push_str(format!(in alloc; " {id}")?.as_str())?;
+        }
+    }
+    Ok(all)
+}
+
+/// What changes the order and starts nothing.
+fn change(
+    course: &mut Course,
+    alloc: Global,
+    word: &str,
+    given: &str,
+) -> Result<&'static str, AllocError> {
+    if word == "add" {
+        return add(course, alloc, number_of(given) as usize);
+    }
+    if word == "shuffle" {
+        return shuffle(course, given);
+    }
+    if word == "modes" {
+        set_modes(course, given);
+    } else if word == "random" {
+        randomize(course, None)?;
+    } else if word == "random-at" {
+        randomize(course, Some(number_of(given)))?;
+    } else if word == "in-order" {
+        course.modes.random = false;
+        course.round.emptied();
+    } else if word == "start" {
+        course.round.started(course.modes, number_of(given))?;
+    } else {
+        return Ok(prioritize(course, given));
+    }
+    Ok("ok")
+}
+
+/// What a song's end by itself or by `next` leads to, which has to be as foretold.
+fn end(course: &mut Course, alloc: Global, word: &str, id: u32) -> Result<String, AllocError> {
+    let (foretold, ending) = if word == "next" {
+        let starts = course
+            .round
+            .starts_after_next(course.modes, &course.queue, id);
+        (starts, next(course, id)?)
+    } else {
+        let starts = course
+            .round
+            .starts_after_end(course.modes, &course.queue, id);
+        (starts, natural_end(course, id)?)
+    };
+    if foretold != ending.starts.is_some() {
+        return String::from_str(alloc, "not as foretold");
+    }
+    ended(course, alloc, ending)
+}
+
+/// What a step tells.
+fn step(course: &mut Course, alloc: Global, line: &str) -> Result<String, AllocError> {
+    let (word, given) = first_word(line);
+    let id = number_of(given);
+    if word == "ids" {
+        ids(course, alloc)
+    } else if word == "open" {
+        id_text(alloc, opening(course)?)
+    } else if word == "peek" {
+        entry_text(alloc, course.round.peek(course.modes, &course.queue, id))
+    } else if word == "before" {
+        entry_text(alloc, course.round.before(course.modes, &course.queue, id))
+    } else if word == "previous" {
+        id_text(alloc, previous(course, id)?)
+    } else if word == "next" || word == "end" {
+        end(course, alloc, word, id)
+    } else if word == "delete" {
+        take_out(course, alloc, given, false)
+    } else if word == "delete-current" {
+        take_out(course, alloc, given, true)
+    } else {
+        String::from_str(alloc, change(course, alloc, word, given)?)
+    }
+}
+
+/// What the steps tell, with a line for each that tells more than `ok`.
+pub fn told(alloc: Global, steps: &str) -> Result<String, AllocError> {
+    let mut course = opened(alloc);
+    let mut all = String::new(alloc);
+    for line in steps.lines() {
+        let text = step(&mut course, alloc, line)?;
+        if text.as_str() != "ok" {
+            push_line(&mut all, line)?;
+            push_line(&mut all, text.as_str())?;
+        }
+    }
+    Ok(all)
+}
+
+/// How many songs, each once, `next` starts in random order of a queue of so many, until none is left.
+pub fn count_in_random_order(alloc: Global, count: usize) -> Result<usize, AllocError> {
+    let mut course = opened(alloc);
+    let _ok = add(&mut course, alloc, count)?;
+    randomize(&mut course, None)?;
+    let mut seen = std::collections::HashSet::new(alloc);
+    let mut current = opening(&mut course)?;
+    for _ in 0..count {
+        if let Some(id) = current {
+            let _new = seen.insert(id)?;
+            current = next(&mut course, id)?.starts;
+        }
+    }
+    Ok(if current.is_some() { 0 } else { seen.len() })
+}

@@ -1,0 +1,261 @@
+//! Worked rows of the order of play. The ids that random orders give are those of `rand_pcg` in Rust, seeded with 0.
+use crate::course::{count_in_random_order, told};
+use crate::tables::wants;
+use std::alloc::Global;
+
+const RANDOM: &str = "add 1
+add 1
+add 1
+add 1
+add 1
+random
+open
+peek 4
+next 4
+peek 2
+next 2
+peek 1
+previous 1
+peek 2
+next 2
+next 1
+peek 5
+next 5
+peek 3
+next 3";
+
+const RANDOM_TELLS: &str = "open
+4
+peek 4
+2
+next 4
+2, current none, single off, consume off, 5 left
+peek 2
+1
+next 2
+1, current none, single off, consume off, 5 left
+peek 1
+5
+previous 1
+2
+peek 2
+1
+next 2
+1, current none, single off, consume off, 5 left
+next 1
+5, current none, single off, consume off, 5 left
+peek 5
+3
+next 5
+3, current none, single off, consume off, 5 left
+peek 3
+none
+next 3
+none, current none, single off, consume off, 5 left
+";
+
+#[test]
+fn a_random_order_has_each_song_once(rt: HostRuntime) {
+    wants(&rt, told(rt.alloc(), RANDOM), RANDOM_TELLS);
+}
+
+const TWO: &str = "add 1
+add 1
+random-at 1
+peek 1
+next 1
+peek 2
+previous 2
+previous 1
+delete-current 0 1
+peek 2
+add 1
+prio 1 0
+peek 2
+next 2
+next 3
+open";
+
+const TWO_TELL: &str = "peek 1
+2
+next 1
+2, current none, single off, consume off, 2 left
+peek 2
+none
+previous 2
+1
+previous 1
+1
+delete-current 0 1
+2
+peek 2
+none
+peek 2
+3
+next 2
+3, current none, single off, consume off, 2 left
+next 3
+none, current none, single off, consume off, 2 left
+open
+2
+";
+
+#[test]
+fn two_songs_in_random_order(rt: HostRuntime) {
+    wants(&rt, told(rt.alloc(), TWO), TWO_TELL);
+}
+
+const RENEWED: &str = "add 2
+random
+modes 1 1 0 0
+start 1
+start 2
+delete-current 1 2
+modes 0 1 0 0
+add 1
+start 3
+delete-current 1 2";
+
+const RENEWED_TELL: &str = "delete-current 1 2
+1
+delete-current 1 2
+none
+";
+
+#[test]
+fn a_deletion_renews_a_round(rt: HostRuntime) {
+    wants(&rt, told(rt.alloc(), RENEWED), RENEWED_TELL);
+}
+
+const IN_EACH_MODE: &str = "add 2
+peek 2
+modes 1 0 0 0
+peek 2
+modes 1 0 1 0
+peek 2
+modes 1 0 1 1
+peek 2
+modes 1 0 2 0
+peek 2
+modes 1 0 0 1
+delete 0 1
+peek 2
+before 2
+prio 1 7
+in-order
+end 2";
+
+const IN_EACH_MODE_TELLS: &str = "peek 2
+none
+peek 2
+1
+peek 2
+2
+peek 2
+none
+peek 2
+none
+peek 2
+none
+before 2
+2
+prio 1 7
+refused
+end 2
+none, current none, single off, consume on, 0 left
+";
+
+#[test]
+fn the_next_song_in_each_mode(rt: HostRuntime) {
+    wants(&rt, told(rt.alloc(), IN_EACH_MODE), IN_EACH_MODE_TELLS);
+}
+
+const BY_PRIORITY: &str = "add 3
+prio 5 0
+prio 9 1
+random
+modes 0 1 0 1
+open
+next 2
+next 1
+next 3
+add 16384
+add 1
+delete 2 1";
+
+const BY_PRIORITY_TELLS: &str = "open
+2
+next 2
+1, current none, single off, consume on, 2 left
+next 1
+3, current none, single off, consume on, 1 left
+next 3
+none, current none, single off, consume on, 0 left
+add 1
+full
+delete 2 1
+bad index
+";
+
+#[test]
+fn the_greatest_priority_first_and_consumed(rt: HostRuntime) {
+    wants(&rt, told(rt.alloc(), BY_PRIORITY), BY_PRIORITY_TELLS);
+}
+
+const AT_AN_END: &str = "add 3
+modes 1 0 1 0
+end 2
+modes 1 0 2 0
+end 2
+modes 1 0 1 2
+end 2
+modes 0 0 2 0
+next 1";
+
+const AT_AN_END_TELLS: &str = "end 2
+2, current 2, single on, consume off, 3 left
+end 2
+none, current 2, single off, consume off, 3 left
+end 2
+none, current none, single on, consume off, 2 left
+next 1
+3, current none, single oneshot, consume off, 2 left
+";
+
+#[test]
+fn single_and_consume_at_an_end(rt: HostRuntime) {
+    wants(&rt, told(rt.alloc(), AT_AN_END), AT_AN_END_TELLS);
+}
+
+const SHUFFLES: &str = "add 5
+shuffle 5 5
+shuffle 3 4
+shuffle 2 3
+shuffle 5 6
+shuffle 1 4
+ids";
+
+const SHUFFLES_TELL: &str = "shuffle 5 6
+bad index
+ids
+ 1 4 2 3 5
+";
+
+#[test]
+fn a_shuffle_of_a_range(rt: HostRuntime) {
+    wants(&rt, told(rt.alloc(), SHUFFLES), SHUFFLES_TELL);
+    wants(
+        &rt,
+        told(rt.alloc(), "add 5\nshuffle 0 5\nids"),
+        "ids\n 4 1 2 3 5\n",
+    );
+}
+
+/// So many as the queue takes are tried by the benchmark, since each `next` there goes over them all.
+#[test]
+fn each_of_a_thousand_once(rt: HostRuntime) {
+    match count_in_random_order(rt.alloc(), 1000) {
+        Ok(count) => assert_eq!(rt; count, 1000),
+        Err(_) => panic!(rt; "no memory"),
+    }
+}

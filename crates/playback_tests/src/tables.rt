@@ -1,0 +1,58 @@
+//! What all tests of this crate use.
+//!
+//! A test gives one text, of which each line is a step, and wants one text. So it knows nothing of what it calls, and is cheap to
+//! prove. What a test needs and cannot make counts as want of memory.
+use mpd_text::{Song, number};
+use std::alloc::{AllocError, Global};
+use std::process::Abort;
+
+/// Ends the test where what is told is not what is wanted.
+pub fn wants<R: Abort>(rt: &R, told: Result<String, AllocError>, wanted: &str) {
+    match told {
+        Ok(text) => assert_eq!(*rt; text.as_str(), wanted),
+        Err(_) => panic!(*rt; "no memory"),
+    }
+}
+
+/// The same of a text that is made.
+pub fn wants_made<R: Abort>(
+    rt: &R,
+    told: Result<String, AllocError>,
+    wanted: Result<String, AllocError>,
+) {
+    match wanted {
+        Ok(text) => wants(rt, told, text.as_str()),
+        Err(_) => panic!(*rt; "no memory"),
+    }
+}
+
+/// The number of a word; 0 where there is none.
+pub fn number_of(word: &str) -> u32 {
+    match number(word) {
+        Some(number) => number,
+        None => 0,
+    }
+}
+
+/// The first word of a line, and what follows.
+pub fn first_word(line: &str) -> (&str, &str) {
+    match line.split_once(' ') {
+        Some(parts) => parts,
+        None => (line, ""),
+    }
+}
+
+/// The song `a.wav` of one second, without tags.
+pub fn song(alloc: Global) -> Result<Song, AllocError> {
+    let uri = String::from_str(alloc, "a.wav")?;
+    match Song::new(uri, Vec::new(alloc), 8000) {
+        Some(song) => Ok(song),
+        None => Err(AllocError),
+    }
+}
+
+/// Adds a text and a newline.
+pub fn push_line(all: &mut String, line: &str) -> Result<(), AllocError> {
+    all.push_str(line)?;
+    all.push_str("\n")
+}

@@ -1,0 +1,4 @@
+pub mod Openings
+pub mod Effects
+pub mod Rising
+pub mod Runs

@@ -1,0 +1,61 @@
+//! How songs end, by `next` or by themselves.
+ghost use Rattle.std.specs.Prelude.{◌≡◌, ◌↔◌, false, IsErrOf, OnOk, OnErr};
+ghost use Rattle.song_queue.specs.State.{queue_of};
+ghost use Rattle.player_core.specs.Player as player;
+ghost use Rattle.player_core.specs.Steps as steps;
+
+use crate::fault::PlayerFault;
+use crate::player::Player;
+use crate::state::Playback;
+use song_queue::Queue;
+
+impl Player {
+    /// Ends the current song as if single were off, and plays what follows.
+    pub fn next(&mut self, queue: &mut Queue) -> Result<(), PlayerFault>
+        ensures ok { OnOk result (self.new ≡ (steps.next self.old (queue_of queue.old)).player) }
+        ensures queue { OnOk result (queue.new ≡ player.queue_after queue.old (steps.next self.old (queue_of queue.old)).edit) }
+        ensures limit { IsErrOf result PlayerFault.CutsAtLimit ↔ (player.is_within (steps.next self.old (queue_of queue.old)).player ≡ false) }
+        ensures err { OnErr result (self.new ≡ self.old) }
+        ensures err_queue { OnErr result (queue.new ≡ queue.old) }
+    {
+        let Some(id) = self.current else {
+            return Ok(());
+        };
+        let starts = self.round.starts_after_next(self.modes, queue, id);
+        if self.ends_cuts(starts) {
+            return Err(PlayerFault::CutsAtLimit);
+        }
+        let ending = self.round.after_next(self.modes, queue, id)?;
+        self.modes = ending.modes;
+        self.go_on(Playback::Play, ending.starts, 0, ending.current);
+        self.cut();
+        Ok(())
+    }
+
+    /// The current song, which has this id, ends by itself, and what follows starts at a place. So many frames of the
+    /// song were accepted.
+    pub(super) fn end(
+        &mut self,
+        queue: &mut Queue,
+        id: u32,
+        accepted: u64,
+        place: u64,
+    ) -> Result<(), PlayerFault>
+        ensures ok { OnOk result (self.new ≡ (steps.ended (record self.old { place = accepted }) (queue_of queue.old) id place).player) }
+        ensures queue { OnOk result (queue.new ≡ player.queue_after queue.old (steps.ended (record self.old { place = accepted }) (queue_of queue.old) id place).edit) }
+        ensures limit { IsErrOf result PlayerFault.CutsAtLimit ↔ (player.is_within (steps.ended (record self.old { place = accepted }) (queue_of queue.old) id place).player ≡ false) }
+        ensures err { OnErr result (self.new ≡ self.old) }
+        ensures err_queue { OnErr result (queue.new ≡ queue.old) }
+    {
+        let starts = self.round.starts_after_end(self.modes, queue, id);
+        if self.ends_starts(starts) {
+            return Err(PlayerFault::CutsAtLimit);
+        }
+        let ending = self.round.after_end(self.modes, queue, id)?;
+        self.modes = ending.modes;
+        self.job = None;
+        self.place = accepted;
+        self.go_on(self.playback, ending.starts, place, ending.current);
+        Ok(())
+    }
+}
