@@ -1,5 +1,6 @@
 #!/bin/sh
-# Prints microseconds of what is asked of a library of 100,000 songs with three tags each, in 100 folders, beside wanted times.
+# Prints microseconds of what is asked of a library of 100,000 songs with three tags each, in 100 folders, beside wanted times;
+# then the most memory that the program held, for each song beyond the bytes of its texts (its URI, and what its tags hold).
 # Usage: bench.sh [ROOT]     (ROOT is the repository's top folder; two folders up from here if left out)
 # It builds on a copy in a temporary folder. What the crates have proved is copied along; the rest is proved there first.
 set -eu
@@ -23,7 +24,14 @@ search_bench: song_search song_db filters mpd_text
 END
 (cd "$work/crates/search_bench" && rt run > "$work/log" 2>&1) || true
 [ -x "$work/crates/search_bench/out/search_bench" ] || { cat "$work/log"; exit 1; }
-"$work/crates/search_bench/out/search_bench" | awk '
+python3 - "$work/crates/search_bench/out/search_bench" > "$work/told" <<'END'
+import resource, subprocess, sys
+print(subprocess.run(sys.argv[1:], stdout=subprocess.PIPE, check=True, text=True).stdout, end='')
+texts = len('000/000000.wav') + len('Title 000000') + len('Artist 00') + len('Album 000')
+print('memory', resource.getrusage(resource.RUSAGE_CHILDREN).ru_maxrss * 1024 // 100000 - texts)
+END
+awk '
     BEGIN { wanted["artist"] = 3000; wanted["any"] = 60000; printf "%-8s %12s %12s %8s\n", "", "microseconds", "wanted", "answer" }
+    $1 == "memory" { printf "\n%d bytes for each song beyond its texts (wanted: 200 or less)\n", $2; next }
     { printf "%-8s %12d %12s %8d\n", $1, $2, wanted[$1], $3 }
-'
+' "$work/told"

@@ -1,0 +1,4 @@
+pub mod Taken
+pub mod First
+pub mod Causes
+pub mod Texts

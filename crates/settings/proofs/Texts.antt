@@ -1,0 +1,68 @@
+-- Texts of settings, computed.
+use Rattle.std.proofs.Common.{refl, codes, inl, inr}
+use Rattle.toml.proofs.OnLiterals.{toml_on_literals}
+use Rattle.settings.specs.Readings.{Readings, Refuses}
+use Rattle.settings.proofs.Causes.{first_alone, first_of_two}
+
+not_toml : Refuses (codes "music") (codes "")
+unfolding toml_on_literals
+not_toml = refl
+
+unknown : Refuses (codes "music = \"/m\"\nlisten = \"127.0.0.1:0\"\nport = 1\n") (codes "port")
+unfolding toml_on_literals
+unknown = inl (first_alone (codes "port"))
+
+low_rate : Refuses (codes "music = \"/m\"\nlisten = \"127.0.0.1:0\"\nrate = 7999\n") (codes "rate")
+unfolding toml_on_literals
+low_rate = inl (first_alone (codes "rate"))
+
+no_listen : Refuses (codes "music = \"/m\"\n") (codes "listen")
+unfolding toml_on_literals
+no_listen = inr (refl, first_alone (codes "listen"))
+
+no_key : Refuses (codes "") (codes "listen")
+unfolding toml_on_literals
+no_key = inr (refl, first_of_two (codes "listen") (codes "music") refl)
+
+two : Refuses (codes "zone = 1\nport = 1\n") (codes "port")
+unfolding toml_on_literals
+two = inl (first_of_two (codes "port") (codes "zone") refl)
+
+output_fault : Refuses (codes "music = \"/m\"\nlisten = \"127.0.0.1:0\"\n[[output]]\nname = \"a\"\n") (codes "output")
+unfolding toml_on_literals
+output_fault = inl (first_alone (codes "output"))
+
+pub all : Readings
+unfolding toml_on_literals
+all = record {
+  is_read = refl;
+  is_taken = record { good = refl; whole = refl };
+  rate = refl;
+  random_start = refl;
+  history = refl;
+  ring = refl;
+  kill = refl;
+  output = refl;
+  no_shelf = refl;
+  not_toml = not_toml;
+  unknown = unknown;
+  low_rate = low_rate;
+  no_listen = no_listen;
+  no_key = no_key;
+  two = two;
+  output_fault = output_fault;
+  below_history = refl;
+  least_history = refl;
+  most_history = refl;
+  above_history = refl;
+  below_ring = refl;
+  least_ring = refl;
+  most_ring = refl;
+  above_ring = refl;
+  below_rate = refl;
+  least_rate = refl;
+  most_rate = refl;
+  above_rate = refl;
+  below_start = refl;
+  most_start = refl;
+}

@@ -1,0 +1,4 @@
+pub mod Keys
+pub mod Values
+pub mod Refusals
+pub mod Readings

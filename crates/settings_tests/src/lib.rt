@@ -1,0 +1,7 @@
+//! Tests of the settings.
+#![tactic(auto)]
+
+#[cfg(test)]
+mod helpers;
+#[cfg(test)]
+mod texts;

@@ -1,0 +1,168 @@
+//! Texts as settings.
+use crate::helpers::{owned, wants};
+use settings::{Settings, SettingsFault, settings};
+use std::alloc::Global;
+use std::process::Abort;
+
+/// The settings that a text says in one line, or the key for which it is refused.
+fn told<R: Abort>(rt: &R, alloc: Global, text: &str) -> String {
+    match settings(alloc, text) {
+        Ok(settings) => line_of(rt, alloc, &settings),
+        Err(SettingsFault::BadSetting(key)) => {
+            let key = key.as_str();
+            format!(in alloc; "BadSetting({key})").expect(rt, "no memory")
+        }
+        Err(SettingsFault::NoMemory) => owned(rt, alloc, "no memory"),
+    }
+}
+
+fn line_of<R: Abort>(rt: &R, alloc: Global, settings: &Settings) -> String {
+    let (music, listen) = (settings.music.as_str(), settings.listen.as_str());
+    let shelf = match &settings.shelf {
+        Some(shelf) => shelf.as_str(),
+        None => "-",
+    };
+    let (rate, start) = (settings.rate.frames(), settings.random_start);
+    let (history, ring, kill) = (settings.history, settings.ring, settings.kill);
+    let mut line = format!(in alloc;
+        "{music} {listen} {shelf} {rate} {start} {history} {ring} {kill}"
+    ).expect(rt, "no memory");
+    for output in settings.outputs.as_slice() {
+        let (name, path, enabled) = (output.name.as_str(), output.path.as_str(), output.enabled);
+        let more = format!(in alloc; " {name}={path}:{enabled}").expect(rt, "no memory");
+        line.push_str(more.as_str()).expect(rt, "no memory");
+    }
+    line
+}
+
+/// The text with the two keys that must be there before it.
+fn with_needed<R: Abort>(rt: &R, alloc: Global, text: &str) -> String {
+    format!(in alloc; "music = \"/m\"\nlisten = \"127.0.0.1:0\"\n{text}").expect(rt, "no memory")
+}
+
+/// What is added to the two keys that must be there, and what the whole comes to.
+const ADDED: [(&str, &str); 29] = [
+    ("", "/m 127.0.0.1:0 - 44100 0 4096 8192 false"),
+    (
+        "shelf = \"/s\"\nkill = true",
+        "/m 127.0.0.1:0 /s 44100 0 4096 8192 true",
+    ),
+    (
+        "rate = 8000\nhistory = 1\nring = 1024",
+        "/m 127.0.0.1:0 - 8000 0 1 1024 false",
+    ),
+    (
+        "rate = 192000\nhistory = 65536\nring = 65536",
+        "/m 127.0.0.1:0 - 192000 0 65536 65536 false",
+    ),
+    (
+        "random_start = 9223372036854775807",
+        "/m 127.0.0.1:0 - 44100 9223372036854775807 4096 8192 false",
+    ),
+    (
+        "random_start = 0x10",
+        "/m 127.0.0.1:0 - 44100 16 4096 8192 false",
+    ),
+    ("output = []", "/m 127.0.0.1:0 - 44100 0 4096 8192 false"),
+    (
+        "[[output]]\nname = \"b\"\npath = \"/b\"\n[[output]]\nname = \"a\"\npath = \"/a\"\nenabled = false",
+        "/m 127.0.0.1:0 - 44100 0 4096 8192 false b=/b:true a=/a:false",
+    ),
+    ("port = 1", "BadSetting(port)"),
+    ("a.b = 1", "BadSetting(a)"),
+    ("rate = 7999", "BadSetting(rate)"),
+    ("rate = 192001", "BadSetting(rate)"),
+    ("rate = 44100.0", "BadSetting(rate)"),
+    ("history = 0", "BadSetting(history)"),
+    ("history = 65537", "BadSetting(history)"),
+    ("ring = 1023", "BadSetting(ring)"),
+    ("ring = 65537", "BadSetting(ring)"),
+    ("random_start = -1", "BadSetting(random_start)"),
+    ("random_start = 9223372036854775808", "BadSetting()"),
+    ("kill = 1", "BadSetting(kill)"),
+    ("shelf = 1", "BadSetting(shelf)"),
+    ("zone = 1\nrate = 1\nport = 1", "BadSetting(port)"),
+    ("port = 1\nZone = 1", "BadSetting(Zone)"),
+    ("\"é\" = 1\nzone = 1", "BadSetting(zone)"),
+    ("output = 1", "BadSetting(output)"),
+    (
+        "[output]\nname = \"a\"\npath = \"/a\"",
+        "BadSetting(output)",
+    ),
+    ("[[output]]\nname = \"a\"", "BadSetting(output)"),
+    (
+        "[[output]]\nname = \"a\"\npath = \"/a\"\nport = 1",
+        "BadSetting(output)",
+    ),
+    (
+        "[[output]]\nname = \"a\"\npath = \"/a\"\nenabled = 1",
+        "BadSetting(output)",
+    ),
+];
+
+fn check_added<R: Abort>(rt: &R, alloc: Global) {
+    for (text, wanted) in ADDED {
+        let whole = with_needed(rt, alloc, text);
+        wants(rt, text, told(rt, alloc, whole.as_str()).as_str(), wanted);
+    }
+}
+
+#[test]
+fn added_keys(rt: HostRuntime) {
+    check_added(&rt, rt.alloc());
+}
+
+/// Whole texts, and what they come to.
+const WHOLE: [(&str, &str); 10] = [
+    ("music = \"/m\"", "BadSetting(listen)"),
+    ("listen = \"127.0.0.1:0\"", "BadSetting(music)"),
+    ("", "BadSetting(listen)"),
+    ("# nothing", "BadSetting(listen)"),
+    ("port = 1", "BadSetting(port)"),
+    ("music = 1", "BadSetting(music)"),
+    ("music", "BadSetting()"),
+    ("music = \"/m\"\nmusic = \"/m\"", "BadSetting()"),
+    ("\"\" = 1", "BadSetting()"),
+    ("listen = \"\"\nmusic = \"\"", "  - 44100 0 4096 8192 false"),
+];
+
+fn check_whole<R: Abort>(rt: &R, alloc: Global) {
+    for (text, wanted) in WHOLE {
+        wants(rt, text, told(rt, alloc, text).as_str(), wanted);
+    }
+}
+
+#[test]
+fn whole_texts(rt: HostRuntime) {
+    check_whole(&rt, rt.alloc());
+}
+
+/// A text with so many outputs.
+fn with_outputs<R: Abort>(rt: &R, alloc: Global, count: u32) -> String {
+    let mut text = with_needed(rt, alloc, "");
+    for _ in 0..count {
+        text.push_str("[[output]]\nname = \"a\"\npath = \"/a\"\n")
+            .expect(rt, "no memory");
+    }
+    text
+}
+
+fn check_outputs<R: Abort>(rt: &R, alloc: Global) {
+    wants(
+        rt,
+        "8 outputs",
+        told(rt, alloc, with_outputs(rt, alloc, 8).as_str()).as_str(),
+        "/m 127.0.0.1:0 - 44100 0 4096 8192 false a=/a:true a=/a:true a=/a:true a=/a:true a=/a:true a=/a:true a=/a:true a=/a:true",
+    );
+    wants(
+        rt,
+        "9 outputs",
+        told(rt, alloc, with_outputs(rt, alloc, 9).as_str()).as_str(),
+        "BadSetting(output)",
+    );
+}
+
+#[test]
+fn most_outputs(rt: HostRuntime) {
+    check_outputs(&rt, rt.alloc());
+}
