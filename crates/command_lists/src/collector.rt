@@ -1,7 +1,8 @@
 //! The collector of a client's command list.
-ghost use Rattle.std.specs.Prelude.{◌≡◌};
+ghost use Rattle.std.specs.Prelude.{◌≡◌, true, IfOk, OnErr};
 ghost use Rattle.std.specs.Option.{option_copied};
-ghost use Rattle.command_lists.specs.Lists.{ends, list_word};
+ghost use Rattle.command_lists.specs.declared.collector.Taken.TheVariants.{Collected};
+ghost use Rattle.command_lists.specs.Lists.{ends, fits, list_word, outcome_with, with_line};
 
 use crate::list::{CommandList, OpenList};
 use crate::word::ListWord;
@@ -39,10 +40,10 @@ impl Model for ListCollector {
 }
 
 impl ListCollector {
-    ghost use Rattle.std.specs.Prelude.{◌≡◌, None, Some, true, IfOk, OnErr, is_some};
+    ghost use Rattle.std.specs.Prelude.{◌≡◌, None, IfOk, OnErr, is_some};
     ghost use Rattle.std.specs.Option.{option_copied};
     ghost use Rattle.command_lists.specs.declared.collector.Taken.TheVariants.{Collected};
-    ghost use Rattle.command_lists.specs.Lists.{outcome_of, outcome_with, with_line, fits, is_too_large};
+    ghost use Rattle.command_lists.specs.Lists.{outcome_of, is_too_large};
 
     /// A collector without an open list.
     pub fn new() -> ListCollector
@@ -59,14 +60,20 @@ impl ListCollector {
         ensures memory { OnErr result ((outcome_of self.old (option_copied line.entry)).taken ≡ Collected) }
     {
         let word = line.and_then(ListWord::of_line);
+        if let (Some(list), false) = (&mut self.open_list, is_end_word(word)) {
+            let taken = collect(list, alloc, line)?;
+            if matches!(taken, Taken::TooLarge) {
+                self.open_list = None;
+            }
+            return Ok(taken);
+        }
         match (self.open_list.take(), word) {
             (None, Some(ListWord::Begin(form))) => {
                 self.open_list = Some(OpenList::new(alloc, form));
                 Ok(Taken::Begun)
             }
             (None, _) => Ok(Taken::Alone),
-            (Some(list), Some(ListWord::End)) => Ok(Taken::Ended(list.into_list())),
-            (Some(list), _) => self.collect(alloc, list, line),
+            (Some(list), _) => Ok(Taken::Ended(list.into_list())),
         }
     }
 
@@ -79,27 +86,6 @@ impl ListCollector {
             Some(list) if !list.has_room(line) => !is_end(line),
             _ => false,
         }
-    }
-
-    /// Takes a line of the list that was open, and opens it again if it is not too large.
-    fn collect(
-        &mut self,
-        alloc: Global,
-        mut list: OpenList,
-        line: Option<&str>,
-    ) -> Result<Taken, AllocError>
-        ensures ok { IfOk result (λ t. record { open_list = self.new; taken = t } ≡ outcome_with (with_line list (option_copied line.entry))) }
-        ensures err { OnErr result (self.new ≡ Some list) }
-        ensures memory { OnErr result (fits (with_line list (option_copied line.entry)) ≡ true) }
-    {
-        if !list.has_room(line) {
-            self.open_list = None;
-            return Ok(Taken::TooLarge);
-        }
-        let pushed = list.push(alloc, line);
-        self.open_list = Some(list);
-        pushed?;
-        Ok(Taken::Collected)
     }
 
     /// Drops the open list, if one is open.
@@ -117,9 +103,29 @@ impl ListCollector {
     }
 }
 
+/// Puts a line into the open list, where it stands, if it is not too large with it.
+fn collect(list: &mut OpenList, alloc: Global, line: Option<&str>) -> Result<Taken, AllocError>
+    ensures taken { IfOk result (λ t. t ≡ (outcome_with (with_line list.old (option_copied line.entry))).taken) }
+    ensures list { IfOk result (λ t. t ≡ Collected → list.new ≡ with_line list.old (option_copied line.entry)) }
+    ensures err { OnErr result (list.new ≡ list.old) }
+    ensures memory { OnErr result (fits (with_line list.old (option_copied line.entry)) ≡ true) }
+{
+    if !list.has_room(line) {
+        return Ok(Taken::TooLarge);
+    }
+    list.push(alloc, line)?;
+    Ok(Taken::Collected)
+}
+
 /// Whether a line is the word that ends a list.
 fn is_end(line: Option<&str>) -> bool
     ensures { result ≡ ends (list_word (option_copied line.entry)) }
 {
-    matches!(line.and_then(ListWord::of_line), Some(ListWord::End))
+    is_end_word(line.and_then(ListWord::of_line))
+}
+
+fn is_end_word(word: Option<ListWord>) -> bool
+    ensures { result ≡ ends word }
+{
+    matches!(word, Some(ListWord::End))
 }

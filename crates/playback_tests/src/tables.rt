@@ -14,18 +14,6 @@ pub fn wants<R: Abort>(rt: &R, told: Result<String, AllocError>, wanted: &str) {
     }
 }
 
-/// The same of a text that is made.
-pub fn wants_made<R: Abort>(
-    rt: &R,
-    told: Result<String, AllocError>,
-    wanted: Result<String, AllocError>,
-) {
-    match wanted {
-        Ok(text) => wants(rt, told, text.as_str()),
-        Err(_) => panic!(*rt; "no memory"),
-    }
-}
-
 /// The number of a word; 0 where there is none.
 pub fn number_of(word: &str) -> u32 {
     match number(word) {
