@@ -14,4 +14,4 @@ pub use forms::{Place, Uri, Window};
 pub use name::{NAMES, Name};
 pub use request::{Ack, CommandFault, Request};
 pub use volume::Volume;
-pub use wanted::Wanted;
+pub use wanted::{FilterHandle, Wanted};

@@ -10,16 +10,49 @@ ghost use Rattle.mpd_command.specs.Wanted.{asked as asked_lem, fault_text as fau
 use crate::forms::{Form, Window, after_sign};
 use crate::readers::{Misread, read_word};
 use filters::{Filter, FilterFault, Pair, Test};
-use mpd_text::{Sequence, Text};
+use mpd_text::{Sequence, SharedText, Text};
 use std::alloc::{AllocError, Global};
+use std::marker::Model;
+use std::ops::Deref;
+use std::sync::Arc;
+
+/// A filter behind one pointer, so that commands without one, and events, stay small.
+#[derive(Drop)]
+pub struct FilterHandle {
+    filter: Arc<Filter, Global>,
+}
+
+impl Model for FilterHandle {
+    ghost use Rattle.filters.specs.Codes.{expression_code};
+    ghost use Rattle.filters.specs.Expressions.{Expression};
+    ghost use Rattle.std.specs.Arc.{arc_value};
+
+    ghost Value = { Expression };
+
+    ghost coded = { expression_code };
+
+    ghost view = { λ h. arc_value h.filter };
+}
+
+impl Deref for FilterHandle {
+    type Target = Filter;
+
+    ghost deref_gives = { λ handle filter. filter ≡ handle };
+
+    fn deref(&self) -> &Filter
+        ensures { result.now ≡ self.now }
+    {
+        &self.filter
+    }
+}
 
 /// What songs are asked for.
 #[derive(Drop)]
 pub enum Wanted {
     /// Those that meet a filter.
-    Meeting(Filter),
+    Meeting(FilterHandle),
     /// None: why the filter cannot be read, as an `ACK` says it.
-    Refused(Text),
+    Refused(SharedText),
 }
 
 /// A filter.
@@ -82,26 +115,28 @@ fn asked(alloc: Global, read: Result<Filter, FilterFault>) -> Result<Wanted, Mis
     ensures { (exact : Result Expression Fault) → OrNoMemory read exact → Gives result (Ok (asked_lem exact)) }
 {
     match read {
-        Ok(filter) => Ok(Wanted::Meeting(filter)),
+        Ok(filter) => Ok(Wanted::Meeting(FilterHandle {
+            filter: Arc::new(alloc, filter)?,
+        })),
         Err(FilterFault::NoMemory) => Err(Misread::NoMemory),
         Err(fault) => Ok(Wanted::Refused(fault_text(alloc, &fault)?)),
     }
 }
 
 /// Why a filter cannot be read.
-fn fault_text(alloc: Global, fault: &FilterFault) -> Result<Text, AllocError>
+fn fault_text(alloc: Global, fault: &FilterFault) -> Result<SharedText, AllocError>
     ensures { IfOk result (λ text. text ≡ fault_text_lem fault.now) }
 {
     match fault {
-        FilterFault::Syntax(place) => Ok(Text::of(format!(in alloc;
-            "bad filter at byte {place}"
-        )?)),
+        FilterFault::Syntax(place) => {
+            SharedText::of(format!(in alloc; "bad filter at byte {place}")?)
+        }
         FilterFault::UnknownTag(word) => {
             let word = word.as_str();
-            Ok(Text::of(format!(in alloc; "unknown tag \"{word}\"")?))
+            SharedText::of(format!(in alloc; "unknown tag \"{word}\"")?)
         }
-        FilterFault::TooDeep => Text::new(alloc, "filter too deep"),
-        FilterFault::NoMemory => Text::new(alloc, ""),
+        FilterFault::TooDeep => SharedText::new(alloc, "filter too deep"),
+        FilterFault::NoMemory => SharedText::new(alloc, ""),
     }
 }
 
