@@ -133,6 +133,23 @@ def show_library(path):
         row('%s, %d songs (us each)' % (name, SONGS), both(time_of.each(none, 20)), wanted)
 
 
+def show_playback(path, queue):
+    """What the order of play costs at a long queue."""
+    random = queue + b'1 random 1\n'
+    playing = random + b'1 play\n'
+    inputs = [queue, random, playing, playing + b'1 next\n' * 1000, queue + b'1 shuffle\n' * 20, queue + b'1 random 1\n1 random 0\n' * 20,
+              playing + STATUS * 200, queue + b'1 play\n', queue + b'1 play\n' + STATUS * 1000]
+    full, _, played, nexts, shuffles, randoms, random_status, in_order, in_order_status = map(best, turns(path, inputs, RUNS))
+    row('next in random order at %d entries (us each)' % ENTRIES, both(nexts.each(played, 1000)), 'less than 1000')
+    row('shuffle of %d entries (us each)' % ENTRIES, both(shuffles.each(full, 20)), 'less than 5000')
+    row('random 1 and random 0 at %d entries (us)' % ENTRIES, both(randoms.each(full, 20)))
+    row('status while playing, in order (us each)', both(in_order_status.each(in_order, 1000)), 'as at 1 entry')
+    row('status while playing, in random order (us each)', both(random_status.each(played, 200)), 'as at 1 entry')
+    before = SONG + b'1 random 1\n' + ADD * (ENTRIES - 1000)
+    none, added = turns(path, [before, before + ADD * 1000], PAIRS)
+    row('add with random on, last 1000 of %d (us each)' % ENTRIES, both(median(added, none, 1000)))
+
+
 def show_short_times(path, start, queue):
     row('median of %d differences of two runs' % PAIRS, ('passed', 'processor'), 'wanted')
     none, few, most, full, full_status, one, one_status = turns(path, [
@@ -172,6 +189,7 @@ def check(program):
     show_songs(program.path, start, queue)
     show_lists(program.path, start)
     show_library(program.path)
+    show_playback(program.path, queue)
     show_short_times(program.path, start, queue)
     show_memory(program)
     return 0

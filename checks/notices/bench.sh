@@ -9,7 +9,7 @@ root=$(cd "${1:-$here/../..}" && pwd)
 work=$(mktemp -d)
 trap 'rm -rf "$work"' EXIT
 mkdir "$work/crates"
-crates='mpd_text command_lists song_db filters song_search song_queue idle_notes mpd_command partition'
+crates='mpd_text command_lists song_db filters song_search song_queue play_order player_core idle_notes mpd_command partition'
 for crate in $crates; do
     cp -a "$root/crates/$crate" "$work/crates/$crate"
 done

@@ -12,30 +12,31 @@ use Rattle.song_db.specs.Library.{in_byte_order}
 use Rattle.script_lines.specs.Lines.{LineData, ClientLine, StepLine, BadLine, script_line_of}
 use Rattle.script_lines.specs.Steps.{step_of}
 use Rattle.script_lines.specs.declared.limit.LimitName.{LimitName}
-use Rattle.script_lines.specs.declared.limit.LimitName.TheVariants.{MaxQueue, MaxVersion, MaxId}
+use Rattle.script_lines.specs.declared.limit.LimitName.TheVariants.{MaxQueue, MaxVersion, MaxId, MaxCut}
 use Rattle.script_lines.specs.declared.step.Step.{Step}
-use Rattle.script_lines.specs.declared.step.Step.TheVariants.{Song, Limit, Gone, Scanned}
+use Rattle.script_lines.specs.declared.step.Step.TheVariants.{Song, Limit, Gone, Scanned, Want as WantStep, Have as HaveStep, Failed as FailedStep, Turn as TurnStep}
 use Rattle.partition.specs.Answers.{Told}
 use Rattle.partition.specs.Lists.{ends_list}
 use Rattle.mpd_command.specs.Requests.{request_of}
 use Rattle.mpd_command.specs.declared.request.Request.{Request}
 use Rattle.partition.specs.declared.event.Event.{Event}
 use Rattle.partition.specs.declared.event.Stand.TheVariants.{Alone, InList}
-use Rattle.partition.specs.declared.event.Event.TheVariants.{Connect, Disconnect, Line, ScanResult}
+use Rattle.partition.specs.declared.event.Event.TheVariants.{Connect, Disconnect, Line, Want, Have, Failed, OutputTurn}
 use Rattle.partition.specs.declared.partition.PartitionFault.{PartitionFault}
 use Rattle.partition.specs.declared.state.Limits.{Limits}
 use Rattle.daemon_script.specs.declared.memory.Memory.{Memory}
 use Rattle.daemon_script.specs.declared.memory.Memory.TheVariants.{Ample, NoneToConnect, NoneToRead, NoneToRun}
 use Rattle.daemon_script.specs.Kinds.{PlayerKind}
 use Rattle.daemon_script.specs.Output.{Run, script_after, text_of}
-use Rattle.daemon_script.specs.Script.{ScriptData, Shown, LineRun, bad, collects, lowers, limits_with, has_uri, told_for, notices_for, fault_of, connects, sent_off, sends_off, scan_ended, ends_scan, report_text, shown_step, step_line, request_run, alone_run, runs, request_in, read_of, end_of, place_without, is_at, closed_line, ListRun, list_goes, list_step, list_run, notices_by_number, lines_for, list_of, with_list, commands_run, collected_run, too_large_run, taken_run, line_run, connect_run, line_after, client_run, shown_client, shown_kind, shown_of}
+use Rattle.daemon_script.specs.Reports.{report_text}
+use Rattle.daemon_script.specs.Script.{ScriptData, Shown, LineRun, bad, collects, lowers, limits_with, has_uri, told_for, notices_for, fault_of, connects, sent_off, sends_off, applied, applies, scan_result, shown_step, step_line, request_run, asked_run, alone_run, runs, request_in, read_of, end_of, place_without, is_at, closed_line, ListRun, list_goes, list_step, list_run, notices_by_number, lines_for, list_of, with_list, commands_run, collected_run, too_large_run, taken_run, line_run, connect_run, line_after, client_run, shown_client, shown_kind, shown_of}
 use Rattle.daemon_script.proofs.Ranges.{limit_at_least_one}
 
 -- two kinds agree: a relation of their players holds at the opening and is kept by events, and related players answer alike
 pub record Agree {P Q : Type 0} (m : PlayerKind P) (n : PlayerKind Q) (R : P → Q → Type 0) : Type 0 where
   pub opens : (limits : Limits) (songs : List SongData) → 1 ≤ limits.max_version → R (m.opens limits songs) (n.opens limits songs)
   pub there : (p : P) (q : Q) (number : ℕ) → R p q → m.is_there number p ≡ n.is_there number q
-  pub made : (p : P) (q : Q) → R p q → m.made p ≡ n.made q
+  pub limit : (p : P) (q : Q) (event : Event) → R p q → m.limit p event ≡ n.limit q event
   pub after : (p : P) (q : Q) (event : Event) → R p q → R (m.after p event) (n.after q event)
   pub told : (p : P) (q : Q) (event : Event) → R p q → m.told p event ≡ n.told q event
 
@@ -94,6 +95,7 @@ module _ {P Q : Type 0} (R : P → Q → Type 0) where
   above_with limits MaxQueue number above most = above
   above_with limits MaxVersion number above most = most
   above_with limits MaxId number above most = above
+  above_with limits MaxCut number above most = above
 
   lowers_same : (s : ScriptData P) (q : Option Q) (name : LimitName) (number : ℕ) → 1 ≤ s.limits.max_version → 1 ≤ number → SamePlayer s.player q
       → SameShown (lowers s name number) (lowers (over s q) name number)
@@ -114,18 +116,18 @@ module _ {P Q : Type 0} (m : PlayerKind P) (n : PlayerKind Q) (R : P → Q → T
     connected = refl;
   }
 
-  -- a request that runs or is refused, by how many events there were
-  counted_same : (p : P) (q : Q) (number : ℕ) (line : List ℕ) (ample : Bool) → R p q
-      → SameRun R (request_run m p number (request_of line false) (fault_of ample (m.made p))) (request_run n q number (request_of line false) (fault_of ample (n.made q)))
-  counted_same p q number line ample r =
-      subst (λ (made : ℕ). SameRun R (request_run m p number (request_of line false) (fault_of ample (m.made p))) (request_run n q number (request_of line false) (fault_of ample made)))
-      (agree.made p q r) (request_same p q number (request_of line false) (fault_of ample (m.made p)) r)
+  -- a request that runs or is refused, by the limit that it would pass
+  asked_same : (p : P) (q : Q) (number : ℕ) (request : Request) (ample : Bool) → R p q
+      → SameRun R (asked_run m p number request ample) (asked_run n q number request ample)
+  asked_same p q number request ample r =
+      subst (λ (limit : Option PartitionFault). SameRun R (asked_run m p number request ample) (request_run n q number request (fault_of ample limit)))
+      (agree.limit p q (Line number Alone request) r) (request_same p q number request (fault_of ample (m.limit p (Line number Alone request))) r)
 
   alone_same : (p : P) (q : Q) (number : ℕ) (line : List ℕ) (memory : Memory) → R p q → SameRun R (alone_run m p number line memory) (alone_run n q number line memory)
-  alone_same p q number line Ample r = counted_same p q number line true r
-  alone_same p q number line NoneToConnect r = counted_same p q number line true r
+  alone_same p q number line Ample r = asked_same p q number (request_of line false) true r
+  alone_same p q number line NoneToConnect r = asked_same p q number (request_of line false) true r
   alone_same p q number line (NoneToRead place) r = record { player = r; list = refl; text = refl; connected = refl }
-  alone_same p q number line (NoneToRun place) r = counted_same p q number line false r
+  alone_same p q number line (NoneToRun place) r = asked_same p q number (request_of line false) false r
 
   record SameList (a : ListRun P) (b : ListRun Q) : Type 0 where
     player : R a.player b.player
@@ -152,10 +154,10 @@ module _ {P Q : Type 0} (m : PlayerKind P) (n : PlayerKind Q) (R : P → Q → T
       let event : Event = Line number (InList form place) request in
       let after : R (m.after p event) (n.after q event) = agree.after p q event r in
       let rest = list_same (m.after p event) (n.after q event) number form (place + 1) requests without end after in
-      subst (λ (made : ℕ). SameList (list_run m p number form place (request ∷ requests) without end)
-      (list_step q place request (fault_of (not (is_at place without)) made) (n.after q event) (n.told q event) (list_run n (n.after q event) number form (place + 1) requests without end)))
-      (agree.made p q r)
-      (list_step_same p (m.after p event) q (n.after q event) place request (fault_of (not (is_at place without)) (m.made p)) (m.told p event) (n.told q event) _ _ r after (agree.told p q event r) rest)
+      subst (λ (limit : Option PartitionFault). SameList (list_run m p number form place (request ∷ requests) without end)
+      (list_step q place request (fault_of (not (is_at place without)) limit) (n.after q event) (n.told q event) (list_run n (n.after q event) number form (place + 1) requests without end)))
+      (agree.limit p q event r)
+      (list_step_same p (m.after p event) q (n.after q event) place request (fault_of (not (is_at place without)) (m.limit p event)) (m.told p event) (n.told q event) _ _ r after (agree.told p q event r) rest)
 
   commands_same : (p : P) (q : Q) (number : ℕ) (commands : CommandList) (memory : Memory) → R p q → SameRun R (commands_run m p number commands memory) (commands_run n q number commands memory)
   commands_same p q number commands memory r =
@@ -191,8 +193,8 @@ module _ {P Q : Type 0} (m : PlayerKind P) (n : PlayerKind Q) (R : P → Q → T
   taken_same p q list next number line memory Collected r = collected_same p q list next number memory r
   taken_same p q list next number line memory (Ended commands) r = commands_same p q number commands memory r
   taken_same p q list next number line memory TooLarge r =
-      subst (λ (made : ℕ). SameRun R (too_large_run m p list number (fault_of (runs memory) (m.made p))) (too_large_run n q list number (fault_of (runs memory) made)))
-      (agree.made p q r) (too_large_same p q list number (fault_of (runs memory) (m.made p)) r)
+      subst (λ (limit : Option PartitionFault). SameRun R (too_large_run m p list number (fault_of (runs memory) (m.limit p (Disconnect number)))) (too_large_run n q list number (fault_of (runs memory) limit)))
+      (agree.limit p q (Disconnect number) r) (too_large_same p q list number (fault_of (runs memory) (m.limit p (Disconnect number))) r)
 
   line_same : (p : P) (q : Q) (list : Option CommandList) (number : ℕ) (line : List ℕ) (memory : Memory) → R p q
       → SameRun R (line_run m p list number line memory) (line_run n q list number line memory)
@@ -222,10 +224,10 @@ module _ {P Q : Type 0} (m : PlayerKind P) (n : PlayerKind Q) (R : P → Q → T
   unfolding client_run
   client_same p q list number line memory r =
       subst (λ (there : Bool). SameRun R (client_run m p list number line memory)
-      (if there then line_run n q list number line memory else line_after n (connect_run n q list number (fault_of (connects memory) (n.made q))) number line memory)) (agree.there p q number r)
-      (subst (λ (made : ℕ). SameRun R (client_run m p list number line memory)
-      (if m.is_there number p then line_run n q list number line memory else line_after n (connect_run n q list number (fault_of (connects memory) made)) number line memory)) (agree.made p q r)
-      (client_if (m.is_there number p) p q list number line memory (fault_of (connects memory) (m.made p)) r))
+      (if there then line_run n q list number line memory else line_after n (connect_run n q list number (fault_of (connects memory) (n.limit q (Connect number)))) number line memory)) (agree.there p q number r)
+      (subst (λ (limit : Option PartitionFault). SameRun R (client_run m p list number line memory)
+      (if m.is_there number p then line_run n q list number line memory else line_after n (connect_run n q list number (fault_of (connects memory) limit)) number line memory)) (agree.limit p q (Connect number) r)
+      (client_if (m.is_there number p) p q list number line memory (fault_of (connects memory) (m.limit p (Connect number))) r))
 
   sent_same : (s : ScriptData P) (p : P) (q : Q) (number : ℕ) (fault : Option PartitionFault) → 1 ≤ s.limits.max_version → SamePlayer R s.player (Some q) → R p q
       → SameShown R (sent_off m s p number fault) (sent_off n (over R s (Some q)) q number fault)
@@ -244,29 +246,32 @@ module _ {P Q : Type 0} (m : PlayerKind P) (n : PlayerKind Q) (R : P → Q → T
   sends_same limits songs lists (Some p) None number above r = absurd r
   sends_same limits songs lists (Some p) (Some q) number above r =
       let s : ScriptData P = record { limits = limits; songs = songs; lists = lists; player = Some p } in
-      subst (λ (made : ℕ). SameShown R (sent_off m s p number (fault_of true (m.made p))) (sent_off n (over R s (Some q)) q number (fault_of true made)))
-      (agree.made p q r) (sent_same s p q number (fault_of true (m.made p)) above r r)
+      subst (λ (limit : Option PartitionFault). SameShown R (sent_off m s p number (fault_of true (m.limit p (Disconnect number)))) (sent_off n (over R s (Some q)) q number (fault_of true limit)))
+      (agree.limit p q (Disconnect number) r) (sent_same s p q number (fault_of true (m.limit p (Disconnect number))) above r r)
 
-  ended_same : (s : ScriptData P) (p : P) (q : Q) (event : Event) (fault : Option PartitionFault) → 1 ≤ s.limits.max_version → SamePlayer R s.player (Some q) → R p q
-      → SameShown R (scan_ended m s p event fault) (scan_ended n (over R s (Some q)) q event fault)
-  ended_same s p q event (Some fault) above has r = shows_same R _ s (Some q) above has
-  ended_same s p q event None above has r =
+  applied_same : (s : ScriptData P) (p : P) (q : Q) (event : Event) (fault : Option PartitionFault) → 1 ≤ s.limits.max_version → SamePlayer R s.player (Some q) → R p q
+      → SameShown R (applied m s p event fault) (applied n (over R s (Some q)) q event fault)
+  applied_same s p q event (Some fault) above has r = shows_same R _ s (Some q) above has
+  applied_same s p q event None above has r =
       record {
         script = same R (record s { player = Some (m.after p event) }) (Some (n.after q event)) above (agree.after p q event r);
         text = ap (λ (t : Told). report_text t.report ++ notices_for t.notices) (agree.told p q event r);
       }
 
   -- by the player that is there
-  ends_same : (limits : Limits) (songs : List SongData) (lists : List (Option CommandList)) (p : Option P) (q : Option Q) → 1 ≤ limits.max_version → SamePlayer R p q
-      → SameShown R (ends_scan m (record { limits = limits; songs = songs; lists = lists; player = p }) p) (ends_scan n (record { limits = limits; songs = songs; lists = lists; player = q }) q)
-  ends_same limits songs lists None None above r = shows_same R _ (record { limits = limits; songs = songs; lists = lists; player = None }) None above r
-  ends_same limits songs lists None (Some q) above r = absurd r
-  ends_same limits songs lists (Some p) None above r = absurd r
-  ends_same limits songs lists (Some p) (Some q) above r =
+  applies_same : (limits : Limits) (songs : List SongData) (lists : List (Option CommandList)) (p : Option P) (q : Option Q) (event : Event) → 1 ≤ limits.max_version → SamePlayer R p q
+      → SameShown R (applies m (record { limits = limits; songs = songs; lists = lists; player = p }) p event) (applies n (record { limits = limits; songs = songs; lists = lists; player = q }) q event)
+  applies_same limits songs lists None None event above r = shows_same R _ (record { limits = limits; songs = songs; lists = lists; player = None }) None above r
+  applies_same limits songs lists None (Some q) event above r = absurd r
+  applies_same limits songs lists (Some p) None event above r = absurd r
+  applies_same limits songs lists (Some p) (Some q) event above r =
       let s : ScriptData P = record { limits = limits; songs = songs; lists = lists; player = Some p } in
-      let event : Event = ScanResult (Some (in_byte_order songs)) in
-      subst (λ (made : ℕ). SameShown R (scan_ended m s p event (fault_of true (m.made p))) (scan_ended n (over R s (Some q)) q event (fault_of true made)))
-      (agree.made p q r) (ended_same s p q event (fault_of true (m.made p)) above r r)
+      subst (λ (limit : Option PartitionFault). SameShown R (applied m s p event (fault_of true (m.limit p event))) (applied n (over R s (Some q)) q event (fault_of true limit)))
+      (agree.limit p q event r) (applied_same s p q event (fault_of true (m.limit p event)) above r r)
+
+  -- an event of a step
+  event_same : (s : ScriptData P) (q : Option Q) (event : Event) → 1 ≤ s.limits.max_version → SamePlayer R s.player q → SameShown R (applies m s s.player event) (applies n (over R s q) q event)
+  event_same s q event above r = applies_same s.limits s.songs s.lists s.player q event above r
 
   step_same : (s : ScriptData P) (q : Option Q) (rest : List ℕ) (step : Option Step) → step_of rest ≡ step → 1 ≤ s.limits.max_version → SamePlayer R s.player q
       → SameShown R (shown_step m s step) (shown_step n (over R s q) step)
@@ -274,7 +279,11 @@ module _ {P Q : Type 0} (m : PlayerKind P) (n : PlayerKind Q) (R : P → Q → T
   step_same s q rest (Some (Song song)) e above r = collects_same R s q song above r
   step_same s q rest (Some (Limit name number)) e above r = lowers_same R s q name number above (limit_at_least_one rest name number (sym e)) r
   step_same s q rest (Some (Gone number)) e above r = sends_same s.limits s.songs s.lists s.player q number above r
-  step_same s q rest (Some Scanned) e above r = ends_same s.limits s.songs s.lists s.player q above r
+  step_same s q rest (Some Scanned) e above r = event_same s q (scan_result s) above r
+  step_same s q rest (Some WantStep) e above r = event_same s q (Want false) above r
+  step_same s q rest (Some (HaveStep number frames)) e above r = event_same s q (Have number frames) above r
+  step_same s q rest (Some (FailedStep number partner)) e above r = event_same s q (Failed number partner) above r
+  step_same s q rest (Some (TurnStep written discarded failed)) e above r = event_same s q (OutputTurn 0 written discarded failed) above r
 
   step_line_same : (s : ScriptData P) (q : Option Q) (rest : List ℕ) (memory : Memory) → 1 ≤ s.limits.max_version → SamePlayer R s.player q
       → SameShown R (step_line m s rest memory) (step_line n (over R s q) rest memory)

@@ -6,24 +6,25 @@ use Rattle.mpd_text.specs.Songs.Song.{SongData}
 use Rattle.partition.specs.History.{replay}
 use Rattle.partition.specs.Image.{Image, opening, client_of}
 use Rattle.partition.specs.Legal.{ReplaysWorlds}
-use Rattle.partition.specs.Step.{next_image, told}
+use Rattle.partition.specs.Step.{limit_of, next_image, told}
 use Rattle.partition.specs.World.{Life, Listener, Moment, client_in, image_of, life_after_event, life_from, life_after, opening_life}
 use Rattle.partition.specs.declared.event.Event.{Event}
 use Rattle.partition.specs.declared.event.Happened.{Happened}
 use Rattle.partition.specs.declared.state.Client.{Client}
 use Rattle.partition.specs.declared.state.Library.{Library}
 use Rattle.partition.specs.declared.state.Limits.{Limits}
-use Rattle.daemon_script.specs.Kinds.{library_of, Lived, images, lives, lived_after, told_at, seen}
+use Rattle.partition.specs.declared.state.Setup.{Setup}
+use Rattle.daemon_script.specs.Kinds.{library_of, setup_of, Lived, images, lives, lived_after, told_at, seen}
 use Rattle.daemon_script.specs.Output.{RunsAreLived, seen_script}
 use Rattle.daemon_script.specs.Script.{ScriptData, opening_script}
 use Rattle.daemon_script.proofs.Alike.{Agree, SamePlayer, SameScript, runs_same}
 
 -- a life from an opening
 pub record FromOpening (lived : Lived) : Type 0 where
-  pub limits : Limits
+  pub setup : Setup
   pub library : Library
-  pub above : 1 ≤ limits.max_version
-  pub is : lived.life ≡ life_after limits library lived.history
+  pub above : 1 ≤ setup.limits.max_version
+  pub is : lived.life ≡ life_after (opening setup library) lived.history
 
 -- an image is what is seen of a life from an opening
 abbrev pub Shows : Image → Lived → Type 0
@@ -53,29 +54,29 @@ among moments number (k ∷ ks) =
     cases (k.number == number)
 
 module _ (law : ReplaysWorlds) where
-  opens : (limits : Limits) (songs : List SongData) → 1 ≤ limits.max_version → Shows (opening limits (library_of songs)) (record { life = opening_life limits (library_of songs); history = [] })
-  opens limits songs above = ((law limits (library_of songs) [] above).0, record { limits = limits; library = library_of songs; above = above; is = refl })
+  opens : (limits : Limits) (songs : List SongData) → 1 ≤ limits.max_version → Shows (opening (setup_of limits) (library_of songs)) (record { life = opening_life (opening (setup_of limits) (library_of songs)); history = [] })
+  opens limits songs above = ((law (setup_of limits) (library_of songs) [] above).0, record { setup = setup_of limits; library = library_of songs; above = above; is = refl })
 
   -- the event that a life keeps
   abbrev last : Lived → Event → Happened
   last lived event = record { seat = 0; event = event; told = told_at (life_after_event lived.history lived.life event).moments }
 
-  after_is : (lived : Lived) (event : Event) (from : FromOpening lived) → (lived_after lived event).life ≡ life_after from.limits from.library (lived_after lived event).history
+  after_is : (lived : Lived) (event : Event) (from : FromOpening lived) → (lived_after lived event).life ≡ life_after (opening from.setup from.library) (lived_after lived event).history
   after_is lived event from =
       ap (λ (life : Life). life_after_event lived.history life event) from.is
-      ∙ sym (life_from-append [] (opening_life from.limits from.library) lived.history (last lived event))
+      ∙ sym (life_from-append [] (opening_life (opening from.setup from.library)) lived.history (last lived event))
 
-  seen_is : (lived : Lived) (from : FromOpening lived) → seen lived ≡ replay (opening from.limits from.library) lived.history
-  seen_is lived from = ap (λ (life : Life). image_of life lived.history) from.is ∙ sym (law from.limits from.library lived.history from.above).0
+  seen_is : (lived : Lived) (from : FromOpening lived) → seen lived ≡ replay (opening from.setup from.library) lived.history
+  seen_is lived from = ap (λ (life : Life). image_of life lived.history) from.is ∙ sym (law from.setup from.library lived.history from.above).0
 
   from_after : (lived : Lived) (event : Event) → FromOpening lived → FromOpening (lived_after lived event)
-  from_after lived event from = record { limits = from.limits; library = from.library; above = from.above; is = after_is lived event from }
+  from_after lived event from = record { setup = from.setup; library = from.library; above = from.above; is = after_is lived event from }
 
   after_seen : (lived : Lived) (event : Event) → FromOpening lived → next_image 0 (seen lived) event ≡ seen (lived_after lived event)
   unfolding from_after
   after_seen lived event from =
       ap (λ (i : Image). next_image 0 i event) (seen_is lived from)
-      ∙ sym (replay-append (opening from.limits from.library) lived.history (last lived event))
+      ∙ sym (replay-append (opening from.setup from.library) lived.history (last lived event))
       ∙ sym (seen_is (lived_after lived event) (from_after lived event from))
 
   told_seen : (lived : Lived) (event : Event) → told (seen lived) event ≡ told_at (lived_after lived event).life.moments
@@ -86,7 +87,7 @@ module _ (law : ReplaysWorlds) where
   agree = record {
     opens = opens;
     there = λ i lived number shows. ap (λ (x : Image). is_some (client_of number x.clients)) shows.0 ∙ among lived.life.moments number lived.life.world.clients;
-    made = λ i lived shows. ap images.made shows.0;
+    limit = λ i lived event shows. ap (λ (x : Image). limit_of 0 x event) shows.0;
     after = λ i lived event shows. (ap (λ (x : Image). next_image 0 x event) shows.0 ∙ after_seen lived event shows.1, from_after lived event shows.1);
     told = λ i lived event shows. ap (λ (x : Image). told x event) shows.0 ∙ told_seen lived event;
   }

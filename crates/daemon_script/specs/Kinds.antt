@@ -1,38 +1,48 @@
 -- Two kinds of player: one that has what commands read, and one that has its whole past.
-use Rattle.std.specs.Prelude.{ℕ, Bool, false, List, [], ◌∷◌, ◌++◌, is_some, slice_index_or}
+use Rattle.std.specs.Prelude.{ℕ, Bool, false, true, List, [], ◌∷◌, ◌++◌, Option, is_some, codes}
 use Rattle.mpd_text.specs.Songs.Song.{SongData}
 use Rattle.partition.specs.Answers.{Told}
-use Rattle.partition.specs.History.{own}
 use Rattle.partition.specs.Image.{Image, opening, client_of}
+use Rattle.partition.specs.Outputs.{OutputsData, no_outputs, switched}
 use Rattle.partition.specs.Scans.{never_scanned}
-use Rattle.partition.specs.Step.{next_image, told}
+use Rattle.partition.specs.Step.{limit_of, next_image, told}
 use Rattle.partition.specs.World.{Life, Moment, is_there, image_of, life_after_event, opening_life}
 use Rattle.partition.specs.declared.event.Event.{Event}
 use Rattle.partition.specs.declared.event.Happened.{Happened}
 use Rattle.partition.specs.declared.event.Next.TheVariants.{Goes}
-use Rattle.partition.specs.declared.scan.Report.TheVariants.{Nothing}
+use Rattle.partition.specs.declared.partition.PartitionFault.{PartitionFault}
+use Rattle.partition.specs.declared.report.Report.TheVariants.{Nothing}
 use Rattle.partition.specs.declared.state.Library.{Library}
 use Rattle.partition.specs.declared.state.Limits.{Limits}
+use Rattle.partition.specs.declared.state.Setup.{Setup}
 
 -- a script's songs have 8,000 frames a second
 abbrev pub library_of : List SongData → Library
 library_of songs = record { songs = songs; rate = 8000; scan = never_scanned }
 
--- what a script asks of a player: to be opened over a library, whether a client is there, how many events it had, and what
--- an event makes of it and makes clients hear
+-- a script's player has one output, which is enabled
+abbrev pub one_output : OutputsData
+one_output = switched (record no_outputs { names = codes "out0" ∷ [] }) 0 true
+
+-- its random orders are drawn from a generator with the seed 0
+abbrev pub setup_of : Limits → Setup
+setup_of limits = record { limits = limits; random_start = 0; outputs = one_output }
+
+-- what a script asks of a player: to be opened over a library, whether a client is there, what an event makes of it and makes
+-- clients hear, and which limit it would pass, for which it is refused
 pub record PlayerKind (P : Type 0) : Type 0 where
   pub opens : Limits → List SongData → P
   pub is_there : ℕ → P → Bool
-  pub made : P → ℕ
+  pub limit : P → Event → Option PartitionFault
   pub after : P → Event → P
   pub told : P → Event → Told
 
 -- a player is what commands read: its queue has stamps and marks, and its clients have flags. All events are of seat 0
 abbrev pub images : PlayerKind Image
 images = record {
-  opens = λ limits songs. opening limits (library_of songs);
+  opens = λ limits songs. opening (setup_of limits) (library_of songs);
   is_there = λ number i. is_some (client_of number i.clients);
-  made = λ i. slice_index_or i.shared.made 0 0;
+  limit = λ i event. limit_of 0 i event;
   after = λ i event. next_image 0 i event;
   told = λ i event. told i event;
 }
@@ -42,10 +52,14 @@ pub record Lived : Type 0 where
   pub life : Life
   pub history : List Happened
 
+-- what commands read of a life
+abbrev pub seen : Lived → Image
+seen lived = image_of lived.life lived.history
+
 -- what the latest of these moments made clients hear
 abbrev pub told_at : List Moment → Told
 told_at [] = record { answer = record { text = []; next = Goes; refused = false }; notices = []; report = Nothing }
-told_at (moment ∷ moments) = record { answer = moment.turn.said.answer; notices = moment.notices; report = moment.turn.report }
+told_at (moment ∷ moments) = record { answer = moment.turn.said.answer; notices = moment.notices; report = moment.report }
 
 abbrev pub lived_after : Lived → Event → Lived
 lived_after lived event =
@@ -56,13 +70,9 @@ lived_after lived event =
 -- are of seat 0
 abbrev pub lives : PlayerKind Lived
 lives = record {
-  opens = λ limits songs. record { life = opening_life limits (library_of songs); history = [] };
+  opens = λ limits songs. record { life = opening_life (opening (setup_of limits) (library_of songs)); history = [] };
   is_there = λ number lived. is_there number lived.life.world;
-  made = λ lived. own 0 lived.history;
+  limit = λ lived event. limit_of 0 (seen lived) event;
   after = lived_after;
   told = λ lived event. told_at (lived_after lived event).life.moments;
 }
-
--- what commands read of a life
-abbrev pub seen : Lived → Image
-seen lived = image_of lived.life lived.history

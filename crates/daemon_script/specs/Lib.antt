@@ -1,4 +1,5 @@
 pub mod Kinds
+pub mod Reports
 pub mod Script
 pub mod Output
 pub mod Pieces

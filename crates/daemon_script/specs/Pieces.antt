@@ -1,20 +1,33 @@
 -- What parts of a run print: a refused step, some lines, and the lines of a piece of the input.
-use Rattle.std.specs.Prelude.{◌≡◌, ℕ, List, ◌++◌, Option, map}
+use Rattle.std.specs.Prelude.{◌≡◌, ℕ, Bool, true, false, List, ◌++◌, Option, map}
 use Rattle.mpd_text.specs.Lines.Cut.{split_from}
 use Rattle.mpd_text.specs.Lines.Split.{line_of}
 use Rattle.partition.specs.Image.{Image}
 use Rattle.partition.specs.declared.partition.PartitionFault.{PartitionFault}
-use Rattle.partition.specs.declared.partition.PartitionFault.TheVariants.{AtLimit, NoMemory}
+use Rattle.partition.specs.declared.partition.PartitionFault.TheVariants.{CutsAtLimit, AtLimit, NoMemory}
 use Rattle.daemon_script.specs.declared.memory.Memory.{Memory}
 use Rattle.daemon_script.specs.declared.memory.Memory.TheVariants.{Ample, NoneToRun}
 use Rattle.daemon_script.specs.Output.{Run, script_after, text_of, lines_in, ending}
 use Rattle.daemon_script.specs.Kinds.{images}
 use Rattle.daemon_script.specs.Script.{ScriptData}
 
+-- whether an event that was refused found memory, and was refused for a limit
+abbrev pub has_memory : PartitionFault → Bool
+has_memory CutsAtLimit = true
+has_memory AtLimit = true
+has_memory NoMemory = false
+
 -- the memory that a step found which the player refused
 abbrev pub memory_of : PartitionFault → Memory
+memory_of CutsAtLimit = Ample
 memory_of AtLimit = Ample
 memory_of NoMemory = NoneToRun 0
+
+-- the memory that a list found, of which so many commands were run and the next was refused; its lines had found this
+abbrev pub stopped_at : Memory → ℕ → PartitionFault → Memory
+stopped_at memory done CutsAtLimit = memory
+stopped_at memory done AtLimit = memory
+stopped_at memory done NoMemory = NoneToRun done
 
 -- by what the lines found of memory, the script goes on from old to new, and their texts are appended
 pub record ShowsLines (old new : ScriptData Image) (lines : List (Option (List ℕ))) (before after : List ℕ) : Type 0 where

@@ -1,5 +1,5 @@
 -- What a script run prints (this profile's script), over the events of a player of one thread. What a player is, is left open: Kinds.antt has two.
-use Rattle.std.specs.Prelude.{ℕ, ◌+◌, ◌==◌, Bool, true, false, not, ◌&&◌, nat_lt, nat_le, List, [], ◌∷◌, ◌++◌, length, map, take, slice_index_or, slice_set, Option, Some, None, is_some, codes, decimal, if◌then◌else◌}
+use Rattle.std.specs.Prelude.{ℕ, ◌+◌, ◌==◌, Bool, true, false, not, ◌&&◌, nat_lt, List, [], ◌∷◌, ◌++◌, length, map, take, slice_index_or, slice_set, Option, Some, None, is_some, codes, decimal, if◌then◌else◌}
 use Rattle.std.specs.List.{filter, flat_map, list_any, onto_first}
 use Rattle.command_lists.specs.Lists.{outcome_of}
 use Rattle.command_lists.specs.declared.collector.Taken.{Taken}
@@ -14,9 +14,9 @@ use Rattle.song_db.specs.Library.{same_uri, in_byte_order}
 use Rattle.script_lines.specs.Lines.{LineData, ClientLine, StepLine, BadLine, script_line_of}
 use Rattle.script_lines.specs.Steps.{step_of}
 use Rattle.script_lines.specs.declared.limit.LimitName.{LimitName}
-use Rattle.script_lines.specs.declared.limit.LimitName.TheVariants.{MaxQueue, MaxVersion, MaxId}
+use Rattle.script_lines.specs.declared.limit.LimitName.TheVariants.{MaxQueue, MaxVersion, MaxId, MaxCut}
 use Rattle.script_lines.specs.declared.step.Step.{Step}
-use Rattle.script_lines.specs.declared.step.Step.TheVariants.{Song, Limit, Gone, Scanned}
+use Rattle.script_lines.specs.declared.step.Step.TheVariants.{Song, Limit, Gone, Scanned, Want as WantStep, Have as HaveStep, Failed as FailedStep, Turn as TurnStep}
 use Rattle.partition.specs.Answers.{Answer, Told}
 use Rattle.partition.specs.Commands.Status.{notice_text}
 use Rattle.mpd_command.specs.Requests.{request_of, name_in}
@@ -27,16 +27,15 @@ use Rattle.partition.specs.Clients.{closes}
 use Rattle.partition.specs.Lists.{ends_list, fault_text}
 use Rattle.partition.specs.declared.event.Stand.TheVariants.{Alone, InList}
 use Rattle.partition.specs.declared.event.Event.{Event}
-use Rattle.partition.specs.declared.event.Event.TheVariants.{Connect, Disconnect, Line, ScanResult}
-use Rattle.partition.specs.declared.scan.Report.{Report}
-use Rattle.partition.specs.declared.scan.Report.TheVariants.{Nothing, ToScan, ScanEnded}
+use Rattle.partition.specs.declared.event.Event.TheVariants.{Connect, Disconnect, Line, ScanResult, Want, Have, Failed, OutputTurn}
 use Rattle.partition.specs.declared.event.Next.{Next}
 use Rattle.partition.specs.declared.event.Next.TheVariants.{Goes, Waits, Closes}
 use Rattle.partition.specs.declared.event.Notice.{Notice}
 use Rattle.partition.specs.declared.partition.PartitionFault.{PartitionFault}
-use Rattle.partition.specs.declared.partition.PartitionFault.TheVariants.{AtLimit, NoMemory}
+use Rattle.partition.specs.declared.partition.PartitionFault.TheVariants.{NoMemory}
 use Rattle.partition.specs.declared.state.Limits.{Limits}
 use Rattle.daemon_script.specs.Kinds.{PlayerKind}
+use Rattle.daemon_script.specs.Reports.{report_text}
 use Rattle.daemon_script.specs.declared.memory.Memory.{Memory}
 use Rattle.daemon_script.specs.declared.memory.Memory.TheVariants.{Ample, NoneToConnect, NoneToRead, NoneToRun}
 
@@ -76,6 +75,7 @@ abbrev pub limits_with : Limits → LimitName → ℕ → Limits
 limits_with limits MaxQueue n = record limits { max_queue = n }
 limits_with limits MaxVersion n = record limits { max_version = n }
 limits_with limits MaxId n = record limits { max_id = n }
+limits_with limits MaxCut n = record limits { max_cut = n }
 
 -- a limit is set, before the player is there
 abbrev pub lowers : {P : Type 0} → ScriptData P → LimitName → ℕ → Shown P
@@ -120,19 +120,13 @@ told_for number told = reply_for number told.answer ++ notices_for told.notices
 abbrev pub fault_for : ℕ → List ℕ → PartitionFault → List ℕ
 fault_for number name fault = lines_for number (ack_line 52 0 name (fault_text fault))
 
--- why an event of the script's one seat is refused, if it is: the seat made 2 ^ 63 - 1 events, or there is no memory
-abbrev pub fault_of : Bool → ℕ → Option PartitionFault
-fault_of ample made = if nat_le 9223372036854775807 made then Some AtLimit else (if ample then None else Some NoMemory)
+-- why an event of the script's one seat is refused, if it is: for want of memory, or else for the limit that it would pass
+abbrev pub fault_of : Bool → Option PartitionFault → Option PartitionFault
+fault_of ample limit = if ample then limit else Some NoMemory
 
 -- a step that the player refuses does nothing
 abbrev pub refusal_text : PartitionFault → List ℕ
 refusal_text fault = codes "! refused " ++ (fault_text fault ++ codes "\n")
-
--- what is printed of the end of a scan
-abbrev pub report_text : Report → List ℕ
-report_text Nothing = []
-report_text (ToScan number) = []
-report_text (ScanEnded ended) = if ended then codes "! ok\n" else codes "! none\n"
 
 -- what a client line makes of the player and of the command list that its client has open, what it prints, and whether its
 -- client was there when it was run
@@ -227,6 +221,10 @@ list_of number lists = slice_index_or lists number None
 abbrev pub with_list : ℕ → Option CommandList → List (Option CommandList) → List (Option CommandList)
 with_list number list lists = slice_set lists number list
 
+-- the scan that runs ends with all songs that were collected
+abbrev pub scan_result : {P : Type 0} → ScriptData P → Event
+scan_result s = ScanResult (Some (in_byte_order s.songs))
+
 module _ {P : Type 0} (kind : PlayerKind P) where
   abbrev pub sent_off : ScriptData P → P → ℕ → Option PartitionFault → Shown P
   sent_off s player number (Some fault) = record { script = s; text = refusal_text fault }
@@ -239,35 +237,39 @@ module _ {P : Type 0} (kind : PlayerKind P) where
   -- a client goes, once the player is there, and its open list with it; one that is not there changes nothing
   abbrev pub sends_off : ScriptData P → Option P → ℕ → Shown P
   sends_off s None number = bad s
-  sends_off s (Some player) number = sent_off s player number (fault_of true (kind.made player))
+  sends_off s (Some player) number = sent_off s player number (fault_of true (kind.limit player (Disconnect number)))
 
   abbrev pub gone_line : ScriptData P → ℕ → Memory → Shown P
   gone_line s number Ample = sends_off s s.player number
   gone_line s number _ = refused s
 
-  abbrev pub scan_ended : ScriptData P → P → Event → Option PartitionFault → Shown P
-  scan_ended s player event (Some fault) = record { script = s; text = refusal_text fault }
-  scan_ended s player event None =
+  abbrev pub applied : ScriptData P → P → Event → Option PartitionFault → Shown P
+  applied s player event (Some fault) = record { script = s; text = refusal_text fault }
+  applied s player event None =
       record {
         script = record s { player = Some (kind.after player event) };
         text = report_text (kind.told player event).report ++ notices_for (kind.told player event).notices;
       }
 
-  -- the scan that runs ends, once the player is there, with all songs that were collected
-  abbrev pub ends_scan : ScriptData P → Option P → Shown P
-  ends_scan s None = bad s
-  ends_scan s (Some player) = scan_ended s player (ScanResult (Some (in_byte_order s.songs))) (fault_of true (kind.made player))
+  -- a step that is one event, once the player is there: what the event tells, and then the notices to clients
+  abbrev pub applies : ScriptData P → Option P → Event → Shown P
+  applies s None event = bad s
+  applies s (Some player) event = applied s player event (fault_of true (kind.limit player event))
 
-  abbrev pub scanned_line : ScriptData P → Memory → Shown P
-  scanned_line s Ample = ends_scan s s.player
-  scanned_line s _ = refused s
+  abbrev pub event_line : ScriptData P → Event → Memory → Shown P
+  event_line s event Ample = applies s s.player event
+  event_line s event _ = refused s
 
   abbrev pub shown_step : ScriptData P → Option Step → Shown P
   shown_step s None = bad s
   shown_step s (Some (Song song)) = collects s song
   shown_step s (Some (Limit name n)) = lowers s name n
   shown_step s (Some (Gone number)) = sends_off s s.player number
-  shown_step s (Some Scanned) = ends_scan s s.player
+  shown_step s (Some Scanned) = applies s s.player (scan_result s)
+  shown_step s (Some WantStep) = applies s s.player (Want false)
+  shown_step s (Some (HaveStep number frames)) = applies s s.player (Have number frames)
+  shown_step s (Some (FailedStep number partner)) = applies s s.player (Failed number partner)
+  shown_step s (Some (TurnStep written discarded failed)) = applies s s.player (OutputTurn 0 written discarded failed)
 
   abbrev pub step_line : ScriptData P → List ℕ → Memory → Shown P
   step_line s rest Ample = shown_step s (step_of rest)
@@ -284,19 +286,23 @@ module _ {P : Type 0} (kind : PlayerKind P) where
         connected = true;
       }
 
+  -- a request in no list, by whether there is memory to run it
+  abbrev pub asked_run : P → ℕ → Request → Bool → LineRun P
+  asked_run player number request ample = request_run player number request (fault_of ample (kind.limit player (Line number Alone request)))
+
   -- a line in no list
   abbrev pub alone_run : P → ℕ → List ℕ → Memory → LineRun P
-  alone_run player number line Ample = request_run player number (request_of line false) (fault_of true (kind.made player))
-  alone_run player number line NoneToConnect = request_run player number (request_of line false) (fault_of true (kind.made player))
+  alone_run player number line Ample = asked_run player number (request_of line false) true
+  alone_run player number line NoneToConnect = asked_run player number (request_of line false) true
   alone_run player number line (NoneToRead place) = record { player = player; list = None; text = fault_for number [] NoMemory; connected = true }
-  alone_run player number line (NoneToRun place) = request_run player number (request_of line false) (fault_of false (kind.made player))
+  alone_run player number line (NoneToRun place) = asked_run player number (request_of line false) false
 
   -- the requests of a list from this place on, one event after the other, up to the first that ends the list or finds no memory
   unfoldable pub list_run : P → ℕ → ListForm → ℕ → List Request → Option ℕ → List ℕ → ListRun P
   list_run player number form place [] without end = record { player = player; tolds = []; ending = end }
   list_run player number form place (request ∷ requests) without end =
       let event = Line number (InList form place) request in
-      list_step player place request (fault_of (not (is_at place without)) (kind.made player)) (kind.after player event) (kind.told player event)
+      list_step player place request (fault_of (not (is_at place without)) (kind.limit player event)) (kind.after player event) (kind.told player event)
       (list_run (kind.after player event) number form (place + 1) requests without end)
 
   -- a list that has ended is run under other clients' eyes: first comes its whole answer, and then the notices to others
@@ -326,7 +332,7 @@ module _ {P : Type 0} (kind : PlayerKind P) where
   taken_run player list next number line memory Begun = record { player = player; list = next; text = []; connected = true }
   taken_run player list next number line memory Collected = collected_run player list next number memory
   taken_run player list next number line memory (Ended commands) = commands_run player number commands memory
-  taken_run player list next number line memory TooLarge = too_large_run player list number (fault_of (runs memory) (kind.made player))
+  taken_run player list next number line memory TooLarge = too_large_run player list number (fault_of (runs memory) (kind.limit player (Disconnect number)))
 
   -- the line of a client that is there, by the list that it has open
   abbrev pub line_run : P → Option CommandList → ℕ → List ℕ → Memory → LineRun P
@@ -346,7 +352,7 @@ module _ {P : Type 0} (kind : PlayerKind P) where
   unfoldable pub client_run : P → Option CommandList → ℕ → List ℕ → Memory → LineRun P
   client_run player list number line memory =
       if kind.is_there number player then line_run player list number line memory
-      else line_after (connect_run player list number (fault_of (connects memory) (kind.made player))) number line memory
+      else line_after (connect_run player list number (fault_of (connects memory) (kind.limit player (Connect number)))) number line memory
 
   -- a client line, which opens the player over the songs so far if it is the first. Where the connect of a first line is
   -- refused, no player is there
@@ -374,4 +380,4 @@ no_lists = None ∷ None ∷ None ∷ None ∷ None ∷ None ∷ None ∷ None �
 
 -- a script to which no line came
 abbrev pub opening_script : {P : Type 0} → ScriptData P
-opening_script = record { limits = record { max_queue = 16384; max_version = 2147483647; max_id = 2147483647 }; songs = []; lists = no_lists; player = None }
+opening_script = record { limits = record { max_queue = 16384; max_version = 2147483647; max_id = 2147483647; max_cut = 9223372036854775807 }; songs = []; lists = no_lists; player = None }

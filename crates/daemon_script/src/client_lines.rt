@@ -1,8 +1,9 @@
 //! Client lines, and the lines that they print.
-ghost use Rattle.std.specs.Prelude.{◌≡◌, ◌≢◌, ◌++◌, None, Some, IfOk, OnOk};
+ghost use Rattle.std.specs.Prelude.{◌≡◌, ◌≢◌, ◌++◌, None, Some, is_none, false, true, unwrap_or, IfErr, IfOk, OnErr, OnOk};
 ghost use Rattle.command_lists.specs.Lists.{outcome_of};
 ghost use Rattle.daemon_script.specs.Kinds.{images};
-ghost use Rattle.daemon_script.specs.Script.{alone_run, connect_run, fault_for, fault_of, label, client_run, line_run, request_run, lines_for, notice_lines, notices_for, reply_for, told_for, runs, too_large_run};
+ghost use Rattle.daemon_script.specs.Pieces.{has_memory as has_memory_lem};
+ghost use Rattle.daemon_script.specs.Script.{alone_run, asked_run, connect_run, connects, fault_for, fault_of, label, client_run, line_run, lines_for, notice_lines, notices_for, reply_for, told_for, runs, too_large_run};
 
 use crate::lists::run_commands;
 use crate::memory::Memory;
@@ -36,12 +37,16 @@ pub(crate) fn run_line(
     ensures list { IfOk result (λ ran. list.new ≡ (client_run images player.old.present list.old number line.now ran.memory).list) }
     ensures text { IfOk result (λ ran. shown.new.items ≡ shown.old.items ++ (client_run images player.old.present list.old number line.now ran.memory).text) }
     ensures connected { IfOk result (λ ran. ran.connected ≡ (client_run images player.old.present list.old number line.now ran.memory).connected) }
+    // Where its client's connect is refused, an open list stays.
+    ensures kept { IfOk result (λ ran. ran.connected ≡ false → list.new ≡ list.old) }
 {
-    if !player.has_client(number) && !connect(alloc, player, number, shown)? {
-        return Ok(LineRun {
-            memory: Memory::NoneToConnect,
-            connected: false,
-        });
+    if !player.has_client(number) {
+        if let Some(memory) = connect(alloc, player, number, shown)? {
+            return Ok(LineRun {
+                memory,
+                connected: false,
+            });
+        }
     }
     let memory = run_connected_line(alloc, player, list, number, line, shown)?;
     Ok(LineRun {
@@ -50,27 +55,57 @@ pub(crate) fn run_line(
     })
 }
 
-/// Whether a client connects that is not there. Appends what its connect prints.
+/// Connects a client that is not there, and appends what its connect prints. Gives what the connect found of memory where it
+/// was refused; `None` where it was not.
 fn connect(
     alloc: Global,
     player: &mut Partition,
     number: u32,
     shown: &mut Vec<u8>,
-) -> Result<bool, AllocError>
-    ensures player { IfOk result (λ found. player.new.present ≡ (connect_run images player.old.present None number (fault_of found (images.made player.old.present))).player) }
-    ensures text { IfOk result (λ found. shown.new.items ≡ shown.old.items ++ (connect_run images player.old.present None number (fault_of found (images.made player.old.present))).text) }
-    ensures connected { IfOk result (λ found. found ≡ (connect_run images player.old.present None number (fault_of found (images.made player.old.present))).connected) }
+) -> Result<Option<Memory>, AllocError>
+    ensures player { IfOk result (λ refused. player.new.present ≡ (connect_run images player.old.present None number (fault_of (connects (unwrap_or refused Memory.Ample)) (images.limit player.old.present (Event.Connect number)))).player) }
+    ensures text { IfOk result (λ refused. shown.new.items ≡ shown.old.items ++ (connect_run images player.old.present None number (fault_of (connects (unwrap_or refused Memory.Ample)) (images.limit player.old.present (Event.Connect number)))).text) }
+    ensures connected { IfOk result (λ refused. is_none refused ≡ (connect_run images player.old.present None number (fault_of (connects (unwrap_or refused Memory.Ample)) (images.limit player.old.present (Event.Connect number)))).connected) }
 {
-    match player.apply(SEAT, Event::Connect(number)) {
+    match apply(player, Event::Connect(number)) {
         Ok(greeting) => {
             push_outcome(alloc, shown, number, &greeting)?;
-            Ok(true)
+            Ok(None)
         }
         Err(fault) => {
             push_fault(alloc, shown, number, "", fault)?;
-            Ok(false)
+            Ok(Some(memory_to_connect(fault)))
         }
     }
+}
+
+/// Applies an event of the script's seat.
+pub(crate) fn apply(player: &mut Partition, event: Event) -> Result<Outcome, PartitionFault>
+    ensures told { IfOk result (λ outcome. outcome ≡ images.told player.old.present event) }
+    ensures player { OnOk result (player.new.present ≡ images.after player.old.present event) }
+    ensures err { OnErr result (player.new.present ≡ player.old.present) }
+    ensures within { OnOk result (fault_of true (images.limit player.old.present event) ≡ None) }
+    ensures refused { IfErr result (λ fault. fault_of (has_memory_lem fault) (images.limit player.old.present event) ≡ Some fault) }
+{
+    player.apply(SEAT, event)
+}
+
+/// What a connect found of memory that was refused.
+fn memory_to_connect(fault: PartitionFault) -> Memory
+    ensures { connects result ≡ has_memory_lem fault }
+{
+    if has_memory(fault) {
+        Memory::Ample
+    } else {
+        Memory::NoneToConnect
+    }
+}
+
+/// Whether an event that was refused found memory, and was refused for a limit.
+fn has_memory(fault: PartitionFault) -> bool
+    ensures { result ≡ has_memory_lem fault }
+{
+    !matches!(fault, PartitionFault::NoMemory)
 }
 
 /// Runs the line of a client that is there, by the command list that it has open.
@@ -110,12 +145,12 @@ fn close_with_list(
     number: u32,
     shown: &mut Vec<u8>,
 ) -> Result<Memory, AllocError>
-    ensures player { IfOk result (λ memory. player.new.present ≡ (too_large_run images player.old.present list.old number (fault_of (runs memory) (images.made player.old.present))).player) }
-    ensures list { IfOk result (λ memory. list.new ≡ (too_large_run images player.old.present list.old number (fault_of (runs memory) (images.made player.old.present))).list) }
-    ensures text { IfOk result (λ memory. shown.new.items ≡ shown.old.items ++ (too_large_run images player.old.present list.old number (fault_of (runs memory) (images.made player.old.present))).text) }
+    ensures player { IfOk result (λ memory. player.new.present ≡ (too_large_run images player.old.present list.old number (fault_of (runs memory) (images.limit player.old.present (Event.Disconnect number)))).player) }
+    ensures list { IfOk result (λ memory. list.new ≡ (too_large_run images player.old.present list.old number (fault_of (runs memory) (images.limit player.old.present (Event.Disconnect number)))).list) }
+    ensures text { IfOk result (λ memory. shown.new.items ≡ shown.old.items ++ (too_large_run images player.old.present list.old number (fault_of (runs memory) (images.limit player.old.present (Event.Disconnect number)))).text) }
     ensures connects { IfOk result (λ memory. memory ≢ Memory.NoneToConnect) }
 {
-    match player.apply(SEAT, Event::Disconnect(number)) {
+    match apply(player, Event::Disconnect(number)) {
         Ok(outcome) => {
             list.drop_list();
             push_outcome(alloc, shown, number, &outcome)?;
@@ -123,8 +158,20 @@ fn close_with_list(
         }
         Err(fault) => {
             push_fault(alloc, shown, number, "", fault)?;
-            Ok(Memory::NoneToRun(0))
+            Ok(memory_to_close(fault))
         }
+    }
+}
+
+/// What a line found of memory whose client could not be closed.
+fn memory_to_close(fault: PartitionFault) -> Memory
+    ensures runs { runs result ≡ has_memory_lem fault }
+    ensures connects { result ≢ Memory.NoneToConnect }
+{
+    if has_memory(fault) {
+        Memory::Ample
+    } else {
+        Memory::NoneToRun(0)
     }
 }
 
@@ -151,7 +198,7 @@ fn run_line_alone(
     }
 }
 
-/// Runs the request of a client that is there. The result says whether it was run.
+/// Runs the request of a client that is there. The result says whether there was memory to run it.
 fn run_request(
     alloc: Global,
     player: &mut Partition,
@@ -159,18 +206,18 @@ fn run_request(
     request: Request,
     shown: &mut Vec<u8>,
 ) -> Result<bool, AllocError>
-    ensures player { IfOk result (λ ample. player.new.present ≡ (request_run images player.old.present number request (fault_of ample (images.made player.old.present))).player) }
-    ensures text { IfOk result (λ ample. shown.new.items ≡ shown.old.items ++ (request_run images player.old.present number request (fault_of ample (images.made player.old.present))).text) }
+    ensures player { IfOk result (λ ample. player.new.present ≡ (asked_run images player.old.present number request ample).player) }
+    ensures text { IfOk result (λ ample. shown.new.items ≡ shown.old.items ++ (asked_run images player.old.present number request ample).text) }
 {
     let name = request.name();
-    match player.apply(SEAT, Event::Line(number, Stand::Alone, request)) {
+    match apply(player, Event::Line(number, Stand::Alone, request)) {
         Ok(outcome) => {
             push_outcome(alloc, shown, number, &outcome)?;
             Ok(true)
         }
         Err(fault) => {
             push_fault(alloc, shown, number, name, fault)?;
-            Ok(false)
+            Ok(has_memory(fault))
         }
     }
 }

@@ -3,6 +3,7 @@ ghost use Rattle.std.specs.Prelude.{◌≡◌, ◌≢◌, ◌++◌, ◌∷◌, [
 ghost use Rattle.std.specs.List.{flat_map};
 ghost use Rattle.partition.specs.Lists.{stop_text};
 ghost use Rattle.daemon_script.specs.Kinds.{images};
+ghost use Rattle.daemon_script.specs.Pieces.{stopped_at as stopped_at_lem};
 ghost use Rattle.daemon_script.specs.Script.{commands_run, end_of as end_of_lem, ending_of, lines_for, notices_by_number, client_numbers, notices_to, place_without, read_of, request_in as request_in_lem};
 
 use crate::client_lines::{SEAT, push_lines, push_notice};
@@ -38,8 +39,19 @@ pub(crate) fn run_commands(
         }
         Err(fault) => {
             push_list_fault(alloc, shown, number, &fault)?;
-            Ok(Memory::NoneToRun(fault.done))
+            Ok(stopped_at(memory, fault.done, fault.cause))
         }
+    }
+}
+
+/// What a list found of memory, of which `done` commands were run and the next was refused; its lines had found `memory`.
+fn stopped_at(memory: Memory, done: usize, cause: PartitionFault) -> Memory
+    ensures memory { result ≡ stopped_at_lem memory done cause }
+    ensures connects { memory ≢ Memory.NoneToConnect → result ≢ Memory.NoneToConnect }
+{
+    match cause {
+        PartitionFault::CutsAtLimit | PartitionFault::AtLimit => memory,
+        PartitionFault::NoMemory => Memory::NoneToRun(done),
     }
 }
 

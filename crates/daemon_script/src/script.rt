@@ -2,20 +2,23 @@
 ghost use Rattle.std.specs.Prelude.{◌≡◌, ◌<◌, ◌≤◌, ◌++◌, length, false, codes, None, IfOk, OnOk};
 ghost use Rattle.mpd_text.specs.Lines.Split.{view as view_of_line};
 ghost use Rattle.song_db.specs.Library.{in_byte_order, is_twice_named};
-ghost use Rattle.partition.specs.Image.{opening};
-ghost use Rattle.daemon_script.specs.Kinds.{images, library_of};
+ghost use Rattle.daemon_script.specs.Kinds.{images, one_output as one_output_lem};
 ghost use Rattle.daemon_script.specs.Pieces.{memory_of};
-ghost use Rattle.daemon_script.specs.Script.{no_lists as no_lists_lem, client_run, list_of, with_list, opening_script, shown_of, step_line, collect_line, gone_line, scanned_line, report_text, lowers, shown_client, refusal_text, has_uri as has_uri_lem};
+ghost use Rattle.daemon_script.specs.Script.{no_lists as no_lists_lem, client_run, list_of, with_list, opening_script, shown_of, step_line, collect_line, gone_line, event_line, scan_result, lowers, shown_client, refusal_text, has_uri as has_uri_lem};
 
-use crate::client_lines::{LineRun, SEAT, push_fault, push_notices, run_line};
+use crate::client_lines::{LineRun, apply, push_fault, push_notices, run_line};
 use crate::memory::Memory;
+use crate::reports::push_report;
 use command_lists::ListCollector;
-use mpd_text::{Line, Song, Tag};
-use partition::{Event, Library, Limits, Partition, PartitionFault, Report, Scan};
+use mpd_text::{Line, SharedText, Song, Tag};
+use partition::{Event, Library, Limits, Outputs, Partition, PartitionFault, Scan, Setup};
 use script_lines::{LimitName, MAX_ID, MAX_QUEUE, MAX_VERSION, ScriptLine, Step};
 use song_db::{Db, DbFault, MAX_SONGS, Rate, SharedDb};
 use std::alloc::{AllocError, Global};
 use std::marker::Model;
+
+/// The most cuts, starts, jobs and scans of a player whose script lowers no limit.
+const MOST_CUTS: u64 = (1 << 63) - 1;
 
 /// What a script collected, and its player from the first client line on.
 #[derive(Drop)]
@@ -52,6 +55,7 @@ impl Script {
                 max_queue: MAX_QUEUE,
                 max_version: MAX_VERSION,
                 max_id: MAX_ID,
+                max_cut: MOST_CUTS,
             },
             songs: Vec::new(alloc),
             lists: no_lists(),
@@ -84,6 +88,17 @@ impl Script {
             Ok(Some(Step::Limit(name, n))) => self.lower(name, n, shown),
             Ok(Some(Step::Gone(number))) => self.send_off(number, shown),
             Ok(Some(Step::Scanned)) => self.end_scan(shown),
+            Ok(Some(Step::Want)) => self.happen(Event::Want(false), shown),
+            Ok(Some(Step::Have(number, frames))) => {
+                self.happen(Event::Have(u64::from(number), u64::from(frames)), shown)
+            }
+            Ok(Some(Step::Failed(number, partner))) => {
+                self.happen(Event::Failed(u64::from(number), partner), shown)
+            }
+            Ok(Some(Step::Turn(written, discarded, failed))) => {
+                let event = Event::OutputTurn(0, u64::from(written), u64::from(discarded), failed);
+                self.happen(event, shown)
+            }
             Ok(None) => push_bad(shown),
             Err(AllocError) => push_refusal(shown, PartitionFault::NoMemory),
         }
@@ -115,6 +130,7 @@ impl Script {
             LimitName::MaxQueue => self.limits.max_queue = n,
             LimitName::MaxVersion => self.limits.max_version = n,
             LimitName::MaxId => self.limits.max_id = n,
+            LimitName::MaxCut => self.limits.max_cut = u64::from(n),
         }
         Ok(Memory::Ample)
     }
@@ -127,7 +143,7 @@ impl Script {
         let Some(player) = &mut self.player else {
             return push_bad(shown);
         };
-        match player.apply(SEAT, Event::Disconnect(number)) {
+        match apply(player, Event::Disconnect(number)) {
             Ok(outcome) => {
                 drop_list_of(&mut self.lists, number);
                 push_notices(self.alloc, shown, outcome.notices())?;
@@ -139,18 +155,30 @@ impl Script {
 
     /// The scan that runs ends, once the player is there, with all songs that were collected.
     fn end_scan(&mut self, shown: &mut Vec<u8>) -> Result<Memory, AllocError>
-        ensures script { IfOk result (λ memory. self.new ≡ (scanned_line images self.old memory).script) }
-        ensures text { IfOk result (λ memory. shown.new.items ≡ shown.old.items ++ (scanned_line images self.old memory).text) }
+        ensures script { IfOk result (λ memory. self.new ≡ (event_line images self.old (scan_result self.old) memory).script) }
+        ensures text { IfOk result (λ memory. shown.new.items ≡ shown.old.items ++ (event_line images self.old (scan_result self.old) memory).text) }
     {
-        let Some(player) = &mut self.player else {
+        if self.player.is_none() {
             return push_bad(shown);
-        };
+        }
         let Ok(songs) = collected(self.alloc, &self.songs) else {
             return push_refusal(shown, PartitionFault::NoMemory);
         };
-        match player.apply(SEAT, Event::ScanResult(Some(songs))) {
+        self.happen(Event::ScanResult(Some(songs)), shown)
+    }
+
+    /// A step that is one event, once the player is there. Appends what the event tells, and then the notices to clients.
+    fn happen(&mut self, event: Event, shown: &mut Vec<u8>) -> Result<Memory, AllocError>
+        ensures script { IfOk result (λ memory. self.new ≡ (event_line images self.old event memory).script) }
+        ensures text { IfOk result (λ memory. shown.new.items ≡ shown.old.items ++ (event_line images self.old event memory).text) }
+    {
+        let Some(player) = &mut self.player else {
+            discard_event(event);
+            return push_bad(shown);
+        };
+        match apply(player, event) {
             Ok(outcome) => {
-                push_report(shown, outcome.report())?;
+                push_report(self.alloc, shown, outcome.report())?;
                 push_notices(self.alloc, shown, outcome.notices())?;
                 Ok(Memory::Ample)
             }
@@ -197,22 +225,45 @@ impl Script {
         let ran = run_listed_line(self.alloc, &mut player, lists, number, line, shown)?;
         if ran.connected {
             self.player = Some(player);
+        } else {
+            discard_player(player);
         }
         Ok(ran.memory)
     }
 
     /// A player over the songs so far.
     fn opened(&self) -> Result<Partition, AllocError>
-        ensures { IfOk result (λ player. player.present ≡ opening self.now.limits (library_of (in_byte_order self.now.songs))) }
+        ensures { IfOk result (λ player. player.present ≡ images.opens self.now.limits (in_byte_order self.now.songs)) }
     {
         let library = Library {
             songs: collected(self.alloc, &self.songs)?,
             rate: Rate::lowest(),
             scan: Scan::never(),
         };
-        Partition::open(self.alloc, self.limits, library)
+        let setup = Setup {
+            limits: self.limits,
+            random_start: 0,
+            outputs: one_output(self.alloc)?,
+        };
+        Partition::open(self.alloc, setup, library)
     }
 }
+
+/// The one output of a script's player, which is enabled.
+fn one_output(alloc: Global) -> Result<Outputs, AllocError>
+    ensures { IfOk result (λ outputs. outputs ≡ one_output_lem) }
+{
+    let mut outputs = Outputs::none(alloc);
+    let name = SharedText::new(alloc, "out0")?;
+    outputs.add(name, true)?;
+    Ok(outputs)
+}
+
+/// Drops an event. It is a function of its own so that the proofs of what holds one do not go through every kind of event.
+fn discard_event(_event: Event) {}
+
+/// Drops a player. It is a function of its own so that the proof of what holds one does not go through all that it owns.
+fn discard_player(_player: Partition) {}
 
 /// The library of all songs that were collected.
 fn collected(alloc: Global, songs: &[Song]) -> Result<SharedDb, AllocError>
@@ -241,6 +292,7 @@ fn run_listed_line(
     ensures lists { IfOk result (λ ran. lists.new ≡ with_list number (client_run images player.old.present (list_of number lists.old) number line.now ran.memory).list lists.old) }
     ensures text { IfOk result (λ ran. shown.new.items ≡ shown.old.items ++ (client_run images player.old.present (list_of number lists.old) number line.now ran.memory).text) }
     ensures connected { IfOk result (λ ran. ran.connected ≡ (client_run images player.old.present (list_of number lists.old) number line.now ran.memory).connected) }
+    ensures kept { IfOk result (λ ran. ran.connected ≡ false → lists.new ≡ lists.old) }
 {
     run_line(
         alloc,
@@ -288,24 +340,13 @@ fn push_bad(shown: &mut Vec<u8>) -> Result<Memory, AllocError>
     Ok(Memory::Ample)
 }
 
-/// Appends what is printed of the end of a scan.
-fn push_report(shown: &mut Vec<u8>, report: Report) -> Result<(), AllocError>
-    ensures { OnOk result (shown.new.items ≡ shown.old.items ++ report_text report) }
-{
-    match report {
-        Report::Nothing | Report::ToScan(_) => Ok(()),
-        Report::ScanEnded(true) => shown.extend_from_slice(b"! ok\n"),
-        Report::ScanEnded(false) => shown.extend_from_slice(b"! none\n"),
-    }
-}
-
 /// Appends the line of a step that was refused.
 fn push_refusal(shown: &mut Vec<u8>, fault: PartitionFault) -> Result<Memory, AllocError>
     ensures text { OnOk result (shown.new.items ≡ shown.old.items ++ refusal_text fault) }
     ensures memory { IfOk result (λ memory. memory ≡ memory_of fault) }
 {
     match fault {
-        PartitionFault::AtLimit => {
+        PartitionFault::CutsAtLimit | PartitionFault::AtLimit => {
             shown.extend_from_slice(b"! refused player limit reached\n")?;
             Ok(Memory::Ample)
         }

@@ -1,6 +1,7 @@
 -- The forms of arguments (MPD protocol reference, Requests).
 use Rattle.std.specs.Prelude.{ℕ, ◌-◌, nat_le, Bool, true, false, List, [], ◌∷◌, length, take, drop, ◌==◌, slice_index, Option, Some, None, option_map, if◌then◌else◌, codes, find}
 use Rattle.std.specs.Str.{bytes_eq, str_eq_ignore_ascii_case}
+use Rattle.mpd_text.specs.Answers.Millis.{millis_of}
 use Rattle.mpd_text.specs.Answers.Number.{number_of}
 use Rattle.mpd_text.specs.Answers.Range.{range_of}
 use Rattle.mpd_text.specs.Songs.Tags.{tag_names, tag_text}
@@ -10,6 +11,10 @@ use Rattle.mpd_text.specs.declared.songs.song.TagName.{TagName}
 use Rattle.mpd_command.specs.declared.forms.Uri.{Uri}
 use Rattle.mpd_command.specs.declared.forms.Place.{Place}
 use Rattle.mpd_command.specs.declared.forms.Place.TheVariants.{At, After, Before}
+use Rattle.mpd_command.specs.declared.forms.Seeking.{Seeking}
+use Rattle.mpd_command.specs.declared.forms.Seeking.TheVariants.{To, Forward, Back}
+use Rattle.mpd_command.specs.declared.forms.SingleMode.{SingleMode}
+use Rattle.mpd_command.specs.declared.forms.SingleMode.TheVariants.{Off, On, Oneshot}
 use Rattle.mpd_command.specs.declared.forms.Window.{Window}
 
 -- a URI, without one slash at its end
@@ -19,6 +24,13 @@ uri_of word = Some (record { 0 = if slice_index word (length word - 1) == 47 the
 -- on or off
 abbrev pub switch_of : List ℕ → Option Bool
 switch_of word = if bytes_eq word (codes "1") then Some true else (if bytes_eq word (codes "0") then Some false else None)
+
+-- 0, 1 or oneshot (MPD protocol reference, Playback options: single)
+abbrev pub single_of : List ℕ → Option SingleMode
+single_of word =
+    if bytes_eq word (codes "0") then Some Off
+    else (if bytes_eq word (codes "1") then Some On
+    else (if bytes_eq word (codes "oneshot") then Some Oneshot else None))
 
 abbrev pub up_to : ℕ → Option ℕ → Option ℕ
 up_to most None = None
@@ -45,6 +57,13 @@ place_of word =
     if first_is 43 word then option_map After (number_of (drop 1 word))
     else (if first_is 45 word then option_map Before (number_of (drop 1 word))
     else option_map At (number_of word))
+
+-- TIME, +TIME or -TIME (MPD protocol reference, Controlling playback: seekcur)
+abbrev pub seeking_of : List ℕ → Option Seeking
+seeking_of word =
+    if first_is 43 word then option_map Forward (millis_of (drop 1 word))
+    else (if first_is 45 word then option_map Back (millis_of (drop 1 word))
+    else option_map To (millis_of word))
 
 -- a tag, in any ASCII case
 unfoldable pub tag_of : List ℕ → Option TagName

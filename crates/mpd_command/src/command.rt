@@ -3,14 +3,14 @@ ghost use Rattle.std.specs.Prelude.{◌≡◌, string_bytes, map};
 ghost use Rattle.mpd_command.specs.Readers.{Gives};
 ghost use Rattle.mpd_command.specs.Commands.{command_of};
 
-use crate::forms::{Place, Uri, Window};
+use crate::forms::{Place, Seeking, SingleMode, Uri, Window};
 use crate::name::Name;
 use crate::readers::{Misread, none, one, one_many, one_perhaps, perhaps, subsystems, two};
 use crate::volume::Volume;
 use crate::wanted::{Wanted, filter, filter_window, one_filter};
 use filters::Test;
 use idle_notes::Subsystems;
-use mpd_text::{Range, Sequence, TagName};
+use mpd_text::{Millis, Range, Sequence, TagName};
 use std::alloc::Global;
 
 /// A command with its arguments (MPD protocol reference, Command reference).
@@ -22,14 +22,24 @@ pub enum Command {
     AddId(Uri, Option<Place>),
     /// Takes all songs out of the queue.
     Clear,
+    /// Clears the error text.
+    ClearError,
     /// Ends the connection.
     Close,
+    /// Whether a song leaves the queue once it was played.
+    Consume(bool),
     /// How many songs meet a filter, and how long they play.
     Count(Wanted),
+    /// The current song.
+    CurrentSong,
     /// Takes the songs of a range out of the queue.
     Delete(Range),
     /// Takes the song with an id out of the queue.
     DeleteId(u32),
+    /// Turns an output off.
+    DisableOutput(u32),
+    /// Turns an output on.
+    EnableOutput(u32),
     /// The songs that meet a filter, of a window or all.
     Find(Wanted, Option<Window>),
     /// Puts the songs that meet a filter at the end of the queue.
@@ -49,9 +59,19 @@ pub enum Command {
     Move(Range, u32),
     /// Moves the song with an id to a place.
     MoveId(u32, u32),
+    /// Plays the song that comes next.
+    Next,
     /// Waits no more.
     NoIdle,
+    /// The outputs, and which of them are on.
+    Outputs,
+    /// Pauses, or plays on; with no argument whichever it does not do now.
+    Pause(Option<bool>),
     Ping,
+    /// Plays the song at a place, or the current one.
+    Play(Option<u32>),
+    /// Plays the song with an id, or the current one.
+    PlayId(Option<u32>),
     /// The song with an id, or all songs of the queue.
     PlaylistId(Option<u32>),
     /// The songs of a range, or all songs of the queue.
@@ -60,10 +80,14 @@ pub enum Command {
     PlChanges(u32, Option<Range>),
     /// The places that changed since a version, with their ids, of a range or all.
     PlChangesPosId(u32, Option<Range>),
+    /// Plays the song that came before.
+    Previous,
     /// Gives the songs of ranges a priority.
     Prio(u8, Sequence<Range>),
     /// Gives the songs with these ids a priority.
     PrioId(u8, Sequence<u32>),
+    /// Whether songs play in a random order.
+    Random(bool),
     /// Whether the queue begins anew at its end.
     Repeat(bool),
     /// Scans the library anew.
@@ -72,14 +96,28 @@ pub enum Command {
     Search(Wanted, Option<Window>),
     /// As `FindAdd`, where case does not count and a pair asks for a part of the text.
     SearchAdd(Wanted),
+    /// Plays the song at a place from a time on.
+    Seek(u32, Millis),
+    /// Plays the current song from a time on.
+    SeekCur(Seeking),
+    /// Plays the song with an id from a time on.
+    SeekId(u32, Millis),
     SetVol(Volume),
+    /// Puts the songs of a range, or all, into a random order.
+    Shuffle(Option<Range>),
+    /// Whether playing ends after the current song.
+    Single(SingleMode),
     Status,
+    /// Stops playing.
+    Stop,
     /// The songs at two places change round.
     Swap(u32, u32),
     /// The songs with two ids change round.
     SwapId(u32, u32),
     /// The names of tags that songs may have.
     TagTypes,
+    /// Turns an output on that is off, and off one that is on.
+    ToggleOutput(u32),
     /// Scans the library anew.
     Update(Option<Uri>),
 }
@@ -90,41 +128,60 @@ pub enum Command {
 pub(crate) fn read(alloc: Global, name: Name, words: &[String]) -> Result<Command, Misread>
     ensures { Gives result (command_of name (map string_bytes words.now)) }
 {
-    Ok(match name {
-        Name::Add => Command::Add(one(alloc, words)?),
-        Name::AddId => { let (uri, place) = one_perhaps(alloc, words)?; Command::AddId(uri, place) }
-        Name::Clear => none(words, Command::Clear)?,
-        Name::Close => none(words, Command::Close)?,
-        Name::Count => Command::Count(filter(alloc, words, Test::Equals)?),
-        Name::Delete => Command::Delete(one(alloc, words)?),
-        Name::DeleteId => Command::DeleteId(one(alloc, words)?),
-        Name::Find => { let (wanted, window) = filter_window(alloc, words, Test::Equals)?; Command::Find(wanted, window) }
-        Name::FindAdd => Command::FindAdd(filter(alloc, words, Test::Equals)?),
-        Name::GetVol => none(words, Command::GetVol)?,
-        Name::Idle => Command::Idle(subsystems(alloc, words)?),
-        Name::Kill => none(words, Command::Kill)?,
-        Name::List => { let (tag, wanted) = one_filter(alloc, words, Test::Equals)?; Command::List(tag, wanted) }
-        Name::ListAll => Command::ListAll(perhaps(alloc, words)?),
-        Name::LsInfo => Command::LsInfo(perhaps(alloc, words)?),
-        Name::Move => { let (range, to) = two(alloc, words)?; Command::Move(range, to) }
-        Name::MoveId => { let (id, to) = two(alloc, words)?; Command::MoveId(id, to) }
-        Name::NoIdle => none(words, Command::NoIdle)?,
-        Name::Ping => none(words, Command::Ping)?,
-        Name::PlaylistId => Command::PlaylistId(perhaps(alloc, words)?),
-        Name::PlaylistInfo => Command::PlaylistInfo(perhaps(alloc, words)?),
-        Name::PlChanges => { let (version, range) = one_perhaps(alloc, words)?; Command::PlChanges(version, range) }
-        Name::PlChangesPosId => { let (version, range) = one_perhaps(alloc, words)?; Command::PlChangesPosId(version, range) }
-        Name::Prio => { let (priority, ranges) = one_many(alloc, words)?; Command::Prio(priority, ranges) }
-        Name::PrioId => { let (priority, ids) = one_many(alloc, words)?; Command::PrioId(priority, ids) }
-        Name::Repeat => Command::Repeat(one(alloc, words)?),
-        Name::Rescan => Command::Rescan(perhaps(alloc, words)?),
-        Name::Search => { let (wanted, window) = filter_window(alloc, words, Test::Contains)?; Command::Search(wanted, window) }
-        Name::SearchAdd => Command::SearchAdd(filter(alloc, words, Test::Contains)?),
-        Name::SetVol => Command::SetVol(one(alloc, words)?),
-        Name::Status => none(words, Command::Status)?,
-        Name::Swap => { let (first, second) = two(alloc, words)?; Command::Swap(first, second) }
-        Name::SwapId => { let (first, second) = two(alloc, words)?; Command::SwapId(first, second) }
-        Name::TagTypes => none(words, Command::TagTypes)?,
-        Name::Update => Command::Update(perhaps(alloc, words)?),
-    })
+    match name {
+        Name::Add => Ok(Command::Add(one(alloc, words)?)),
+        Name::AddId => { let (uri, place) = one_perhaps(alloc, words)?; Ok(Command::AddId(uri, place)) }
+        Name::Clear => none(words, Command::Clear),
+        Name::ClearError => none(words, Command::ClearError),
+        Name::Close => none(words, Command::Close),
+        Name::Consume => Ok(Command::Consume(one(alloc, words)?)),
+        Name::Count => Ok(Command::Count(filter(alloc, words, Test::Equals)?)),
+        Name::CurrentSong => none(words, Command::CurrentSong),
+        Name::Delete => Ok(Command::Delete(one(alloc, words)?)),
+        Name::DeleteId => Ok(Command::DeleteId(one(alloc, words)?)),
+        Name::DisableOutput => Ok(Command::DisableOutput(one(alloc, words)?)),
+        Name::EnableOutput => Ok(Command::EnableOutput(one(alloc, words)?)),
+        Name::Find => { let (wanted, window) = filter_window(alloc, words, Test::Equals)?; Ok(Command::Find(wanted, window)) }
+        Name::FindAdd => Ok(Command::FindAdd(filter(alloc, words, Test::Equals)?)),
+        Name::GetVol => none(words, Command::GetVol),
+        Name::Idle => Ok(Command::Idle(subsystems(alloc, words)?)),
+        Name::Kill => none(words, Command::Kill),
+        Name::List => { let (tag, wanted) = one_filter(alloc, words, Test::Equals)?; Ok(Command::List(tag, wanted)) }
+        Name::ListAll => Ok(Command::ListAll(perhaps(alloc, words)?)),
+        Name::LsInfo => Ok(Command::LsInfo(perhaps(alloc, words)?)),
+        Name::Move => { let (range, to) = two(alloc, words)?; Ok(Command::Move(range, to)) }
+        Name::MoveId => { let (id, to) = two(alloc, words)?; Ok(Command::MoveId(id, to)) }
+        Name::Next => none(words, Command::Next),
+        Name::NoIdle => none(words, Command::NoIdle),
+        Name::Outputs => none(words, Command::Outputs),
+        Name::Pause => Ok(Command::Pause(perhaps(alloc, words)?)),
+        Name::Ping => none(words, Command::Ping),
+        Name::Play => Ok(Command::Play(perhaps(alloc, words)?)),
+        Name::PlayId => Ok(Command::PlayId(perhaps(alloc, words)?)),
+        Name::PlaylistId => Ok(Command::PlaylistId(perhaps(alloc, words)?)),
+        Name::PlaylistInfo => Ok(Command::PlaylistInfo(perhaps(alloc, words)?)),
+        Name::PlChanges => { let (version, range) = one_perhaps(alloc, words)?; Ok(Command::PlChanges(version, range)) }
+        Name::PlChangesPosId => { let (version, range) = one_perhaps(alloc, words)?; Ok(Command::PlChangesPosId(version, range)) }
+        Name::Previous => none(words, Command::Previous),
+        Name::Prio => { let (priority, ranges) = one_many(alloc, words)?; Ok(Command::Prio(priority, ranges)) }
+        Name::PrioId => { let (priority, ids) = one_many(alloc, words)?; Ok(Command::PrioId(priority, ids)) }
+        Name::Random => Ok(Command::Random(one(alloc, words)?)),
+        Name::Repeat => Ok(Command::Repeat(one(alloc, words)?)),
+        Name::Rescan => Ok(Command::Rescan(perhaps(alloc, words)?)),
+        Name::Search => { let (wanted, window) = filter_window(alloc, words, Test::Contains)?; Ok(Command::Search(wanted, window)) }
+        Name::SearchAdd => Ok(Command::SearchAdd(filter(alloc, words, Test::Contains)?)),
+        Name::Seek => { let (place, time) = two(alloc, words)?; Ok(Command::Seek(place, time)) }
+        Name::SeekCur => Ok(Command::SeekCur(one(alloc, words)?)),
+        Name::SeekId => { let (id, time) = two(alloc, words)?; Ok(Command::SeekId(id, time)) }
+        Name::SetVol => Ok(Command::SetVol(one(alloc, words)?)),
+        Name::Shuffle => Ok(Command::Shuffle(perhaps(alloc, words)?)),
+        Name::Single => Ok(Command::Single(one(alloc, words)?)),
+        Name::Status => none(words, Command::Status),
+        Name::Stop => none(words, Command::Stop),
+        Name::Swap => { let (first, second) = two(alloc, words)?; Ok(Command::Swap(first, second)) }
+        Name::SwapId => { let (first, second) = two(alloc, words)?; Ok(Command::SwapId(first, second)) }
+        Name::TagTypes => none(words, Command::TagTypes),
+        Name::ToggleOutput => Ok(Command::ToggleOutput(one(alloc, words)?)),
+        Name::Update => Ok(Command::Update(perhaps(alloc, words)?)),
+    }
 }

@@ -1,14 +1,15 @@
 //! The forms of arguments: what one word can be read as.
 ghost use Rattle.std.specs.Prelude.{◌≡◌, ℕ, List, Option, Some, None, IfOk, MatchOption, ◌<◌, true, false, drop, option_map};
 ghost use Rattle.std.specs.Str.{str_eq_ignore_ascii_case};
+ghost use Rattle.mpd_text.specs.Answers.Millis.{millis_of};
 ghost use Rattle.mpd_text.specs.Answers.Number.{number_of};
 ghost use Rattle.mpd_text.specs.Answers.Range.{range_of};
 ghost use Rattle.idle_notes.specs.Names.{subsystem_of};
-ghost use Rattle.mpd_command.specs.Forms.{first_is, uri_of, switch_of, volume_of, byte_of, place_of, tag_of, window_of};
+ghost use Rattle.mpd_command.specs.Forms.{first_is, uri_of, switch_of, single_of, volume_of, byte_of, place_of, seeking_of, tag_of, window_of};
 
 use crate::volume::Volume;
 use idle_notes::Subsystem;
-use mpd_text::{Range, TAG_NAMES, TagName, Text, number};
+use mpd_text::{Millis, Range, TAG_NAMES, TagName, Text, number};
 use std::alloc::{AllocError, Global};
 
 /// What one word can be read as.
@@ -19,7 +20,7 @@ pub(crate) trait Form: Sized + Drop {
         ensures { IfOk result (λ read. read ≡ read_gives word.now) };
 }
 
-/// A number, an id or a place.
+/// A number, an id, a place or an output.
 impl Form for u32 {
     ghost read_gives = { number_of };
 
@@ -53,6 +54,31 @@ impl Form for bool {
     }
 }
 
+/// Whether playing ends after the current song.
+#[derive(Clone, Copy, Debug, PartialEq, Eq)]
+pub enum SingleMode {
+    /// It goes on.
+    Off,
+    /// It ends, or plays the song again where the queue begins anew at its end.
+    On,
+    /// As `On` for one song, and `Off` from then on.
+    Oneshot,
+}
+
+/// `0`, `1` or `oneshot`.
+impl Form for SingleMode {
+    ghost read_gives = { single_of };
+
+    fn read(_alloc: Global, word: &str) -> Result<Option<SingleMode>, AllocError> {
+        match word {
+            "0" => Ok(Some(SingleMode::Off)),
+            "1" => Ok(Some(SingleMode::On)),
+            "oneshot" => Ok(Some(SingleMode::Oneshot)),
+            _ => Ok(None),
+        }
+    }
+}
+
 impl Form for Volume {
     ghost read_gives = { volume_of };
 
@@ -69,6 +95,14 @@ impl Form for Range {
 
     fn read(_alloc: Global, word: &str) -> Result<Option<Range>, AllocError> {
         Ok(Range::parse(word))
+    }
+}
+
+impl Form for Millis {
+    ghost read_gives = { millis_of };
+
+    fn read(_alloc: Global, word: &str) -> Result<Option<Millis>, AllocError> {
+        Ok(Millis::parse(word))
     }
 }
 
@@ -166,6 +200,31 @@ impl Form for Place {
             return Ok(number(steps).map(Place::Before));
         }
         Ok(number(word).map(Place::At))
+    }
+}
+
+/// Where in the current song playing goes on.
+#[derive(Clone, Copy, Debug, PartialEq, Eq)]
+pub enum Seeking {
+    /// At this time.
+    To(Millis),
+    /// So much time after the one that it has reached.
+    Forward(Millis),
+    /// So much time before the one that it has reached.
+    Back(Millis),
+}
+
+impl Form for Seeking {
+    ghost read_gives = { seeking_of };
+
+    fn read(_alloc: Global, word: &str) -> Result<Option<Seeking>, AllocError> {
+        if let Some(time) = after_sign(word, '+') {
+            return Ok(Millis::parse(time).map(Seeking::Forward));
+        }
+        if let Some(time) = after_sign(word, '-') {
+            return Ok(Millis::parse(time).map(Seeking::Back));
+        }
+        Ok(Millis::parse(word).map(Seeking::To))
     }
 }
 

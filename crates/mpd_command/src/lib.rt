@@ -10,7 +10,7 @@ mod volume;
 mod wanted;
 
 pub use command::Command;
-pub use forms::{Place, Uri, Window};
+pub use forms::{Place, Seeking, SingleMode, Uri, Window};
 pub use name::{NAMES, Name};
 pub use request::{Ack, CommandFault, Request};
 pub use volume::Volume;

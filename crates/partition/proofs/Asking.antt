@@ -13,7 +13,9 @@ use Rattle.mpd_command.specs.declared.name.Name.{Name}
 use Rattle.mpd_command.specs.declared.request.Request.{Request}
 use Rattle.mpd_command.specs.declared.request.Request.TheVariants.{Run, Refused}
 use Rattle.partition.specs.declared.event.Event.{Event}
-use Rattle.partition.specs.declared.event.Event.TheVariants.{Connect, Disconnect, Line, ScanQuestion, ScanResult}
+use Rattle.partition.specs.declared.event.Event.TheVariants.{Connect, Disconnect, Line, ScanQuestion, ScanResult, Want, Have, Failed, OutputTurn}
+use Rattle.partition.specs.declared.doing.Doing.TheVariants.{Settles}
+use Rattle.partition.specs.Outputs.{is_output}
 use Rattle.partition.specs.declared.event.Move.{Move}
 use Rattle.partition.specs.declared.event.Move.TheVariants.{Stay, Wait, Learn, Resume, Join}
 use Rattle.partition.specs.declared.event.Stand.{Stand}
@@ -24,7 +26,7 @@ use Rattle.partition.specs.Answers.{Answer, Said, refuses, shut, stays, tells}
 use Rattle.partition.specs.Clients.{closes, notified, at, moved, move_of}
 use Rattle.partition.specs.Commands.Status.{Wish, ToWait, ToGoOn, granted, resumes, wish_of}
 use Rattle.partition.specs.Image.{Turn, client_of}
-use Rattle.partition.specs.Step.{deed_of, ends_by, greeting, quiet, turn_of, turn_line, turn_wished}
+use Rattle.partition.specs.Step.{acts, deed_of, ends_by, greeting, quiet, turn_of, turn_line, turn_wished, unspoken}
 use Rattle.partition.specs.World.{is_learning}
 use Rattle.partition.specs.Notices.{IsIn}
 use Rattle.partition.proofs.Members.{of_map}
@@ -85,20 +87,20 @@ wish_is (Idle more) named e = cc
 wish_is _ named e = cc
 
 -- what a client that does not wait is answered when it asks
-abbrev pub turn_idle : Part → Client → Subsystems → Turn
-turn_idle part client named = quiet part (granted client (ToWait named))
+abbrev pub turn_idle : Client → Subsystems → Turn
+turn_idle client named = quiet (granted client (ToWait named))
 
 module _ (part : Part) (library : Library) (clients : List Client) (number : ℕ) (k : Client) (is_there : client_of number clients ≡ Some k) where
   -- a line of a client that is there: it is closed, or this is done
   abbrev line : Bool → Turn → Turn
-  line ends done = if is_some k.pending.waiting && not ends then quiet part (stays shut) else done
+  line ends done = if is_some k.pending.waiting && not ends then quiet (stays shut) else done
 
   quiet_line : (ends : Bool) (done : Turn) → Quiet (move_of done.said) → Quiet (move_of (line ends done).said)
-  quiet_line ends done q = quiet_if (is_some k.pending.waiting && not ends) (quiet part (stays shut)) done tt q
+  quiet_line ends done q = quiet_if (is_some k.pending.waiting && not ends) (quiet (stays shut)) done tt q
 
   module _ (name : Name) (command : Command) where
     abbrev run : Stand → Option Wish → Turn
-    run stand wish = turn_wished (record { name = name; stand = stand }) part k (deed_of (record { name = name; stand = stand }) part library command) wish
+    run stand wish = turn_wished (record { name = name; stand = stand }) k (deed_of (record { name = name; stand = stand }) part library command) wish
 
     abbrev Kind : Stand → Option Wish → Type 0
     Kind stand wish = Quiet (move_of (line (ends_by stand wish) (run stand wish)).said) ⊎ IsAsking clients (Line number stand (Run name command))
@@ -121,8 +123,8 @@ module _ (part : Part) (library : Library) (clients : List Client) (number : ℕ
   kind_of_line : (stand : Stand) (request : Request) → Quiet (move_of (turn_line part library (Some k) stand request).said) ⊎ IsAsking clients (Line number stand request)
   kind_of_line Alone (Run name command) = kind_of_wish name command Alone (wish_of command) refl
   kind_of_line (InList form place) (Run name command) = kind_of_wish name command (InList form place) (wish_of command) refl
-  kind_of_line Alone (Refused ack) = inl (quiet_line false (quiet part (stays (refuses Alone ack.command ack.number ack.text))) tt)
-  kind_of_line (InList form place) (Refused ack) = inl (quiet_line false (quiet part (stays (refuses (InList form place) ack.command ack.number ack.text))) tt)
+  kind_of_line Alone (Refused ack) = inl (quiet_line false (quiet (stays (refuses Alone ack.command ack.number ack.text))) tt)
+  kind_of_line (InList form place) (Refused ack) = inl (quiet_line false (quiet (stays (refuses (InList form place) ack.command ack.number ack.text))) tt)
 
 -- each event makes a quiet move, or is `idle`
 pub kind_of : (part : Part) (library : Library) (clients : List Client) (event : Event)
@@ -133,6 +135,11 @@ kind_of part library clients (Connect number) =
 kind_of part library clients (Disconnect number) = inl tt
 kind_of part library clients ScanQuestion = inl tt
 kind_of part library clients (ScanResult songs) = inl tt
+kind_of part library clients (Want owes) = inl tt
+kind_of part library clients (Have number frames) = inl tt
+kind_of part library clients (Failed number partner) = inl tt
+kind_of part library clients (OutputTurn output written discarded failed) =
+    inl (quiet_if (is_output part.outputs output) (acts (Settles output written discarded failed)) (quiet unspoken) tt tt)
 kind_of part library clients (Line number stand request) =
     let cases : (o : Option Client) → client_of number clients ≡ o → Quiet (move_of (turn_line part library o stand request).said) ⊎ IsAsking clients (Line number stand request) =
     λ o. elim o as (λ o. client_of number clients ≡ o → Quiet (move_of (turn_line part library o stand request).said) ⊎ IsAsking clients (Line number stand request))

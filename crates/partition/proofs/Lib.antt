@@ -1,10 +1,13 @@
+pub mod Alike
 pub mod Asking
 pub mod Chronicles
 pub mod Counts
 pub mod Entries
 pub mod Flags
+pub mod Frames
 pub mod Gathers
 pub mod Notified
+pub mod Seats
 pub mod Lives
 pub mod Members
 pub mod Moments

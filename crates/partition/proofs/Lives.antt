@@ -4,16 +4,20 @@ use Rattle.std.proofs.lemmas.List.{map-append, reverse-append}
 use Rattle.partition.specs.declared.state.Library.{Library}
 use Rattle.partition.specs.declared.event.Event.{Event}
 use Rattle.partition.specs.declared.event.Happened.{Happened}
-use Rattle.partition.specs.declared.state.Limits.{Limits}
+use Rattle.partition.specs.declared.state.Setup.{Setup}
 use Rattle.partition.specs.Answers.{Told}
 use Rattle.partition.specs.Clients.{Rising}
 use Rattle.partition.specs.History.{AreTold}
+use Rattle.partition.specs.Doings.{Change, change_of}
 use Rattle.partition.specs.Image.{Image, opening}
 use Rattle.partition.specs.Step.{turn, told, next_image}
 use Rattle.partition.specs.World.{Moment, Life, image_of, life_after_event, life_from, opening_life, life_after}
 use Rattle.partition.specs.Notices.{Raises, Tells, EachMoment, AreHeard, heard_at, heard_then}
 use Rattle.partition.proofs.Moments.{moment_of, raises, tells}
 use Rattle.partition.proofs.Worlds.{some_past, image_of-step, rising-step, opens}
+
+abbrev change_in : Life → List Happened → Event → Change
+change_in life done event = let i : Image = image_of life done in change_of i.shared.library.rate i.part (turn i event).doing
 
 -- what each step makes true of its moment is true of all moments
 each_from : (P : Moment → List Moment → Type 0)
@@ -23,18 +27,18 @@ each_from : (P : Moment → List Moment → Type 0)
     → EachMoment P life.moments → EachMoment P (life_from done life hs).moments
 each_from P holds life done [] above some rising each = each
 each_from P holds life done (h ∷ hs) above some rising each =
-    each_from P holds (life_after_event done life h.event) (done ++ h ∷ []) hs above (some_past life.world.past (turn (image_of life done) h.event).edit some)
+    each_from P holds (life_after_event done life h.event) (done ++ h ∷ []) hs above (some_past life.world.past (change_in life done h.event) some)
     (rising-step life done h.event above some rising h) (holds life done h.event above some rising, each)
 
 -- of every history
-pub all_raise : (limits : Limits) (library : Library) (history : List Happened) → 1 ≤ limits.max_version
-    → EachMoment (λ moment earlier. Raises moment) (life_after limits library history).moments
-all_raise limits library history above =
-    each_from (λ moment earlier. Raises moment) raises (opening_life limits library) [] history above (omega arith) tt tt
+pub all_raise : (setup : Setup) (library : Library) (history : List Happened) → 1 ≤ setup.limits.max_version
+    → EachMoment (λ moment earlier. Raises moment) (life_after (opening setup library) history).moments
+all_raise setup library history above =
+    each_from (λ moment earlier. Raises moment) raises (opening_life (opening setup library)) [] history above (omega arith) tt tt
 
-pub all_tell : (limits : Limits) (library : Library) (history : List Happened) → 1 ≤ limits.max_version
-    → EachMoment Tells (life_after limits library history).moments
-all_tell limits library history above = each_from Tells tells (opening_life limits library) [] history above (omega arith) tt tt
+pub all_tell : (setup : Setup) (library : Library) (history : List Happened) → 1 ≤ setup.limits.max_version
+    → EachMoment Tells (life_after (opening setup library) history).moments
+all_tell setup library history above = each_from Tells tells (opening_life (opening setup library)) [] history above (omega arith) tt tt
 
 one_heard : (life : Life) (done : List Happened) (h : Happened) → h.told ≡ told (image_of life done) h.event → heard_at (moment_of life done h.event) ≡ heard_then h
 unfolding told
@@ -51,7 +55,7 @@ heard_from life done (h ∷ hs) above some rising told =
     let next_is : next_image h.seat (image_of life done) h.event ≡ image_of (life_after_event done life h.event) (done ++ h ∷ []) =
     sym (image_of-step life done h.event above some rising h refl) in
     let more =
-    heard_from (life_after_event done life h.event) (done ++ h ∷ []) hs above (some_past life.world.past (turn (image_of life done) h.event).edit some)
+    heard_from (life_after_event done life h.event) (done ++ h ∷ []) hs above (some_past life.world.past (change_in life done h.event) some)
     (rising-step life done h.event above some rising h) (subst (λ (i : Image). AreTold i hs) next_is told.1) in
     let last : map heard_at (reverse (m ∷ life.moments)) ≡ was ++ heard_at m ∷ [] =
     ap (map heard_at) (reverse-append (m ∷ []) life.moments) ∙ map-append heard_at (reverse life.moments) (m ∷ []) in
@@ -59,7 +63,7 @@ heard_from life done (h ∷ hs) above some rising told =
     ∙ ap (λ (x : Event × Told). was ++ x ∷ rest) (one_heard life done h told.0)
 
 -- what was told at the events of a history is what their moments tell
-pub all_heard : (limits : Limits) (library : Library) (history : List Happened) → 1 ≤ limits.max_version → AreTold (opening limits library) history
-    → AreHeard (life_after limits library history).moments history
-all_heard limits library history above told =
-    heard_from (opening_life limits library) [] history above (omega arith) tt (subst (λ (i : Image). AreTold i history) (opens limits library above) told)
+pub all_heard : (setup : Setup) (library : Library) (history : List Happened) → 1 ≤ setup.limits.max_version → AreTold (opening setup library) history
+    → AreHeard (life_after (opening setup library) history).moments history
+all_heard setup library history above told =
+    heard_from (opening_life (opening setup library)) [] history above (omega arith) tt (subst (λ (i : Image). AreTold i history) (opens setup library above) told)

@@ -22,11 +22,12 @@ use Rattle.partition.specs.declared.event.Next.TheVariants.{Goes, Waits}
 use Rattle.partition.specs.declared.event.Notice.{Notice}
 use Rattle.partition.specs.declared.state.Client.{Client}
 use Rattle.partition.specs.Answers.{Said}
-use Rattle.partition.specs.Clients.{notified, move_of, closes, Rising}
+use Rattle.partition.specs.Clients.{notified, move_of, closes, options, playing, Rising}
 use Rattle.partition.specs.Commands.Status.{idles}
+use Rattle.partition.specs.Doings.{Change, change_of, outputs_after, player_after, volume_after}
 use Rattle.partition.specs.Image.{Image, Turn, client_of, library_after}
-use Rattle.partition.specs.Step.{turn, turn_of, turn_line, speaker, mover, raised_by, after_turn, told_by}
-use Rattle.partition.specs.World.{Listener, Moment, Life, PartDiffers, IsPending, raised_at, is_there, is_learning, is_told, begins_anew, pending_for, client_in, listener_of, image_of, past_after, world_after_turn}
+use Rattle.partition.specs.Step.{turn, turn_of, turn_line, speaker, mover, raised_by, report_of, after_turn, told_by}
+use Rattle.partition.specs.World.{Listener, Moment, Life, PartDiffers, IsPending, parts_in, raised_at, is_there, is_learning, is_told, begins_anew, pending_for, client_in, listener_of, image_of, past_after, world_after_turn}
 use Rattle.partition.specs.Notices.{Raises, IsIn, WaitsFor, HasChanged, Meets, HasNews, IsSent, IsClear, Asks, IsToldNews, Tells}
 use Rattle.partition.proofs.Asking.{wish_is, turn_idle, Quiet, quiet_unheard, quiet_unwaiting, IsAsking, kind_of, is_found, of_any, notified_some, does_some, of_moved}
 use Rattle.partition.proofs.Members.{in_map, of_map, any_in, same_sets, has_meet, has_some, is_some}
@@ -34,6 +35,7 @@ use Rattle.partition.proofs.Parts.{raised_differ, agree}
 use Rattle.partition.proofs.Pending.{has_union, has_none, pending_more, reads_pending}
 use Rattle.partition.proofs.Rises.{rising_staying}
 use Rattle.partition.proofs.Sends.{found, news, waiter_moves, notices_rise, does, does_keeps, does_other, does_none, does_wait, notified_none, told_none, untold_waits, is_other_speaker, of_sent, is_sent, kept, kept_was, others_kept, open_kept, lands, there_kept}
+use Rattle.partition.proofs.Frames.{keeps}
 use Rattle.partition.proofs.Worlds.{same_raised}
 
 both : (a b : Bool) → a ≡ true → b ≡ true → (a && b) ≡ true
@@ -69,7 +71,7 @@ abbrev pub moment_of : Life → List Happened → Event → Moment
 moment_of life done event =
     let i : Image = image_of life done in
     let t : Turn = turn i event in
-    record { before = life.world; event = event; turn = t; notices = (told_by i event t).notices; after = world_after_turn life.world i event t }
+    record { before = life.world; event = event; turn = t; notices = (told_by i event t).notices; report = report_of i.part i.shared.library t; after = world_after_turn life.world i event t }
 
 module _ (life : Life) (done : List Happened) (event : Event) (above : 1 ≤ life.world.limits.max_version) (some : 0 < length life.world.past)
     (rising : Rising (image_of life done).clients) where
@@ -91,11 +93,14 @@ module _ (life : Life) (done : List Happened) (event : Event) (above : 1 ≤ lif
   abbrev m : Moment
   m = moment_of life done event
 
+  abbrev change : Change
+  change = change_of i.shared.library.rate i.part t.doing
+
   is_raised : raised_at m ≡ r
-  is_raised = same_raised life.world.limits life.world.past life.world.library (library_after life.world.library t.scan) life.world.controls t.controls t.edit above some
+  is_raised = same_raised life.world.limits life.world.past change (parts_in m.before) (parts_in m.after) above some (keeps i.shared.library.rate i.part t.doing)
 
   pub raises : Raises m
-  raises = record { each = λ x. raised_differ m.before m.after x; all = λ none. agree m.before m.after t.edit t.scan refl refl refl none }
+  raises = record { each = λ x. raised_differ m.before m.after x; all = λ none. agree life.world i event t refl none }
 
   differs : (x : Subsystem) → (has r x ≡ true) ↔ PartDiffers x m.before m.after
   differs x = subst (λ (s : Subsystems). (has s x ≡ true) ↔ PartDiffers x m.before m.after) is_raised (raised_differ m.before m.after x)
@@ -231,7 +236,7 @@ module _ (life : Life) (done : List Happened) (event : Event) (above : 1 ≤ lif
     abbrev d : Subsystems
     d = meet (pending_for number ms) named
 
-    turn_is : t ≡ turn_idle i.part k named
+    turn_is : t ≡ turn_idle k named
     turn_is =
         ap (turn_of i.part i.shared.library i.clients) asks.event
         ∙ ap (λ (o : Option Client). turn_line i.part i.shared.library o Alone (Run asks.name (Idle named))) (found k i.clients rising (listed number None asks.free))
@@ -243,11 +248,11 @@ module _ (life : Life) (done : List Happened) (event : Event) (above : 1 ≤ lif
     same_parts Database e = e (ap (λ (u : Turn). (library_after life.world.library u.scan).songs) (sym turn_is))
     same_parts Update e = e (ap (λ (u : Turn). (library_after life.world.library u.scan).scan.runs) (sym turn_is))
     same_parts StoredPlaylist e = e
-    same_parts Playlist e = e (ap (λ (u : Turn). present (past_after life.world.past u.edit)) (sym turn_is))
-    same_parts Player e = e
-    same_parts Mixer e = e (ap (λ (u : Turn). u.controls.volume) (sym turn_is))
-    same_parts Output e = e
-    same_parts Options e = e (ap (λ (u : Turn). u.controls.modes) (sym turn_is))
+    same_parts Playlist e = e (ap (λ (u : Turn). present (past_after life.world.past (change_of i.shared.library.rate i.part u.doing))) (sym turn_is))
+    same_parts Player e = e (ap (λ (u : Turn). playing (player_after i.shared.library.rate i.part u.doing)) (sym turn_is))
+    same_parts Mixer e = e (ap (λ (u : Turn). volume_after life.world.volume u.doing) (sym turn_is))
+    same_parts Output e = e (ap (λ (u : Turn). (outputs_after life.world.outputs u.doing).enabled) (sym turn_is))
+    same_parts Options e = e (ap (λ (u : Turn). options (player_after i.shared.library.rate i.part u.doing)) (sym turn_is))
     same_parts Sticker e = e
     same_parts Subscription e = e
     same_parts Message e = e

@@ -1,5 +1,6 @@
 -- What an event raises is what differs between the worlds.
-use Rattle.std.proofs.Common.{◌≡◌, ◌≢◌, ◌↔◌, ◌+◌, if◌then◌else◌, ◌||◌, Bool, true, false, not, nat_eq, List, Option, Some, None, refl, ap, sym, ◌∙◌}
+use Rattle.std.proofs.Common.{◌≡◌, ◌≢◌, ◌↔◌, ◌+◌, if◌then◌else◌, ◌||◌, ℕ, Bool, true, false, not, nat_eq, List, Option, Some, None, refl, ap, sym, ◌∙◌}
+use Rattle.std.specs.Prelude.{slice_get}
 use Rattle.std.proofs.lemmas.Bool.{eq-eqb, eqb-true}
 use Rattle.idle_notes.specs.declared.subsystem.Subsystem.{Subsystem}
 use Rattle.idle_notes.specs.declared.subsystem.Subsystem.TheVariants.{Database, Update, StoredPlaylist, Playlist, Player, Mixer, Output, Options, Sticker, Subscription, Message}
@@ -7,21 +8,31 @@ use Rattle.idle_notes.specs.Sets.{has}
 use Rattle.song_queue.specs.declared.entry.Entry.{Entry}
 use Rattle.song_queue.specs.Entries.{same_queue}
 use Rattle.song_queue.specs.declared.edit.Edit.{Edit}
-use Rattle.song_queue.specs.Laws.{queue_after}
-use Rattle.song_queue.specs.Past.{present}
-use Rattle.song_queue.specs.State.{differ}
+use Rattle.song_queue.specs.declared.edit.Edit.TheVariants.{Insert, Remove, Move, Prioritize, Swap, Shuffle}
+use Rattle.song_queue.specs.Laws as queues
+use Rattle.song_queue.specs.Past.{after_event, present}
+use Rattle.song_queue.specs.State.{QueueState, differ, queue_of}
+use Rattle.player_core.specs.Laws.{Next, Previous, Play, PlayEntry, Seek, Stop, Pause, TogglePause, SetRandom, Insert as InsertSongs, Remove as RemoveSongs, Want, Have, Failed}
+use Rattle.player_core.specs.Player.{PlayerState}
+use Rattle.player_core.proofs.Rising.{numbers_rise}
 use Rattle.song_queue.proofs.Ids.{present-after_event}
 use Rattle.song_queue.proofs.Same.{same_queue-refl, same_queue-true}
 use Rattle.partition.specs.declared.scan.ScanMove.{ScanMove}
 use Rattle.partition.specs.declared.scan.ScanMove.TheVariants.{Stay, Begin, End}
 use Rattle.partition.specs.declared.state.Library.{Library}
-use Rattle.partition.specs.declared.state.Modes.{Modes}
-use Rattle.partition.specs.Image.{library_after}
+use Rattle.partition.specs.declared.doing.Doing.{Doing}
+use Rattle.partition.specs.declared.doing.Doing.TheVariants.{Rests, Edits, Shuffles, SetsVolume, SetsRepeat, SetsRandom, SetsSingle, SetsConsume, ClearsError, Plays, PlaysPlace, Pauses, TogglesPause, Stops, GoesOn, GoesBack, Seeks, Switches, Wants, Accepts, Fails, Settles}
+use Rattle.partition.specs.declared.event.Event.{Event}
+use Rattle.partition.specs.declared.state.Part.{Part}
+use Rattle.partition.specs.Outputs.{OutputsData, any_enabled, broken}
+use Rattle.partition.specs.Doings.{Change, ByEdit, ByStep, change_of, entries, outputs_after, played_entry, player_after, player_edited, sought_entry}
+use Rattle.partition.specs.Image.{Image, Turn, library_after}
 use Rattle.partition.specs.Scans.{is_last}
 use Rattle.partition.proofs.Songs.{same_songs-refl, same_songs-true}
-use Rattle.partition.specs.Clients.{raised, same_songs}
-use Rattle.partition.specs.World.{World, PartDiffers, past_after, parts_in}
-use Rattle.partition.specs.Notices.{AgreeButForClients}
+use Rattle.partition.proofs.Alike.{same_enabled-refl, same_enabled-true, same_options-refl, same_options-true, same_playing-refl, same_playing-true}
+use Rattle.partition.specs.Clients.{options, playing, raised, same_enabled, same_options, same_playing, same_songs}
+use Rattle.partition.specs.World.{World, PartDiffers, past_after, parts_in, world_after_turn}
+use Rattle.partition.specs.Notices.{AgreeButForUnspoken}
 
 -- a test that answers true only of two that are one, and of each with itself
 tells : {A : Type 0} (same : A → A → Bool) → ((a : A) → same a a ≡ true) → ((a b : A) → same a b ≡ true → a ≡ b) → (a b : A)
@@ -76,24 +87,23 @@ raised_differ before after Database = tells same_songs same_songs-refl same_song
 raised_differ before after Update = differs-tells before.library.scan.runs after.library.scan.runs
 raised_differ before after StoredPlaylist = never
 raised_differ before after Playlist = tells same_queue same_queue-refl same_queue-true (present before.past) (present after.past)
-raised_differ before after Player = never
-raised_differ before after Mixer = tells nat_eq (λ a. eq-eqb a a refl) eqb-true before.controls.volume after.controls.volume
-raised_differ before after Output = never
-raised_differ before after Options =
-    let d = differs-tells before.controls.modes.repeat after.controls.modes.repeat in (
-      λ e same. d.0 e (ap (λ (m : Modes). m.repeat) same),
-      λ ne. d.1 (λ same. ne (ap (λ (r : Bool). record { repeat = r }) same)),
-    )
+raised_differ before after Player = tells same_playing same_playing-refl same_playing-true (playing before.player) (playing after.player)
+raised_differ before after Mixer = tells nat_eq (λ a. eq-eqb a a refl) eqb-true before.volume after.volume
+raised_differ before after Output = tells same_enabled same_enabled-refl same_enabled-true before.outputs.enabled after.outputs.enabled
+raised_differ before after Options = tells same_options same_options-refl same_options-true (options before.player) (options after.player)
 raised_differ before after Sticker = never
 raised_differ before after Subscription = never
 raised_differ before after Message = never
 
-same_past : (past : List (List Entry)) (edit : Option Edit) → present past ≡ present (past_after past edit) → past_after past edit ≡ past
-same_past past None e = refl
-same_past past (Some edit) e =
-    let q : List Entry = queue_after past edit in
-    let is : same_queue (present past) q ≡ true = sym (ap (same_queue (present past)) (e ∙ present-after_event past q)) ∙ same_queue-refl (present past) in
+same_left : (past : List (List Entry)) (left : List Entry) → present past ≡ present (after_event past left) → after_event past left ≡ past
+same_left past left e =
+    let is : same_queue (present past) left ≡ true = sym (ap (same_queue (present past)) (e ∙ present-after_event past left)) ∙ same_queue-refl (present past) in
     rw is refl
+
+same_past : (past : List (List Entry)) (change : Change) → present past ≡ present (past_after past change) → past_after past change ≡ past
+same_past past (ByEdit edit) e = same_left past (queues.queue_after past edit) e
+same_past past (ByStep None) e = refl
+same_past past (ByStep (Some left)) e = same_left past left e
 
 -- a scan that began where none ran is seen
 same_begun : (library : Library) (runs none_left : Bool) → runs ≡ (if runs || none_left then record library.scan { runs = runs } else record { last = library.scan.last + 1; runs = true }).runs
@@ -110,25 +120,98 @@ same_library library Begin songs runs = same_begun library library.scan.runs (is
 same_library library (End found) songs runs =
     λ i. record library { songs = sym songs i; scan = record library.scan { runs = sym runs i } }
 
--- where no part differs nothing differs but clients
-pub agree : (before after : World) (edit : Option Edit) (scan_move : ScanMove) → after.past ≡ past_after before.past edit → after.limits ≡ before.limits
-    → after.library ≡ library_after before.library scan_move
-    → ((x : Subsystem) → PartDiffers x before after → ⊥) → AgreeButForClients before after
-agree before after edit scan_move past_is limits library_is none =
+-- the names of outputs stay
+same_names : (outputs : OutputsData) (doing : Doing) → (outputs_after outputs doing).names ≡ outputs.names
+same_names outputs (Switches output on) = refl
+same_names outputs (Settles output written discarded failed) = elim failed as (λ b. (if b then broken outputs output else outputs).names ≡ outputs.names) [ true ↦ refl | false ↦ refl ]
+same_names outputs _ = refl
+
+-- a step of the player leaves the greatest number
+module _ (p : PlayerState) where
+  abbrev Same : PlayerState → Type 0
+  Same q = q.max_cut ≡ p.max_cut
+
+  edit_keeps : (q : QueueState) (edit : Edit) → Same (player_edited p q edit)
+  edit_keeps q (Insert at songs) = (numbers_rise p (InsertSongs q songs)).3
+  edit_keeps q (Remove start end) = (numbers_rise p (RemoveSongs (queue_of q) start end)).3
+  edit_keeps q (Move start end to) = refl
+  edit_keeps q (Prioritize ranges priority) = refl
+  edit_keeps q (Swap a b) = refl
+  edit_keeps q (Shuffle start end words) = refl
+
+  play_keeps : (found : Option Entry) → Same (played_entry p found)
+  play_keeps None = refl
+  play_keeps (Some entry) = (numbers_rise p (PlayEntry entry)).3
+
+  seek_keeps : (found : Option Entry) (frame : ℕ) → Same (sought_entry p found frame)
+  seek_keeps None frame = refl
+  seek_keeps (Some entry) frame = (numbers_rise p (Seek entry frame)).3
+
+same_limit : (rate : ℕ) (part : Part) (doing : Doing) → (player_after rate part doing).max_cut ≡ part.player.max_cut
+same_limit rate part Rests = refl
+same_limit rate part (Edits edit) = edit_keeps part.player part.queue edit
+same_limit rate part (Shuffles start end) = refl
+same_limit rate part (SetsVolume volume) = refl
+same_limit rate part (SetsRepeat on) = refl
+same_limit rate part (SetsRandom on) = (numbers_rise part.player (SetRandom (entries part) on)).3
+same_limit rate part (SetsSingle single) = refl
+same_limit rate part (SetsConsume consume) = refl
+same_limit rate part ClearsError = refl
+same_limit rate part Plays = (numbers_rise part.player (Play (entries part))).3
+same_limit rate part (PlaysPlace place) = play_keeps part.player (slice_get (entries part) place)
+same_limit rate part (Pauses on) = (numbers_rise part.player (Pause on)).3
+same_limit rate part TogglesPause = (numbers_rise part.player TogglePause).3
+same_limit rate part Stops = (numbers_rise part.player Stop).3
+same_limit rate part GoesOn = (numbers_rise part.player (Next (entries part))).3
+same_limit rate part GoesBack = (numbers_rise part.player (Previous (entries part))).3
+same_limit rate part (Seeks place frame) = seek_keeps part.player (slice_get (entries part) place) frame
+same_limit rate part (Switches output on) = refl
+same_limit rate part (Wants owes) = (numbers_rise part.player (Want rate (entries part) (any_enabled part.outputs) owes)).3
+same_limit rate part (Accepts number frames) = (numbers_rise part.player (Have (entries part) number frames)).3
+same_limit rate part (Fails number partner) = (numbers_rise part.player (Failed (entries part) number partner)).3
+same_limit rate part (Settles output written discarded failed) = refl
+
+-- where no part differs nothing differs but what no subsystem speaks of
+pub agree : (before : World) (i : Image) (event : Event) (t : Turn) → i.part.player ≡ before.player
+    → ((x : Subsystem) → PartDiffers x before (world_after_turn before i event t) → ⊥) → AgreeButForUnspoken before (world_after_turn before i event t)
+agree before i event t same_player none =
+    let after : World = world_after_turn before i event t in
+    let change : Change = change_of before.library.rate i.part t.doing in
     let songs : before.library.songs ≡ after.library.songs = decides same_songs same_songs-true same_songs-refl before.library.songs after.library.songs (none Database) in
     let runs : before.library.scan.runs ≡ after.library.scan.runs = modes_of before.library.scan.runs after.library.scan.runs (none Update) in
-    let library : after.library ≡ before.library =
-    library_is ∙ same_library before.library scan_move (songs ∙ ap (λ (l : Library). l.songs) library_is) (runs ∙ ap (λ (l : Library). l.scan.runs) library_is) in
+    let library : after.library ≡ before.library = same_library before.library t.scan songs runs in
     let queue : present before.past ≡ present after.past = decides same_queue same_queue-true same_queue-refl (present before.past) (present after.past) (none Playlist) in
-    let past : after.past ≡ before.past = past_is ∙ same_past before.past edit (queue ∙ ap present past_is) in
-    let volume : before.controls.volume ≡ after.controls.volume =
-    decides nat_eq eqb-true (λ a. eq-eqb a a refl) before.controls.volume after.controls.volume (none Mixer) in
-    let modes : before.controls.modes.repeat ≡ after.controls.modes.repeat =
-    modes_of before.controls.modes.repeat after.controls.modes.repeat (λ ne. none Options (λ same. ne (ap (λ (m : Modes). m.repeat) same))) in
-    λ i. record {
-      past = past i;
-      limits = limits i;
-      library = library i;
-      controls = record { volume = sym volume i; modes = record { repeat = sym modes i } };
+    let past : after.past ≡ before.past = same_past before.past change queue in
+    let played : playing after.player ≡ playing before.player =
+    sym (decides same_playing same_playing-true same_playing-refl (playing before.player) (playing after.player) (none Player)) in
+    let set : options after.player ≡ options before.player =
+    sym (decides same_options same_options-true same_options-refl (options before.player) (options after.player) (none Options)) in
+    let limit : after.player.max_cut ≡ before.player.max_cut = same_limit before.library.rate i.part t.doing ∙ ap (λ (p : PlayerState). p.max_cut) same_player in
+    let volume : after.volume ≡ before.volume = sym (decides nat_eq eqb-true (λ a. eq-eqb a a refl) before.volume after.volume (none Mixer)) in
+    let enabled : after.outputs.enabled ≡ before.outputs.enabled =
+    sym (decides same_enabled same_enabled-true same_enabled-refl before.outputs.enabled after.outputs.enabled (none Output)) in
+    let names : after.outputs.names ≡ before.outputs.names = same_names before.outputs t.doing in
+    λ j. record {
+      past = past j;
+      limits = before.limits;
+      library = library j;
+      player = record {
+        modes = (set j).modes;
+        round = after.player.round;
+        crossfade = (set j).crossfade;
+        playback = (played j).playback;
+        current = (played j).current;
+        place = after.player.place;
+        starts = (played j).starts;
+        cuts = (played j).cuts;
+        error = (played j).error;
+        jobs = after.player.jobs;
+        job = after.player.job;
+        fade = after.player.fade;
+        gave_up = after.player.gave_up;
+        max_cut = limit j;
+      };
+      volume = volume j;
+      outputs = record { names = names j; enabled = enabled j; failed = after.outputs.failed };
       clients = after.clients;
     }

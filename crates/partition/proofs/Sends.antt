@@ -16,7 +16,9 @@ use Rattle.partition.specs.declared.event.Asked.{Asked}
 use Rattle.partition.specs.declared.event.Stand.{Stand}
 use Rattle.partition.specs.declared.event.Stand.TheVariants.{Alone, InList}
 use Rattle.partition.specs.declared.event.Event.{Event}
-use Rattle.partition.specs.declared.event.Event.TheVariants.{Connect, Disconnect, Line, ScanQuestion, ScanResult}
+use Rattle.partition.specs.declared.event.Event.TheVariants.{Connect, Disconnect, Line, ScanQuestion, ScanResult, Want, Have, Failed, OutputTurn}
+use Rattle.partition.specs.declared.doing.Doing.TheVariants.{Settles}
+use Rattle.partition.specs.Outputs.{is_output}
 use Rattle.partition.specs.declared.event.Move.{Move}
 use Rattle.partition.specs.declared.event.Move.TheVariants.{Stay, Wait, Learn, Resume, Join}
 use Rattle.partition.specs.declared.event.Notice.{Notice}
@@ -26,7 +28,7 @@ use Rattle.partition.specs.Answers.{Said, shut, stays}
 use Rattle.partition.specs.Commands.Status.{Wish, ToWait, ToGoOn, wish_of}
 use Rattle.partition.specs.Clients.{notified, is_other, at, moved, notice_to, notice_for, notices_after, clients_after, staying, move_of, closes, AllAbove, Rising}
 use Rattle.partition.specs.Image.{client_of}
-use Rattle.partition.specs.Step.{deed_of, ends_by, quiet, turn_of, turn_line, turn_wished, speaker, mover, unspoken}
+use Rattle.partition.specs.Step.{acts, deed_of, ends_by, quiet, turn_of, turn_line, turn_wished, speaker, mover, unspoken}
 use Rattle.partition.specs.Notices.{IsIn, AllBeyond, NoticesRise}
 use Rattle.partition.proofs.Members.{in_filter, of_filter, in_insert, in_map, of_map, in_flat_map, of_flat_map}
 use Rattle.partition.proofs.Rises.{at_keeps}
@@ -50,7 +52,7 @@ found k (c ∷ cs) r (inr e) =
 module _ (part : Part) (library : Library) (k : Client) (named names : Subsystems) where
   abbrev Moves : Asked → Command → Option Wish → Type 0
   Moves asked command wish =
-      move_of (if is_some k.pending.waiting && not (ends_by asked.stand wish) then quiet part (stays shut) else turn_wished asked part k (deed_of asked part library command) wish).said
+      move_of (if is_some k.pending.waiting && not (ends_by asked.stand wish) then quiet (stays shut) else turn_wished asked k (deed_of asked part library command) wish).said
       ≡ Wait names
 
   wish_moves : (name : Name) (stand : Stand) (command : Command) (wish : Option Wish) → k.pending.waiting ≡ Some named
@@ -71,6 +73,12 @@ waiter_moves part library ks (Connect number) k named names e w m = (let n = rw 
 waiter_moves part library ks (Disconnect number) k named names e w m = cc
 waiter_moves part library ks ScanQuestion k named names e w m = cc
 waiter_moves part library ks (ScanResult songs) k named names e w m = cc
+waiter_moves part library ks (Want owes) k named names e w m = cc
+waiter_moves part library ks (Have number frames) k named names e w m = cc
+waiter_moves part library ks (Failed number partner) k named names e w m = cc
+waiter_moves part library ks (OutputTurn output written discarded failed) k named names e w m =
+    elim (is_output part.outputs output) as (λ b. move_of (if b then acts (Settles output written discarded failed) else quiet unspoken).said ≡ Wait names → ⊥)
+    [ true ↦ λ h. cc | false ↦ λ h. cc ] m
 waiter_moves part library ks (Line number stand request) k named names e w m = line_moves part library k named names stand request w (rw e at m)
 
 -- an event of another speaker is of another client, or of no client: then nothing is said
@@ -81,6 +89,11 @@ is_other_speaker part library ks (Disconnect c) number ne = inl (ne_eqb number c
 is_other_speaker part library ks (Line c stand request) number ne = inl (ne_eqb number c (λ e. ne (ap Some (sym e))))
 is_other_speaker part library ks ScanQuestion number ne = inr refl
 is_other_speaker part library ks (ScanResult songs) number ne = inr refl
+is_other_speaker part library ks (Want owes) number ne = inr refl
+is_other_speaker part library ks (Have job frames) number ne = inr refl
+is_other_speaker part library ks (Failed job partner) number ne = inr refl
+is_other_speaker part library ks (OutputTurn output written discarded failed) number ne =
+    inr (elim (is_output part.outputs output) as (λ b. (if b then acts (Settles output written discarded failed) else quiet unspoken).said ≡ unspoken) [ true ↦ refl | false ↦ refl ])
 
 module _ (n : ℕ) (r : Subsystems) where
   -- what of a client's named set changed

@@ -9,9 +9,7 @@ use Rattle.idle_notes.specs.Sets.{none, union, meet, is_nonempty}
 use Rattle.idle_notes.specs.Notes.{fresh, noted, waits, cancelled, due, settled, notice_of}
 use Rattle.partition.specs.declared.state.Library.{Library}
 use Rattle.song_queue.proofs.Same.{same_queue-refl}
-use Rattle.song_queue.specs.State.{queue_of, differ}
-use Rattle.song_queue.specs.declared.edit.Edit.{Edit}
-use Rattle.song_queue.specs.Entries.{same_queue}
+use Rattle.song_queue.specs.State.{queue_of}
 use Rattle.mpd_command.specs.declared.request.Request.TheVariants.{Run}
 use Rattle.partition.specs.declared.event.Asked.{Asked}
 use Rattle.partition.specs.declared.event.Event.{Event}
@@ -22,19 +20,22 @@ use Rattle.partition.specs.declared.event.Move.TheVariants.{Stay, Wait, Learn, R
 use Rattle.partition.specs.declared.state.Client.{Client}
 use Rattle.partition.specs.declared.state.Part.{Part}
 use Rattle.partition.specs.Answers.{Said, shut, stays}
-use Rattle.partition.specs.Clients.{notified, notice_for, notice_to, is_other, at, joined, moved, staying, move_of, clients_after, Rising}
+use Rattle.partition.specs.Clients.{notified, notice_for, notice_to, is_other, at, joined, moved, staying, move_of, clients_after, options, playing, Rising}
 use Rattle.partition.specs.Commands.Status.{Wish, idles}
 use Rattle.partition.specs.History.{replay}
+use Rattle.partition.specs.declared.doing.Doing.{Doing}
+use Rattle.partition.specs.declared.doing.Doing.TheVariants.{Rests}
+use Rattle.partition.specs.declared.report.Report.{Report}
+use Rattle.partition.specs.declared.report.Report.TheVariants.{Nothing}
 use Rattle.partition.specs.declared.scan.ScanMove.{ScanMove}
 use Rattle.partition.specs.declared.scan.ScanMove.TheVariants.{Stay as StayScan}
-use Rattle.partition.specs.Scans.{scan_after}
-use Rattle.partition.specs.Clients.{same_songs}
 use Rattle.partition.proofs.Songs.{same_songs-refl}
-use Rattle.partition.specs.Image.{Image, Turn, client_of, songs_after, state_after}
+use Rattle.partition.specs.Image.{Image, Turn, client_of}
 use Rattle.partition.specs.Notices.{IsIn}
 use Rattle.partition.specs.Rooms.{is_waiting}
 use Rattle.partition.specs.Settled.{IsSettled, AllSettled, most_notices}
 use Rattle.partition.specs.Step.{turn, turn_of, turn_line, turn_wished, deed_of, ends_by, quiet, mover, raised_by, next_image}
+use Rattle.partition.proofs.Alike.{same_enabled-refl, same_options-refl, same_playing-refl}
 use Rattle.partition.proofs.Asking.{quiet_unwaiting, IsAsking, kind_of, turn_idle}
 use Rattle.partition.proofs.Raised.{differ-self}
 use Rattle.partition.proofs.Rises.{rising_after}
@@ -60,19 +61,26 @@ union_none s = λ i. record {
   message = or_false s.message i;
 }
 
--- what leaves the queue, the controls and the scans as they are raises nothing
-pub same_raises : (part : Part) (library : Library) (t : Turn) → t.scan ≡ StayScan → t.edit ≡ None → t.controls.volume ≡ part.controls.volume → t.controls.modes.repeat ≡ part.controls.modes.repeat
-    → raised_by part library t ≡ none
-same_raises part library t scan edit volume repeat = λ i. record none {
-  database = (ap (λ (m : ScanMove). not (same_songs library.songs (songs_after library m))) scan ∙ ap not (same_songs-refl library.songs)) i;
-  update = (ap (λ (m : ScanMove). differ library.scan.runs (scan_after library.scan m).runs) scan ∙ differ-self library.scan.runs) i;
-  playlist = (ap (λ (e : Option Edit). not (same_queue (queue_of part.queue) (queue_of (state_after part.queue e)))) edit ∙ ap not (same_queue-refl (queue_of part.queue))) i;
-  mixer = not (eq-eqb part.controls.volume t.controls.volume (sym volume) i);
-  options = (ap (differ part.controls.modes.repeat) repeat ∙ differ-self part.controls.modes.repeat) i;
+rest_raises : (part : Part) (library : Library) (said : Said) (report : Report) → raised_by part library (record { doing = Rests; scan = StayScan; said = said; report = report }) ≡ none
+rest_raises part library said report = λ i. record none {
+  database = not (same_songs-refl library.songs i);
+  update = differ-self library.scan.runs i;
+  playlist = not (same_queue-refl (queue_of part.queue) i);
+  player = not (same_playing-refl (playing part.player) i);
+  mixer = not (eq-eqb part.volume part.volume refl i);
+  output = not (same_enabled-refl part.outputs.enabled i);
+  options = not (same_options-refl (options part.player) i);
 }
 
-pub quiet_raises : (part : Part) (library : Library) (said : Said) → raised_by part library (quiet part said) ≡ none
-quiet_raises part library said = same_raises part library (quiet part said) refl refl refl refl
+-- what leaves the part and the scans as they are raises nothing
+pub same_raises : (part : Part) (library : Library) (t : Turn) → t.scan ≡ StayScan → t.doing ≡ Rests → raised_by part library t ≡ none
+same_raises part library t scan doing =
+    ap (λ (d : Doing). raised_by part library (record t { doing = d })) doing
+    ∙ ap (λ (m : ScanMove). raised_by part library (record t { doing = Rests; scan = m })) scan
+    ∙ rest_raises part library t.said t.report
+
+pub quiet_raises : (part : Part) (library : Library) (said : Said) → raised_by part library (quiet said) ≡ none
+quiet_raises part library said = rest_raises part library said Nothing
 
 -- a client that heard is settled
 notified_settled : (r : Subsystems) (k : Client) → IsSettled (notified r k)
@@ -155,18 +163,18 @@ module _ (part : Part) (library : Library) (ks : List Client) (event : Event) (r
   abbrev asked_by : IsAsking ks event → Asked
   asked_by a = record { name = a.name; stand = Alone }
 
-  idle_is : (a : IsAsking ks event) → t ≡ turn_idle part a.client a.named
+  idle_is : (a : IsAsking ks event) → t ≡ turn_idle a.client a.named
   idle_is a =
       ap (turn_of part library ks) a.is
       ∙ ap (λ (o : Option Client). turn_line part library o Alone (Run a.name a.command)) a.found
-      ∙ ap (λ (o : Option Wish). if is_some a.client.pending.waiting && not (ends_by Alone o) then quiet part (stays shut) else turn_wished (asked_by a) part a.client (deed_of (asked_by a) part library a.command) o) a.wish
-      ∙ ap (λ (w : Option Subsystems). if is_some w && true then quiet part (stays shut) else turn_idle part a.client a.named) a.free
+      ∙ ap (λ (o : Option Wish). if is_some a.client.pending.waiting && not (ends_by Alone o) then quiet (stays shut) else turn_wished (asked_by a) a.client (deed_of (asked_by a) part library a.command) o) a.wish
+      ∙ ap (λ (w : Option Subsystems). if is_some w && true then quiet (stays shut) else turn_idle a.client a.named) a.free
 
   -- a client waits only where nothing of what it names is pending for it
   asked : (a : IsAsking ks event) (names : Subsystems) → move_of t.said ≡ Wait names → Waiting (mover event) names t
   asked a names moves =
       let d : Subsystems = meet a.client.pending.changed a.named in
-      let answers : Bool → Turn = λ b. quiet part (idles a.named (if b then Some d else None)) in
+      let answers : Bool → Turn = λ b. quiet (idles a.named (if b then Some d else None)) in
       let cases : (b : Bool) → is_nonempty d ≡ b → t ≡ answers b → Waiting (mover event) names t =
       λ b. elim b as (λ b. is_nonempty d ≡ b → t ≡ answers b → Waiting (mover event) names t) [
         | true ↦ λ e is. (let clash : Learn ≡ Wait names = sym (ap (λ (u : Turn). move_of u.said) is) ∙ moves in cc)
@@ -263,9 +271,11 @@ fewer_wanted raised number ks =
     elim (is_nonempty raised) as (λ b. (if b then count_by is_waiting (filter (is_other number) ks) else 0) ≤ (if b then count_by is_waiting ks else 0))
     [ true ↦ less | false ↦ omega arith ]
 
--- no more notices than clients that wait, and none where nothing is raised
-pub no_room : (part : Part) (library : Library) (t : Turn) (ks : List Client) (may : Bool) → (may ≡ false → raised_by part library t ≡ none)
-    → most_notices (raised_by part library t) ks ≤ (if may then count_by is_waiting ks else 0)
-no_room part library t ks true raises =
-    elim (is_nonempty (raised_by part library t)) as (λ b. (if b then count_by is_waiting ks else 0) ≤ count_by is_waiting ks) [ true ↦ omega arith | false ↦ omega arith ]
-no_room part library t ks false raises = subst (λ (r : Subsystems). most_notices r ks ≤ 0) (sym (raises refl)) (omega arith)
+-- no more notices than clients that wait
+pub few_notices : (raised : Subsystems) (ks : List Client) → most_notices raised ks ≤ count_by is_waiting ks
+few_notices raised ks =
+    elim (is_nonempty raised) as (λ b. (if b then count_by is_waiting ks else 0) ≤ count_by is_waiting ks) [ true ↦ omega arith | false ↦ omega arith ]
+
+-- and none where nothing is raised
+pub none_noticed : (raised : Subsystems) (ks : List Client) → raised ≡ none → most_notices raised ks ≤ 0
+none_noticed raised ks e = subst (λ (r : Subsystems). most_notices r ks ≤ 0) (sym e) (omega arith)

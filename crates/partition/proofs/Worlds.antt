@@ -7,24 +7,27 @@ use Rattle.idle_notes.specs.declared.sets.Subsystems.{Subsystems}
 use Rattle.idle_notes.specs.Sets.{none, union}
 use Rattle.partition.specs.declared.state.Library.{Library}
 use Rattle.song_queue.specs.declared.entry.Entry.{Entry}
-use Rattle.song_queue.specs.declared.edit.Edit.{Edit}
-use Rattle.song_queue.specs.Laws.{queue_after}
-use Rattle.song_queue.specs.Past.{present, state_of}
+use Rattle.song_queue.specs.Laws as queues
+use Rattle.song_queue.specs.Past.{greatest_id, greatest_in, present, state_of}
 use Rattle.song_queue.specs.State.{QueueState, queue_of}
 use Rattle.song_queue.proofs.Ids.{pasts_keep_queues}
-use Rattle.song_queue.proofs.Runs.{length-after_event, after_edit}
+use Rattle.song_queue.proofs.Runs.{length-after_event, after_edit, edited-at_end, greatest_in-present}
 use Rattle.partition.specs.declared.event.Event.{Event}
 use Rattle.partition.specs.declared.event.Happened.{Happened}
 use Rattle.partition.specs.declared.state.Client.{Client}
-use Rattle.partition.specs.declared.state.Controls.{Controls}
+use Rattle.partition.specs.declared.state.Part.{Part}
+use Rattle.partition.specs.declared.state.Setup.{Setup}
 use Rattle.partition.specs.declared.state.Limits.{Limits}
-use Rattle.partition.specs.Clients.{raised, notified, closes, Rising}
+use Rattle.partition.specs.Clients.{Parts, raised, notified, closes, Rising}
 use Rattle.partition.specs.History.{made_of, replay}
-use Rattle.partition.specs.Image.{Image, Turn, client_of, library_after, state_after, first_controls, opening}
+use Rattle.partition.specs.Outputs.{FrameBooks, books_after, decoded_by, discarded_by, grown, written_by}
+use Rattle.partition.specs.Doings.{Change, ByEdit, ByStep, change_of, outputs_after, part_after, player_after, queue_after, volume_after}
+use Rattle.partition.specs.Image.{Image, Turn, client_of, library_after, opening}
 use Rattle.partition.specs.Legal.{ReplaysWorlds}
-use Rattle.partition.specs.Step.{turn, mover, raised_by, after_turn, told_by, next_image}
-use Rattle.partition.specs.World.{Listener, Moment, Life, raised_at, is_there, begins_anew, pending_for, client_in, listener_of, image_of, past_after, world_after_turn, lived, life_after_event, life_from, opening_life}
+use Rattle.partition.specs.Step.{turn, mover, raised_by, report_of, after_turn, told_by, next_image}
+use Rattle.partition.specs.World.{Listener, Moment, Life, raised_at, is_there, begins_anew, parts_in, pending_for, client_in, listener_of, books_of, image_of, past_after, world_after_turn, lived, life_after_event, life_from, opening_life}
 use Rattle.partition.proofs.Counts.{made_of-more}
+use Rattle.partition.proofs.Frames.{Keeps, keeps}
 use Rattle.partition.proofs.Notified.{Each, flagged, all_stand}
 use Rattle.partition.proofs.Pending.{pending_more}
 use Rattle.partition.proofs.Rises.{rising_after}
@@ -32,24 +35,32 @@ use Rattle.partition.proofs.Rises.{rising_after}
 abbrev state_at : Limits → List (List Entry) → QueueState
 state_at limits past = state_of limits.max_queue limits.max_version limits.max_id past
 
-pub some_past : (past : List (List Entry)) (edit : Option Edit) → 0 < length past → 0 < length (past_after past edit)
-some_past past None some = some
-some_past past (Some edit) some = length-after_event past (queue_after past edit) some
+pub some_past : (past : List (List Entry)) (change : Change) → 0 < length past → 0 < length (past_after past change)
+some_past past (ByEdit edit) some = length-after_event past (queues.queue_after past edit) some
+some_past past (ByStep None) some = some
+some_past past (ByStep (Some left)) some = length-after_event past left some
 
-follows : (limits : Limits) (past : List (List Entry)) (edit : Option Edit) → 1 ≤ limits.max_version → 0 < length past
-    → state_at limits (past_after past edit) ≡ state_after (state_at limits past) edit
-follows limits past None above some = refl
-follows limits past (Some edit) above some = sym (after_edit limits.max_queue limits.max_version limits.max_id (omega arith) past edit some)
+shows : (limits : Limits) (past : List (List Entry)) → present past ≡ queue_of (state_at limits past)
+shows limits past = sym (pasts_keep_queues.shows limits.max_queue limits.max_version limits.max_id past)
+
+follows : (limits : Limits) (past : List (List Entry)) (change : Change) → 1 ≤ limits.max_version → 0 < length past → Keeps (queue_of (state_at limits past)) change
+    → state_at limits (past_after past change) ≡ queue_after (state_at limits past) change
+follows limits past (ByEdit edit) above some kept = sym (after_edit limits.max_queue limits.max_version limits.max_id (omega arith) past edit some)
+follows limits past (ByStep None) above some kept = refl
+follows limits past (ByStep (Some left)) above some kept =
+    let same : greatest_in (queue_of (state_at limits past)) ≡ greatest_in (present past) = ap greatest_in (sym (shows limits past)) in
+    let low : greatest_in (present past) ≤ greatest_id past = greatest_in-present past in
+    sym (edited-at_end limits.max_queue limits.max_version limits.max_id (omega arith) past left some (omega (arith, kept, same, low)))
 
 -- what an event raised by the worlds is what its turn raises
-pub same_raised : (limits : Limits) (past : List (List Entry)) (was found : Library) (before after : Controls) (edit : Option Edit) → 1 ≤ limits.max_version → 0 < length past
-    → raised (record { library = was; queue = present past; controls = before }) (record { library = found; queue = present (past_after past edit); controls = after })
-    ≡ raised (record { library = was; queue = queue_of (state_at limits past); controls = before }) (record { library = found; queue = queue_of (state_after (state_at limits past) edit); controls = after })
-same_raised limits past was found before after edit above some =
-    let shows : (p : List (List Entry)) → present p ≡ queue_of (state_at limits p) = λ p. sym (pasts_keep_queues.shows limits.max_queue limits.max_version limits.max_id p) in
-    ap (λ (q : List Entry). raised (record { library = was; queue = q; controls = before }) (record { library = found; queue = present (past_after past edit); controls = after })) (shows past)
-    ∙ ap (λ (q : List Entry). raised (record { library = was; queue = queue_of (state_at limits past); controls = before }) (record { library = found; queue = q; controls = after }))
-    (shows (past_after past edit) ∙ ap queue_of (follows limits past edit above some))
+pub same_raised : (limits : Limits) (past : List (List Entry)) (change : Change) (before after : Parts) → 1 ≤ limits.max_version → 0 < length past
+    → Keeps (queue_of (state_at limits past)) change
+    → raised (record before { queue = present past }) (record after { queue = present (past_after past change) })
+    ≡ raised (record before { queue = queue_of (state_at limits past) }) (record after { queue = queue_of (queue_after (state_at limits past) change) })
+same_raised limits past change before after above some kept =
+    ap (λ (q : List Entry). raised (record before { queue = q }) (record after { queue = present (past_after past change) })) (shows limits past)
+    ∙ ap (λ (q : List Entry). raised (record before { queue = queue_of (state_at limits past) }) (record after { queue = q }))
+    (shows limits (past_after past change) ∙ ap queue_of (follows limits past change above some kept))
 
 same_first : (n : ℕ) → (n == n) ≡ true
 same_first n = grind (arith, nat_tests)
@@ -106,10 +117,16 @@ module _ (life : Life) (done : List Happened) (event : Event) (above : 1 ≤ lif
   r = raised_by i.part i.shared.library t
 
   abbrev m : Moment
-  m = record { before = life.world; event = event; turn = t; notices = (told_by i event t).notices; after = world_after_turn life.world i event t }
+  m = record { before = life.world; event = event; turn = t; notices = (told_by i event t).notices; report = report_of i.part i.shared.library t; after = world_after_turn life.world i event t }
+
+  abbrev rate : ℕ
+  rate = life.world.library.rate
+
+  abbrev change : Change
+  change = change_of rate i.part t.doing
 
   is_raised : raised_at m ≡ r
-  is_raised = same_raised life.world.limits life.world.past life.world.library (library_after life.world.library t.scan) life.world.controls t.controls t.edit above some
+  is_raised = same_raised life.world.limits life.world.past change (parts_in m.before) (parts_in m.after) above some (keeps rate i.part t.doing)
 
   grows : (n : ℕ) → pending_for n (m ∷ life.moments) ≡ (if begins_anew n m then none else union (pending_for n life.moments) r)
   grows n =
@@ -128,13 +145,18 @@ module _ (life : Life) (done : List Happened) (event : Event) (above : 1 ≤ lif
   unfolding next_image
   image_of-step h same =
       let all : List Client → QueueState → List ℕ → Image = λ k q made. record {
-        part = record { queue = q; controls = t.controls };
-        shared = record { library = library_after life.world.library t.scan; made = made };
+        part = record {
+          queue = q;
+          player = player_after rate i.part t.doing;
+          volume = volume_after life.world.volume t.doing;
+          outputs = outputs_after life.world.outputs t.doing;
+        };
+        shared = record { library = library_after life.world.library t.scan; made = made; books = books_of (m ∷ life.moments) };
         clients = k;
       } in
-      ap (λ k. all k (state_at life.world.limits (past_after life.world.past t.edit)) (made_of (done ++ h ∷ []))) clients_stand
-      ∙ ap (λ q. all (after_turn i event t).clients q (made_of (done ++ h ∷ []))) (follows life.world.limits life.world.past t.edit above some)
-      ∙ ap (all (after_turn i event t).clients (state_after i.part.queue t.edit)) (sym (made_of-more done h))
+      ap (λ k. all k (state_at life.world.limits (past_after life.world.past change)) (made_of (done ++ h ∷ []))) clients_stand
+      ∙ ap (λ q. all (after_turn i event t).clients q (made_of (done ++ h ∷ []))) (follows life.world.limits life.world.past change above some (keeps rate i.part t.doing))
+      ∙ ap (all (after_turn i event t).clients (queue_after i.part.queue change)) (sym (made_of-more done h))
 
   pub rising-step : (h : Happened) → Rising (image_of (lived life i event t) (done ++ h ∷ [])).clients
   rising-step h = subst Rising (sym clients_stand) (rising_after (mover event) r t.said i.clients rising)
@@ -144,8 +166,8 @@ from : (life : Life) (done hs : List Happened) → 1 ≤ life.world.limits.max_v
 from life done [] above some rising =
     (ap (image_of life) (sym (append-nil done)), subst (λ (l : List Happened). Rising (image_of life l).clients) (sym (append-nil done)) rising)
 from life done (h ∷ hs) above some rising =
-    let t : Turn = turn (image_of life done) h.event in
-    let rest = from (life_after_event done life h.event) (done ++ h ∷ []) hs above (some_past life.world.past t.edit some)
+    let i : Image = image_of life done in
+    let rest = from (life_after_event done life h.event) (done ++ h ∷ []) hs above (some_past life.world.past (change_of i.shared.library.rate i.part (turn i h.event).doing) some)
     (rising-step life done h.event above some rising h) in
     let joined : image_of (life_from (done ++ h ∷ []) (life_after_event done life h.event) hs) ((done ++ h ∷ []) ++ hs) ≡ image_of (life_from (done ++ h ∷ []) (life_after_event done life h.event) hs) (done ++ h ∷ hs) =
     ap (image_of (life_from (done ++ h ∷ []) (life_after_event done life h.event) hs)) (append_assoc done (h ∷ []) hs) in (
@@ -153,20 +175,21 @@ from life done (h ∷ hs) above some rising =
       subst (λ (i : Image). Rising i.clients) joined rest.1,
     )
 
-pub opens : (limits : Limits) (library : Library) → 1 ≤ limits.max_version → opening limits library ≡ image_of (opening_life limits library) []
-opens limits library above =
+pub opens : (setup : Setup) (library : Library) → 1 ≤ setup.limits.max_version → opening setup library ≡ image_of (opening_life (opening setup library)) []
+opens setup library above =
+    let limits : Limits = setup.limits in
+    let base : Image = opening setup library in
     let zeroth : 1 ≡ 0 % limits.max_version + 1 = ap (λ n. n + 1) (sym (mod-eq_of_lt (let h : 0 < limits.max_version = omega arith in h))) in
     ap (λ (v : ℕ). record {
-      part = record {
+      part = record base.part {
         queue = record { slots = []; version = v; greatest_id = 0; max_len = limits.max_queue; max_version = limits.max_version; max_id = limits.max_id; parity = false };
-        controls = first_controls;
       };
-      shared = record { library = library; made = made_of [] };
+      shared = record { library = library; made = made_of []; books = books_of [] };
       clients = [];
     }) zeroth
 
 -- over every history
 pub replays_worlds : ReplaysWorlds
-replays_worlds limits library history above =
-    let rest = from (opening_life limits library) [] history above (omega arith) tt in
-    (ap (λ (i : Image). replay i history) (opens limits library above) ∙ rest.0, rest.1)
+replays_worlds setup library history above =
+    let rest = from (opening_life (opening setup library)) [] history above (omega arith) tt in
+    (ap (λ (i : Image). replay i history) (opens setup library above) ∙ rest.0, rest.1)

@@ -10,7 +10,7 @@ use Rattle.partition.specs.declared.event.Move.TheVariants.{Stay}
 use Rattle.partition.specs.declared.event.Next.{Next}
 use Rattle.partition.specs.declared.event.Next.TheVariants.{Goes, Closes}
 use Rattle.partition.specs.declared.event.Notice.{Notice}
-use Rattle.partition.specs.declared.scan.Report.{Report}
+use Rattle.partition.specs.declared.report.Report.{Report}
 use Rattle.partition.specs.declared.event.Stand.{Stand}
 use Rattle.partition.specs.declared.event.Stand.TheVariants.{Alone, InList}
 

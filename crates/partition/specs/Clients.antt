@@ -1,6 +1,8 @@
 -- Who is told of what changed, and what becomes of the clients (MPD protocol reference, Querying MPD's status, `idle`).
-use Rattle.std.specs.Prelude.{ℕ, ◌<◌, ◌==◌, nat_eq, nat_lt, Bool, true, false, not, List, [], ◌∷◌, Option, Some, None, is_some, map, filter, insert, if◌then◌else◌}
+use Rattle.std.specs.Prelude.{ℕ, ◌+◌, ◌<◌, ◌==◌, nat_eq, nat_lt, Bool, true, false, not, ◌&&◌, List, [], ◌∷◌, Option, Some, None, is_some, map, filter, insert, if◌then◌else◌}
+use Rattle.std.specs.Bool.{beq}
 use Rattle.std.specs.List.{flat_map, position_or_len}
+use Rattle.std.specs.Str.{bytes_eq}
 use lib.Pointwise.{pointwise}
 use Rattle.mpd_text.specs.Songs.Song.{SongData}
 use Rattle.idle_notes.specs.declared.pending.Pending.{Pending}
@@ -10,39 +12,108 @@ use Rattle.idle_notes.specs.Notes.{fresh, noted, waits, cancelled, notice_of, se
 use Rattle.song_queue.specs.declared.entry.Entry.{Entry}
 use Rattle.song_queue.specs.Entries.{same_queue, same_song}
 use Rattle.song_queue.specs.State.{queue_of, differ}
+use Rattle.play_order.specs.declared.modes.Single.{Single}
+use Rattle.play_order.specs.declared.modes.Single.TheVariants as single_mode
+use Rattle.play_order.specs.declared.modes.Consume.{Consume}
+use Rattle.play_order.specs.declared.modes.Consume.TheVariants as consume_mode
+use Rattle.player_core.specs.declared.state.Playback.{Playback}
+use Rattle.player_core.specs.declared.state.Playback.TheVariants.{Stop, Play, Pause}
+use Rattle.player_core.specs.Player.{PlayerState}
 use Rattle.partition.specs.declared.event.Move.{Move}
 use Rattle.partition.specs.declared.event.Move.TheVariants.{Stay, Wait, Learn, Resume, Join}
 use Rattle.partition.specs.declared.event.Next.{Next}
 use Rattle.partition.specs.declared.event.Next.TheVariants.{Goes, Waits, Closes}
 use Rattle.partition.specs.declared.event.Notice.{Notice}
 use Rattle.partition.specs.declared.state.Client.{Client}
-use Rattle.partition.specs.declared.state.Controls.{Controls}
 use Rattle.partition.specs.declared.state.Library.{Library}
 use Rattle.partition.specs.declared.state.Part.{Part}
 use Rattle.partition.specs.Answers.{Said}
+use Rattle.partition.specs.declared.signs.Options.{Options}
 use Rattle.partition.specs.Image.{client_of}
+use Rattle.partition.specs.Outputs.{OutputsData}
 
 -- the parts of a player that its subsystems speak of
 pub record Parts : Type 0 where
   pub library : Library
   pub queue : List Entry
-  pub controls : Controls
+  pub player : PlayerState
+  pub volume : ℕ
+  pub outputs : OutputsData
 
 abbrev pub parts_of : Part → Library → Parts
-parts_of part library = record { library = library; queue = queue_of part.queue; controls = part.controls }
+parts_of part library = record { library = library; queue = queue_of part.queue; player = part.player; volume = part.volume; outputs = part.outputs }
+
+-- numbers by which states and modes are compared
+abbrev pub playback_number : Playback → ℕ
+playback_number Stop = 0
+playback_number Play = 1
+playback_number Pause = 2
+
+abbrev pub single_number : Single → ℕ
+single_number single_mode.Off = 0
+single_number single_mode.On = 1
+single_number single_mode.Oneshot = 2
+
+abbrev pub consume_number : Consume → ℕ
+consume_number consume_mode.Off = 0
+consume_number consume_mode.On = 1
+consume_number consume_mode.Oneshot = 2
+
+abbrev pub id_number : Option ℕ → ℕ
+id_number None = 0
+id_number (Some id) = id + 1
+
+abbrev pub same_error : Option (List ℕ) → Option (List ℕ) → Bool
+same_error None None = true
+same_error None (Some b) = false
+same_error (Some a) None = false
+same_error (Some a) (Some b) = bytes_eq a b
+
+-- the part of the player that `player` speaks of: the state, the current song, the starts, the cuts, the error
+pub record Playing : Type 0 where
+  pub playback : Playback
+  pub current : Option ℕ
+  pub starts : ℕ
+  pub cuts : ℕ
+  pub error : Option (List ℕ)
+
+abbrev pub playing : PlayerState → Playing
+playing p = record { playback = p.playback; current = p.current; starts = p.starts; cuts = p.cuts; error = p.error }
+
+abbrev pub same_playing : Playing → Playing → Bool
+same_playing p q =
+    nat_eq (playback_number p.playback) (playback_number q.playback) && (nat_eq (id_number p.current) (id_number q.current)
+    && (nat_eq p.starts q.starts && (nat_eq p.cuts q.cuts && same_error p.error q.error)))
+
+-- the part that `options` speaks of: the modes, and the seconds of a fade
+abbrev pub options : PlayerState → Options
+options p = record { modes = p.modes; crossfade = p.crossfade }
+
+abbrev pub same_options : Options → Options → Bool
+same_options p q =
+    beq p.modes.repeat q.modes.repeat && (beq p.modes.random q.modes.random
+    && (nat_eq (single_number p.modes.single) (single_number q.modes.single)
+    && (nat_eq (consume_number p.modes.consume) (consume_number q.modes.consume) && nat_eq p.crossfade q.crossfade)))
+
+-- whether the same outputs are enabled
+unfoldable pub same_enabled : List Bool → List Bool → Bool
+same_enabled = pointwise beq
 
 -- whether two libraries have the same songs
 unfoldable pub same_songs : List SongData → List SongData → Bool
 same_songs = pointwise same_song
 
--- the subsystems whose parts differ before and after an event: the songs, whether a scan runs, the queue, the volume, the modes
+-- the subsystems whose parts differ before and after an event: the songs, whether a scan runs, the queue, what is played, the
+-- volume, which outputs are enabled, the modes and the seconds of a fade
 abbrev pub raised : Parts → Parts → Subsystems
 raised before after = record none {
   database = not (same_songs before.library.songs after.library.songs);
   update = differ before.library.scan.runs after.library.scan.runs;
   playlist = not (same_queue before.queue after.queue);
-  mixer = not (nat_eq before.controls.volume after.controls.volume);
-  options = differ before.controls.modes.repeat after.controls.modes.repeat;
+  player = not (same_playing (playing before.player) (playing after.player));
+  mixer = not (nat_eq before.volume after.volume);
+  output = not (same_enabled before.outputs.enabled after.outputs.enabled);
+  options = not (same_options (options before.player) (options after.player));
 }
 
 abbrev pub is_other : ℕ → Client → Bool

@@ -2,6 +2,8 @@
 pub mod Deeds
 pub mod Connection
 pub mod Options
+pub mod Playback
+pub mod Devices
 pub mod Queue
 pub mod Library
 pub mod Status

@@ -6,30 +6,28 @@ use Rattle.song_queue.specs.State.{queue_of}
 use Rattle.partition.specs.declared.event.Happened.{Happened}
 use Rattle.partition.specs.declared.state.Client.{Client}
 use Rattle.partition.specs.declared.state.Library.{Library}
-use Rattle.partition.specs.declared.state.Limits.{Limits}
+use Rattle.partition.specs.declared.state.Setup.{Setup}
 use Rattle.partition.specs.Clients.{Rising}
 use Rattle.partition.specs.History.{Chronicle, replay, AreTold}
-use Rattle.partition.specs.Image.{Image, opening}
+use Rattle.partition.specs.Image.{opening}
 use Rattle.partition.specs.Notices.{Raises, Tells, EachMoment, AreHeard}
 use Rattle.partition.specs.World.{Life, Moment, IsPending, pending_for, image_of, life_after}
 
-abbrev pub limits_of : Image → Limits
-limits_of i = record { max_queue = i.part.queue.max_len; max_version = i.part.queue.max_version; max_id = i.part.queue.max_id }
-
 -- the life of the player of one thread that a history tells
 abbrev pub life_of : Chronicle → Life
-life_of c = life_after (limits_of c.base) c.base.shared.library c.window
+life_of c = life_after c.base c.window
 
 -- the flags of a client are its pending set by the moments
 abbrev pub HasPending : List Moment → Client → Type 0
 HasPending moments client = (subsystem : Subsystem) → (has client.pending.changed subsystem ≡ true) ↔ IsPending client.number subsystem moments
 
--- The player was opened with some limits and songs; the present state is what can be read of the life after its
--- history, so each slot's stamp and mark are those of all past queues; each client's flags are its pending set; each moment
+-- The player was opened with some settings and songs; the present state is what can be read of the life after its
+-- history, so each slot's stamp and mark are those of all past queues, and each output's frames are summed over all events; each client's flags are its pending set; each moment
 -- raised what differs between its worlds, and told whom it had to tell; each reply was the one of its place, and what was told
 -- with it is what its moment tells; ids are distinct; clients are in the order of their numbers.
 pub record IsPast (c : Chronicle) : Type 0 where
-  pub opened : c.base ≡ opening (limits_of c.base) c.base.shared.library
+  pub setup : Setup
+  pub opened : c.base ≡ opening setup c.base.shared.library
   pub world : c.present ≡ image_of (life_of c) c.window
   pub pending : All (HasPending (life_of c).moments) c.present.clients
   pub raises : EachMoment (λ moment earlier. Raises moment) (life_of c).moments
@@ -42,8 +40,9 @@ pub record IsPast (c : Chronicle) : Type 0 where
 -- the images of the lives after a history, which remember every queue and every moment, are the replay's images, and their
 -- clients are in the order of their numbers
 abbrev pub ReplaysWorlds : Type 0
-ReplaysWorlds = (limits : Limits) (library : Library) (history : List Happened) → 1 ≤ limits.max_version
-    → (replay (opening limits library) history ≡ image_of (life_after limits library history) history) × Rising (image_of (life_after limits library history) history).clients
+ReplaysWorlds = (setup : Setup) (library : Library) (history : List Happened) → 1 ≤ setup.limits.max_version
+    → (replay (opening setup library) history ≡ image_of (life_after (opening setup library) history) history)
+    × Rising (image_of (life_after (opening setup library) history) history).clients
 
 -- what commands read as pending for a client is what is pending by the moments
 abbrev pub ReadsPending : Type 0

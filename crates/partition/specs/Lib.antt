@@ -1,5 +1,8 @@
 pub mod Answers
 pub mod Scans
+pub mod Outputs
+pub mod Doings
+pub mod Books
 pub mod Image
 pub mod Plans
 pub mod Clients
@@ -7,6 +10,8 @@ pub mod Rooms
 pub mod Commands
 pub mod Shown
 pub mod Step
+pub mod Signs
+pub mod Refusals
 pub mod Settled
 pub mod History
 pub mod World

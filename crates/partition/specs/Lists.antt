@@ -1,6 +1,7 @@
 -- Command lists (MPD protocol reference, Command lists; that each command is an event of its own is this profile's).
-use Rattle.std.specs.Prelude.{◌≡◌, ℕ, ◌+◌, ◌-◌, ◌<◌, ◌≤◌, ◌^◌, ◌↔◌, Bool, true, false, ◌||◌, List, [], ◌∷◌, ◌++◌, length, map, take, codes, slice_index_or, if◌then◌else◌}
+use Rattle.std.specs.Prelude.{◌≡◌, ◌⊎◌, ℕ, ◌+◌, ◌<◌, Bool, true, false, ◌||◌, List, [], ◌∷◌, ◌++◌, length, map, take, codes, slice_get, slice_index_or, Option, Some, None, if◌then◌else◌}
 use Rattle.std.specs.List.{flat_map, list_any}
+use Rattle.std.specs.Option.{ForSome}
 use Rattle.command_lists.specs.declared.word.ListForm.{ListForm}
 use Rattle.mpd_command.specs.Requests.{name_in}
 use Rattle.mpd_command.specs.declared.request.Request.{Request}
@@ -10,12 +11,14 @@ use Rattle.partition.specs.declared.event.Event.TheVariants.{Line}
 use Rattle.partition.specs.declared.event.Happened.{Happened}
 use Rattle.partition.specs.declared.event.Stand.TheVariants.{InList}
 use Rattle.partition.specs.declared.partition.PartitionFault.{PartitionFault}
-use Rattle.partition.specs.declared.partition.PartitionFault.TheVariants.{AtLimit, NoMemory}
+use Rattle.partition.specs.declared.partition.PartitionFault.TheVariants.{CutsAtLimit, AtLimit, NoMemory}
+use Rattle.player_core.specs.declared.fault.PlayerFault.{PlayerFault}
+use Rattle.player_core.specs.declared.fault.PlayerFault.TheVariants as player_fault
 use Rattle.partition.specs.Answers.{Told}
 use Rattle.partition.specs.Clients.{closes}
 use Rattle.partition.specs.History.{Chronicle, replay, AreTold}
 use Rattle.partition.specs.Image.{Image}
-use Rattle.partition.specs.Step.{next_image, told}
+use Rattle.partition.specs.Step.{limit_of, next_image, told}
 
 -- a list ends at its first refusal, and where its client is closed
 abbrev pub ends_list : Told → Bool
@@ -55,8 +58,14 @@ abbrev pub list_text : List Told → List ℕ
 list_text tolds = text_with (codes "OK\n") tolds
 
 abbrev pub fault_text : PartitionFault → List ℕ
+fault_text CutsAtLimit = codes "player limit reached"
 fault_text AtLimit = codes "player limit reached"
 fault_text NoMemory = codes "out of memory"
+
+-- why the player refuses what one of its steps refuses
+abbrev pub fault_for : PlayerFault → PartitionFault
+fault_for player_fault.CutsAtLimit = CutsAtLimit
+fault_for player_fault.NoMemory = NoMemory
 
 -- what a list stopped at: the answers so far, the command that could not be run, and why
 pub record Stop : Type 0 where
@@ -69,27 +78,33 @@ pub record Stop : Type 0 where
 abbrev pub stop_text : Stop → List ℕ
 stop_text stop = flat_map (λ t. t.answer.text) stop.tolds ++ ack_line 52 stop.done stop.command (fault_text stop.cause)
 
--- how many events a seat made
-abbrev pub made_by : ℕ → Image → ℕ
-made_by seat i = slice_index_or i.shared.made seat 0
+-- why an event may be refused: for the limit that it would pass, or for want of memory, which may come first
+abbrev pub MayRefuse : Option PartitionFault → PartitionFault → Type 0
+MayRefuse None fault = fault ≡ NoMemory
+MayRefuse (Some limit) fault = (fault ≡ limit) ⊎ (fault ≡ NoMemory)
+
+-- none of these entries' events passed a limit at its place
+abbrev pub AllWithin : Image → List Happened → Type 0
+AllWithin i [] = Unit {0}
+AllWithin i (h ∷ hs) = (limit_of h.seat i h.event ≡ None) × AllWithin (next_image h.seat i h.event) hs
 
 -- these entries joined the history, and the player went their way
 pub record Joins (before after : Chronicle) (entries : List Happened) : Type 0 where
   pub base : after.base ≡ before.base
   pub window : after.window ≡ before.window ++ entries
   pub present : after.present ≡ replay before.present entries
+  pub within : AllWithin before.present entries
 
--- a list ran: all its entries joined the history, and these are their answers; its seat had room for them
-pub record RunsList (seat : ℕ) (before after : Chronicle) (entries : List Happened) (tolds : List Told) : Type 0 where
+-- a list ran: all its entries joined the history, and these are their answers
+pub record RunsList (before after : Chronicle) (entries : List Happened) (tolds : List Told) : Type 0 where
   pub joins : Joins before after entries
   pub told : tolds ≡ map (λ h. h.told) entries
-  pub room : length entries ≤ 2 ^ 63 - 1 - made_by seat before.present
 
--- a list stopped: exactly the first `done` of its entries joined the history, and the command after them could not be run
-pub record StopsList (seat : ℕ) (before after : Chronicle) (entries : List Happened) (requests : List Request) (stop : Stop) : Type 0 where
+-- a list stopped: exactly the first `done` of its entries joined the history, and the command after them was refused, for a limit
+-- that its event would pass, or for want of memory
+pub record StopsList (before after : Chronicle) (entries : List Happened) (requests : List Request) (stop : Stop) : Type 0 where
   pub joins : Joins before after (take stop.done entries)
   pub told : stop.tolds ≡ map (λ h. h.told) (take stop.done entries)
   pub more : stop.done < length entries
   pub command : stop.command ≡ slice_index_or (map name_in requests) stop.done []
-  pub room : stop.done ≤ 2 ^ 63 - 1 - made_by seat before.present
-  pub at_limit : (stop.cause ≡ AtLimit) ↔ (2 ^ 63 - 1 ≤ made_by seat before.present + stop.done)
+  pub cause : ForSome (slice_get entries stop.done) (λ entry. MayRefuse (limit_of entry.seat after.present entry.event) stop.cause)

@@ -14,19 +14,25 @@ use Rattle.partition.specs.declared.event.Happened.{Happened}
 use Rattle.partition.specs.declared.event.Next.TheVariants.{Goes, Waits}
 use Rattle.partition.specs.declared.event.Notice.{Notice}
 use Rattle.partition.specs.declared.event.Stand.TheVariants.{Alone}
+use Rattle.player_core.specs.Player.{PlayerState}
 use Rattle.partition.specs.Answers.{Told}
 use Rattle.partition.specs.Step.{speaker}
 use Rattle.partition.specs.World.{World, Moment, PartDiffers, IsPending, is_told, raised_at}
 
--- two worlds are one but for who is there and who waits
-abbrev pub AgreeButForClients : World → World → Type 0
-AgreeButForClients before after = after ≡ record before { clients = after.clients }
+-- a player's order and its decoder's work, of which no subsystem speaks: the random round, the place in the song, the jobs and the fade
+abbrev pub with_order_of : PlayerState → PlayerState → PlayerState
+with_order_of p other = record p { round = other.round; place = other.place; jobs = other.jobs; job = other.job; fade = other.fade; gave_up = other.gave_up }
 
--- A subsystem is raised exactly where its part differs. Where no part differs the worlds agree in all but their clients, so
--- that whatever an event changes has a part that speaks of it.
+-- two worlds are one but for who is there and who waits, the order of play and the decoder's work, and which outputs have failed
+abbrev pub AgreeButForUnspoken : World → World → Type 0
+AgreeButForUnspoken before after =
+    after ≡ record before { player = with_order_of before.player after.player; outputs = record before.outputs { failed = after.outputs.failed }; clients = after.clients }
+
+-- A subsystem is raised exactly where its part differs. Where no part differs the worlds agree in all but what no subsystem speaks
+-- of, so that whatever else an event changes has a part that speaks of it.
 pub record Raises (moment : Moment) : Type 0 where
   pub each : (subsystem : Subsystem) → (has (raised_at moment) subsystem ≡ true) ↔ PartDiffers subsystem moment.before moment.after
-  pub all : ((subsystem : Subsystem) → PartDiffers subsystem moment.before moment.after → ⊥) → AgreeButForClients moment.before moment.after
+  pub all : ((subsystem : Subsystem) → PartDiffers subsystem moment.before moment.after → ⊥) → AgreeButForUnspoken moment.before moment.after
 
 -- it is one of these
 abbrev pub IsIn : {A : Type 0} → A → List A → Type 0
@@ -116,7 +122,7 @@ EachMoment P (moment ∷ earlier) = P moment earlier × EachMoment P earlier
 
 -- an event, and what clients heard at it
 abbrev pub heard_at : Moment → Event × Told
-heard_at moment = (moment.event, record { answer = moment.turn.said.answer; notices = moment.notices; report = moment.turn.report })
+heard_at moment = (moment.event, record { answer = moment.turn.said.answer; notices = moment.notices; report = moment.report })
 
 abbrev pub heard_then : Happened → Event × Told
 heard_then happened = (happened.event, happened.told)

@@ -1,18 +1,23 @@
 -- What an event does to a player, and what it makes clients hear.
-use Rattle.std.specs.Prelude.{ℕ, Bool, true, false, not, ◌&&◌, List, Option, Some, None, is_some, unwrap_or, length, nat_le, codes, if◌then◌else◌}
+use Rattle.std.specs.Prelude.{ℕ, Bool, true, false, not, ◌&&◌, ◌||◌, List, Option, Some, None, is_some, unwrap_or, length, nat_le, slice_index_or, codes, if◌then◌else◌}
 use Rattle.filters.specs.declared.matching.Case.TheVariants.{Heeded, Ignored}
 use Rattle.idle_notes.specs.declared.sets.Subsystems.{Subsystems}
 use Rattle.mpd_command.specs.declared.command.Command.{Command}
-use Rattle.mpd_command.specs.declared.command.Command.TheVariants.{Add, AddId, Clear, Close, Count, Delete, DeleteId, Find, FindAdd, GetVol, Idle, Kill, List as ListTag, ListAll, LsInfo, Move, MoveId, NoIdle, Ping, PlaylistId, PlaylistInfo, PlChanges, PlChangesPosId, Prio, PrioId, Repeat, Rescan, Search, SearchAdd, SetVol, Status, Swap, SwapId, TagTypes, Update}
+use Rattle.mpd_command.specs.declared.command.Command.TheVariants.{Add, AddId, Clear, ClearError, Close, Consume, Count, CurrentSong, Delete, DeleteId, DisableOutput, EnableOutput, Find, FindAdd, GetVol, Idle, Kill, List as ListTag, ListAll, LsInfo, Move, MoveId, Next, NoIdle, Outputs, Pause, Ping, Play, PlayId, PlaylistId, PlaylistInfo, PlChanges, PlChangesPosId, Previous, Prio, PrioId, Random, Repeat, Rescan, Search, SearchAdd, Seek, SeekCur, SeekId, SetVol, Shuffle, Single, Status, Stop, Swap, SwapId, TagTypes, ToggleOutput, Update}
 use Rattle.mpd_command.specs.declared.request.Request.{Request}
 use Rattle.mpd_command.specs.declared.request.Request.TheVariants.{Run, Refused}
 use Rattle.partition.specs.declared.event.Asked.{Asked}
 use Rattle.partition.specs.declared.event.Event.{Event}
-use Rattle.partition.specs.declared.event.Event.TheVariants.{Connect, Disconnect, Line, ScanQuestion, ScanResult}
+use Rattle.partition.specs.declared.event.Event.TheVariants.{Connect, Disconnect, Line, ScanQuestion, ScanResult, Want, Have, Failed, OutputTurn}
 use Rattle.partition.specs.declared.event.Move.TheVariants.{Join}
 use Rattle.partition.specs.declared.event.Stand.{Stand}
 use Rattle.partition.specs.declared.event.Stand.TheVariants.{Alone, InList}
-use Rattle.partition.specs.declared.scan.Report.TheVariants.{Nothing, ToScan, ScanEnded}
+use Rattle.partition.specs.declared.doing.Doing.{Doing}
+use Rattle.partition.specs.declared.doing.Doing.TheVariants.{Rests, Wants, Accepts, Fails, Settles}
+use Rattle.partition.specs.declared.partition.PartitionFault.{PartitionFault}
+use Rattle.partition.specs.declared.partition.PartitionFault.TheVariants.{CutsAtLimit, AtLimit}
+use Rattle.partition.specs.declared.report.Report.{Report}
+use Rattle.partition.specs.declared.report.Report.TheVariants.{Nothing, ToScan, ScanEnded}
 use Rattle.partition.specs.declared.scan.ScanMove.TheVariants.{Stay, End}
 use Rattle.partition.specs.declared.state.Client.{Client}
 use Rattle.partition.specs.declared.state.Library.{Library}
@@ -22,65 +27,88 @@ use Rattle.partition.specs.Clients.{parts_of, raised, clients_after, notices_aft
 use Rattle.partition.specs.Commands.Connection.{ping, tag_types}
 use Rattle.partition.specs.Commands.Deeds.{only}
 use Rattle.partition.specs.Commands.Library.{count_songs, find, find_add, list, list_all, list_info, update}
-use Rattle.partition.specs.Commands.Options.{repeat, set_volume, get_volume}
-use Rattle.partition.specs.Commands.Queue.{add, add_id, clear, delete, delete_id, move, move_id, swap, swap_id, prio, prio_id, playlist_info, playlist_id, changes, changed_places}
+use Rattle.partition.specs.Commands.Options.{consume, get_volume, random, repeat, set_volume, single}
+use Rattle.partition.specs.Commands.Playback.{clear_error, current_song, next, pause, play, play_id, previous, seek, seek_cur, seek_id, stop}
+use Rattle.partition.specs.Commands.Devices.{outputs, switch_output, toggle_output}
+use Rattle.partition.specs.Commands.Queue.{add, add_id, clear, delete, delete_id, move, move_id, swap, swap_id, prio, prio_id, playlist_info, playlist_id, changes, changed_places, shuffle}
 use Rattle.partition.specs.Commands.Status.{Wish, ToGoOn, wish_of, wished, status}
 use Rattle.partition.specs.Scans.{running}
-use Rattle.partition.specs.Image.{Image, Turn, Deed, library_after, client_of, part_after, image_after, counted, turn_by}
+use Rattle.partition.specs.Outputs.{books_after, can_count_all, is_output}
+use Rattle.partition.specs.Doings.{keeps_numbers, part_after, report_after}
+use Rattle.partition.specs.Image.{Image, Turn, Deed, library_after, client_of, counted, turn_by}
 
 -- what a command makes of the player; the commands by which a client waits are wishes and make nothing of it
 abbrev pub deed_of : Asked → Part → Library → Command → Deed
 deed_of asked part library (Add uri) = add asked part library uri.0
 deed_of asked part library (AddId uri place) = add_id asked part library uri.0 place
 deed_of asked part library Clear = clear asked part
-deed_of asked part library Close = only part shut
-deed_of asked part library (Count wanted) = count_songs asked part library wanted
+deed_of asked part library ClearError = clear_error asked
+deed_of asked part library Close = only shut
+deed_of asked part library (Consume on) = consume asked on
+deed_of asked part library (Count wanted) = count_songs asked library wanted
+deed_of asked part library CurrentSong = current_song asked part library
 deed_of asked part library (Delete range) = delete asked part range
 deed_of asked part library (DeleteId id) = delete_id asked part id
-deed_of asked part library (Find wanted window) = find asked part library Heeded wanted window
+deed_of asked part library (DisableOutput output) = switch_output asked part output false
+deed_of asked part library (EnableOutput output) = switch_output asked part output true
+deed_of asked part library (Find wanted window) = find asked library Heeded wanted window
 deed_of asked part library (FindAdd wanted) = find_add asked part library Heeded wanted
 deed_of asked part library GetVol = get_volume asked part
-deed_of asked part library (Idle named) = only part shut
-deed_of asked part library Kill = only part shut
-deed_of asked part library (ListTag name wanted) = list asked part library name wanted
-deed_of asked part library (ListAll uri) = list_all asked part library uri
-deed_of asked part library (LsInfo uri) = list_info asked part library uri
+deed_of asked part library (Idle named) = only shut
+deed_of asked part library Kill = only shut
+deed_of asked part library (ListTag name wanted) = list asked library name wanted
+deed_of asked part library (ListAll uri) = list_all asked library uri
+deed_of asked part library (LsInfo uri) = list_info asked library uri
 deed_of asked part library (Move range to) = move asked part range to
 deed_of asked part library (MoveId id to) = move_id asked part id to
-deed_of asked part library NoIdle = only part shut
-deed_of asked part library Ping = only part (ping asked)
+deed_of asked part library Next = next asked part
+deed_of asked part library NoIdle = only shut
+deed_of asked part library Outputs = outputs asked part
+deed_of asked part library (Pause on) = pause asked on
+deed_of asked part library Ping = only (ping asked)
+deed_of asked part library (Play place) = play asked part place
+deed_of asked part library (PlayId id) = play_id asked part id
 deed_of asked part library (PlaylistId id) = playlist_id asked part library id
 deed_of asked part library (PlaylistInfo range) = playlist_info asked part library range
 deed_of asked part library (PlChanges version range) = changes asked part library version range
 deed_of asked part library (PlChangesPosId version range) = changed_places asked part version range
+deed_of asked part library Previous = previous asked part
 deed_of asked part library (Prio priority ranges) = prio asked part priority ranges
 deed_of asked part library (PrioId priority ids) = prio_id asked part priority ids
-deed_of asked part library (Repeat on) = repeat asked part on
-deed_of asked part library (Rescan uri) = update asked part library
-deed_of asked part library (Search wanted window) = find asked part library Ignored wanted window
+deed_of asked part library (Random on) = random asked on
+deed_of asked part library (Repeat on) = repeat asked on
+deed_of asked part library (Rescan uri) = update asked library
+deed_of asked part library (Search wanted window) = find asked library Ignored wanted window
 deed_of asked part library (SearchAdd wanted) = find_add asked part library Ignored wanted
-deed_of asked part library (SetVol volume) = set_volume asked part volume
+deed_of asked part library (Seek place time) = seek asked part library place time.0
+deed_of asked part library (SeekCur seeking) = seek_cur asked part library seeking
+deed_of asked part library (SeekId id time) = seek_id asked part library id time.0
+deed_of asked part library (SetVol volume) = set_volume asked volume
+deed_of asked part library (Shuffle range) = shuffle asked part range
+deed_of asked part library (Single mode) = single asked mode
 deed_of asked part library Status = status asked part library
+deed_of asked part library Stop = stop asked
 deed_of asked part library (Swap first second) = swap asked part first second
 deed_of asked part library (SwapId first second) = swap_id asked part first second
-deed_of asked part library TagTypes = only part (tag_types asked)
-deed_of asked part library (Update uri) = update asked part library
+deed_of asked part library TagTypes = only (tag_types asked)
+deed_of asked part library (ToggleOutput output) = toggle_output asked part output
+deed_of asked part library (Update uri) = update asked library
 
 -- the player stays as it is
-abbrev pub quiet : Part → Said → Turn
-quiet part said = record { edit = None; controls = part.controls; scan = Stay; said = said; report = Nothing }
+abbrev pub quiet : Said → Turn
+quiet said = record { doing = Rests; scan = Stay; said = said; report = Nothing }
 
 -- a client's wish leaves the player as it is; another command does its deed
-abbrev pub turn_wished : Asked → Part → Client → Deed → Option Wish → Turn
-turn_wished asked part client deed (Some wish) = quiet part (wished asked client wish)
-turn_wished asked part client deed None = turn_by deed
+abbrev pub turn_wished : Asked → Client → Deed → Option Wish → Turn
+turn_wished asked client deed (Some wish) = quiet (wished asked client wish)
+turn_wished asked client deed None = turn_by deed
 
 abbrev pub turn_command : Asked → Part → Library → Client → Command → Turn
-turn_command asked part library client command = turn_wished asked part client (deed_of asked part library command) (wish_of command)
+turn_command asked part library client command = turn_wished asked client (deed_of asked part library command) (wish_of command)
 
 abbrev pub turn_request : Part → Library → Client → Stand → Request → Turn
 turn_request part library client stand (Run name command) = turn_command (record { name = name; stand = stand }) part library client command
-turn_request part library client stand (Refused ack) = quiet part (stays (refuses stand ack.command ack.number ack.text))
+turn_request part library client stand (Refused ack) = quiet (stays (refuses stand ack.command ack.number ack.text))
 
 abbrev pub greeting : Said
 greeting = record { answer = tells (codes "OK MPD 0.23.0\n"); move = Join }
@@ -106,21 +134,30 @@ ends_waiting stand (Refused ack) = false
 
 -- a line of a client that is not there closes it; so does a line other than `noidle` while it waits, whatever the line says
 abbrev pub turn_line : Part → Library → Option Client → Stand → Request → Turn
-turn_line part library None stand request = quiet part (stays shut)
+turn_line part library None stand request = quiet (stays shut)
 turn_line part library (Some client) stand request =
-    if is_some client.pending.waiting && not (ends_waiting stand request) then quiet part (stays shut) else turn_request part library client stand request
+    if is_some client.pending.waiting && not (ends_waiting stand request) then quiet (stays shut) else turn_request part library client stand request
 
 -- an event that comes from no client is answered by its report alone
 abbrev pub unspoken : Said
 unspoken = stays (tells (codes ""))
 
--- what an event makes of a part, a library and some clients
+-- a step of the decoder or of an output, which comes from no client
+abbrev pub acts : Doing → Turn
+acts doing = record { doing = doing; scan = Stay; said = unspoken; report = Nothing }
+
+-- what an event makes of a part, a library and some clients; the turn of an output that is not there does nothing
 abbrev pub turn_of : Part → Library → List Client → Event → Turn
-turn_of part library clients (Connect number) = quiet part (said_to_new clients number)
-turn_of part library clients (Disconnect number) = quiet part (stays shut)
+turn_of part library clients (Connect number) = quiet (said_to_new clients number)
+turn_of part library clients (Disconnect number) = quiet (stays shut)
 turn_of part library clients (Line number stand request) = turn_line part library (client_of number clients) stand request
-turn_of part library clients ScanQuestion = record (quiet part unspoken) { report = ToScan (running library.scan) }
-turn_of part library clients (ScanResult songs) = record (quiet part unspoken) { scan = End songs; report = ScanEnded library.scan.runs }
+turn_of part library clients ScanQuestion = record (quiet unspoken) { report = ToScan (running library.scan) }
+turn_of part library clients (ScanResult songs) = record (quiet unspoken) { scan = End songs; report = ScanEnded library.scan.runs }
+turn_of part library clients (Want owes) = acts (Wants owes)
+turn_of part library clients (Have number frames) = acts (Accepts number frames)
+turn_of part library clients (Failed number partner) = acts (Fails number partner)
+turn_of part library clients (OutputTurn output written discarded failed) =
+    if is_output part.outputs output then acts (Settles output written discarded failed) else quiet unspoken
 
 abbrev pub turn : Image → Event → Turn
 turn i event = turn_of i.part i.shared.library i.clients event
@@ -132,6 +169,10 @@ speaker (Disconnect number) = Some number
 speaker (Line number stand request) = Some number
 speaker ScanQuestion = None
 speaker (ScanResult songs) = None
+speaker (Want owes) = None
+speaker (Have number frames) = None
+speaker (Failed number partner) = None
+speaker (OutputTurn output written discarded failed) = None
 
 -- the client whose answer and move those of an event are. An event that comes from none makes no move and closes nobody, so
 -- that it does not matter which one is named
@@ -140,11 +181,22 @@ mover event = unwrap_or (speaker event) 0
 
 -- what a turn raises: what differs between the parts before and after it
 abbrev pub raised_by : Part → Library → Turn → Subsystems
-raised_by part library t = raised (parts_of part library) (parts_of (part_after part t) (library_after library t.scan))
+raised_by part library t = raised (parts_of part library) (parts_of (part_after library.rate part t.doing) (library_after library t.scan))
+
+-- what a part of the daemon is told that is no client
+abbrev pub report_of : Part → Library → Turn → Report
+report_of part library t = report_after library.rate part t.doing t.report
 
 -- the image after a turn, with its clients
 abbrev pub after_turn : Image → Event → Turn → Image
-after_turn i event t = record (image_after i t) { clients = clients_after (mover event) (raised_by i.part i.shared.library t) t.said i.clients }
+after_turn i event t = record {
+  part = part_after i.shared.library.rate i.part t.doing;
+  shared = record i.shared {
+    library = library_after i.shared.library t.scan;
+    books = books_after i.shared.books i.part.outputs t.doing (report_of i.part i.shared.library t);
+  };
+  clients = clients_after (mover event) (raised_by i.part i.shared.library t) t.said i.clients;
+}
 
 -- the image after an event of a seat
 unfoldable pub next_image : ℕ → Image → Event → Image
@@ -152,8 +204,26 @@ next_image seat i event = counted seat (after_turn i event (turn i event))
 
 -- what a turn makes clients hear
 abbrev pub told_by : Image → Event → Turn → Told
-told_by i event t = record { answer = t.said.answer; notices = notices_after (mover event) (raised_by i.part i.shared.library t) t.said i.clients; report = t.report }
+told_by i event t = record { answer = t.said.answer; notices = notices_after (mover event) (raised_by i.part i.shared.library t) t.said i.clients; report = report_of i.part i.shared.library t }
 
 -- what an event makes clients hear
 unfoldable pub told : Image → Event → Told
 told i event = told_by i event (turn i event)
+
+-- whether the frames that a turn tells of can be counted with all others
+abbrev pub counts_frames : Image → Turn → Bool
+counts_frames i t = can_count_all (books_after i.shared.books i.part.outputs t.doing (report_of i.part i.shared.library t))
+
+-- whether a turn leaves the numbers of cuts, starts, jobs and scans at or below their limit
+abbrev pub keeps_limits : Image → Turn → Bool
+keeps_limits i t = keeps_numbers i.shared.library.rate i.part i.shared.library.scan t.doing t.scan
+
+-- why an event of a seat is refused, if it is: the seat made 2^63-1 events, or the frames could not be counted any more; or a
+-- number would be above its limit
+abbrev pub limit_by : ℕ → Image → Turn → Option PartitionFault
+limit_by seat i t =
+    if nat_le 9223372036854775807 (slice_index_or i.shared.made seat 0) || not (counts_frames i t) then Some AtLimit
+    else (if keeps_limits i t then None else Some CutsAtLimit)
+
+unfoldable pub limit_of : ℕ → Image → Event → Option PartitionFault
+limit_of seat i event = limit_by seat i (turn i event)

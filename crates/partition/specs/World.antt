@@ -1,47 +1,53 @@
 -- The plain data of a player of one thread, with every queue that it had, and everything that happened to it.
-use Rattle.std.specs.Prelude.{◌≡◌, ◌≢◌, ℕ, ◌==◌, Bool, true, false, not, ◌&&◌, ◌||◌, List, [], ◌∷◌, ◌++◌, Option, Some, None, map, take_while}
-use Rattle.std.specs.List.{list_any}
+use Rattle.std.specs.Prelude.{◌≡◌, ◌≢◌, ℕ, ◌+◌, ◌==◌, Bool, true, false, not, ◌&&◌, ◌||◌, List, [], ◌∷◌, ◌++◌, Option, Some, None, map, take_while}
+use Rattle.std.specs.List.{list_any, range_with_len}
 use Rattle.idle_notes.specs.declared.sets.Subsystems.{Subsystems}
 use Rattle.idle_notes.specs.declared.subsystem.Subsystem.{Subsystem}
 use Rattle.idle_notes.specs.declared.subsystem.Subsystem.TheVariants.{Database, Update, StoredPlaylist, Playlist, Player, Mixer, Output, Options, Sticker, Subscription, Message}
 use Rattle.idle_notes.specs.Sets.{none, union}
 use Rattle.song_queue.specs.declared.entry.Entry.{Entry}
 use Rattle.song_queue.specs.Past.{present, after_event, state_of}
-use Rattle.song_queue.specs.declared.edit.Edit.{Edit}
-use Rattle.song_queue.specs.Laws.{queue_after}
+use Rattle.song_queue.specs.Laws as queues
+use Rattle.player_core.specs.Player.{PlayerState}
 use Rattle.partition.specs.declared.event.Event.{Event}
 use Rattle.partition.specs.declared.event.Happened.{Happened}
 use Rattle.partition.specs.declared.event.Move.{Move}
 use Rattle.partition.specs.declared.event.Move.TheVariants.{Stay, Wait, Learn, Resume, Join}
 use Rattle.partition.specs.declared.event.Notice.{Notice}
 use Rattle.partition.specs.declared.state.Client.{Client}
-use Rattle.partition.specs.declared.state.Controls.{Controls}
 use Rattle.partition.specs.declared.state.Library.{Library}
+use Rattle.partition.specs.declared.report.Report.{Report}
 use Rattle.partition.specs.declared.state.Limits.{Limits}
-use Rattle.partition.specs.Clients.{Parts, raised, move_of}
+use Rattle.partition.specs.Clients.{Parts, raised, move_of, options, playing}
 use Rattle.partition.specs.History.{made_of}
-use Rattle.partition.specs.Image.{Image, Turn, first_controls, library_after}
-use Rattle.partition.specs.Step.{turn, mover, after_turn, told_by}
+use Rattle.partition.specs.Outputs.{FrameBooks, OutputsData, decoded_by, discarded_by, written_by}
+use Rattle.partition.specs.Doings.{Change, ByEdit, ByStep, change_of, outputs_after, player_after, volume_after}
+use Rattle.partition.specs.Image.{Image, Turn, library_after}
+use Rattle.partition.specs.Step.{turn, mover, after_turn, report_of, told_by}
 
 -- a client, and what it waits for, if it waits
 pub record Listener : Type 0 where
   pub number : ℕ
   pub waiting : Option Subsystems
 
--- all queues that the player had, the newest first; its limits, its library, its controls and its clients
+-- all queues that the player had, the newest first; its limits, its library, what is played, the volume, the outputs, the clients
 pub record World : Type 0 where
   pub past : List (List Entry)
   pub limits : Limits
   pub library : Library
-  pub controls : Controls
+  pub player : PlayerState
+  pub volume : ℕ
+  pub outputs : OutputsData
   pub clients : List Listener
 
--- one event: the worlds before and after it, what it made of the player, and the notices that went out
+-- one event: the worlds before and after it, what it made of the player, the notices that went out, and what a part of the daemon
+-- was told that is no client
 pub record Moment : Type 0 where
   pub before : World
   pub event : Event
   pub turn : Turn
   pub notices : List Notice
+  pub report : Report
   pub after : World
 
 -- a world, and the moments that led to it, the latest first
@@ -50,7 +56,7 @@ pub record Life : Type 0 where
   pub moments : List Moment
 
 abbrev pub parts_in : World → Parts
-parts_in w = record { library = w.library; queue = present w.past; controls = w.controls }
+parts_in w = record { library = w.library; queue = present w.past; player = w.player; volume = w.volume; outputs = w.outputs }
 
 -- the part of a player that a subsystem speaks of differs between two worlds
 abbrev pub PartDiffers : Subsystem → World → World → Type 0
@@ -58,10 +64,10 @@ PartDiffers Database before after = before.library.songs ≢ after.library.songs
 PartDiffers Update before after = before.library.scan.runs ≢ after.library.scan.runs
 PartDiffers StoredPlaylist before after = ⊥
 PartDiffers Playlist before after = present before.past ≢ present after.past
-PartDiffers Player before after = ⊥
-PartDiffers Mixer before after = before.controls.volume ≢ after.controls.volume
-PartDiffers Output before after = ⊥
-PartDiffers Options before after = before.controls.modes ≢ after.controls.modes
+PartDiffers Player before after = playing before.player ≢ playing after.player
+PartDiffers Mixer before after = before.volume ≢ after.volume
+PartDiffers Output before after = before.outputs.enabled ≢ after.outputs.enabled
+PartDiffers Options before after = options before.player ≢ options after.player
 PartDiffers Sticker before after = ⊥
 PartDiffers Subscription before after = ⊥
 PartDiffers Message before after = ⊥
@@ -122,26 +128,52 @@ client_in moments k = record { number = k.number; pending = record { waiting = k
 abbrev pub listener_of : Client → Listener
 listener_of client = record { number = client.number; waiting = client.pending.waiting }
 
+-- a sum over moments
+abbrev pub summed : (Moment → ℕ) → List Moment → ℕ
+summed of_one [] = 0
+summed of_one (m ∷ ms) = of_one m + summed of_one ms
+
+-- the frames of an output: what it was given, wrote and discarded, summed over the moments
+abbrev pub decoded_of : List Moment → ℕ → ℕ
+decoded_of moments output = summed (λ m. decoded_by m.before.outputs m.turn.doing m.report output) moments
+
+abbrev pub written_of : List Moment → ℕ → ℕ
+written_of moments output = summed (λ m. written_by m.turn.doing output) moments
+
+abbrev pub discarded_of : List Moment → ℕ → ℕ
+discarded_of moments output = summed (λ m. discarded_by m.turn.doing output) moments
+
+-- the books of eight outputs
+abbrev pub books_of : List Moment → FrameBooks
+books_of moments = record {
+  decoded = map (decoded_of moments) (range_with_len 0 8);
+  written = map (written_of moments) (range_with_len 0 8);
+  discarded = map (discarded_of moments) (range_with_len 0 8);
+}
+
 -- what commands can read of a life that these events led to: the present queue with the stamps and marks of its past, what
--- is pending for each client by the moments, and what each seat made
+-- is pending for each client by the moments, the frames of each output by the moments, and what each seat made
 abbrev pub image_of : Life → List Happened → Image
 image_of life history = record {
-  part = record { queue = state_of life.world.limits.max_queue life.world.limits.max_version life.world.limits.max_id life.world.past; controls = life.world.controls };
-  shared = record { library = life.world.library; made = made_of history };
+  part = record { queue = state_of life.world.limits.max_queue life.world.limits.max_version life.world.limits.max_id life.world.past; player = life.world.player; volume = life.world.volume; outputs = life.world.outputs };
+  shared = record { library = life.world.library; made = made_of history; books = books_of life.moments };
   clients = map (client_in life.moments) life.world.clients;
 }
 
 -- a queue joins the past where it differs from the one before
-abbrev pub past_after : List (List Entry) → Option Edit → List (List Entry)
-past_after past None = past
-past_after past (Some edit) = after_event past (queue_after past edit)
+abbrev pub past_after : List (List Entry) → Change → List (List Entry)
+past_after past (ByEdit edit) = after_event past (queues.queue_after past edit)
+past_after past (ByStep None) = past
+past_after past (ByStep (Some left)) = after_event past left
 
 -- the world after a turn, of which the image of the world before it is known
 abbrev pub world_after_turn : World → Image → Event → Turn → World
 world_after_turn w i event t = record w {
-  past = past_after w.past t.edit;
+  past = past_after w.past (change_of w.library.rate i.part t.doing);
   library = library_after w.library t.scan;
-  controls = t.controls;
+  player = player_after w.library.rate i.part t.doing;
+  volume = volume_after w.volume t.doing;
+  outputs = outputs_after w.outputs t.doing;
   clients = map listener_of (after_turn i event t).clients;
 }
 
@@ -150,7 +182,9 @@ lived life i event t =
     let after = world_after_turn life.world i event t in
     record {
       world = after;
-      moments = record { before = life.world; event = event; turn = t; notices = (told_by i event t).notices; after = after } ∷ life.moments;
+      moments =
+          record { before = life.world; event = event; turn = t; notices = (told_by i event t).notices; report = report_of i.part i.shared.library t; after = after }
+          ∷ life.moments;
     }
 
 -- one event in a life that these events led to
@@ -162,13 +196,24 @@ abbrev pub life_from : List Happened → Life → List Happened → Life
 life_from done life [] = life
 life_from done life (h ∷ hs) = life_from (done ++ h ∷ []) (life_after_event done life h.event) hs
 
--- a life in which nothing happened
-abbrev pub opening_life : Limits → Library → Life
-opening_life limits library = record {
-  world = record { past = [] ∷ []; limits = limits; library = library; controls = first_controls; clients = [] };
+abbrev pub limits_of : Image → Limits
+limits_of i = record { max_queue = i.part.queue.max_len; max_version = i.part.queue.max_version; max_id = i.part.queue.max_id; max_cut = i.part.player.max_cut }
+
+-- a life in which nothing happened to a player
+abbrev pub opening_life : Image → Life
+opening_life base = record {
+  world = record {
+    past = [] ∷ [];
+    limits = limits_of base;
+    library = base.shared.library;
+    player = base.part.player;
+    volume = base.part.volume;
+    outputs = base.part.outputs;
+    clients = [];
+  };
   moments = [];
 }
 
--- the life after a history
-abbrev pub life_after : Limits → Library → List Happened → Life
-life_after limits library history = life_from [] (opening_life limits library) history
+-- the life of a player after a history
+abbrev pub life_after : Image → List Happened → Life
+life_after base history = life_from [] (opening_life base) history

@@ -3,7 +3,7 @@ ghost use Rattle.std.specs.Prelude.{◌≡◌};
 ghost use Rattle.partition.specs.Answers.{Answer, Told, place_of};
 
 use crate::notices::Notices;
-use crate::scan::Report;
+use crate::report::Report;
 use command_lists::ListForm;
 use idle_notes::Subsystems;
 use mpd_command::{Name, Request};
@@ -24,6 +24,14 @@ pub enum Event {
     ScanQuestion,
     /// The library that a scan found; one that failed found none.
     ScanResult(Option<SharedDb>),
+    /// The decoder wants a job; whether a feeder still owes frames of an earlier one.
+    Want(bool),
+    /// So many frames of a job are decoded.
+    Have(u64, u64),
+    /// The song of a job could not be read, or where this is so, that of its partner in a fade.
+    Failed(u64, bool),
+    /// An output has its turn: its number, how many frames it wrote and discarded since its last one, and whether it failed.
+    OutputTurn(usize, u64, u64, bool),
 }
 
 /// Drops an event. It is a function of its own so that the proofs of what holds one do not go through every kind of event.

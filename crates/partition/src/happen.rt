@@ -1,22 +1,24 @@
 //! One event after the other, each kept with what it made clients hear.
-ghost use Rattle.std.specs.Prelude.{◌≡◌, ◌<◌, ◌≤◌, ◌+◌, ◌-◌, ◌^◌, ◌++◌, ◌∷◌, [], length, map, vec_len, vec_capacity, IfOk, OnErr, OnOk, not, false, nat_eq, slice_index_or};
+ghost use Rattle.std.specs.Prelude.{◌≡◌, ◌<◌, ◌≤◌, ◌+◌, ◌++◌, ◌∷◌, [], None, length, map, vec_len, vec_capacity, IfErr, IfOk, OnErr, OnOk, not, true, false, nat_le, slice_index_or};
 ghost use Rattle.std.specs.List.{flat_map};
-ghost use Rattle.idle_notes.specs.Sets.{none};
 ghost use Rattle.partition.specs.Clients.{same_songs as same_songs_lem, clients_after, closes as closes_lem, notice_for, notices_after, notified};
 ghost use Rattle.partition.specs.Image.{image_of_state, songs_after};
 ghost use Rattle.partition.specs.Rooms.{listed, room_in};
 ghost use Rattle.partition.specs.Settled.{AllSettled, most_notices};
-ghost use Rattle.partition.specs.Step.{after_turn, next_image, raised_by, mover as mover_lem, told, told_by, turn};
-ghost use Rattle.song_queue.specs.State.{differ};
+ghost use Rattle.partition.specs.Lists.{MayRefuse};
+ghost use Rattle.partition.specs.Refusals.{RefusesTurn};
+ghost use Rattle.partition.specs.Step.{after_turn, counts_frames, keeps_limits, limit_of, next_image, raised_by, mover as mover_lem, told, told_by, turn};
 
 use crate::clients::{leave, list_notices, make_move, notify_all, waiting};
 use crate::event::{Event, Happened, Next, Outcome, discard};
 use crate::notices::Notices;
-use crate::plan::{Plan, Telling, carry_out};
+use crate::partition::PartitionFault;
+use crate::plan::{Plan, Telling, carry_out, discard as discard_plan};
 use crate::same::same_songs;
 use crate::scan::ScanMove;
+use crate::signs::Signs;
 use crate::spoken::Spoken;
-use crate::state::{Client, Library, Modes, Part, State};
+use crate::state::{Client, Library, Part, State};
 use crate::turns::plan_turn;
 use idle_notes::Subsystems;
 use std::alloc::{AllocError, Global};
@@ -57,112 +59,116 @@ impl Applied {
     }
 }
 
-/// Runs one event and keeps it. It fails only for memory, and then changes nothing.
-#[tactic(auto, unfolding(crate::specs::Step::next_image, crate::specs::Step::told))]
+/// Runs one event and keeps it. Where it is refused, nothing changes.
+#[tactic(auto, unfolding(crate::specs::Step::next_image, crate::specs::Step::told, crate::specs::Step::limit_of))]
 pub(crate) fn record_event(
     alloc: Global,
     state: &mut State,
     history: &mut Vec<Happened>,
     seat: u8,
     event: Event,
-) -> Result<Outcome, AllocError>
+) -> Result<Outcome, PartitionFault>
     requires seat { seat < 16 }
-    requires count { slice_index_or state.old.made seat 0 < 2 ^ 63 - 1 }
+    requires count { nat_le 9223372036854775807 (slice_index_or state.old.made seat 0) ≡ false }
     requires settled { AllSettled state.old.clients.items }
     ensures image { OnOk result (image_of_state state.new ≡ next_image seat (image_of_state state.old) event) }
     ensures told { IfOk result (λ outcome. outcome ≡ told (image_of_state state.old) event) }
     ensures history { IfOk result (λ outcome. history.new.items ≡ history.old.items ++ record { seat = seat; event = event; told = outcome } ∷ []) }
+    ensures within { OnOk result (limit_of seat (image_of_state state.old) event ≡ None) }
+    ensures refused { IfErr result (λ fault. MayRefuse (limit_of seat (image_of_state state.old) event) fault) }
     ensures unchanged { OnErr result (image_of_state state.new ≡ image_of_state state.old) }
     ensures unkept { OnErr result (history.new.items ≡ history.old.items) }
 {
     if history.reserve(1).is_err() {
         discard(event);
-        return Err(AllocError);
+        return Err(PartitionFault::NoMemory);
     }
-    let Ok(applied) = apply_event(alloc, state, &event) else {
-        discard(event);
-        return Err(AllocError);
-    };
-    state.made[usize::from(seat)] += 1;
-    let (given, told) = applied.into_outcomes();
-    history.push_reserved(Happened { seat, event, told });
-    Ok(given)
+    match apply_event(alloc, state, &event) {
+        Ok(applied) => {
+            state.made[usize::from(seat)] += 1;
+            let (given, told) = applied.into_outcomes();
+            history.push_reserved(Happened { seat, event, told });
+            Ok(given)
+        }
+        Err(fault) => {
+            discard(event);
+            Err(fault)
+        }
+    }
 }
 
-/// Applies an event, all but the count of its seat. It fails only for memory, and then changes nothing.
-fn apply_event(alloc: Global, state: &mut State, event: &Event) -> Result<Applied, AllocError>
+/// Applies an event, all but the count of its seat. Where it is refused, nothing changes.
+fn apply_event(alloc: Global, state: &mut State, event: &Event) -> Result<Applied, PartitionFault>
     requires settled { AllSettled state.old.clients.items }
     ensures image { OnOk result (image_of_state state.new ≡ after_turn (image_of_state state.old) event.now (turn (image_of_state state.old) event.now)) }
     ensures answer { IfOk result (λ applied. applied.telling.spoken.answer ≡ (turn (image_of_state state.old) event.now).said.answer) }
-    ensures report { IfOk result (λ applied. applied.telling.report ≡ (turn (image_of_state state.old) event.now).report) }
+    ensures report { IfOk result (λ applied. applied.telling.report ≡ (told_by (image_of_state state.old) event.now (turn (image_of_state state.old) event.now)).report) }
     ensures given { IfOk result (λ applied. listed applied.given ≡ (told_by (image_of_state state.old) event.now (turn (image_of_state state.old) event.now)).notices) }
     ensures kept { IfOk result (λ applied. listed applied.kept ≡ (told_by (image_of_state state.old) event.now (turn (image_of_state state.old) event.now)).notices) }
+    ensures within { OnOk result ((counts_frames (image_of_state state.old) (turn (image_of_state state.old) event.now) ≡ true) × (keeps_limits (image_of_state state.old) (turn (image_of_state state.old) event.now) ≡ true)) }
+    ensures refused { IfErr result (λ fault. RefusesTurn (image_of_state state.old) (turn (image_of_state state.old) event.now) fault) }
     ensures err { OnErr result (image_of_state state.new ≡ image_of_state state.old) }
 {
     state.clients.reserve(1)?;
     let plan = plan_turn(alloc, &state.part, &state.library, &state.clients, event)?;
+    let Some(books) = state.books.after(&state.part, &plan.doing) else {
+        discard_plan(plan);
+        return Err(PartitionFault::AtLimit);
+    };
     let room = room_wanted(&plan, &state.part, &state.library, &state.clients);
-    let mut given = Notices::with_room(alloc, room)?;
-    let mut kept = Notices::with_room(alloc, room)?;
+    let (given, kept) = rooms(alloc, room)?;
+    let before = Signs::of(alloc, &state.part, &state.library)?;
     let database = changes_songs(&plan, &state.library);
-    let before = signs_of(&state.part, &state.library);
     let telling = carry_out(&mut state.part, &mut state.library, plan)?;
-    let after = signs_of(&state.part, &state.library);
-    let raised = changed_parts(database, before, after);
-    tell_clients(
+    state.books = books;
+    let raised = before.changed(database, &state.part, &state.library);
+    Ok(tell(
         &mut state.clients,
         mover(event),
         raised,
-        &telling.spoken,
-        &mut given,
-    );
+        telling,
+        given,
+        kept,
+    ))
+}
+
+/// Tells the clients what was raised, and lets the one that the event comes from do what it does.
+fn tell(
+    clients: &mut Vec<Client>,
+    number: u32,
+    raised: Subsystems,
+    telling: Telling,
+    mut given: Notices,
+    mut kept: Notices,
+) -> Applied
+    requires room { vec_len clients.old < vec_capacity clients.old }
+    requires settled { AllSettled clients.old.items }
+    requires given { most_notices raised clients.old.items ≤ room_in given }
+    requires kept { most_notices raised clients.old.items ≤ room_in kept }
+    requires none_given { listed given ≡ [] }
+    requires none_kept { listed kept ≡ [] }
+    ensures clients { clients.new.items ≡ clients_after number raised telling.spoken clients.old.items }
+    ensures telling { result.telling ≡ telling }
+    ensures given { listed result.given ≡ notices_after number raised telling.spoken clients.old.items }
+    ensures kept { listed result.kept ≡ notices_after number raised telling.spoken clients.old.items }
+{
+    tell_clients(clients, number, raised, &telling.spoken, &mut given);
     kept.push_all(given.as_slice());
-    Ok(Applied {
+    Applied {
         telling,
         given: given.trimmed(),
         kept: kept.trimmed(),
-    })
-}
-
-/// What tells, before an event and after it, whether a part of the player changed.
-#[derive(Clone, Copy)]
-struct Signs {
-    scans: bool,
-    parity: bool,
-    volume: u8,
-    modes: Modes,
-}
-
-fn signs_of(part: &Part, library: &Library) -> Signs
-    ensures { result ≡ record { scans = library.now.scan.runs; parity = part.now.queue.parity; volume = part.now.controls.volume; modes = part.now.controls.modes } }
-{
-    Signs {
-        scans: library.scan.running().is_some(),
-        parity: part.queue.parity(),
-        volume: part.controls.volume.percent(),
-        modes: part.controls.modes,
     }
 }
 
-/// The subsystems whose parts differ: the songs, where they are told to; whether a scan runs; the queue, where its parity does;
-/// the volume; the modes.
-fn changed_parts(database: bool, before: Signs, after: Signs) -> Subsystems
-    ensures { result ≡ record none {
-      database = database;
-      update = differ before.scans after.scans;
-      playlist = differ before.parity after.parity;
-      mixer = not (nat_eq before.volume after.volume);
-      options = differ before.modes.repeat after.modes.repeat;
-    } }
+/// Two lists of notices with room for so many.
+fn rooms(alloc: Global, room: usize) -> Result<(Notices, Notices), AllocError>
+    ensures given { IfOk result (λ lists. (listed lists.0 ≡ []) × (room ≤ room_in lists.0)) }
+    ensures kept { IfOk result (λ lists. (listed lists.1 ≡ []) × (room ≤ room_in lists.1)) }
 {
-    Subsystems {
-        database,
-        update: before.scans != after.scans,
-        playlist: before.parity != after.parity,
-        mixer: before.volume != after.volume,
-        options: before.modes.repeat != after.modes.repeat,
-        ..Subsystems::none()
-    }
+    let given = Notices::with_room(alloc, room)?;
+    let kept = Notices::with_room(alloc, room)?;
+    Ok((given, kept))
 }
 
 /// Whether a plan changes the songs of a library.
@@ -180,7 +186,7 @@ fn changes_songs(plan: &Plan, library: &Library) -> bool
 }
 
 /// How many notices a plan can give at most. For one that changes nothing no client is looked at.
-#[tactic(auto, using(crate::proofs::Settled::no_room))]
+#[tactic(auto, using(crate::proofs::Settled::few_notices, crate::proofs::Settled::none_noticed))]
 fn room_wanted(plan: &Plan, part: &Part, library: &Library, clients: &[Client]) -> usize
     ensures { most_notices (raised_by part.now library.now plan.now) clients.now ≤ result }
 {
@@ -248,6 +254,11 @@ fn mover(event: &Event) -> u32
 {
     match event {
         Event::Connect(number) | Event::Disconnect(number) | Event::Line(number, _, _) => *number,
-        Event::ScanQuestion | Event::ScanResult(_) => 0,
+        Event::ScanQuestion
+        | Event::ScanResult(_)
+        | Event::Want(_)
+        | Event::Have(_, _)
+        | Event::Failed(_, _)
+        | Event::OutputTurn(_, _, _, _) => 0,
     }
 }

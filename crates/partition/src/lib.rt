@@ -1,24 +1,33 @@
 //! The player of one thread: its events, its replies, and its history.
 #![tactic(auto)]
 
+mod books;
 mod clients;
 mod commands;
+mod doing;
 mod event;
 mod happen;
 mod laws;
 mod lists;
 mod notices;
+mod outputs;
 mod partition;
 mod plan;
+mod report;
 mod same;
 mod scan;
+mod signs;
 mod spoken;
 mod state;
 mod turns;
 
+pub use books::Books;
+pub use doing::Doing;
 pub use event::{Event, Happened, Move, Next, Notice, Outcome, Reply, Stand};
 pub use laws::{entries_are_whole, reads_pending, replays_worlds};
 pub use lists::{ListFault, ListOutcome};
+pub use outputs::{MAX_OUTPUTS, Outputs};
 pub use partition::{Partition, PartitionFault};
-pub use scan::{Report, Scan, ScanMove};
-pub use state::{Client, Controls, Library, Limits, MAX_CLIENTS, MAX_OWN, Modes, Part};
+pub use report::{Feed, Report};
+pub use scan::{Scan, ScanMove};
+pub use state::{Client, Library, Limits, MAX_CLIENTS, MAX_OWN, Part, Setup};

@@ -1,25 +1,28 @@
 //! The player with its history.
-ghost use Rattle.std.specs.Prelude.{◌≡◌, ◌≢◌, ◌↔◌, ◌++◌, ◌∷◌, ◌-◌, ◌^◌, ◌≤◌, ◌<◌, [], List, length, map, vec_capacity, IfOk, IfErr, OnErr, OnOk, IsErrOf, slice_index_or, nat_le, is_some, All, AllPairs};
+ghost use Rattle.std.specs.Prelude.{◌≡◌, ◌≢◌, ◌↔◌, ◌++◌, ◌∷◌, ◌-◌, ◌^◌, ◌≤◌, ◌<◌, [], None, length, map, vec_capacity, IfOk, IfErr, OnErr, OnOk, IsErrOf, slice_index_or, nat_le, is_some, All, AllPairs};
 ghost use Rattle.song_queue.specs.State.{queue_of};
 ghost use Rattle.mpd_command.specs.Requests.{name_in};
 ghost use Rattle.partition.specs.declared.event.Happened.{Happened};
-ghost use Rattle.partition.specs.declared.state.Limits.{Limits};
 ghost use Rattle.partition.specs.History.{replay, AreTold, own as own_of};
 ghost use Rattle.partition.specs.Image.{Image, image_of_state, opening, client_of};
-ghost use Rattle.partition.specs.Lists.{RunsList, StopsList, entries_of};
+ghost use Rattle.partition.specs.Lists.{MayRefuse, RunsList, StopsList, entries_of};
 ghost use Rattle.partition.specs.Legal.{HasPending, IsPast, life_of};
 ghost use Rattle.partition.specs.Notices.{AreHeard, EachMoment, Raises, Tells};
 ghost use Rattle.partition.specs.Settled.{AllSettled};
-ghost use Rattle.partition.specs.Step.{next_image, told};
+ghost use Rattle.partition.specs.Step.{limit_of, next_image, told};
+ghost use Rattle.partition.specs.World.{books_of};
 
+use crate::books::Books;
 use crate::clients::find_client;
 use crate::event::{Event, Happened, Outcome, Stand, discard};
 use crate::happen::record_event;
 use crate::laws::replays_worlds;
 use crate::lists::{ListFault, ListOutcome};
-use crate::state::{Client, Controls, Library, Limits, MAX_OWN, Modes, Part, State};
+use crate::outputs::Outputs;
+use crate::state::{Client, Library, MAX_OWN, Part, Setup, State};
 use command_lists::ListForm;
 use mpd_command::{Request, Volume};
+use player_core::{Player, PlayerFault};
 use song_queue::Queue;
 use std::alloc::{AllocError, Global};
 use std::marker::Model;
@@ -27,10 +30,37 @@ use std::marker::Model;
 /// Why an event was not applied.
 #[derive(Clone, Copy, Debug, PartialEq, Eq)]
 pub enum PartitionFault {
-    /// The seat made 2^63-1 events.
+    /// A number of cuts, starts, jobs or scans would be above the greatest.
+    CutsAtLimit,
+    /// The seat made 2^63-1 events, or the frames of all outputs could not be counted together any more.
     AtLimit,
     /// A growth was refused.
     NoMemory,
+}
+
+impl From<AllocError> for PartitionFault {
+    ghost use Rattle.partition.specs.declared.partition.PartitionFault.{PartitionFault};
+    ghost use Rattle.std.specs.Prelude.{◌≡◌};
+
+    ghost from_gives = { λ _ fault. fault ≡ PartitionFault.NoMemory };
+
+    fn from(_: AllocError) -> Self {
+        PartitionFault::NoMemory
+    }
+}
+
+impl From<PlayerFault> for PartitionFault {
+    ghost use Rattle.partition.specs.Lists.{fault_for};
+    ghost use Rattle.std.specs.Prelude.{◌≡◌};
+
+    ghost from_gives = { λ cause fault. fault ≡ fault_for cause };
+
+    fn from(cause: PlayerFault) -> Self {
+        match cause {
+            PlayerFault::CutsAtLimit => PartitionFault::CutsAtLimit,
+            PlayerFault::NoMemory => PartitionFault::NoMemory,
+        }
+    }
 }
 
 impl PartitionFault {
@@ -41,7 +71,7 @@ impl PartitionFault {
         ensures { result.now ≡ fault_text self }
     {
         match self {
-            PartitionFault::AtLimit => "player limit reached",
+            PartitionFault::CutsAtLimit | PartitionFault::AtLimit => "player limit reached",
             PartitionFault::NoMemory => "out of memory",
         }
     }
@@ -51,7 +81,7 @@ impl PartitionFault {
 #[derive(Drop)]
 pub struct Partition {
     alloc: Global,
-    limits: Limits,
+    setup: Setup,
     /// The library that it was opened with.
     opened: Library,
     state: State,
@@ -77,11 +107,14 @@ impl Model for Partition {
 
 impl Partition {
     /// A player over a library, to which nothing happened.
-    pub fn open(alloc: Global, limits: Limits, library: Library) -> Result<Partition, AllocError>
-        requires { 1 ≤ limits.max_version }
-        ensures { IfOk result (λ partition. partition ≡ record { base = opening limits library; window = []; present = opening limits library }) }
+    pub fn open(alloc: Global, setup: Setup, library: Library) -> Result<Partition, AllocError>
+        requires version { 1 ≤ setup.limits.max_version }
+        requires max_cut { setup.limits.max_cut < 9223372036854775808 }
+        ensures { IfOk result (λ partition. partition ≡ record { base = opening setup library; window = []; present = opening setup library }) }
     {
         let opened = library.shared()?;
+        let outputs = setup.outputs.shared(alloc)?;
+        let limits = setup.limits;
         let queue = Queue::new(
             alloc,
             limits.max_queue as usize,
@@ -90,25 +123,30 @@ impl Partition {
         );
         Ok(Partition {
             alloc,
-            limits,
-            opened,
             state: State {
                 part: Part {
                     queue,
-                    controls: Controls {
-                        volume: Volume::full(),
-                        modes: Modes { repeat: false },
-                    },
+                    player: Player::new(alloc, setup.random_start, limits.max_cut),
+                    volume: Volume::full(),
+                    outputs,
                 },
                 library,
                 made: [0; 16],
+                books: Books::empty(),
                 clients: Vec::new(alloc),
             },
             history: Vec::new(alloc),
+            setup,
+            opened,
         })
     }
 
     /// Applies an event of a seat, and keeps it with what it made clients hear.
+    ///
+    /// # Errors
+    ///
+    /// `CutsAtLimit` where the event would raise a number above the greatest, `AtLimit` where it could not be counted or its
+    /// frames could not; want of memory may come in their place, but not in that of a seat which made 2^63-1 events.
     pub fn apply(&mut self, seat: u8, event: Event) -> Result<Outcome, PartitionFault>
         requires { seat < 16 }
 
@@ -119,7 +157,10 @@ impl Partition {
         // The new state is that player's next one.
         ensures present { OnOk result (self.new.present ≡ next_image seat self.old.present event) }
         ensures err { OnErr result (self.new ≡ self.old) }
-        ensures at_limit { IsErrOf result PartitionFault.AtLimit ↔ (2 ^ 63 - 1 ≤ slice_index_or self.old.present.shared.made seat 0) }
+        // It is refused for the limit that it would pass, or for want of memory.
+        ensures within { OnOk result (limit_of seat self.old.present event ≡ None) }
+        ensures refused { IfErr result (λ fault. MayRefuse (limit_of seat self.old.present event) fault) }
+        ensures own { 2 ^ 63 - 1 ≤ slice_index_or self.old.present.shared.made seat 0 → IsErrOf result PartitionFault.AtLimit }
         ensures legal { IsPast self.old }
     {
         self.legal();
@@ -127,10 +168,7 @@ impl Partition {
             discard(event);
             return Err(PartitionFault::AtLimit);
         }
-        let Ok(outcome) = record_event(self.alloc, &mut self.state, &mut self.history, seat, event)
-        else {
-            return Err(PartitionFault::NoMemory);
-        };
+        let outcome = record_event(self.alloc, &mut self.state, &mut self.history, seat, event)?;
         Ok(outcome)
     }
 
@@ -148,8 +186,8 @@ impl Partition {
         requests: Vec<Request>,
     ) -> Result<ListOutcome, ListFault>
         requires { seat < 16 }
-        ensures ok { IfOk result (λ tolds. RunsList seat self.old self.new (entries_of seat self.old.present client form 0 requests.items) tolds) }
-        ensures err { IfErr result (λ stop. StopsList seat self.old self.new (entries_of seat self.old.present client form 0 requests.items) requests.items stop) }
+        ensures ok { IfOk result (λ tolds. RunsList self.old self.new (entries_of seat self.old.present client form 0 requests.items) tolds) }
+        ensures err { IfErr result (λ stop. StopsList self.old self.new (entries_of seat self.old.present client form 0 requests.items) requests.items stop) }
         ensures legal { IsPast self.old }
     {
         self.legal();
@@ -162,7 +200,7 @@ impl Partition {
                 done: 0,
                 outcomes,
                 command: first_name(&requests),
-                cause: self.without_memory(seat),
+                cause: PartitionFault::NoMemory,
             });
         }
         self.run_requests(seat, client, form, requests, outcomes)
@@ -180,8 +218,8 @@ impl Partition {
         requires seat { seat < 16 }
         requires empty { outcomes.items ≡ [] }
         requires room { length requests.items ≤ vec_capacity outcomes }
-        ensures ok { IfOk result (λ tolds. RunsList seat self.old self.new (entries_of seat self.old.present client form 0 requests.items) tolds) }
-        ensures err { IfErr result (λ stop. StopsList seat self.old self.new (entries_of seat self.old.present client form 0 requests.items) requests.items stop) }
+        ensures ok { IfOk result (λ tolds. RunsList self.old self.new (entries_of seat self.old.present client form 0 requests.items) tolds) }
+        ensures err { IfErr result (λ stop. StopsList self.old self.new (entries_of seat self.old.present client form 0 requests.items) requests.items stop) }
     {
         self.legal();
         for request in requests {
@@ -212,21 +250,9 @@ impl Partition {
     /// Whether a seat made as many events as can be counted.
     fn is_at_limit(&self, seat: u8) -> bool
         requires { seat < 16 }
-        ensures { result ≡ nat_le (2 ^ 63 - 1) (slice_index_or self.now.present.shared.made seat 0) }
+        ensures { result ≡ nat_le 9223372036854775807 (slice_index_or self.now.present.shared.made seat 0) }
     {
         self.state.made[usize::from(seat)] >= MAX_OWN
-    }
-
-    /// Why an event of a seat is refused that finds no memory.
-    fn without_memory(&self, seat: u8) -> PartitionFault
-        requires { seat < 16 }
-        ensures { (result ≡ PartitionFault.AtLimit) ↔ (2 ^ 63 - 1 ≤ slice_index_or self.now.present.shared.made seat 0) }
-    {
-        if self.is_at_limit(seat) {
-            PartitionFault::AtLimit
-        } else {
-            PartitionFault::NoMemory
-        }
     }
 
     /// All that happened, the first event first.
@@ -245,6 +271,8 @@ impl Partition {
         ensures tells { EachMoment Tells (life_of self.now).moments }
         // What is kept of each event is what was told at it.
         ensures heard { AreHeard (life_of self.now).moments self.now.window }
+        // The frames of each output are the sums over all events.
+        ensures books { self.now.present.shared.books ≡ books_of (life_of self.now).moments }
         // Song ids are distinct.
         ensures distinct { AllPairs (λ e f. e.id ≢ f.id) (queue_of self.now.present.part.queue) }
     {
@@ -287,11 +315,30 @@ impl Partition {
         find_client(&self.state.clients, number).is_some()
     }
 
-    /// What the player is set to.
-    pub fn controls(&self) -> &Controls
-        ensures { result.now ≡ self.now.present.part.controls }
+    /// What is played.
+    pub fn player(&self) -> &Player
+        ensures { result.now ≡ self.now.present.part.player }
     {
-        &self.state.part.controls
+        &self.state.part.player
+    }
+
+    pub fn volume(&self) -> &Volume
+        ensures { result.now ≡ self.now.present.part.volume }
+    {
+        &self.state.part.volume
+    }
+
+    pub fn outputs(&self) -> &Outputs
+        ensures { result.now ≡ self.now.present.part.outputs }
+    {
+        &self.state.part.outputs
+    }
+
+    /// The frames that each output was given, wrote and discarded.
+    pub fn books(&self) -> &Books
+        ensures { result.now ≡ self.now.present.shared.books }
+    {
+        &self.state.books
     }
 
     /// The clients that are connected, by rising number.

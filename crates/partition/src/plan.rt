@@ -1,16 +1,20 @@
 //! What an event is to do, found out before anything changes.
-ghost use Rattle.std.specs.Prelude.{◌≡◌, false, IfOk, OnOk, OnErr};
+ghost use Rattle.std.specs.Prelude.{◌≡◌, true, false, IfOk, IsErrOf, OnOk, OnErr};
 ghost use Rattle.idle_notes.specs.Sets.{none};
-ghost use Rattle.partition.specs.Commands.Deeds.{adjusts, begins_scan as begins_scan_lem, bad_index as bad_index_lem, edits, no_such_song as no_such_song_lem, only, refusal, shows as shows_lem};
-ghost use Rattle.partition.specs.Image.{library_after, part_after, turn_by};
+ghost use Rattle.partition.specs.Commands.Deeds.{begins_scan as begins_scan_lem, bad_index as bad_index_lem, does as does_lem, edits, no_such_song as no_such_song_lem, not_playing as not_playing_lem, refusal, shows as shows_lem};
+ghost use Rattle.partition.specs.Doings.{keeps_numbers, part_after};
+ghost use Rattle.partition.specs.Image.{library_after, turn_by};
 ghost use Rattle.partition.specs.Plans.{Fits};
-ghost use Rattle.partition.specs.Step.{quiet, raised_by, unspoken};
+ghost use Rattle.partition.specs.Step.{acts as acts_lem, quiet, raised_by, report_of, unspoken};
 
+use crate::doing::{Doing, carry_out as carry_out_doing};
 use crate::event::{Asked, Move};
-use crate::scan::{Report, ScanMove};
+use crate::report::Report;
+use crate::scan::ScanMove;
 use crate::spoken::{Spoken, refuses, shows, succeeds, tells};
-use crate::state::{Controls, Library, Part};
+use crate::state::{Library, Part};
 use mpd_text::{Answer, ErrorNumber};
+use player_core::PlayerFault;
 use song_queue::Edit;
 use std::alloc::{AllocError, Global};
 use std::marker::Model;
@@ -18,64 +22,66 @@ use std::marker::Model;
 /// What an event asks of a part, and what is answered. It is made without changing anything.
 #[derive(Drop)]
 pub(crate) struct Plan {
-    pub(crate) edit: Option<Edit>,
-    pub(crate) controls: Controls,
+    pub(crate) doing: Doing,
     pub(crate) scan: ScanMove,
     pub(crate) spoken: Spoken,
     pub(crate) report: Report,
 }
+
+/// Drops a plan. It is a function of its own so that the proofs of what holds one do not go through every kind of doing.
+pub(crate) fn discard(_plan: Plan) {}
 
 impl Model for Plan {
     ghost use Rattle.partition.specs.Image.{Turn};
 
     ghost Value = { Turn };
 
-    ghost view = { λ p. record { edit = p.edit; controls = p.controls; scan = p.scan; said = p.spoken; report = p.report } };
+    ghost view = { λ p. record { doing = p.doing; scan = p.scan; said = p.spoken; report = p.report } };
 }
 
 impl Plan {
     /// The part stays as it is.
-    pub(crate) fn only(part: &Part, spoken: Spoken) -> Plan
-        ensures { result ≡ quiet part.now spoken }
+    pub(crate) fn only(spoken: Spoken) -> Plan
+        ensures { result ≡ quiet spoken }
     {
         Plan {
-            edit: None,
-            controls: part.controls.copied(),
+            doing: Doing::Rests,
             scan: ScanMove::Stay,
             spoken,
             report: Report::Nothing,
         }
     }
 
-    /// The queue is edited, and these lines are shown.
-    pub(crate) fn edits(
-        asked: Asked,
-        part: &Part,
-        edit: Edit,
-        lines: Answer,
-    ) -> Result<Plan, AllocError>
-        ensures { IfOk result (λ plan. plan ≡ turn_by (edits asked part.now edit lines)) }
+    /// A step of the decoder or of an output.
+    pub(crate) fn acts(alloc: Global, doing: Doing) -> Result<Plan, AllocError>
+        ensures { IfOk result (λ plan. plan ≡ acts_lem doing) }
     {
         Ok(Plan {
-            edit: Some(edit),
-            controls: part.controls.copied(),
+            doing,
+            scan: ScanMove::Stay,
+            spoken: tells(String::new(alloc), Move::Stay)?,
+            report: Report::Nothing,
+        })
+    }
+
+    /// The queue is edited, and these lines are shown.
+    pub(crate) fn edits(asked: Asked, edit: Edit, lines: Answer) -> Result<Plan, AllocError>
+        ensures { IfOk result (λ plan. plan ≡ turn_by (edits asked edit lines)) }
+    {
+        Ok(Plan {
+            doing: Doing::Edits(edit),
             scan: ScanMove::Stay,
             spoken: shows(asked, lines)?,
             report: Report::Nothing,
         })
     }
 
-    /// The controls become these.
-    pub(crate) fn adjusts(
-        alloc: Global,
-        asked: Asked,
-        controls: Controls,
-    ) -> Result<Plan, AllocError>
-        ensures { IfOk result (λ plan. plan ≡ turn_by (adjusts asked controls)) }
+    /// The player does this, and no lines are shown.
+    pub(crate) fn does(alloc: Global, asked: Asked, doing: Doing) -> Result<Plan, AllocError>
+        ensures { IfOk result (λ plan. plan ≡ turn_by (does_lem asked doing)) }
     {
         Ok(Plan {
-            edit: None,
-            controls,
+            doing,
             scan: ScanMove::Stay,
             spoken: succeeds(alloc, asked)?,
             report: Report::Nothing,
@@ -83,12 +89,11 @@ impl Plan {
     }
 
     /// A scan begins, and these lines are shown.
-    pub(crate) fn begins_scan(asked: Asked, part: &Part, lines: Answer) -> Result<Plan, AllocError>
-        ensures { IfOk result (λ plan. plan ≡ turn_by (begins_scan_lem asked part.now lines)) }
+    pub(crate) fn begins_scan(asked: Asked, lines: Answer) -> Result<Plan, AllocError>
+        ensures { IfOk result (λ plan. plan ≡ turn_by (begins_scan_lem asked lines)) }
     {
         Ok(Plan {
-            edit: None,
-            controls: part.controls.copied(),
+            doing: Doing::Rests,
             scan: ScanMove::Begin,
             spoken: shows(asked, lines)?,
             report: Report::Nothing,
@@ -96,17 +101,11 @@ impl Plan {
     }
 
     /// The part stays as it is, and this is told to a part of the daemon that is no client.
-    pub(crate) fn reports(
-        alloc: Global,
-        part: &Part,
-        scan: ScanMove,
-        report: Report,
-    ) -> Result<Plan, AllocError>
-        ensures { IfOk result (λ plan. plan ≡ record (quiet part.now unspoken) { scan = scan; report = report }) }
+    pub(crate) fn reports(alloc: Global, scan: ScanMove, report: Report) -> Result<Plan, AllocError>
+        ensures { IfOk result (λ plan. plan ≡ record (quiet unspoken) { scan = scan; report = report }) }
     {
         Ok(Plan {
-            edit: None,
-            controls: part.controls.copied(),
+            doing: Doing::Rests,
             scan,
             spoken: tells(String::new(alloc), Move::Stay)?,
             report,
@@ -114,34 +113,39 @@ impl Plan {
     }
 
     /// The part stays as it is, and these lines are shown.
-    pub(crate) fn shows(asked: Asked, part: &Part, lines: Answer) -> Result<Plan, AllocError>
-        ensures { IfOk result (λ plan. plan ≡ turn_by (shows_lem asked part.now lines)) }
+    pub(crate) fn shows(asked: Asked, lines: Answer) -> Result<Plan, AllocError>
+        ensures { IfOk result (λ plan. plan ≡ turn_by (shows_lem asked lines)) }
     {
-        Ok(Plan::only(part, shows(asked, lines)?))
+        Ok(Plan::only(shows(asked, lines)?))
     }
 
     pub(crate) fn refuses(
         alloc: Global,
         asked: Asked,
-        part: &Part,
         number: ErrorNumber,
         text: &str,
     ) -> Result<Plan, AllocError>
-        ensures { IfOk result (λ plan. plan ≡ turn_by (refusal asked part.now number text.now)) }
+        ensures { IfOk result (λ plan. plan ≡ turn_by (refusal asked number text.now)) }
     {
-        Ok(Plan::only(part, refuses(alloc, asked, number, text)?))
+        Ok(Plan::only(refuses(alloc, asked, number, text)?))
     }
 
-    pub(crate) fn bad_index(alloc: Global, asked: Asked, part: &Part) -> Result<Plan, AllocError>
-        ensures { IfOk result (λ plan. plan ≡ turn_by (bad_index_lem asked part.now)) }
+    pub(crate) fn bad_index(alloc: Global, asked: Asked) -> Result<Plan, AllocError>
+        ensures { IfOk result (λ plan. plan ≡ turn_by (bad_index_lem asked)) }
     {
-        Plan::refuses(alloc, asked, part, ErrorNumber::Argument, "bad song index")
+        Plan::refuses(alloc, asked, ErrorNumber::Argument, "bad song index")
     }
 
-    pub(crate) fn no_such_song(alloc: Global, asked: Asked, part: &Part) -> Result<Plan, AllocError>
-        ensures { IfOk result (λ plan. plan ≡ turn_by (no_such_song_lem asked part.now)) }
+    pub(crate) fn no_such_song(alloc: Global, asked: Asked) -> Result<Plan, AllocError>
+        ensures { IfOk result (λ plan. plan ≡ turn_by (no_such_song_lem asked)) }
     {
-        Plan::refuses(alloc, asked, part, ErrorNumber::NoExist, "no such song")
+        Plan::refuses(alloc, asked, ErrorNumber::NoExist, "no such song")
+    }
+
+    pub(crate) fn not_playing(alloc: Global, asked: Asked) -> Result<Plan, AllocError>
+        ensures { IfOk result (λ plan. plan ≡ turn_by (not_playing_lem asked)) }
+    {
+        Plan::refuses(alloc, asked, ErrorNumber::PlayerSync, "not playing")
     }
 
     /// Whether it may change what clients are told of.
@@ -149,10 +153,7 @@ impl Plan {
     pub(crate) fn changes(&self, part: &Part, library: &Library) -> bool
         ensures { result ≡ false → raised_by part.now library.now self.now ≡ none }
     {
-        !matches!(self.scan, ScanMove::Stay)
-            || self.edit.is_some()
-            || self.controls.volume.percent() != part.controls.volume.percent()
-            || self.controls.modes != part.controls.modes
+        !matches!(self.scan, ScanMove::Stay) || !self.doing.rests()
     }
 }
 
@@ -163,31 +164,36 @@ pub(crate) struct Telling {
     pub(crate) report: Report,
 }
 
-/// Changes a part and a library as a plan asks, and gives what is told. It fails only for memory, and then changes nothing.
+/// Changes a part and a library as a plan asks, and gives what is told. Where it is refused, nothing changes.
 pub(crate) fn carry_out(
     part: &mut Part,
     library: &mut Library,
     plan: Plan,
-) -> Result<Telling, AllocError>
-    requires { Fits part.old.queue plan.edit }
-    ensures part { OnOk result (part.new ≡ part_after part.old plan) }
+) -> Result<Telling, PlayerFault>
+    requires { Fits part.old.queue plan.doing }
+    ensures part { OnOk result (part.new ≡ part_after library.old.rate part.old plan.doing) }
     ensures library { OnOk result (library.new ≡ library_after library.old plan.scan) }
     ensures said { IfOk result (λ telling. telling.spoken ≡ plan.said) }
-    ensures report { IfOk result (λ telling. telling.report ≡ plan.report) }
+    ensures report { IfOk result (λ telling. telling.report ≡ report_of part.old library.old plan) }
+    ensures within { OnOk result (keeps_numbers library.old.rate part.old library.old.scan plan.doing plan.scan ≡ true) }
+    ensures limit { IsErrOf result PlayerFault.CutsAtLimit → keeps_numbers library.old.rate part.old library.old.scan plan.doing plan.scan ≡ false }
     ensures err { OnErr result (part.new ≡ part.old) }
     ensures err_library { OnErr result (library.new ≡ library.old) }
 {
+    if library
+        .scan
+        .begins_beyond(part.player.max_cut(), &plan.scan)
+    {
+        discard(plan);
+        return Err(PlayerFault::CutsAtLimit);
+    }
     let Plan {
-        edit,
-        controls,
+        doing,
         scan,
         spoken,
         report,
     } = plan;
-    if let Some(edit) = edit {
-        part.queue.edit(edit)?;
-    }
-    part.controls = controls;
+    let report = carry_out_doing(part, &library.rate, doing, report)?;
     move_scan(library, scan);
     Ok(Telling { spoken, report })
 }

@@ -1,6 +1,7 @@
 //! The scans that look for what can be played.
-ghost use Rattle.std.specs.Prelude.{◌≡◌, ◌+◌, false, true, MatchOption};
-ghost use Rattle.partition.specs.Scans.{never_scanned, running, scan_after, is_last};
+ghost use Rattle.std.specs.Prelude.{◌≡◌, ◌+◌};
+ghost use Rattle.partition.specs.Doings.{begins_beyond as begins_beyond_lem};
+ghost use Rattle.partition.specs.Scans.{never_scanned, running, scan_after};
 ghost use Rattle.partition.specs.declared.scan.ScanMove.TheVariants.{Begin};
 
 use song_db::SharedDb;
@@ -45,14 +46,20 @@ impl Scan {
         if self.runs { Some(self.last) } else { None }
     }
 
-    /// The number that the next scan has, if there is one.
-    pub(crate) fn next(&self) -> Option<u64>
-        ensures { MatchOption result (is_last self.now ≡ true) (λ number. (is_last self.now ≡ false) × (number ≡ self.now.last + 1)) }
+    /// The number that the next scan has.
+    pub(crate) fn next(&self) -> u64
+        ensures { result ≡ self.now.last + 1 }
     {
-        if self.last >= MAX_SCANS {
-            None
-        } else {
-            Some(self.last + 1)
+        self.last + 1
+    }
+
+    /// Whether a scan that begins by this move would have a number above the greatest.
+    pub(crate) fn begins_beyond(&self, max_cut: u64, scan: &ScanMove) -> bool
+        ensures { result ≡ begins_beyond_lem max_cut self.now scan.now }
+    {
+        match scan {
+            ScanMove::Begin => !self.runs && max_cut <= self.last,
+            ScanMove::Stay | ScanMove::End(_) => false,
         }
     }
 
@@ -102,14 +109,4 @@ pub enum ScanMove {
     Begin,
     /// The scan that runs ends, with the library that it found. One that failed found none, and the songs stay.
     End(Option<SharedDb>),
-}
-
-/// What an event answers to a part of the daemon that is no client.
-#[derive(Clone, Copy, Debug, PartialEq, Eq)]
-pub enum Report {
-    Nothing,
-    /// The number of the scan that is to be made, if one is.
-    ToScan(Option<u64>),
-    /// Whether a scan ended by its result.
-    ScanEnded(bool),
 }

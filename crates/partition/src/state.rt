@@ -1,9 +1,12 @@
 //! The state of a player.
 ghost use Rattle.std.specs.Prelude.{◌≡◌, IfOk};
 
+use crate::books::Books;
+use crate::outputs::Outputs;
 use crate::scan::Scan;
 use idle_notes::Pending;
 use mpd_command::Volume;
+use player_core::Player;
 use song_db::{Rate, SharedDb};
 use song_queue::Queue;
 use std::alloc::AllocError;
@@ -23,32 +26,17 @@ pub struct Limits {
     pub max_version: u32,
     /// The greatest song id.
     pub max_id: u32,
+    /// The greatest number of cuts, of starts, of jobs and of scans, below 2^63.
+    pub max_cut: u64,
 }
 
-/// The modes of a player (MPD protocol reference, Playback options).
-#[derive(Clone, Copy, Debug, PartialEq, Eq)]
-pub struct Modes {
-    /// Whether the queue begins anew at its end.
-    pub repeat: bool,
-}
-
-/// What a player can be set to.
+/// What a player is opened with.
 #[derive(Drop)]
-pub struct Controls {
-    pub volume: Volume,
-    pub modes: Modes,
-}
-
-impl Controls {
-    /// The same controls.
-    pub(crate) fn copied(&self) -> Controls
-        ensures { result ≡ self.now }
-    {
-        Controls {
-            volume: self.volume.copied(),
-            modes: self.modes,
-        }
-    }
+pub struct Setup {
+    pub limits: Limits,
+    /// The seed of the generator that random orders are drawn from.
+    pub random_start: u64,
+    pub outputs: Outputs,
 }
 
 /// A client that is connected.
@@ -93,7 +81,9 @@ fn same_rate(rate: &Rate) -> Rate
 #[derive(Drop)]
 pub struct Part {
     pub queue: Queue,
-    pub controls: Controls,
+    pub player: Player,
+    pub volume: Volume,
+    pub outputs: Outputs,
 }
 
 /// The present state.
@@ -102,6 +92,7 @@ pub(crate) struct State {
     pub(crate) part: Part,
     pub(crate) library: Library,
     pub(crate) made: [u64; 16],
+    pub(crate) books: Books,
     /// By rising number.
     pub(crate) clients: Vec<Client>,
 }

@@ -1,22 +1,30 @@
 //! What each event is to do, and what it answers.
-ghost use Rattle.std.specs.Prelude.{◌≡◌, Some, None, IfOk};
+ghost use Rattle.std.specs.Prelude.{◌≡◌, Some, None, IfOk, if◌then◌else◌};
 ghost use Rattle.std.specs.Option.{option_copied};
 ghost use Rattle.partition.specs.Plans.{Fits};
-ghost use Rattle.partition.specs.Step.{deed_of, ends_waiting as ends_waiting_lem, quiet, unspoken, said_to_new, turn_command, turn_line, turn_of, turn_request};
+ghost use Rattle.partition.specs.Step.{acts, deed_of, ends_waiting as ends_waiting_lem, quiet, unspoken, said_to_new, turn_command, turn_line, turn_of, turn_request};
 ghost use Rattle.partition.specs.Image.{turn_by};
+ghost use Rattle.partition.specs.Outputs.{is_output};
 
 use crate::clients::find_client;
 use crate::commands::connection::{ping, tag_types};
+use crate::commands::devices::{outputs, switch_output, toggle_output};
 use crate::commands::library::{count, find, find_add, list, list_all, list_info, update};
-use crate::commands::options::{get_volume, repeat, set_volume};
+use crate::commands::options::{consume, get_volume, random, repeat, set_volume, single};
+use crate::commands::playback::{
+    clear_error, current_song, next, pause, play, play_id, previous, seek, seek_cur, seek_id, stop,
+};
 use crate::commands::queue_edits::{
-    add, add_id, clear, delete, delete_id, move_id, move_range, prio, prio_id, swap, swap_id,
+    add, add_id, clear, delete, delete_id, move_id, move_range, prio, prio_id, shuffle, swap,
+    swap_id,
 };
 use crate::commands::queue_songs::{changed_places, changes, playlist_id, playlist_info};
 use crate::commands::status::{idle, no_idle, status};
+use crate::doing::Doing;
 use crate::event::{Asked, Event, Move, Stand};
 use crate::plan::Plan;
-use crate::scan::{Report, ScanMove};
+use crate::report::Report;
+use crate::scan::ScanMove;
 use crate::spoken::{Spoken, refuses_line, shut, tells};
 use crate::state::{Client, Library, MAX_CLIENTS, Part};
 use filters::Case;
@@ -33,39 +41,51 @@ pub(crate) fn plan_turn(
     event: &Event,
 ) -> Result<Plan, AllocError>
     ensures plan { IfOk result (λ plan. plan ≡ turn_of part.now library.now clients.now event.now) }
-    ensures fits { IfOk result (λ plan. Fits part.now.queue plan.edit) }
+    ensures fits { IfOk result (λ plan. Fits part.now.queue plan.doing) }
 {
     match event {
-        Event::Connect(number) => Ok(Plan::only(part, connect(alloc, clients, *number)?)),
-        Event::Disconnect(_) => Ok(Plan::only(part, shut(alloc)?)),
+        Event::Connect(number) => Ok(Plan::only(connect(alloc, clients, *number)?)),
+        Event::Disconnect(_) => Ok(Plan::only(shut(alloc)?)),
         Event::Line(number, stand, request) => match find_client(clients, *number) {
             Some(client) => answer_line(alloc, part, library, client, *stand, request),
-            None => Ok(Plan::only(part, shut(alloc)?)),
+            None => Ok(Plan::only(shut(alloc)?)),
         },
         Event::ScanQuestion => {
             let report = Report::ToScan(library.scan.running());
-            Plan::reports(alloc, part, ScanMove::Stay, report)
+            Plan::reports(alloc, ScanMove::Stay, report)
         }
-        Event::ScanResult(songs) => end_scan(alloc, part, library, songs.as_ref()),
+        Event::ScanResult(songs) => end_scan(alloc, library, songs.as_ref()),
+        Event::Want(owes) => Plan::acts(alloc, Doing::Wants(*owes)),
+        Event::Have(number, frames) => Plan::acts(alloc, Doing::Accepts(*number, *frames)),
+        Event::Failed(number, partner) => Plan::acts(alloc, Doing::Fails(*number, *partner)),
+        Event::OutputTurn(output, written, discarded, failed) => {
+            let turn = Doing::Settles(*output, *written, *discarded, *failed);
+            settle(alloc, part, *output, turn)
+        }
     }
 }
 
 /// Ends the scan that runs, with the library that it found.
-fn end_scan(
-    alloc: Global,
-    part: &Part,
-    library: &Library,
-    songs: Option<&SharedDb>,
-) -> Result<Plan, AllocError>
-    ensures plan { IfOk result (λ plan. plan ≡ record (quiet part.now unspoken) { scan = ScanMove.End (option_copied songs.entry); report = Report.ScanEnded library.now.scan.runs }) }
-    ensures fits { IfOk result (λ plan. Fits part.now.queue plan.edit) }
+fn end_scan(alloc: Global, library: &Library, songs: Option<&SharedDb>) -> Result<Plan, AllocError>
+    ensures plan { IfOk result (λ plan. plan ≡ record (quiet unspoken) { scan = ScanMove.End (option_copied songs.entry); report = Report.ScanEnded library.now.scan.runs }) }
+    ensures rests { IfOk result (λ plan. plan.doing ≡ Doing.Rests) }
 {
     let found = match songs {
         Some(songs) => Some(songs.clone()?),
         None => None,
     };
     let ended = library.scan.running().is_some();
-    Plan::reports(alloc, part, ScanMove::End(found), Report::ScanEnded(ended))
+    Plan::reports(alloc, ScanMove::End(found), Report::ScanEnded(ended))
+}
+
+/// An output has its turn, if it is there.
+fn settle(alloc: Global, part: &Part, output: usize, turn: Doing) -> Result<Plan, AllocError>
+    ensures plan { IfOk result (λ plan. plan ≡ (if is_output part.now.outputs output then acts turn else quiet unspoken)) }
+{
+    if part.outputs.is_output(output) {
+        return Plan::acts(alloc, turn);
+    }
+    Ok(Plan::only(tells(String::new(alloc), Move::Stay)?))
 }
 
 fn connect(alloc: Global, clients: &[Client], number: u32) -> Result<Spoken, AllocError>
@@ -90,10 +110,10 @@ fn answer_line(
     request: &Request,
 ) -> Result<Plan, AllocError>
     ensures plan { IfOk result (λ plan. plan ≡ turn_line part.now library.now (Some client) stand request.now) }
-    ensures fits { IfOk result (λ plan. Fits part.now.queue plan.edit) }
+    ensures fits { IfOk result (λ plan. Fits part.now.queue plan.doing) }
 {
     if client.pending.is_waiting() && !ends_waiting(stand, request) {
-        return Ok(Plan::only(part, shut(alloc)?));
+        return Ok(Plan::only(shut(alloc)?));
     }
     answer_request(alloc, part, library, client, stand, request)
 }
@@ -117,7 +137,7 @@ fn answer_request(
     request: &Request,
 ) -> Result<Plan, AllocError>
     ensures plan { IfOk result (λ plan. plan ≡ turn_request part.now library.now client stand request.now) }
-    ensures fits { IfOk result (λ plan. Fits part.now.queue plan.edit) }
+    ensures fits { IfOk result (λ plan. Fits part.now.queue plan.doing) }
 {
     match request {
         Request::Run(name, command) => {
@@ -126,7 +146,7 @@ fn answer_request(
         }
         Request::Refused(ack) => {
             let spoken = refuses_line(alloc, stand, ack.command, ack.number, ack.text.as_str())?;
-            Ok(Plan::only(part, spoken))
+            Ok(Plan::only(spoken))
         }
     }
 }
@@ -141,11 +161,11 @@ fn answer_command(
     command: &Command,
 ) -> Result<Plan, AllocError>
     ensures plan { IfOk result (λ plan. plan ≡ turn_command asked part.now library.now client command.now) }
-    ensures fits { IfOk result (λ plan. Fits part.now.queue plan.edit) }
+    ensures fits { IfOk result (λ plan. Fits part.now.queue plan.doing) }
 {
     match command {
-        Command::Idle(named) => Ok(Plan::only(part, idle(alloc, asked, client, *named)?)),
-        Command::NoIdle => Ok(Plan::only(part, no_idle(alloc, asked, client)?)),
+        Command::Idle(named) => Ok(Plan::only(idle(alloc, asked, client, *named)?)),
+        Command::NoIdle => Ok(Plan::only(no_idle(alloc, asked, client)?)),
         _ => run(alloc, asked, part, library, command),
     }
 }
@@ -154,43 +174,62 @@ fn answer_command(
 #[rattlefmt::skip]
 fn run(alloc: Global, asked: Asked, part: &Part, library: &Library, command: &Command) -> Result<Plan, AllocError>
     ensures plan { IfOk result (λ plan. plan ≡ turn_by (deed_of asked part.now library.now command.now)) }
-    ensures fits { IfOk result (λ plan. Fits part.now.queue plan.edit) }
+    ensures fits { IfOk result (λ plan. Fits part.now.queue plan.doing) }
 {
     match command {
         Command::Add(uri) => add(alloc, asked, part, library, uri),
         Command::AddId(uri, place) => add_id(alloc, asked, part, library, uri, *place),
         Command::Clear => clear(alloc, asked, part),
-        Command::Close => Ok(Plan::only(part, shut(alloc)?)),
-        Command::Count(wanted) => count(alloc, asked, part, library, wanted),
+        Command::ClearError => clear_error(alloc, asked),
+        Command::Close => Ok(Plan::only(shut(alloc)?)),
+        Command::Consume(on) => consume(alloc, asked, *on),
+        Command::Count(wanted) => count(alloc, asked, library, wanted),
+        Command::CurrentSong => current_song(alloc, asked, part, library),
         Command::Delete(range) => delete(alloc, asked, part, *range),
         Command::DeleteId(id) => delete_id(alloc, asked, part, *id),
-        Command::Find(wanted, window) => find(alloc, asked, part, library, Case::Heeded, wanted, *window),
+        Command::DisableOutput(output) => switch_output(alloc, asked, part, *output as usize, false),
+        Command::EnableOutput(output) => switch_output(alloc, asked, part, *output as usize, true),
+        Command::Find(wanted, window) => find(alloc, asked, library, Case::Heeded, wanted, *window),
         Command::FindAdd(wanted) => find_add(alloc, asked, part, library, Case::Heeded, wanted),
         Command::GetVol => get_volume(alloc, asked, part),
-        Command::Idle(_) => Ok(Plan::only(part, shut(alloc)?)),
-        Command::Kill => Ok(Plan::only(part, shut(alloc)?)),
-        Command::List(name, wanted) => list(alloc, asked, part, library, *name, wanted.as_ref()),
-        Command::ListAll(uri) => list_all(alloc, asked, part, library, uri.as_ref()),
-        Command::LsInfo(uri) => list_info(alloc, asked, part, library, uri.as_ref()),
+        Command::Idle(_) => Ok(Plan::only(shut(alloc)?)),
+        Command::Kill => Ok(Plan::only(shut(alloc)?)),
+        Command::List(name, wanted) => list(alloc, asked, library, *name, wanted.as_ref()),
+        Command::ListAll(uri) => list_all(alloc, asked, library, uri.as_ref()),
+        Command::LsInfo(uri) => list_info(alloc, asked, library, uri.as_ref()),
         Command::Move(range, to) => move_range(alloc, asked, part, *range, *to),
         Command::MoveId(id, to) => move_id(alloc, asked, part, *id, *to),
-        Command::NoIdle => Ok(Plan::only(part, shut(alloc)?)),
-        Command::Ping => Ok(Plan::only(part, ping(alloc, asked)?)),
+        Command::Next => next(alloc, asked, part),
+        Command::NoIdle => Ok(Plan::only(shut(alloc)?)),
+        Command::Outputs => outputs(alloc, asked, part),
+        Command::Pause(on) => pause(alloc, asked, *on),
+        Command::Ping => Ok(Plan::only(ping(alloc, asked)?)),
+        Command::Play(place) => play(alloc, asked, part, *place),
+        Command::PlayId(id) => play_id(alloc, asked, part, *id),
         Command::PlaylistId(id) => playlist_id(alloc, asked, part, library, *id),
         Command::PlaylistInfo(range) => playlist_info(alloc, asked, part, library, *range),
         Command::PlChanges(version, range) => changes(alloc, asked, part, library, *version, *range),
         Command::PlChangesPosId(version, range) => changed_places(alloc, asked, part, library, *version, *range),
+        Command::Previous => previous(alloc, asked, part),
         Command::Prio(priority, ranges) => prio(alloc, asked, part, *priority, ranges.items()),
         Command::PrioId(priority, ids) => prio_id(alloc, asked, part, *priority, ids.items()),
-        Command::Repeat(on) => repeat(alloc, asked, part, *on),
-        Command::Rescan(_) => update(alloc, asked, part, library),
-        Command::Search(wanted, window) => find(alloc, asked, part, library, Case::Ignored, wanted, *window),
+        Command::Random(on) => random(alloc, asked, *on),
+        Command::Repeat(on) => repeat(alloc, asked, *on),
+        Command::Rescan(_) => update(alloc, asked, library),
+        Command::Search(wanted, window) => find(alloc, asked, library, Case::Ignored, wanted, *window),
         Command::SearchAdd(wanted) => find_add(alloc, asked, part, library, Case::Ignored, wanted),
-        Command::SetVol(volume) => set_volume(alloc, asked, part, volume),
+        Command::Seek(place, time) => seek(alloc, asked, part, library, *place, *time),
+        Command::SeekCur(seeking) => seek_cur(alloc, asked, part, library, *seeking),
+        Command::SeekId(id, time) => seek_id(alloc, asked, part, library, *id, *time),
+        Command::SetVol(volume) => set_volume(alloc, asked, volume),
+        Command::Shuffle(range) => shuffle(alloc, asked, part, *range),
+        Command::Single(mode) => single(alloc, asked, *mode),
         Command::Status => status(alloc, asked, part, library),
+        Command::Stop => stop(alloc, asked),
         Command::Swap(first, second) => swap(alloc, asked, part, *first, *second),
         Command::SwapId(first, second) => swap_id(alloc, asked, part, *first, *second),
-        Command::TagTypes => Ok(Plan::only(part, tag_types(alloc, asked)?)),
-        Command::Update(_) => update(alloc, asked, part, library),
+        Command::TagTypes => Ok(Plan::only(tag_types(alloc, asked)?)),
+        Command::ToggleOutput(output) => toggle_output(alloc, asked, part, *output as usize),
+        Command::Update(_) => update(alloc, asked, library),
     }
 }

@@ -8,7 +8,8 @@ use Rattle.play_order.specs.Ends as ends
 use Rattle.player_core.specs.declared.state.Fade.{Fade}
 use Rattle.player_core.specs.declared.state.FadePart.{FadePart}
 use Rattle.player_core.specs.declared.state.Job.{Job}
-use Rattle.player_core.specs.Player.{PlayerState, Stepped, cut, given_up, halted, stays, is_playing}
+use Rattle.player_core.specs.declared.state.Live.{Live}
+use Rattle.player_core.specs.Player.{PlayerState, Stepped, cut, given_up, halted, stays, is_paused, is_playing}
 use Rattle.player_core.specs.Steps.{ended, peek}
 
 -- whether this is the entry with the id
@@ -164,3 +165,7 @@ failed_of p entries (Some job) number partner =
 -- the decoder could not read the song of a job, or of its partner
 abbrev pub failed : PlayerState → List Entry → ℕ → Bool → PlayerState
 failed p entries number partner = failed_of p entries p.job number partner
+
+-- what an output is told at its turn: the cut whose frames are to be heard, whether it is enabled, whether it keeps its frames
+abbrev pub turn : PlayerState → Bool → Live
+turn p enabled = record { cut = p.cuts; enabled = enabled; paused = is_paused p.playback }

@@ -1,6 +1,6 @@
 -- The steps that clients make (MPD protocol reference, Controlling playback; Playback options; The queue; which steps cut
 -- and start, and what a deletion leads to, are this profile's). A step is a plain function that refuses nothing.
-use Rattle.std.specs.Prelude.{ℕ, Bool, true, false, ◌==◌, ◌&&◌, not, nat_le, nat_lt, min, if◌then◌else◌, List, Option, Some, None}
+use Rattle.std.specs.Prelude.{ℕ, ◌-◌, Bool, true, false, ◌==◌, ◌&&◌, not, nat_le, nat_lt, min, if◌then◌else◌, List, Option, Some, None}
 use Rattle.mpd_text.specs.Songs.Song.{SongData}
 use Rattle.song_queue.specs.declared.entry.Entry.{Entry}
 use Rattle.song_queue.specs.State.{QueueState}
@@ -107,6 +107,14 @@ seek p entry frame =
 abbrev pub inserted : PlayerState → QueueState → List SongData → PlayerState
 inserted p q songs = record p { round = draws.added p.round (order.new_ids q songs) }
 
+-- the entries from a place up to another are shuffled: a word is drawn for each of their places but the first
+abbrev pub shuffled : PlayerState → ℕ → ℕ → PlayerState
+shuffled p from end = record p { round = draws.drawn_from p.round (end - from - 1) }
+
+-- the words that they are shuffled by
+abbrev pub shuffle_words : PlayerState → ℕ → ℕ → List ℕ
+shuffle_words p from end = draws.words_drawn p.round.generator (end - from - 1)
+
 -- whether the current song stands in a range of places
 abbrev pub holds_current : List Entry → Option ℕ → ℕ → ℕ → Bool
 holds_current entries None from end = false
@@ -153,6 +161,14 @@ set_crossfade p seconds = record p { crossfade = seconds }
 
 abbrev pub clear_error : PlayerState → PlayerState
 clear_error p = record p { error = None }
+
+abbrev pub entry_by : List Entry → Option ℕ → Option Entry
+entry_by entries None = None
+entry_by entries (Some id) = entry_of entries id
+
+-- the entry of the current song, if it is in the queue
+abbrev pub current_entry : PlayerState → List Entry → Option Entry
+current_entry p entries = entry_by entries p.current
 
 -- what the natural end of the current song would start, where no new round is needed
 abbrev pub peek_by : PlayerState → List Entry → Option ℕ → Option Entry

@@ -9,4 +9,4 @@ mod state;
 pub use fault::PlayerFault;
 pub use laws::{feeds_as_asked, feeds_once, numbers_rise};
 pub use player::Player;
-pub use state::{Fade, FadePart, Job, Playback};
+pub use state::{Fade, FadePart, Job, Live, Playback};

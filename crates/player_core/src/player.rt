@@ -140,6 +140,13 @@ impl Player {
         self.cuts
     }
 
+    /// The greatest number of cuts, starts and jobs.
+    pub fn max_cut(&self) -> u64
+        ensures { result ≡ self.now.max_cut }
+    {
+        self.max_cut
+    }
+
     /// How many songs have started.
     pub fn starts(&self) -> u64
         ensures { result ≡ self.now.starts }
@@ -160,6 +167,16 @@ impl Player {
     {
         match self.current {
             Some(id) => self.round.peek(self.modes, queue, id),
+            None => None,
+        }
+    }
+
+    /// The entry of the current song, if it is in the queue.
+    pub fn current_entry<'a>(&self, queue: &'a Queue) -> Option<&'a Entry>
+        ensures { option_copied result ≡ steps.current_entry self.now (queue_of queue.now) }
+    {
+        match self.current {
+            Some(id) => entries::entry_with(queue, id),
             None => None,
         }
     }

@@ -41,3 +41,13 @@ pub struct Job {
     pub count: u64,
     pub fade: Option<FadePart>,
 }
+
+/// What an output is told at its turn.
+#[derive(Clone, Copy, Debug, PartialEq, Eq)]
+pub struct Live {
+    /// Frames of blocks of this cut and later ones are to be heard.
+    pub cut: u64,
+    pub enabled: bool,
+    /// Whether the output keeps its frames for later.
+    pub paused: bool,
+}

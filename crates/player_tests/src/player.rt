@@ -4,10 +4,10 @@
 use crate::tables::{first_word, number_of, song, wants, wants_made};
 use command_lists::ListForm;
 use mpd_command::{NAMES, Name, Request, Volume};
-use mpd_text::{Answer, Song};
+use mpd_text::{Answer, SharedText, Song};
 use partition::{
-    Event, Library, Limits, ListOutcome, Next, Notice, Outcome, Partition, Report, Scan, Stand,
-    reads_pending, replays_worlds,
+    Event, Library, Limits, ListOutcome, Next, Notice, Outcome, Outputs, Partition, Report, Scan,
+    Setup, Stand, reads_pending, replays_worlds,
 };
 use song_db::{Db, Rate, SharedDb};
 use std::alloc::{AllocError, Global};
@@ -29,14 +29,37 @@ fn library(alloc: Global) -> Result<Library, AllocError> {
     })
 }
 
+/// Eight outputs, of which the last is off.
+fn outputs(alloc: Global) -> Result<Outputs, AllocError> {
+    let mut outputs = Outputs::none(alloc);
+    for number in 0..8u32 {
+        let name = format!(in alloc; "room {number}")?;
+        add_output(&mut outputs, SharedText::of(name)?, number < 7)?;
+    }
+    Ok(outputs)
+}
+
+fn add_output(outputs: &mut Outputs, name: SharedText, enabled: bool) -> Result<(), AllocError> {
+    if outputs.names().len() >= 8 {
+        return Err(AllocError);
+    }
+    outputs.add(name, enabled)
+}
+
 /// A player over one song.
 fn opened(alloc: Global) -> Result<Partition, AllocError> {
     let limits = Limits {
         max_queue: 16384,
         max_version: 2147483647,
         max_id: 2147483647,
+        max_cut: 9223372036854775807,
     };
-    Partition::open(alloc, limits, library(alloc)?)
+    let setup = Setup {
+        limits,
+        random_start: 0,
+        outputs: outputs(alloc)?,
+    };
+    Partition::open(alloc, setup, library(alloc)?)
 }
 
 fn after(next: Next) -> &'static str {
@@ -53,9 +76,21 @@ fn notice_told(alloc: Global, notice: &Notice) -> Result<String, AllocError> {
     format!(in alloc; "{}: {}", notice.client, lines.as_str())
 }
 
-/// What is told to a scanner.
+/// What is told to a scanner, a decoder or an output.
 fn report_told(alloc: Global, report: Report) -> Result<String, AllocError> {
     match report {
+        Report::ToDecode(Some(job)) => {
+            format!(in alloc;
+                "job {} {} {} {}\n",
+                job.number, job.id, job.from, job.count
+            )
+        }
+        Report::ToDecode(None) => String::from_str(alloc, "no job\n"),
+        Report::ToFeed(Some(feed)) => format!(in alloc; "feed {} {}\n", feed.cut, feed.volume),
+        Report::ToFeed(None) => String::from_str(alloc, "stale\n"),
+        Report::ToPlay(live) => {
+            format!(in alloc; "live {} {} {}\n", live.cut, live.enabled, live.paused)
+        }
         Report::Nothing => Ok(String::new(alloc)),
         Report::ToScan(Some(number)) => format!(in alloc; "scan {number}\n"),
         Report::ToScan(None) => String::from_str(alloc, "no scan\n"),
@@ -95,7 +130,7 @@ fn counts(player: &Partition, alloc: Global) -> Result<String, AllocError> {
     let kept = player.history().len();
     let entries = player.queue().len();
     let clients = player.clients().len();
-    let volume = player.controls().volume.percent();
+    let volume = player.volume().percent();
     format!(in alloc; "{last} {own} {kept} {entries} {clients} {volume}\n")
 }
 
@@ -117,6 +152,23 @@ fn last_kept(player: &Partition, alloc: Global) -> Result<String, AllocError> {
     Ok(all)
 }
 
+/// The frames of an output: those that it was given, wrote and discarded.
+fn book(player: &Partition, alloc: Global, output: usize) -> Result<String, AllocError> {
+    let books = player.books();
+    let (decoded, written) = (books.decoded(output), books.written(output));
+    let discarded = books.discarded(output);
+    format!(in alloc; "{decoded} {written} {discarded}\n")
+}
+
+/// The frames of the outputs with the first number and the last, and of one that is not there.
+fn books(player: &Partition, alloc: Global) -> Result<String, AllocError> {
+    let mut all = book(player, alloc, 0)?;
+    all.push_str(book(player, alloc, 6)?.as_str())?;
+    all.push_str(book(player, alloc, 7)?.as_str())?;
+    all.push_str(book(player, alloc, 8)?.as_str())?;
+    Ok(all)
+}
+
 fn has_client(player: &Partition, client: u32) -> &'static str {
     if player.has_client(client) {
         "there\n"
@@ -133,6 +185,8 @@ fn shown(player: &Partition, alloc: Global, what: &str) -> Result<String, AllocE
         pending(player, alloc)
     } else if what == "kept" {
         last_kept(player, alloc)
+    } else if what == "books" {
+        books(player, alloc)
     } else {
         String::from_str(alloc, has_client(player, number_of(what)))
     }
@@ -245,8 +299,46 @@ fn scans(
     happens(player, alloc, 5, event, all)
 }
 
+/// The two numbers of a text.
+fn two_numbers(text: &str) -> (u32, u32) {
+    let (first, second) = first_word(text);
+    (number_of(first), number_of(second))
+}
+
+/// What the decoder asks or brings, at seat 6.
+fn decodes(
+    player: &mut Partition,
+    alloc: Global,
+    rest: &str,
+    all: &mut String,
+) -> Result<(), AllocError> {
+    if rest == "wants" {
+        return happens(player, alloc, 6, Event::Want(false), all);
+    }
+    let (number, frames) = two_numbers(rest);
+    let event = Event::Have(u64::from(number), u64::from(frames));
+    happens(player, alloc, 6, event, all)
+}
+
+/// An output has its turn, at seat 7: its number, the frames that it wrote, and those that it discarded; one that discarded
+/// 4,294,967,295 has failed.
+fn turns(
+    player: &mut Partition,
+    alloc: Global,
+    rest: &str,
+    all: &mut String,
+) -> Result<(), AllocError> {
+    let (output, rest) = first_word(rest);
+    let (written, discarded) = two_numbers(rest);
+    let failed = discarded == u32::MAX;
+    let (written, discarded) = (u64::from(written), u64::from(discarded));
+    let output = number_of(output) as usize;
+    let event = Event::OutputTurn(output, written, discarded, failed);
+    happens(player, alloc, 7, event, all)
+}
+
 /// Adds what is told at a step, by its first word: a client comes or goes, at the last seat; client 1 says a line in a list; a scanner
-/// asks or brings something; something is shown; or a client says a line alone.
+/// asks or brings something; so does the decoder; an output has its turn; something is shown; or a client says a line alone.
 fn step(
     player: &mut Partition,
     alloc: Global,
@@ -268,6 +360,10 @@ fn step(
         runs_list(player, alloc, ListForm::ListOk, rest, all)
     } else if word == "scan" {
         scans(player, alloc, rest, all)
+    } else if word == "decoder" {
+        decodes(player, alloc, rest, all)
+    } else if word == "turn" {
+        turns(player, alloc, rest, all)
     } else if word == "show" {
         show(player, alloc, rest, all)
     } else {
@@ -351,6 +447,65 @@ changed: options
 #[test]
 fn a_waiting_client_hears_of_a_change_once(rt: HostRuntime) {
     wants(&rt, session(rt.alloc(), WAITING), WAITING_TELLS);
+}
+
+const ROOMS: &str = "comes 1
+comes 2
+2 idle player output
+1 add a.wav
+decoder wants
+1 play
+decoder wants
+1 setvol 40
+decoder 1 1024
+decoder 1 1024
+1 disableoutput 6
+decoder wants
+decoder 2 24
+turn 0 1000 24
+turn 6 24 1000
+turn 8 5 5
+2 idle output
+2 idle output
+turn 0 0 4294967295
+1 enableoutput 0
+1 enableoutput 8
+show books
+show counts";
+
+const ROOMS_TELL: &str = "OK MPD 0.23.0
+OK MPD 0.23.0
+waits
+OK
+no job
+OK
+2: changed: player
+job 1 1 0 1024
+OK
+feed 1 40
+stale
+OK
+job 2 1 1024 1024
+feed 1 40
+live 1 true false
+live 1 false false
+changed: output
+OK
+waits
+2: changed: output
+live 1 false false
+ACK [52@0] {enableoutput} output has failed
+ACK [50@0] {enableoutput} no such output
+1048 1000 4294967319
+1024 24 1000
+0 0 0
+0 0 0
+2 9 21 1 2 40
+";
+
+#[test]
+fn eight_rooms_have_their_books(rt: HostRuntime) {
+    wants(&rt, session(rt.alloc(), ROOMS), ROOMS_TELL);
 }
 
 const SCANS: &str = "comes 1

@@ -1,7 +1,8 @@
 -- The steps of a script (this profile's script).
-use Rattle.std.specs.Prelude.{ℕ, List, [], ◌∷◌, length, codes, Option, Some, None, Result, Ok, Err, Bool, not, ◌&&◌, nat_le, if◌then◌else◌}
+use Rattle.std.specs.Prelude.{ℕ, List, [], ◌∷◌, length, codes, Option, Some, None, Result, Ok, Err, Bool, true, false, not, ◌==◌, ◌&&◌, nat_le, if◌then◌else◌}
 use Rattle.std.specs.List.{list_all}
 use Rattle.std.specs.Str.{bytes_eq}
+use Rattle.mpd_text.specs.Answers.Number.{number_of}
 use Rattle.mpd_text.specs.Lines.Scan.{words_of}
 use Rattle.mpd_text.specs.declared.lines.quoting.WordsFault.{WordsFault}
 use Rattle.script_lines.specs.Cuts.{has_byte}
@@ -9,7 +10,7 @@ use Rattle.script_lines.specs.Limits.{limit_named, greatest_of, number_within}
 use Rattle.script_lines.specs.Tags.{is_tag, tags_of}
 use Rattle.script_lines.specs.declared.limit.LimitName.{LimitName}
 use Rattle.script_lines.specs.declared.step.Step.{Step}
-use Rattle.script_lines.specs.declared.step.Step.TheVariants.{Song, Limit, Gone, Scanned}
+use Rattle.script_lines.specs.declared.step.Step.TheVariants.{Song, Limit, Gone, Scanned, Want, Have, Failed, Turn}
 
 -- 1 to 1,024 bytes without a newline
 unfoldable pub is_uri : List ℕ → Bool
@@ -52,6 +53,79 @@ abbrev pub scanned_of : List (List ℕ) → Option Step
 scanned_of [] = Some Scanned
 scanned_of (word ∷ words) = None
 
+-- nothing after the word
+abbrev pub want_of : List (List ℕ) → Option Step
+want_of [] = Some Want
+want_of (word ∷ words) = None
+
+abbrev pub have_to : ℕ → Option ℕ → Option Step
+have_to job None = None
+have_to job (Some count) = Some (Have job count)
+
+abbrev pub have_with : Option ℕ → List ℕ → Option Step
+have_with None count = None
+have_with (Some job) count = have_to job (number_of count)
+
+-- the number of a job, and how many of its frames are there
+abbrev pub have_of : List (List ℕ) → Option Step
+have_of (job ∷ count ∷ []) = have_with (number_of job) count
+have_of _ = None
+
+-- a mark is this word alone, or no word where it is not set; other words are bad
+abbrev pub mark_of : List ℕ → List (List ℕ) → Option Bool
+mark_of mark [] = Some false
+mark_of mark (word ∷ []) = if bytes_eq word mark then Some true else None
+mark_of mark _ = None
+
+abbrev pub failed_to : ℕ → Option Bool → Option Step
+failed_to job None = None
+failed_to job (Some partner) = Some (Failed job partner)
+
+abbrev pub failed_with : Option ℕ → List (List ℕ) → Option Step
+failed_with None words = None
+failed_with (Some job) words = failed_to job (mark_of (codes "partner") words)
+
+-- the number of a job, and `partner` where the song that is mixed in is meant
+abbrev pub failed_of : List (List ℕ) → Option Step
+failed_of (job ∷ words) = failed_with (number_of job) words
+failed_of [] = None
+
+abbrev pub turn_as : ℕ → ℕ → Option Bool → Option Step
+turn_as written discarded None = None
+turn_as written discarded (Some failed) = Some (Turn written discarded failed)
+
+abbrev pub turn_to : ℕ → Option ℕ → List (List ℕ) → Option Step
+turn_to written None words = None
+turn_to written (Some discarded) words = turn_as written discarded (mark_of (codes "failed") words)
+
+abbrev pub turn_with : Option ℕ → List ℕ → List (List ℕ) → Option Step
+turn_with None discarded words = None
+turn_with (Some written) discarded words = turn_to written (number_of discarded) words
+
+-- how many frames the output wrote, how many it discarded, and `failed` where it failed
+abbrev pub turn_told : List (List ℕ) → Option Step
+turn_told (written ∷ discarded ∷ words) = turn_with (number_of written) discarded words
+turn_told _ = None
+
+-- only output 0 is there
+abbrev pub turn_at : Option ℕ → List (List ℕ) → Option Step
+turn_at None words = None
+turn_at (Some output) words = if output == 0 then turn_told words else None
+
+-- OUTPUT WRITTEN DISCARDED [failed]
+abbrev pub turn_of : List (List ℕ) → Option Step
+turn_of (output ∷ words) = turn_at (number_of output) words
+turn_of [] = None
+
+-- the step of its words where the first one is of the player
+abbrev pub player_step_of : List ℕ → List (List ℕ) → Option Step
+player_step_of word arguments =
+    if bytes_eq word (codes "want") then want_of arguments
+    else (if bytes_eq word (codes "have") then have_of arguments
+    else (if bytes_eq word (codes "failed") then failed_of arguments
+    else (if bytes_eq word (codes "turn") then turn_of arguments
+    else None)))
+
 -- the step of its words
 abbrev pub step_of_words : List (List ℕ) → Option Step
 step_of_words [] = None
@@ -60,7 +134,7 @@ step_of_words (word ∷ arguments) =
     else (if bytes_eq word (codes "limit") then limit_of arguments
     else (if bytes_eq word (codes "gone") then gone_of arguments
     else (if bytes_eq word (codes "scanned") then scanned_of arguments
-    else None)))
+    else player_step_of word arguments)))
 
 abbrev pub step_if_read : Result (List (List ℕ)) WordsFault → Option Step
 step_if_read (Ok words) = step_of_words words

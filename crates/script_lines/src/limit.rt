@@ -13,6 +13,9 @@ pub const MAX_VERSION: u32 = 2_147_483_647;
 /// The greatest id of a song in the queue.
 pub const MAX_ID: u32 = 2_147_483_647;
 
+/// The greatest number of cuts, starts and jobs that a script can set, since its words say no greater number.
+pub const MAX_CUT: u32 = u32::MAX;
+
 /// A limit that a script may lower.
 #[derive(Clone, Copy, Debug, PartialEq, Eq)]
 pub enum LimitName {
@@ -22,9 +25,16 @@ pub enum LimitName {
     MaxVersion,
     /// The greatest id of a song in the queue.
     MaxId,
+    /// How many cuts, how many starts and how many jobs a player may make.
+    MaxCut,
 }
 
-const LIMITS: [LimitName; 3] = [LimitName::MaxQueue, LimitName::MaxVersion, LimitName::MaxId];
+const LIMITS: [LimitName; 4] = [
+    LimitName::MaxQueue,
+    LimitName::MaxVersion,
+    LimitName::MaxId,
+    LimitName::MaxCut,
+];
 
 impl LimitName {
     /// The limit of a name. Upper and lower case are two things.
@@ -43,6 +53,7 @@ impl LimitName {
             LimitName::MaxQueue => MAX_QUEUE,
             LimitName::MaxVersion => MAX_VERSION,
             LimitName::MaxId => MAX_ID,
+            LimitName::MaxCut => MAX_CUT,
         }
     }
 
@@ -53,6 +64,7 @@ impl LimitName {
             LimitName::MaxQueue => "max_queue",
             LimitName::MaxVersion => "max_version",
             LimitName::MaxId => "max_id",
+            LimitName::MaxCut => "max_cut",
         }
     }
 }

@@ -1,12 +1,12 @@
 //! Steps of a script.
 ghost use Rattle.std.specs.Prelude.{◌≡◌, IfOk, map, string_bytes, Some, true};
 ghost use Rattle.mpd_text.specs.Lines.Cut.{HasNoNewline};
-ghost use Rattle.script_lines.specs.Steps.{is_uri as is_uri_lem, song_with as song_with_lem, song_of, limit_of, gone_of, scanned_of, step_of_words, step_of};
+ghost use Rattle.script_lines.specs.Steps.{is_uri as is_uri_lem, song_with as song_with_lem, song_of, limit_of, gone_of, scanned_of, want_of, have_of, failed_of, turn_of, turn_told as turn_told_lem, turn_as as turn_as_lem, mark_of, player_step_of, step_of_words, step_of};
 
 use crate::cut::has;
 use crate::limit::{LimitName, number_within};
 use crate::tag::{are_tags, tags_of};
-use mpd_text::{Song, WordsFault, words};
+use mpd_text::{Song, WordsFault, number, words};
 use std::alloc::{AllocError, Global};
 
 /// The greatest number of a client.
@@ -26,11 +26,19 @@ pub enum Step {
     Gone(u32),
     /// The scan that runs ends, with the songs so far.
     Scanned,
+    /// The player is asked for a job.
+    Want,
+    /// Of the job with the first number, so many frames are there.
+    Have(u32, u32),
+    /// The song of the job with this number cannot be read, or, where true, that of the partner that is mixed in.
+    Failed(u32, bool),
+    /// A turn of output 0: how many frames it wrote, how many it discarded, and whether it failed.
+    Turn(u32, u32, bool),
 }
 
 impl Step {
-    /// The step that follows a step's head; `None` where it is bad: its words cannot be read, the first one is
-    /// not `song`, `limit`, `gone` or `scanned`, or the others are not what it takes. `Err` where memory runs out.
+    /// The step that follows a step's head; `None` where it is bad: its words cannot be read, the first one names
+    /// no step, or the others are not what it takes. `Err` where memory runs out.
     #[tactic(auto, unfolding(crate::specs::Steps::step_of))]
     pub fn of_line(alloc: Global, rest: &str) -> Result<Option<Step>, AllocError>
         ensures { IfOk result (λ step. step ≡ step_of rest.now) }
@@ -57,7 +65,7 @@ impl Step {
         } else if word.as_str() == "scanned" {
             Ok(scanned(arguments))
         } else {
-            Ok(None)
+            Ok(player_step(word.as_str(), arguments))
         }
     }
 }
@@ -129,5 +137,92 @@ fn scanned(arguments: &[String]) -> Option<Step>
         Some(Step::Scanned)
     } else {
         None
+    }
+}
+
+fn player_step(word: &str, arguments: &[String]) -> Option<Step>
+    ensures { result ≡ player_step_of word.now (map string_bytes arguments.now) }
+{
+    if word == "want" {
+        want(arguments)
+    } else if word == "have" {
+        have(arguments)
+    } else if word == "failed" {
+        failed(arguments)
+    } else if word == "turn" {
+        turn(arguments)
+    } else {
+        None
+    }
+}
+
+fn want(arguments: &[String]) -> Option<Step>
+    ensures { result ≡ want_of (map string_bytes arguments.now) }
+{
+    match arguments {
+        [] => Some(Step::Want),
+        _ => None,
+    }
+}
+
+fn have(arguments: &[String]) -> Option<Step>
+    ensures { result ≡ have_of (map string_bytes arguments.now) }
+{
+    let [job, count] = arguments else {
+        return None;
+    };
+    let job = number(job.as_str())?;
+    let count = number(count.as_str())?;
+    Some(Step::Have(job, count))
+}
+
+fn failed(arguments: &[String]) -> Option<Step>
+    ensures { result ≡ failed_of (map string_bytes arguments.now) }
+{
+    let [job, words @ ..] = arguments else {
+        return None;
+    };
+    let job = number(job.as_str())?;
+    let partner = mark(words, "partner")?;
+    Some(Step::Failed(job, partner))
+}
+
+fn turn(arguments: &[String]) -> Option<Step>
+    ensures { result ≡ turn_of (map string_bytes arguments.now) }
+{
+    let [output, words @ ..] = arguments else {
+        return None;
+    };
+    match number(output.as_str()) {
+        Some(0) => turn_told(words),
+        _ => None,
+    }
+}
+
+fn turn_told(words: &[String]) -> Option<Step>
+    ensures { result ≡ turn_told_lem (map string_bytes words.now) }
+{
+    let [written, discarded, words @ ..] = words else {
+        return None;
+    };
+    let written = number(written.as_str())?;
+    let discarded = number(discarded.as_str())?;
+    turn_as(written, discarded, mark(words, "failed"))
+}
+
+fn turn_as(written: u32, discarded: u32, failed: Option<bool>) -> Option<Step>
+    ensures { result ≡ turn_as_lem written discarded failed }
+{
+    Some(Step::Turn(written, discarded, failed?))
+}
+
+/// Whether a mark is set, which is this one word or none; `None` where the words are others.
+fn mark(words: &[String], mark: &str) -> Option<bool>
+    ensures { result ≡ mark_of mark.now (map string_bytes words.now) }
+{
+    match words {
+        [] => Some(false),
+        [word] if word.as_str() == mark => Some(true),
+        _ => None,
     }
 }

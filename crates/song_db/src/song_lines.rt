@@ -57,7 +57,7 @@ fn first_tag(tags: &[Tag], name: TagName) -> Option<&Tag>
 }
 
 /// How long so many frames are, in thousandths of a second.
-fn length_of(frames: u64, rate: &Rate) -> u128
+pub fn length_of(frames: u64, rate: &Rate) -> u128
     ensures { result ≡ millis rate.now frames }
 {
     u128::from(frames) * 1000 / u128::from(rate.frames())
@@ -71,8 +71,8 @@ fn rounded(millis: u128) -> u128
     (millis + 500) / 1000
 }
 
-/// In seconds with three decimals.
-fn duration(alloc: Global, millis: u128) -> Result<String, AllocError>
+/// The text of a time in thousandths of a second: in seconds with three decimals.
+pub fn duration(alloc: Global, millis: u128) -> Result<String, AllocError>
     ensures { IfOk result (λ text. string_bytes text ≡ duration_text millis) }
 {
     let seconds = millis / 1000;

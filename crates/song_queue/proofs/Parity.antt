@@ -19,8 +19,8 @@ differ-not : (b : Bool) → differ b (not b) ≡ true
 differ-not true = refl
 differ-not false = refl
 
-tells : (q : QueueState) (es : List Entry) → not (same_queue (queue_of q) (queue_of (edited q es))) ≡ differ q.parity (edited q es).parity
-tells q es =
+pub edited_tells : (q : QueueState) (es : List Entry) → not (same_queue (queue_of q) (queue_of (edited q es))) ≡ differ q.parity (edited q es).parity
+edited_tells q es =
     let changes : QueueState → Bool = λ x. not (same_queue (queue_of q) (queue_of x)) in
     let flips : QueueState → Bool = λ x. differ q.parity x.parity in
     elim (cases_Bool (same_queue (queue_of q) es)) [
@@ -33,9 +33,9 @@ tells q es =
     ]
 
 pub parity_tells_changes : ParityTellsChanges
-parity_tells_changes q (Insert at songs) = tells q (take at (queue_of q) ++ entries_for (q.greatest_id + 1) songs ++ drop at (queue_of q))
-parity_tells_changes q (Remove start end) = tells q (take start (queue_of q) ++ drop end (queue_of q))
-parity_tells_changes q (Move start end to) = tells q (moved_to (queue_of q) start end to)
-parity_tells_changes q (Prioritize ranges priority) = tells q (with_priority (queue_of q) ranges priority)
-parity_tells_changes q (Swap a b) = tells q (swap (queue_of q) a b)
-parity_tells_changes q (Shuffle start end words) = tells q (shuffled (queue_of q) start end words)
+parity_tells_changes q (Insert at songs) = edited_tells q (take at (queue_of q) ++ entries_for (q.greatest_id + 1) songs ++ drop at (queue_of q))
+parity_tells_changes q (Remove start end) = edited_tells q (take start (queue_of q) ++ drop end (queue_of q))
+parity_tells_changes q (Move start end to) = edited_tells q (moved_to (queue_of q) start end to)
+parity_tells_changes q (Prioritize ranges priority) = edited_tells q (with_priority (queue_of q) ranges priority)
+parity_tells_changes q (Swap a b) = edited_tells q (swap (queue_of q) a b)
+parity_tells_changes q (Shuffle start end words) = edited_tells q (shuffled (queue_of q) start end words)

@@ -41,7 +41,21 @@ pub fn read_step(alloc: Global, rest: &str) -> Result<String, AllocError> {
         Some(Step::Limit(name, value)) => format!(in alloc; "{name:?} {value}"),
         Some(Step::Gone(number)) => format!(in alloc; "gone {number}"),
         Some(Step::Scanned) => String::from_str(alloc, "scanned"),
+        Some(step) => player_step(alloc, &step),
         None => String::from_str(alloc, "bad"),
+    }
+}
+
+/// What a step of the player says.
+fn player_step(alloc: Global, step: &Step) -> Result<String, AllocError> {
+    match step {
+        Step::Want => String::from_str(alloc, "want"),
+        Step::Have(job, count) => format!(in alloc; "have {job} {count}"),
+        Step::Failed(job, partner) => format!(in alloc; "failed {job} {partner}"),
+        Step::Turn(written, discarded, failed) => format!(in alloc;
+            "turn {written} {discarded} {failed}"
+        ),
+        _ => String::from_str(alloc, "another"),
     }
 }
 
@@ -82,6 +96,13 @@ limit max_version 0 => bad
 limit max_version 2147483648 => bad
 limit max_id 0 => bad
 limit max_id 2147483648 => bad
+limit max_cut 1 => MaxCut 1
+limit max_cut 4294967295 => MaxCut 4294967295
+limit max_cut 0 => bad
+limit max_cut 4294967296 => bad
+limit max_cut => bad
+limit max_cut 5 5 => bad
+limit Max_cut 5 => bad
 limit max_line 5 => bad
 limit max_queue => bad
 limit max_queue 5 5 => bad
@@ -102,10 +123,82 @@ fn is_limit(word: &str, name: LimitName, greatest: u32) -> bool {
 #[test]
 fn limits(rt: HostRuntime) {
     let told = compared(rt.alloc(), Reads::Step, LIMITS);
-    wants(&rt, told, "21 lines agree");
+    wants(&rt, told, "28 lines agree");
+    assert!(rt; is_limit("max_cut", LimitName::MaxCut, 4_294_967_295));
     assert!(rt; is_limit("max_id", LimitName::MaxId, 2_147_483_647));
     assert!(rt; is_limit("max_queue", LimitName::MaxQueue, 16_384));
     assert!(rt; is_limit("max_version", LimitName::MaxVersion, 2_147_483_647));
+}
+
+const JOBS: &str = "want => want
+want now => bad
+Want => bad
+have 0 0 => have 0 0
+have 1 1024 => have 1 1024
+have 007 08 => have 7 8
+have 4294967295 4294967295 => have 4294967295 4294967295
+have 4294967296 0 => bad
+have 0 4294967296 => bad
+have => bad
+have 1 => bad
+have 1 2 3 => bad
+have x 2 => bad
+have 1 -2 => bad
+have 1 \"\" => bad
+Have 1 2 => bad
+failed 0 => failed 0 false
+failed 3 partner => failed 3 true
+failed 4294967295 => failed 4294967295 false
+failed 4294967295 partner => failed 4294967295 true
+failed 4294967296 => bad
+failed 4294967296 partner => bad
+failed => bad
+failed partner => bad
+failed x => bad
+failed 1 2 => bad
+failed 1 Partner => bad
+failed 1 partners => bad
+failed 1 failed => bad
+failed 1 \"\" => bad
+failed 1 partner partner => bad
+Failed 1 => bad";
+
+#[test]
+fn jobs(rt: HostRuntime) {
+    let told = compared(rt.alloc(), Reads::Step, JOBS);
+    wants(&rt, told, "32 lines agree");
+}
+
+const TURNS: &str = "turn 0 0 0 => turn 0 0 false
+turn 0 5 6 => turn 5 6 false
+turn 0 5 6 failed => turn 5 6 true
+turn 00 5 6 => turn 5 6 false
+turn 0 4294967295 4294967295 => turn 4294967295 4294967295 false
+turn 0 4294967295 4294967295 failed => turn 4294967295 4294967295 true
+turn 0 4294967296 0 => bad
+turn 0 0 4294967296 => bad
+turn 0 0 4294967296 failed => bad
+turn 1 0 0 => bad
+turn 4294967296 0 0 => bad
+turn x 0 0 => bad
+turn => bad
+turn 0 => bad
+turn 0 1 => bad
+turn 0 failed => bad
+turn 0 1 failed => bad
+turn 0 x 2 => bad
+turn 0 1 x => bad
+turn 0 1 2 3 => bad
+turn 0 1 2 Failed => bad
+turn 0 1 2 partner => bad
+turn 0 1 2 \"\" => bad
+turn 0 1 2 failed failed => bad
+Turn 0 1 2 => bad";
+
+#[test]
+fn turns(rt: HostRuntime) {
+    let told = compared(rt.alloc(), Reads::Step, TURNS);
+    wants(&rt, told, "25 lines agree");
 }
 
 /// Whether the song that a line tells of has this URI, and how many tags; nothing where the line tells of none.

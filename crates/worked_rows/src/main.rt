@@ -1,7 +1,8 @@
 //! Runs worked script sessions, the files `*.row` of the folder that it runs in, and compares what they print.
 //!
 //! A row file has lines `# TEXT`, `since:`, `until:`, `again:` (all passed over), input lines `> LINE`, and after each the
-//! lines that it prints: `< LINE` exactly, or `<~ LINE`, a line that the answer has among others. `>e` and `<e` are the
+//! lines that it prints: `< LINE` exactly, or `<~ LINE`, a line that the answer has among others, or `<! TEXT`,
+//! where no further line of the answer begins so. `>e` and `<e` are the
 //! same with escapes: `\r`, `\t`, `\\`, `\xHH`, and `\{TEXT*N}` for a text N times.
 #![tactic(auto)]
 

@@ -12,6 +12,8 @@ enum Kind {
     Exact,
     /// The answer has this line; other lines may come before it.
     Has,
+    /// No line of the answer, from here on, begins so.
+    Lacks,
 }
 
 /// A wanted output line.
@@ -51,6 +53,8 @@ impl Row {
                 row.want(Kind::Exact, speaker, step, text)?;
             } else if let Some(text) = read_line(alloc, line, "<~ ", "<~e ")? {
                 row.want(Kind::Has, speaker, step, text)?;
+            } else if let Some(text) = read_line(alloc, line, "<! ", "<!e ")? {
+                row.want(Kind::Lacks, speaker, step, text)?;
             } else if line == ">" {
                 step = step.saturating_add(1);
                 speaker = 0;
@@ -194,12 +198,18 @@ pub fn compare(wanted: &[Wanted], output: &[u8]) -> Option<u64> {
         let found = match line.kind {
             Kind::Exact => lines.next()?.as_bytes() == line.text.as_slice(),
             Kind::Has => find_in_answer(&mut lines, line)?,
+            Kind::Lacks => lacks(lines.clone().ok()?, line)?,
         };
         if !found {
             return None;
         }
-        if line.kind == Kind::Has && !ends_answer(line.text.as_slice(), line.speaker) {
-            open = Some((line.speaker, line.step));
+        if line.kind != Kind::Exact {
+            let ended = line.kind == Kind::Has && ends_answer(line.text.as_slice(), line.speaker);
+            open = if ended {
+                None
+            } else {
+                Some((line.speaker, line.step))
+            };
         }
         count = count.saturating_add(1);
     }
@@ -221,6 +231,19 @@ fn find_in_answer(lines: &mut Lines<'_>, wanted: &Wanted) -> Option<bool> {
         }
         if ends_answer(line.as_bytes(), wanted.speaker) {
             return Some(false);
+        }
+    }
+    None
+}
+
+/// Whether no line of the answer begins so, from here on.
+fn lacks(lines: Lines<'_>, unwanted: &Wanted) -> Option<bool> {
+    for line in lines {
+        if line.as_bytes().starts_with(unwanted.text.as_slice()) {
+            return Some(false);
+        }
+        if ends_answer(line.as_bytes(), unwanted.speaker) {
+            return Some(true);
         }
     }
     None

@@ -11,7 +11,7 @@ use Rattle.mpd_command.specs.declared.forms.Window.{Window}
 use Rattle.mpd_text.specs.Answers.Answer.{pair_line}
 use Rattle.mpd_text.specs.Songs.Song.{SongData}
 use Rattle.mpd_text.specs.Songs.Tags.{tag_text}
-use Rattle.mpd_text.specs.declared.answers.answer.ErrorNumber.TheVariants.{Argument, NoExist, System, UpdateAlready}
+use Rattle.mpd_text.specs.declared.answers.answer.ErrorNumber.TheVariants.{Argument, NoExist, UpdateAlready}
 use Rattle.mpd_text.specs.declared.songs.song.TagName.{TagName}
 use Rattle.song_db.specs.Library.{song_of}
 use Rattle.song_db.specs.Lines.{song_lines}
@@ -23,7 +23,7 @@ use Rattle.partition.specs.declared.event.Asked.{Asked}
 use Rattle.partition.specs.declared.state.Library.{Library}
 use Rattle.partition.specs.declared.state.Part.{Part}
 use Rattle.partition.specs.Image.{Deed}
-use Rattle.partition.specs.Scans.{is_last, running}
+use Rattle.partition.specs.Scans.{running}
 
 -- the lines of songs, one after the other
 unfoldable pub lines_of_songs : ℕ → List SongData → List ℕ
@@ -38,40 +38,40 @@ abbrev pub windowed : Option Window → List SongData → List SongData
 windowed None songs = songs
 windowed (Some window) songs = take (window.end - window.start) (drop window.start songs)
 
-abbrev pub unreadable : Asked → Part → List ℕ → Deed
-unreadable asked part text = refusal asked part Argument text
+abbrev pub unreadable : Asked → List ℕ → Deed
+unreadable asked text = refusal asked Argument text
 
 -- the songs that meet a filter, in byte order of URI, or those of them that a window shows
-abbrev pub find : Asked → Part → Library → Case → Wanted → Option Window → Deed
-find asked part library case (Meeting e) window = shows asked part (lines_of_songs library.rate (windowed window (found case e library.songs)))
-find asked part library case (Refused text) window = unreadable asked part text
+abbrev pub find : Asked → Library → Case → Wanted → Option Window → Deed
+find asked library case (Meeting e) window = shows asked (lines_of_songs library.rate (windowed window (found case e library.songs)))
+find asked library case (Refused text) window = unreadable asked text
 
 -- the songs that meet a filter are added
 abbrev pub find_add : Asked → Part → Library → Case → Wanted → Deed
 find_add asked part library case (Meeting e) = add_songs asked part (found case e library.songs)
-find_add asked part library case (Refused text) = unreadable asked part text
+find_add asked part library case (Refused text) = unreadable asked text
 
 -- the texts of a tag, a line each
 unfoldable pub lines_of_texts : TagName → List (List ℕ) → List ℕ
 lines_of_texts name texts = flat_map (pair_line (tag_text name)) texts
 
-abbrev pub list_texts : Asked → Part → Library → TagName → Expression → Deed
-list_texts asked part library name e = shows asked part (lines_of_texts name (listed name e library.songs))
+abbrev pub list_texts : Asked → Library → TagName → Expression → Deed
+list_texts asked library name e = shows asked (lines_of_texts name (listed name e library.songs))
 
 -- the texts that a tag has among the songs that meet a filter, or among all: in byte order, each once, and none empty
-abbrev pub list : Asked → Part → Library → TagName → Option Wanted → Deed
-list asked part library name None = list_texts asked part library name (Under [])
-list asked part library name (Some (Meeting e)) = list_texts asked part library name e
-list asked part library name (Some (Refused text)) = unreadable asked part text
+abbrev pub list : Asked → Library → TagName → Option Wanted → Deed
+list asked library name None = list_texts asked library name (Under [])
+list asked library name (Some (Meeting e)) = list_texts asked library name e
+list asked library name (Some (Refused text)) = unreadable asked text
 
 -- how many songs meet a filter, and how many seconds they play
-abbrev pub count_songs : Asked → Part → Library → Wanted → Deed
-count_songs asked part library (Meeting e) =
-    shows asked part (pair_line (codes "songs") (decimal (length (found Heeded e library.songs))) ++ pair_line (codes "playtime") (decimal (playtime library.rate (found Heeded e library.songs))))
-count_songs asked part library (Refused text) = unreadable asked part text
+abbrev pub count_songs : Asked → Library → Wanted → Deed
+count_songs asked library (Meeting e) =
+    shows asked (pair_line (codes "songs") (decimal (length (found Heeded e library.songs))) ++ pair_line (codes "playtime") (decimal (playtime library.rate (found Heeded e library.songs))))
+count_songs asked library (Refused text) = unreadable asked text
 
-abbrev pub no_such_directory : Asked → Part → Deed
-no_such_directory asked part = refusal asked part NoExist (codes "no such directory")
+abbrev pub no_such_directory : Asked → Deed
+no_such_directory asked = refusal asked NoExist (codes "no such directory")
 
 -- the URI that is asked for: the whole library, where none is
 abbrev pub uri_or_all : Option Uri → List ℕ
@@ -82,31 +82,30 @@ uri_or_all (Some uri) = uri.0
 unfoldable pub lines_of_folders : List (List ℕ) → List ℕ
 lines_of_folders folders = flat_map (pair_line (codes "directory")) folders
 
-abbrev pub show_folder : Asked → Part → Library → List ℕ → Deed
-show_folder asked part library folder =
+abbrev pub show_folder : Asked → Library → List ℕ → Deed
+show_folder asked library folder =
     if is_folder folder library.songs
-    then shows asked part (lines_of_folders (direct_folders folder library.songs) ++ lines_of_songs library.rate (direct_songs folder library.songs))
-    else no_such_directory asked part
+    then shows asked (lines_of_folders (direct_folders folder library.songs) ++ lines_of_songs library.rate (direct_songs folder library.songs))
+    else no_such_directory asked
 
-abbrev pub show_song_or_folder : Asked → Part → Library → Option SongData → List ℕ → Deed
-show_song_or_folder asked part library (Some song) uri = shows asked part (song_lines library.rate song)
-show_song_or_folder asked part library None uri = show_folder asked part library uri
+abbrev pub show_song_or_folder : Asked → Library → Option SongData → List ℕ → Deed
+show_song_or_folder asked library (Some song) uri = shows asked (song_lines library.rate song)
+show_song_or_folder asked library None uri = show_folder asked library uri
 
 -- what lies right in a folder, its folders first; of a song its own lines. A name that is a song's is taken as the song
-abbrev pub list_info : Asked → Part → Library → Option Uri → Deed
-list_info asked part library uri = show_song_or_folder asked part library (song_of library.songs (uri_or_all uri)) (uri_or_all uri)
+abbrev pub list_info : Asked → Library → Option Uri → Deed
+list_info asked library uri = show_song_or_folder asked library (song_of library.songs (uri_or_all uri)) (uri_or_all uri)
 
 -- the URIs of all songs under a folder
-abbrev pub list_all : Asked → Part → Library → Option Uri → Deed
-list_all asked part library uri =
-    if is_folder (uri_or_all uri) library.songs then shows asked part (lines_of_uris (under (uri_or_all uri) library.songs)) else no_such_directory asked part
+abbrev pub list_all : Asked → Library → Option Uri → Deed
+list_all asked library uri =
+    if is_folder (uri_or_all uri) library.songs then shows asked (lines_of_uris (under (uri_or_all uri) library.songs)) else no_such_directory asked
 
-abbrev pub begin_scan : Asked → Part → Library → Option ℕ → Deed
-begin_scan asked part library (Some number) = refusal asked part UpdateAlready (codes "already updating")
-begin_scan asked part library None =
-    if is_last library.scan then refusal asked part System (codes "player limit reached")
-    else begins_scan asked part (pair_line (codes "updating_db") (decimal (library.scan.last + 1)))
+abbrev pub begin_scan : Asked → Library → Option ℕ → Deed
+begin_scan asked library (Some number) = refusal asked UpdateAlready (codes "already updating")
+begin_scan asked library None =
+    begins_scan asked (pair_line (codes "updating_db") (decimal (library.scan.last + 1)))
 
 -- a scan of the whole music folder begins, unless one runs
-abbrev pub update : Asked → Part → Library → Deed
-update asked part library = begin_scan asked part library (running library.scan)
+abbrev pub update : Asked → Library → Deed
+update asked library = begin_scan asked library (running library.scan)

@@ -23,30 +23,29 @@ use std::alloc::{AllocError, Global};
 pub(crate) fn find(
     alloc: Global,
     asked: Asked,
-    part: &Part,
     library: &Library,
     case: Case,
     wanted: &Wanted,
     window: Option<Window>,
 ) -> Result<Plan, AllocError>
-    ensures { IfOk result (λ plan. plan ≡ turn_by (find_lem asked part.now library.now case wanted.now window)) }
+    ensures { IfOk result (λ plan. plan ≡ turn_by (find_lem asked library.now case wanted.now window)) }
 {
     match wanted {
         Wanted::Meeting(filter) => {
             let songs = find_songs(alloc, library.songs.db(), filter, case)?;
             let mut lines = Answer::new(alloc);
             push_songs(alloc, &mut lines, library, windowed(&songs, window))?;
-            Plan::shows(asked, part, lines)
+            Plan::shows(asked, lines)
         }
-        Wanted::Refused(text) => unreadable(alloc, asked, part, text.as_str()),
+        Wanted::Refused(text) => unreadable(alloc, asked, text.as_str()),
     }
 }
 
 /// A filter that cannot be read.
-fn unreadable(alloc: Global, asked: Asked, part: &Part, text: &str) -> Result<Plan, AllocError>
-    ensures { IfOk result (λ plan. plan ≡ turn_by (unreadable_lem asked part.now text.now)) }
+fn unreadable(alloc: Global, asked: Asked, text: &str) -> Result<Plan, AllocError>
+    ensures { IfOk result (λ plan. plan ≡ turn_by (unreadable_lem asked text.now)) }
 {
-    Plan::refuses(alloc, asked, part, ErrorNumber::Argument, text)
+    Plan::refuses(alloc, asked, ErrorNumber::Argument, text)
 }
 
 /// The songs that a window shows. It ends with the last of them.
@@ -106,31 +105,30 @@ pub(crate) fn find_add(
     wanted: &Wanted,
 ) -> Result<Plan, AllocError>
     ensures plan { IfOk result (λ plan. plan ≡ turn_by (find_add_lem asked part.now library.now case wanted.now)) }
-    ensures fits { IfOk result (λ plan. Fits part.now.queue plan.edit) }
+    ensures fits { IfOk result (λ plan. Fits part.now.queue plan.doing) }
 {
     match wanted {
         Wanted::Meeting(filter) => {
             let songs = find_songs(alloc, library.songs.db(), filter, case)?;
             add_found(alloc, asked, part, &songs)
         }
-        Wanted::Refused(text) => unreadable(alloc, asked, part, text.as_str()),
+        Wanted::Refused(text) => unreadable(alloc, asked, text.as_str()),
     }
 }
 
 pub(crate) fn list(
     alloc: Global,
     asked: Asked,
-    part: &Part,
     library: &Library,
     name: TagName,
     wanted: Option<&Wanted>,
 ) -> Result<Plan, AllocError>
-    ensures { IfOk result (λ plan. plan ≡ turn_by (list_lem asked part.now library.now name (option_copied wanted.entry))) }
+    ensures { IfOk result (λ plan. plan ≡ turn_by (list_lem asked library.now name (option_copied wanted.entry))) }
 {
     match wanted {
-        None => list_texts(alloc, asked, part, library, name, &all_songs(alloc)?),
-        Some(Wanted::Meeting(filter)) => list_texts(alloc, asked, part, library, name, filter),
-        Some(Wanted::Refused(text)) => unreadable(alloc, asked, part, text.as_str()),
+        None => list_texts(alloc, asked, library, name, &all_songs(alloc)?),
+        Some(Wanted::Meeting(filter)) => list_texts(alloc, asked, library, name, filter),
+        Some(Wanted::Refused(text)) => unreadable(alloc, asked, text.as_str()),
     }
 }
 
@@ -148,16 +146,15 @@ fn all_songs(alloc: Global) -> Result<Filter, AllocError>
 fn list_texts(
     alloc: Global,
     asked: Asked,
-    part: &Part,
     library: &Library,
     name: TagName,
     filter: &Filter,
 ) -> Result<Plan, AllocError>
-    ensures { IfOk result (λ plan. plan ≡ turn_by (list_texts_lem asked part.now library.now name filter.now)) }
+    ensures { IfOk result (λ plan. plan ≡ turn_by (list_texts_lem asked library.now name filter.now)) }
 {
     let texts = listed(alloc, library.songs.db(), name, filter)?;
     let lines = text_lines(alloc, name, &texts)?;
-    Plan::shows(asked, part, lines)
+    Plan::shows(asked, lines)
 }
 
 #[tactic(auto, unfolding(crate::specs::Commands::Library::lines_of_texts))]
@@ -174,11 +171,10 @@ fn text_lines(alloc: Global, name: TagName, texts: &[&str]) -> Result<Answer, Al
 pub(crate) fn count(
     alloc: Global,
     asked: Asked,
-    part: &Part,
     library: &Library,
     wanted: &Wanted,
 ) -> Result<Plan, AllocError>
-    ensures { IfOk result (λ plan. plan ≡ turn_by (count_songs_lem asked part.now library.now wanted.now)) }
+    ensures { IfOk result (λ plan. plan ≡ turn_by (count_songs_lem asked library.now wanted.now)) }
 {
     match wanted {
         Wanted::Meeting(filter) => {
@@ -186,29 +182,28 @@ pub(crate) fn count(
             let mut lines = Answer::new(alloc);
             lines.pair("songs", count.songs)?;
             lines.pair("playtime", count.seconds)?;
-            Plan::shows(asked, part, lines)
+            Plan::shows(asked, lines)
         }
-        Wanted::Refused(text) => unreadable(alloc, asked, part, text.as_str()),
+        Wanted::Refused(text) => unreadable(alloc, asked, text.as_str()),
     }
 }
 
 pub(crate) fn list_info(
     alloc: Global,
     asked: Asked,
-    part: &Part,
     library: &Library,
     uri: Option<&Uri>,
 ) -> Result<Plan, AllocError>
-    ensures { IfOk result (λ plan. plan ≡ turn_by (list_info_lem asked part.now library.now (option_copied uri.entry))) }
+    ensures { IfOk result (λ plan. plan ≡ turn_by (list_info_lem asked library.now (option_copied uri.entry))) }
 {
     let uri = uri_or_all(uri);
     match library.songs.db().get(uri) {
         Some(song) => {
             let mut lines = Answer::new(alloc);
             push_song(alloc, &mut lines, song, &library.rate)?;
-            Plan::shows(asked, part, lines)
+            Plan::shows(asked, lines)
         }
-        None => show_folder(alloc, asked, part, library, uri),
+        None => show_folder(alloc, asked, library, uri),
     }
 }
 
@@ -226,31 +221,24 @@ fn uri_or_all(uri: Option<&Uri>) -> &str
 fn show_folder(
     alloc: Global,
     asked: Asked,
-    part: &Part,
     library: &Library,
     folder: &str,
 ) -> Result<Plan, AllocError>
-    ensures { IfOk result (λ plan. plan ≡ turn_by (show_folder_lem asked part.now library.now folder.now)) }
+    ensures { IfOk result (λ plan. plan ≡ turn_by (show_folder_lem asked library.now folder.now)) }
 {
     if !is_folder(library.songs.db(), folder) {
-        return no_such_directory(alloc, asked, part);
+        return no_such_directory(alloc, asked);
     }
     let found = list_folder(alloc, library.songs.db(), folder)?;
     let mut lines = folder_lines(alloc, &found.folders)?;
     push_songs(alloc, &mut lines, library, &found.songs)?;
-    Plan::shows(asked, part, lines)
+    Plan::shows(asked, lines)
 }
 
-fn no_such_directory(alloc: Global, asked: Asked, part: &Part) -> Result<Plan, AllocError>
-    ensures { IfOk result (λ plan. plan ≡ turn_by (no_such_directory_lem asked part.now)) }
+fn no_such_directory(alloc: Global, asked: Asked) -> Result<Plan, AllocError>
+    ensures { IfOk result (λ plan. plan ≡ turn_by (no_such_directory_lem asked)) }
 {
-    Plan::refuses(
-        alloc,
-        asked,
-        part,
-        ErrorNumber::NoExist,
-        "no such directory",
-    )
+    Plan::refuses(alloc, asked, ErrorNumber::NoExist, "no such directory")
 }
 
 #[tactic(auto, unfolding(crate::specs::Commands::Library::lines_of_folders))]
@@ -267,18 +255,17 @@ fn folder_lines(alloc: Global, folders: &[&str]) -> Result<Answer, AllocError>
 pub(crate) fn list_all(
     alloc: Global,
     asked: Asked,
-    part: &Part,
     library: &Library,
     uri: Option<&Uri>,
 ) -> Result<Plan, AllocError>
-    ensures { IfOk result (λ plan. plan ≡ turn_by (list_all_lem asked part.now library.now (option_copied uri.entry))) }
+    ensures { IfOk result (λ plan. plan ≡ turn_by (list_all_lem asked library.now (option_copied uri.entry))) }
 {
     let folder = uri_or_all(uri);
     if !is_folder(library.songs.db(), folder) {
-        return no_such_directory(alloc, asked, part);
+        return no_such_directory(alloc, asked);
     }
     let lines = uri_lines(alloc, under(library.songs.db(), folder))?;
-    Plan::shows(asked, part, lines)
+    Plan::shows(asked, lines)
 }
 
 #[tactic(auto, unfolding(crate::specs::Commands::Library::lines_of_uris))]
@@ -292,23 +279,14 @@ fn uri_lines(alloc: Global, songs: &[SharedSong]) -> Result<Answer, AllocError>
     Ok(lines)
 }
 
-pub(crate) fn update(
-    alloc: Global,
-    asked: Asked,
-    part: &Part,
-    library: &Library,
-) -> Result<Plan, AllocError>
-    ensures { IfOk result (λ plan. plan ≡ turn_by (update_lem asked part.now library.now)) }
+pub(crate) fn update(alloc: Global, asked: Asked, library: &Library) -> Result<Plan, AllocError>
+    ensures { IfOk result (λ plan. plan ≡ turn_by (update_lem asked library.now)) }
 {
     if library.scan.running().is_some() {
         let text = "already updating";
-        return Plan::refuses(alloc, asked, part, ErrorNumber::UpdateAlready, text);
+        return Plan::refuses(alloc, asked, ErrorNumber::UpdateAlready, text);
     }
-    let Some(number) = library.scan.next() else {
-        let text = "player limit reached";
-        return Plan::refuses(alloc, asked, part, ErrorNumber::System, text);
-    };
     let mut lines = Answer::new(alloc);
-    lines.pair("updating_db", number)?;
-    Plan::begins_scan(asked, part, lines)
+    lines.pair("updating_db", library.scan.next())?;
+    Plan::begins_scan(asked, lines)
 }

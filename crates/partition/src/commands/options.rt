@@ -1,44 +1,67 @@
 //! The commands that set the player (MPD protocol reference, Playback options).
 ghost use Rattle.std.specs.Prelude.{◌≡◌, IfOk};
-ghost use Rattle.partition.specs.Commands.Options.{repeat as repeat_lem, set_volume as set_volume_lem, get_volume as get_volume_lem};
+ghost use Rattle.partition.specs.Commands.Options.{consume as consume_lem, consume_of as consume_of_lem, get_volume as get_volume_lem, mode_of as mode_of_lem, random as random_lem, repeat as repeat_lem, set_volume as set_volume_lem, single as single_lem};
 ghost use Rattle.partition.specs.Image.{turn_by};
 
+use crate::doing::Doing;
 use crate::event::Asked;
 use crate::plan::Plan;
-use crate::state::{Controls, Modes, Part};
-use mpd_command::Volume;
+use crate::state::Part;
+use mpd_command::{SingleMode, Volume};
 use mpd_text::Answer;
+use play_order::{Consume, Single};
 use std::alloc::{AllocError, Global};
 
-pub(crate) fn repeat(alloc: Global, asked: Asked, part: &Part, on: bool) -> Result<Plan, AllocError>
-    ensures { IfOk result (λ plan. plan ≡ turn_by (repeat_lem asked part.now on)) }
+pub(crate) fn repeat(alloc: Global, asked: Asked, on: bool) -> Result<Plan, AllocError>
+    ensures { IfOk result (λ plan. plan ≡ turn_by (repeat_lem asked on)) }
 {
-    let controls = Controls {
-        volume: part.controls.volume.copied(),
-        modes: Modes { repeat: on },
-    };
-    Plan::adjusts(alloc, asked, controls)
+    Plan::does(alloc, asked, Doing::SetsRepeat(on))
 }
 
-pub(crate) fn set_volume(
-    alloc: Global,
-    asked: Asked,
-    part: &Part,
-    volume: &Volume,
-) -> Result<Plan, AllocError>
-    ensures { IfOk result (λ plan. plan ≡ turn_by (set_volume_lem asked part.now volume.now)) }
+pub(crate) fn random(alloc: Global, asked: Asked, on: bool) -> Result<Plan, AllocError>
+    ensures { IfOk result (λ plan. plan ≡ turn_by (random_lem asked on)) }
 {
-    let controls = Controls {
-        volume: volume.copied(),
-        modes: part.controls.modes,
-    };
-    Plan::adjusts(alloc, asked, controls)
+    Plan::does(alloc, asked, Doing::SetsRandom(on))
+}
+
+pub(crate) fn single(alloc: Global, asked: Asked, mode: SingleMode) -> Result<Plan, AllocError>
+    ensures { IfOk result (λ plan. plan ≡ turn_by (single_lem asked mode)) }
+{
+    Plan::does(alloc, asked, Doing::SetsSingle(mode_of(mode)))
+}
+
+fn mode_of(mode: SingleMode) -> Single
+    ensures { result ≡ mode_of_lem mode }
+{
+    match mode {
+        SingleMode::Off => Single::Off,
+        SingleMode::On => Single::On,
+        SingleMode::Oneshot => Single::Oneshot,
+    }
+}
+
+pub(crate) fn consume(alloc: Global, asked: Asked, on: bool) -> Result<Plan, AllocError>
+    ensures { IfOk result (λ plan. plan ≡ turn_by (consume_lem asked on)) }
+{
+    Plan::does(alloc, asked, Doing::SetsConsume(consume_of(on)))
+}
+
+fn consume_of(on: bool) -> Consume
+    ensures { result ≡ consume_of_lem on }
+{
+    if on { Consume::On } else { Consume::Off }
+}
+
+pub(crate) fn set_volume(alloc: Global, asked: Asked, volume: &Volume) -> Result<Plan, AllocError>
+    ensures { IfOk result (λ plan. plan ≡ turn_by (set_volume_lem asked volume.now)) }
+{
+    Plan::does(alloc, asked, Doing::SetsVolume(volume.copied()))
 }
 
 pub(crate) fn get_volume(alloc: Global, asked: Asked, part: &Part) -> Result<Plan, AllocError>
     ensures { IfOk result (λ plan. plan ≡ turn_by (get_volume_lem asked part.now)) }
 {
     let mut answer = Answer::new(alloc);
-    answer.pair("volume", part.controls.volume.percent())?;
-    Plan::shows(asked, part, answer)
+    answer.pair("volume", part.volume.percent())?;
+    Plan::shows(asked, answer)
 }

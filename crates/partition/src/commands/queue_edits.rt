@@ -1,12 +1,15 @@
 //! The commands that edit the queue (MPD protocol reference, The queue).
-ghost use Rattle.std.specs.Prelude.{◌≡◌, ◌≤◌, ◌∷◌, [], Option, Some, None, IfOk, IfSome, IfNone, All, length, map, ◌+◌};
+ghost use Rattle.std.specs.Prelude.{◌≡◌, ◌≤◌, ◌<◌, ◌∷◌, [], Option, Some, None, IfOk, IfSome, IfNone, All, length, map, ◌+◌};
 ghost use Rattle.std.specs.Option.{option_copied};
 ghost use Rattle.song_queue.specs.State.{queue_of};
 ghost use Rattle.partition.specs.Commands.Deeds.{edits};
-ghost use Rattle.partition.specs.Commands.Queue.{add as add_lem, add_folder as add_folder_lem, add_songs, lack as lack_lem, add_id as add_id_lem, insert_song as insert_song_lem, insert_at as insert_at_lem, clear as clear_lem, delete as delete_lem, delete_id as delete_id_lem, move as move_lem, move_id as move_id_lem, swap as swap_lem, swap_id as swap_id_lem, prio as prio_lem, prio_id as prio_id_lem, all_within, all_with_ids, place_with, with_room};
+ghost use Rattle.partition.specs.declared.doing.Doing.{Doing};
+ghost use Rattle.partition.specs.Commands.Queue.{add as add_lem, add_folder as add_folder_lem, add_songs, lack as lack_lem, add_id as add_id_lem, insert_song as insert_song_lem, insert_after as insert_after_lem, insert_at as insert_at_lem, insert_before as insert_before_lem, current_place as current_place_lem, no_current_song as no_current_song_lem, shuffle as shuffle_lem, clear as clear_lem, delete as delete_lem, delete_id as delete_id_lem, move as move_lem, move_id as move_id_lem, swap as swap_lem, swap_id as swap_id_lem, prio as prio_lem, prio_id as prio_id_lem, all_within, all_with_ids, place_with, with_room};
 ghost use Rattle.partition.specs.Image.{turn_by};
 ghost use Rattle.partition.specs.Plans.{Fits};
 
+use crate::commands::queue_songs::places_of;
+use crate::doing::Doing;
 use crate::event::Asked;
 use crate::plan::Plan;
 use crate::state::{Library, Part};
@@ -26,7 +29,7 @@ pub(crate) fn add(
     uri: &Uri,
 ) -> Result<Plan, AllocError>
     ensures plan { IfOk result (λ plan. plan ≡ turn_by (add_lem asked part.now library.now uri.now.0)) }
-    ensures fits { IfOk result (λ plan. Fits part.now.queue plan.edit) }
+    ensures fits { IfOk result (λ plan. Fits part.now.queue plan.doing) }
 {
     match library.songs.db().share(uri.0.as_str())? {
         Some(song) => {
@@ -46,17 +49,17 @@ fn add_folder(
     folder: &str,
 ) -> Result<Plan, AllocError>
     ensures plan { IfOk result (λ plan. plan ≡ turn_by (add_folder_lem asked part.now library.now folder.now)) }
-    ensures fits { IfOk result (λ plan. Fits part.now.queue plan.edit) }
+    ensures fits { IfOk result (λ plan. Fits part.now.queue plan.doing) }
 {
     if !is_folder(library.songs.db(), folder) {
-        return Plan::no_such_song(alloc, asked, part);
+        return Plan::no_such_song(alloc, asked);
     }
     let songs = under(library.songs.db(), folder);
     if let Some(text) = lack(part, songs.len()) {
-        return Plan::refuses(alloc, asked, part, ErrorNumber::PlaylistMax, text);
+        return Plan::refuses(alloc, asked, ErrorNumber::PlaylistMax, text);
     }
     let edit = Edit::Insert(part.queue.len(), shares(alloc, songs)?);
-    Plan::edits(asked, part, edit, Answer::new(alloc))
+    Plan::edits(asked, edit, Answer::new(alloc))
 }
 
 /// A handle to each of some songs.
@@ -78,13 +81,13 @@ pub(crate) fn add_found(
     songs: &[&SharedSong],
 ) -> Result<Plan, AllocError>
     ensures plan { IfOk result (λ plan. plan ≡ turn_by (add_songs asked part.now (map (λ song. song.now) songs.now))) }
-    ensures fits { IfOk result (λ plan. Fits part.now.queue plan.edit) }
+    ensures fits { IfOk result (λ plan. Fits part.now.queue plan.doing) }
 {
     if let Some(text) = lack(part, songs.len()) {
-        return Plan::refuses(alloc, asked, part, ErrorNumber::PlaylistMax, text);
+        return Plan::refuses(alloc, asked, ErrorNumber::PlaylistMax, text);
     }
     let edit = Edit::Insert(part.queue.len(), shares_of_found(alloc, songs)?);
-    Plan::edits(asked, part, edit, Answer::new(alloc))
+    Plan::edits(asked, edit, Answer::new(alloc))
 }
 
 /// A handle to each of some songs that were found.
@@ -122,15 +125,15 @@ fn insert_one(
     lines: Answer,
 ) -> Result<Plan, AllocError>
     requires { place ≤ length (queue_of part.now.queue) }
-    ensures plan { IfOk result (λ plan. plan ≡ turn_by (with_room asked part.now 1 (edits asked part.now (Edit.Insert place (song ∷ [])) lines))) }
-    ensures fits { IfOk result (λ plan. Fits part.now.queue plan.edit) }
+    ensures plan { IfOk result (λ plan. plan ≡ turn_by (with_room asked part.now 1 (edits asked (Edit.Insert place (song ∷ [])) lines))) }
+    ensures fits { IfOk result (λ plan. Fits part.now.queue plan.doing) }
 {
     if let Some(text) = lack(part, 1) {
-        return Plan::refuses(alloc, asked, part, ErrorNumber::PlaylistMax, text);
+        return Plan::refuses(alloc, asked, ErrorNumber::PlaylistMax, text);
     }
     let mut songs = Sequence::new(alloc);
     songs.push(song).map_err(AllocError::from)?;
-    Plan::edits(asked, part, Edit::Insert(place, songs), lines)
+    Plan::edits(asked, Edit::Insert(place, songs), lines)
 }
 
 pub(crate) fn add_id(
@@ -142,11 +145,11 @@ pub(crate) fn add_id(
     place: Option<Place>,
 ) -> Result<Plan, AllocError>
     ensures plan { IfOk result (λ plan. plan ≡ turn_by (add_id_lem asked part.now library.now uri.now.0 place)) }
-    ensures fits { IfOk result (λ plan. Fits part.now.queue plan.edit) }
+    ensures fits { IfOk result (λ plan. Fits part.now.queue plan.doing) }
 {
     match library.songs.db().share(uri.0.as_str())? {
         Some(song) => insert_song(alloc, asked, part, song, place),
-        None => Plan::no_such_song(alloc, asked, part),
+        None => Plan::no_such_song(alloc, asked),
     }
 }
 
@@ -158,16 +161,69 @@ fn insert_song(
     place: Option<Place>,
 ) -> Result<Plan, AllocError>
     ensures plan { IfOk result (λ plan. plan ≡ turn_by (insert_song_lem asked part.now song place)) }
-    ensures fits { IfOk result (λ plan. Fits part.now.queue plan.edit) }
+    ensures fits { IfOk result (λ plan. Fits part.now.queue plan.doing) }
 {
     match place {
         None => insert_at(alloc, asked, part, song, part.queue.len()),
         Some(Place::At(place)) => insert_at(alloc, asked, part, song, place as usize),
-        Some(Place::After(_) | Place::Before(_)) => {
-            let text = "no current song";
-            Plan::refuses(alloc, asked, part, ErrorNumber::PlayerSync, text)
-        }
+        Some(Place::After(steps)) => insert_after(alloc, asked, part, song, steps as usize),
+        Some(Place::Before(steps)) => insert_before(alloc, asked, part, song, steps as usize),
     }
+}
+
+/// Puts a song in at a place after the one that follows the current song.
+fn insert_after(
+    alloc: Global,
+    asked: Asked,
+    part: &Part,
+    song: SharedSong,
+    steps: usize,
+) -> Result<Plan, AllocError>
+    ensures plan { IfOk result (λ plan. plan ≡ turn_by (insert_after_lem asked part.now song (current_place_lem part.now) steps)) }
+    ensures fits { IfOk result (λ plan. Fits part.now.queue plan.doing) }
+{
+    let Some(place) = current_place(part) else {
+        return no_current_song(alloc, asked);
+    };
+    if steps >= part.queue.len() - place {
+        return Plan::bad_index(alloc, asked);
+    }
+    insert_at(alloc, asked, part, song, place + 1 + steps)
+}
+
+/// Puts a song in at a place before the current song.
+fn insert_before(
+    alloc: Global,
+    asked: Asked,
+    part: &Part,
+    song: SharedSong,
+    steps: usize,
+) -> Result<Plan, AllocError>
+    ensures plan { IfOk result (λ plan. plan ≡ turn_by (insert_before_lem asked part.now song (current_place_lem part.now) steps)) }
+    ensures fits { IfOk result (λ plan. Fits part.now.queue plan.doing) }
+{
+    let Some(place) = current_place(part) else {
+        return no_current_song(alloc, asked);
+    };
+    if place < steps {
+        return Plan::bad_index(alloc, asked);
+    }
+    insert_at(alloc, asked, part, song, place - steps)
+}
+
+/// The place of the current song, if there is one.
+pub(crate) fn current_place(part: &Part) -> Option<usize>
+    ensures place { result ≡ current_place_lem part.now }
+    ensures within { IfSome result (λ place. place < length (queue_of part.now.queue)) }
+{
+    part.queue.position_of(part.player.current()?)
+}
+
+fn no_current_song(alloc: Global, asked: Asked) -> Result<Plan, AllocError>
+    ensures plan { IfOk result (λ plan. plan ≡ turn_by (no_current_song_lem asked)) }
+    ensures rests { IfOk result (λ plan. plan.doing ≡ Doing.Rests) }
+{
+    Plan::refuses(alloc, asked, ErrorNumber::PlayerSync, "no current song")
 }
 
 /// Puts a song in at a place, and tells its id.
@@ -179,10 +235,10 @@ fn insert_at(
     place: usize,
 ) -> Result<Plan, AllocError>
     ensures plan { IfOk result (λ plan. plan ≡ turn_by (insert_at_lem asked part.now song place)) }
-    ensures fits { IfOk result (λ plan. Fits part.now.queue plan.edit) }
+    ensures fits { IfOk result (λ plan. Fits part.now.queue plan.doing) }
 {
     if place > part.queue.len() {
-        return Plan::bad_index(alloc, asked, part);
+        return Plan::bad_index(alloc, asked);
     }
     let mut lines = Answer::new(alloc);
     lines.pair("Id", u64::from(part.queue.greatest_id()) + 1)?;
@@ -191,10 +247,10 @@ fn insert_at(
 
 pub(crate) fn clear(alloc: Global, asked: Asked, part: &Part) -> Result<Plan, AllocError>
     ensures plan { IfOk result (λ plan. plan ≡ turn_by (clear_lem asked part.now)) }
-    ensures fits { IfOk result (λ plan. Fits part.now.queue plan.edit) }
+    ensures fits { IfOk result (λ plan. Fits part.now.queue plan.doing) }
 {
     let edit = Edit::Remove(0, part.queue.len());
-    Plan::edits(asked, part, edit, Answer::new(alloc))
+    Plan::edits(asked, edit, Answer::new(alloc))
 }
 
 pub(crate) fn delete(
@@ -204,13 +260,13 @@ pub(crate) fn delete(
     range: Range,
 ) -> Result<Plan, AllocError>
     ensures plan { IfOk result (λ plan. plan ≡ turn_by (delete_lem asked part.now range)) }
-    ensures fits { IfOk result (λ plan. Fits part.now.queue plan.edit) }
+    ensures fits { IfOk result (λ plan. Fits part.now.queue plan.doing) }
 {
     let Some(places) = range.within(part.queue.len()) else {
-        return Plan::bad_index(alloc, asked, part);
+        return Plan::bad_index(alloc, asked);
     };
     let edit = Edit::Remove(places.start, places.end);
-    Plan::edits(asked, part, edit, Answer::new(alloc))
+    Plan::edits(asked, edit, Answer::new(alloc))
 }
 
 pub(crate) fn delete_id(
@@ -220,13 +276,13 @@ pub(crate) fn delete_id(
     id: u32,
 ) -> Result<Plan, AllocError>
     ensures plan { IfOk result (λ plan. plan ≡ turn_by (delete_id_lem asked part.now id)) }
-    ensures fits { IfOk result (λ plan. Fits part.now.queue plan.edit) }
+    ensures fits { IfOk result (λ plan. Fits part.now.queue plan.doing) }
 {
     let Some(place) = part.queue.position_of(id) else {
-        return Plan::no_such_song(alloc, asked, part);
+        return Plan::no_such_song(alloc, asked);
     };
     let edit = Edit::Remove(place, place + 1);
-    Plan::edits(asked, part, edit, Answer::new(alloc))
+    Plan::edits(asked, edit, Answer::new(alloc))
 }
 
 pub(crate) fn move_range(
@@ -237,18 +293,18 @@ pub(crate) fn move_range(
     to: u32,
 ) -> Result<Plan, AllocError>
     ensures plan { IfOk result (λ plan. plan ≡ turn_by (move_lem asked part.now range to)) }
-    ensures fits { IfOk result (λ plan. Fits part.now.queue plan.edit) }
+    ensures fits { IfOk result (λ plan. Fits part.now.queue plan.doing) }
 {
     let len = part.queue.len();
     let to = to as usize;
     let Some(places) = range.within(len) else {
-        return Plan::bad_index(alloc, asked, part);
+        return Plan::bad_index(alloc, asked);
     };
     let ops::Range { start, end } = places;
     if start < end && to > len - (end - start) {
-        return Plan::bad_index(alloc, asked, part);
+        return Plan::bad_index(alloc, asked);
     }
-    Plan::edits(asked, part, Edit::Move(start, end, to), Answer::new(alloc))
+    Plan::edits(asked, Edit::Move(start, end, to), Answer::new(alloc))
 }
 
 pub(crate) fn move_id(
@@ -259,17 +315,34 @@ pub(crate) fn move_id(
     to: u32,
 ) -> Result<Plan, AllocError>
     ensures plan { IfOk result (λ plan. plan ≡ turn_by (move_id_lem asked part.now id to)) }
-    ensures fits { IfOk result (λ plan. Fits part.now.queue plan.edit) }
+    ensures fits { IfOk result (λ plan. Fits part.now.queue plan.doing) }
 {
     let to = to as usize;
     if to >= part.queue.len() {
-        return Plan::bad_index(alloc, asked, part);
+        return Plan::bad_index(alloc, asked);
     }
     let Some(place) = part.queue.position_of(id) else {
-        return Plan::no_such_song(alloc, asked, part);
+        return Plan::no_such_song(alloc, asked);
     };
     let edit = Edit::Move(place, place + 1, to);
-    Plan::edits(asked, part, edit, Answer::new(alloc))
+    Plan::edits(asked, edit, Answer::new(alloc))
+}
+
+/// Shuffles the songs of a range, or all.
+pub(crate) fn shuffle(
+    alloc: Global,
+    asked: Asked,
+    part: &Part,
+    range: Option<Range>,
+) -> Result<Plan, AllocError>
+    ensures plan { IfOk result (λ plan. plan ≡ turn_by (shuffle_lem asked part.now range)) }
+    ensures fits { IfOk result (λ plan. Fits part.now.queue plan.doing) }
+{
+    let len = part.queue.len();
+    let Some(places) = places_of(range, len) else {
+        return Plan::bad_index(alloc, asked);
+    };
+    Plan::does(alloc, asked, Doing::Shuffles(places.start, places.end))
 }
 
 pub(crate) fn swap(
@@ -280,15 +353,15 @@ pub(crate) fn swap(
     second: u32,
 ) -> Result<Plan, AllocError>
     ensures plan { IfOk result (λ plan. plan ≡ turn_by (swap_lem asked part.now first second)) }
-    ensures fits { IfOk result (λ plan. Fits part.now.queue plan.edit) }
+    ensures fits { IfOk result (λ plan. Fits part.now.queue plan.doing) }
 {
     let (first, second) = (first as usize, second as usize);
     let len = part.queue.len();
     if first >= len || second >= len {
-        return Plan::bad_index(alloc, asked, part);
+        return Plan::bad_index(alloc, asked);
     }
     let edit = Edit::Swap(first, second);
-    Plan::edits(asked, part, edit, Answer::new(alloc))
+    Plan::edits(asked, edit, Answer::new(alloc))
 }
 
 pub(crate) fn swap_id(
@@ -299,16 +372,16 @@ pub(crate) fn swap_id(
     second: u32,
 ) -> Result<Plan, AllocError>
     ensures plan { IfOk result (λ plan. plan ≡ turn_by (swap_id_lem asked part.now first second)) }
-    ensures fits { IfOk result (λ plan. Fits part.now.queue plan.edit) }
+    ensures fits { IfOk result (λ plan. Fits part.now.queue plan.doing) }
 {
     let Some(first) = part.queue.position_of(first) else {
-        return Plan::no_such_song(alloc, asked, part);
+        return Plan::no_such_song(alloc, asked);
     };
     let Some(second) = part.queue.position_of(second) else {
-        return Plan::no_such_song(alloc, asked, part);
+        return Plan::no_such_song(alloc, asked);
     };
     let edit = Edit::Swap(first, second);
-    Plan::edits(asked, part, edit, Answer::new(alloc))
+    Plan::edits(asked, edit, Answer::new(alloc))
 }
 
 pub(crate) fn prio(
@@ -319,13 +392,13 @@ pub(crate) fn prio(
     ranges: &[Range],
 ) -> Result<Plan, AllocError>
     ensures plan { IfOk result (λ plan. plan ≡ turn_by (prio_lem asked part.now priority ranges.now)) }
-    ensures fits { IfOk result (λ plan. Fits part.now.queue plan.edit) }
+    ensures fits { IfOk result (λ plan. Fits part.now.queue plan.doing) }
 {
     let Some(places) = places_of_ranges(alloc, ranges, part.queue.len())? else {
-        return Plan::bad_index(alloc, asked, part);
+        return Plan::bad_index(alloc, asked);
     };
     let edit = Edit::Prioritize(places, priority);
-    Plan::edits(asked, part, edit, Answer::new(alloc))
+    Plan::edits(asked, edit, Answer::new(alloc))
 }
 
 /// The places of ranges, if all of them are in a list of so many items.
@@ -355,13 +428,13 @@ pub(crate) fn prio_id(
     ids: &[u32],
 ) -> Result<Plan, AllocError>
     ensures plan { IfOk result (λ plan. plan ≡ turn_by (prio_id_lem asked part.now priority ids.now)) }
-    ensures fits { IfOk result (λ plan. Fits part.now.queue plan.edit) }
+    ensures fits { IfOk result (λ plan. Fits part.now.queue plan.doing) }
 {
     let Some(places) = places_of_ids(alloc, &part.queue, ids)? else {
-        return Plan::no_such_song(alloc, asked, part);
+        return Plan::no_such_song(alloc, asked);
     };
     let edit = Edit::Prioritize(places, priority);
-    Plan::edits(asked, part, edit, Answer::new(alloc))
+    Plan::edits(asked, edit, Answer::new(alloc))
 }
 
 /// The places of the songs with these ids, if all of them are in the queue.

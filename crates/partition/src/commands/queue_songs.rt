@@ -1,5 +1,5 @@
 //! The commands that show the queue (MPD protocol reference, The queue).
-ghost use Rattle.std.specs.Prelude.{◌≡◌, ◌++◌, Some, IfOk, OnOk, filter, length};
+ghost use Rattle.std.specs.Prelude.{◌≡◌, ◌≤◌, ◌++◌, Some, IfOk, IfSome, OnOk, filter, length};
 ghost use Rattle.std.specs.List.{flat_map};
 ghost use Rattle.std.specs.Option.{option_copied};
 ghost use Rattle.song_queue.specs.Entries.{row_of, rows_at};
@@ -37,7 +37,7 @@ pub(crate) fn playlist_info(
 {
     match places_of(range, part.queue.len()) {
         Some(places) => show_places(alloc, asked, part, library, places),
-        None => Plan::bad_index(alloc, asked, part),
+        None => Plan::bad_index(alloc, asked),
     }
 }
 
@@ -55,12 +55,14 @@ pub(crate) fn playlist_id(
     };
     match part.queue.position_of(id) {
         Some(place) => show_places(alloc, asked, part, library, place..place + 1),
-        None => Plan::no_such_song(alloc, asked, part),
+        None => Plan::no_such_song(alloc, asked),
     }
 }
 
-fn places_of(range: Option<Range>, len: usize) -> Option<ops::Range<usize>>
-    ensures { result ≡ range_or_all range len }
+/// The places of a range, or all, if they are in a list of so many items.
+pub(crate) fn places_of(range: Option<Range>, len: usize) -> Option<ops::Range<usize>>
+    ensures places { result ≡ range_or_all range len }
+    ensures inside { IfSome result (λ places. (places.start ≤ places.end) × (places.end ≤ len)) }
 {
     match range {
         Some(range) => range.within(len),
@@ -79,7 +81,7 @@ fn show_places(
 {
     let places: Vec<usize> = places.collect(alloc)?;
     let lines = rows(alloc, &part.queue, library, &places, Shown::Song)?;
-    Plan::shows(asked, part, lines)
+    Plan::shows(asked, lines)
 }
 
 pub(crate) fn changes(
@@ -121,11 +123,11 @@ fn show_changed(
     ensures { IfOk result (λ plan. plan ≡ turn_by (show_changed_lem asked part.now (row_lines shown library.now.rate) version (range_or_all range (length (queue_of part.now.queue))))) }
 {
     let Some(places) = places_of(range, part.queue.len()) else {
-        return Plan::bad_index(alloc, asked, part);
+        return Plan::bad_index(alloc, asked);
     };
     let changed = changed_within(alloc, &part.queue, version, &places)?;
     let lines = rows(alloc, &part.queue, library, &changed, shown)?;
-    Plan::shows(asked, part, lines)
+    Plan::shows(asked, lines)
 }
 
 /// The changed places that lie in a range, rising.
@@ -183,7 +185,7 @@ fn push_row(
     }
 }
 
-fn push_entry(
+pub(crate) fn push_entry(
     alloc: Global,
     lines: &mut Answer,
     library: &Library,

@@ -1,5 +1,5 @@
 //! The steps that the decoder makes: wants, haves and failures.
-ghost use Rattle.std.specs.Prelude.{◌≡◌, ◌↔◌, ◌≤◌, ◌<◌, ◌+◌, ◌^◌, false, string_bytes, IfOk, IsErrOf, OnOk, OnErr, Some};
+ghost use Rattle.std.specs.Prelude.{◌≡◌, ◌↔◌, ◌≤◌, ◌<◌, ◌+◌, ◌^◌, false, string_bytes, is_some, IfOk, IsErrOf, OnOk, OnErr, Some};
 ghost use Rattle.std.specs.Option.{option_copied, ForSome};
 ghost use Rattle.song_queue.specs.State.{queue_of};
 ghost use Rattle.play_order.specs.Order.{entry_of};
@@ -9,7 +9,7 @@ ghost use Rattle.player_core.specs.Decoding as decoding;
 use crate::fault::PlayerFault;
 use crate::player::Player;
 use crate::player::entries::{entry_with, has_lost_partner, is_heard};
-use crate::state::{FadePart, Job, Playback};
+use crate::state::{FadePart, Job, Live, Playback};
 use song_queue::{Entry, Queue};
 use std::alloc::{AllocError, Global};
 
@@ -123,6 +123,29 @@ impl Player {
         let cut = self.cuts;
         self.accept(queue, job, count)?;
         Ok(Some(cut))
+    }
+
+    /// Whether so many frames of a job would be accepted.
+    pub fn would_feed(&self, queue: &Queue, number: u64, count: u64) -> bool
+        ensures { result ≡ is_some (decoding.have self.now (queue_of queue.now) number count).feed }
+    {
+        match self.job {
+            Some(job) => {
+                answers(job, number, count) && !has_lost_partner(job.fade, self.peek(queue))
+            }
+            None => false,
+        }
+    }
+
+    /// What an output is told at its turn.
+    pub fn turn(&self, enabled: bool) -> Live
+        ensures { result ≡ decoding.turn self.now enabled }
+    {
+        Live {
+            cut: self.cuts,
+            enabled,
+            paused: matches!(self.playback, Playback::Pause),
+        }
     }
 
     /// Accepts frames of a job, and ends the song where they are its last.

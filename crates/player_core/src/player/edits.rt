@@ -1,6 +1,6 @@
 //! Edits of the queue that the order of play takes part in.
 ghost use Rattle.std.specs.Prelude.{◌≡◌, ◌↔◌, ◌≤◌, false, length, IsErrOf, OnOk, OnErr};
-ghost use Rattle.song_queue.specs.State.{queue_of, inserted as inserted_in, removed as removed_from};
+ghost use Rattle.song_queue.specs.State.{queue_of, inserted as inserted_in, removed as removed_from, shuffled_state};
 ghost use Rattle.song_queue.specs.declared.edit.Edit.TheVariants.{Insert};
 ghost use Rattle.song_queue.specs.Laws.{Takes};
 ghost use Rattle.player_core.specs.Player as player;
@@ -32,6 +32,18 @@ impl Player {
         ensures err_queue { OnErr result (queue.new ≡ queue.old) }
     {
         self.round.insert(queue, at, songs)
+    }
+
+    /// Shuffles the entries of a range of the queue. Where memory is wanted, nothing changes.
+    pub fn shuffle(&mut self, queue: &mut Queue, range: Range<usize>) -> Result<(), AllocError>
+        requires order { range.start ≤ range.end }
+        requires within { range.end ≤ length (queue_of queue.old) }
+        ensures ok { OnOk result (self.new ≡ steps.shuffled self.old range.start range.end) }
+        ensures queue { OnOk result (queue.new ≡ shuffled_state queue.old range.start range.end (steps.shuffle_words self.old range.start range.end)) }
+        ensures err { OnErr result (self.new ≡ self.old) }
+        ensures err_queue { OnErr result (queue.new ≡ queue.old) }
+    {
+        self.round.shuffle(queue, range)
     }
 
     /// Takes the entries of a range out of the queue. Where the current song is among them, what comes next starts, or the

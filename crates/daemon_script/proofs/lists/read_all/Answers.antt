@@ -1,4 +1,4 @@
-use Rattle.std.proofs.Common.{◌≡◌, ◌++◌, ◌∷◌, [], ap, map, take, ◌∙◌}
+use Rattle.std.proofs.Common.{◌++◌, ◌∷◌, [], ap, map, take, ◌∙◌}
 use Rattle.daemon_script.specs.Script.{request_in}
 use Rattle.daemon_script.proofs.ListRuns.{take_more}
 use Rattle.daemon_script.proofs.lists.read_all.Goals as goal

@@ -11,6 +11,7 @@ invariant_of-self-2 c =
     rw pushed
     (record {
       version = c.self.invariant.version;
+      cut = c.self.invariant.cut;
       few = omega (arith, length-append c.self.inside.songs.items (c.args.song ∷ []));
       distinct = once_more c.self.inside.songs.items c.args.song c.self.invariant.distinct new_uri;
     })

@@ -1,4 +1,3 @@
-use Rattle.std.proofs.Common.{rules}
 use Rattle.daemon_script.proofs.Ranges.{client_below_ten}
 use Rattle.daemon_script.proofs.script.Script.show.Goals as goal
 

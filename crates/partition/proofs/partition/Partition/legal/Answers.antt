@@ -11,18 +11,19 @@ use Rattle.partition.proofs.partition.Partition.legal.Goals as goal
 pub returns-clause-legal : goal.returns-clause-legal
 returns-clause-legal c =
     let p = c.self.inside in
-    let life : Life = life_after p.limits p.opened p.history.items in
-    let law = c.replays_worlds.ensures p.limits p.opened p.history.items c.self.invariant.version in
+    let life : Life = life_after (opening p.setup p.opened) p.history.items in
+    let law = c.replays_worlds.ensures p.setup p.opened p.history.items c.self.invariant.version in
     let world : image_of_state p.state ≡ image_of life p.history.items = c.self.invariant.present ∙ law.0 in
     rw (← c.self.view_is)
     (record {
+      setup = p.setup;
       opened = refl;
       world = world;
       pending = flags_stand life p.history.items (image_of_state p.state) world;
-      raises = all_raise p.limits p.opened p.history.items c.self.invariant.version;
-      tells = all_tell p.limits p.opened p.history.items c.self.invariant.version;
+      raises = all_raise p.setup p.opened p.history.items c.self.invariant.version;
+      tells = all_tell p.setup p.opened p.history.items c.self.invariant.version;
       told = c.self.invariant.told;
-      heard = all_heard p.limits p.opened p.history.items c.self.invariant.version c.self.invariant.told;
+      heard = all_heard p.setup p.opened p.history.items c.self.invariant.version c.self.invariant.told;
       distinct = c.len-distinct.ensures.valid.distinct;
       rising = subst (λ (i : Image). Rising i.clients) (sym world) law.1;
     })
@@ -31,4 +32,4 @@ pub returns-clause-settled : goal.returns-clause-settled
 returns-clause-settled c =
     let p = c.self.inside in
     rw (← c.self.view_is)
-    (subst (λ (i : Image). AllSettled i.clients) (sym c.self.invariant.present) (replay_settled p.history.items (opening p.limits p.opened) tt tt))
+    (subst (λ (i : Image). AllSettled i.clients) (sym c.self.invariant.present) (replay_settled p.history.items (opening p.setup p.opened) tt tt))

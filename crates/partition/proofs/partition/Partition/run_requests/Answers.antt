@@ -1,9 +1,8 @@
 use Rattle.std.proofs.Common.{◌≡◌, ◌∷◌, [], length, ap, sym, subst, ◌∙◌, arith}
 use Rattle.std.proofs.lemmas.List.{length-append}
 use Rattle.std.specs.Vec.Iter.{into_iter_items}
-use Rattle.partition.specs.declared.partition.PartitionFault.TheVariants.{AtLimit}
 use Rattle.partition.specs.Lists.{RunsList, StopsList, entries_of}
-use Rattle.partition.proofs.ListRuns.{does_so, nothing_left, none_ran, ran_all, ran_last, ran_more, ran_stop, same_fault, sixteen}
+use Rattle.partition.proofs.ListRuns.{does_so, nothing_left, none_ran, ran_all, ran_last, ran_more, ran_stop}
 use Rattle.partition.proofs.partition.Partition.run_requests.Goals as goal
 
 pub loop-request-init : goal.loop-request-init
@@ -13,7 +12,7 @@ loop-request-init c =
     let same = ap length all in
     let room = c.requires.room in
     record {
-      ran = none_ran c.args.seat c.args.client c.args.form c.args.self.now _ c.args.outcomes.items (sixteen c.args.self.now c.legal.ensures.legal) c.requires.empty;
+      ran = none_ran c.args.seat c.args.client c.args.form c.args.self.now _ c.args.outcomes.items c.requires.empty;
       room = let none = ap length c.requires.empty in omega (arith, same, room, none);
       left = given.1 ∙ c.args.requests.ok.0 ∙ sym same;
     }
@@ -21,10 +20,10 @@ loop-request-init c =
 pub returns-then-ends-clause-ok : goal.returns-then-ends-clause-ok
 returns-then-ends-clause-ok c =
     let all = c.into_iter-request-iterator.ensures.into_iter_gives.0 in
-    subst (λ rs. RunsList c.args.seat c.args.self.now c.apply.new.self (entries_of c.args.seat c.args.self.now.present c.args.client c.args.form 0 rs) c.push_reserved.new.self.items) all
+    subst (λ rs. RunsList c.args.self.now c.apply.new.self (entries_of c.args.seat c.args.self.now.present c.args.client c.args.form 0 rs) c.push_reserved.new.self.items) all
     (ran_last c.args.seat c.args.client c.args.form c.args.self.now c.loop-request.self c.apply.new.self _ _ _ c.in-Some.request c.loop-request.outcomes.items c.push_reserved.new.self.items c.in-Ok.outcome
     c.loop-request.invariant.ran c.in-Some.ensures.steps.0
-    (does_so c.args.seat c.loop-request.self c.apply.new.self c.args.client c.args.form c.len-done.result _ c.in-Some.request c.in-Ok.outcome (c.len-done.ensures ∙ c.loop-request.outcomes.ok.0) c.in-Ok.ensures.base c.in-Ok.ensures.window c.in-Ok.ensures.told c.in-Ok.ensures.present c.in-Ok.ensures.at_limit)
+    (does_so c.args.seat c.loop-request.self c.apply.new.self c.args.client c.args.form c.len-done.result _ c.in-Some.request c.in-Ok.outcome (c.len-done.ensures ∙ c.loop-request.outcomes.ok.0) c.in-Ok.ensures.base c.in-Ok.ensures.window c.in-Ok.ensures.told c.in-Ok.ensures.present c.in-Ok.ensures.within)
     (sym c.ends_list-ends.ensures ∙ c.if-ends.true) c.push_reserved.ensures.items)
 
 pub loop-request-preserved : goal.loop-request-preserved
@@ -39,8 +38,8 @@ loop-request-preserved c =
     let kept = c.push_reserved.ensures.capacity in
     record {
       ran = ran_more c.args.seat c.args.client c.args.form c.args.self.now at.self c.apply.new.self _ _ _ c.in-Some.request at.outcomes.items c.push_reserved.new.self.items c.in-Ok.outcome
-          c.requires.seat at.invariant.ran steps
-          (does_so c.args.seat at.self c.apply.new.self c.args.client c.args.form c.len-done.result _ c.in-Some.request c.in-Ok.outcome (c.len-done.ensures ∙ c.loop-request.outcomes.ok.0) c.in-Ok.ensures.base c.in-Ok.ensures.window c.in-Ok.ensures.told c.in-Ok.ensures.present c.in-Ok.ensures.at_limit)
+          at.invariant.ran steps
+          (does_so c.args.seat at.self c.apply.new.self c.args.client c.args.form c.len-done.result _ c.in-Some.request c.in-Ok.outcome (c.len-done.ensures ∙ c.loop-request.outcomes.ok.0) c.in-Ok.ensures.base c.in-Ok.ensures.window c.in-Ok.ensures.told c.in-Ok.ensures.present c.in-Ok.ensures.within)
           (sym c.ends_list-ends.ensures ∙ c.if-ends.false) c.push_reserved.ensures.items;
       room = rw c.push_reserved.ensures.capacity (let n = length-append at.outcomes.items (c.in-Ok.outcome ∷ []) in omega (arith, room, short, longer, n));
       left = omega (arith, left, gone, short);
@@ -51,15 +50,15 @@ returns-in-Err-clause-err c =
     let all = c.into_iter-request-iterator.ensures.into_iter_gives.0 in
     let at = c.loop-request in
     rw (c.in-Err.ensures.err, c.len-done.ensures ∙ at.outcomes.ok.0)
-    (subst (λ rs. StopsList c.args.seat c.args.self.now at.self (entries_of c.args.seat c.args.self.now.present c.args.client c.args.form 0 rs) rs
+    (subst (λ rs. StopsList c.args.self.now at.self (entries_of c.args.seat c.args.self.now.present c.args.client c.args.form 0 rs) rs
     (record { done = length at.outcomes.items; tolds = at.outcomes.items; command = c.name-command.result.now; cause = c.in-Err.cause })) all
     (ran_stop c.args.seat c.args.client c.args.form c.args.self.now at.self _ _ _ c.in-Some.request at.outcomes.items c.name-command.result.now c.in-Err.cause
-    at.invariant.ran c.in-Some.ensures.steps.0 c.name-command.ensures (same_fault c.in-Err.cause AtLimit _ c.in-Err.ensures.at_limit)))
+    at.invariant.ran c.in-Some.ensures.steps.0 c.name-command.ensures (let refused = c.in-Err.ensures.refused in rw (← (c.len-done.ensures ∙ at.outcomes.ok.0)) refused)))
 
 pub returns-clause-ok : goal.returns-clause-ok
 returns-clause-ok c =
     let at = c.loop-request in
     let all = c.into_iter-request-iterator.ensures.into_iter_gives.0 in
     let none = c.in-None.ensures.steps in
-    subst (λ rs. RunsList c.args.seat c.args.self.now at.self (entries_of c.args.seat c.args.self.now.present c.args.client c.args.form 0 rs) at.outcomes.items) all
+    subst (λ rs. RunsList c.args.self.now at.self (entries_of c.args.seat c.args.self.now.present c.args.client c.args.form 0 rs) at.outcomes.items) all
     (ran_all c.args.seat c.args.client c.args.form c.args.self.now at.self _ _ at.outcomes.items at.invariant.ran (nothing_left _ (sym at.invariant.left ∙ none.0)))

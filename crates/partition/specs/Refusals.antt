@@ -1,0 +1,12 @@
+-- Why an event may be refused.
+use Rattle.std.specs.Prelude.{◌≡◌, true, false}
+use Rattle.partition.specs.declared.partition.PartitionFault.{PartitionFault}
+use Rattle.partition.specs.declared.partition.PartitionFault.TheVariants.{CutsAtLimit, AtLimit, NoMemory}
+use Rattle.partition.specs.Image.{Image, Turn}
+use Rattle.partition.specs.Step.{counts_frames, keeps_limits}
+
+-- a turn is refused where it passes a limit, or for want of memory
+abbrev pub RefusesTurn : Image → Turn → PartitionFault → Type 0
+RefusesTurn i t AtLimit = counts_frames i t ≡ false
+RefusesTurn i t CutsAtLimit = (counts_frames i t ≡ true) × (keeps_limits i t ≡ false)
+RefusesTurn i t NoMemory = Unit {0}

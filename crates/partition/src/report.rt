@@ -1,0 +1,27 @@
+//! What events answer to parts of the daemon that are no clients.
+use player_core::{Job, Live};
+
+/// What the frames of a have are fed with.
+#[derive(Clone, Copy, Debug, PartialEq, Eq)]
+pub struct Feed {
+    /// The cut that they belong to.
+    pub cut: u64,
+    /// The volume, in percent.
+    pub volume: u8,
+}
+
+/// What an event answers to a part of the daemon that is no client.
+#[derive(Clone, Copy, Debug, PartialEq, Eq)]
+pub enum Report {
+    Nothing,
+    /// The number of the scan that is to be made, if one is.
+    ToScan(Option<u64>),
+    /// Whether a scan ended by its result.
+    ScanEnded(bool),
+    /// What is to be decoded, if anything is.
+    ToDecode(Option<Job>),
+    /// How decoded frames are fed to the outputs; `None` where they are stale.
+    ToFeed(Option<Feed>),
+    /// What an output does with its frames.
+    ToPlay(Live),
+}
