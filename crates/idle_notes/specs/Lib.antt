@@ -1,3 +1,5 @@
 pub mod Sets
 pub mod Names
 pub mod Notes
+pub mod Texts
+pub mod Channels

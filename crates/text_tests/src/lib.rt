@@ -7,6 +7,8 @@
 #[cfg(test)]
 mod answers;
 #[cfg(test)]
+mod channels;
+#[cfg(test)]
 mod devices;
 #[cfg(test)]
 mod lines;

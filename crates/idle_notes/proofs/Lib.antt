@@ -1,0 +1,4 @@
+pub mod Ascending
+pub mod Members
+pub mod Heard
+pub mod Apart
