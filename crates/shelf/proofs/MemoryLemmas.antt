@@ -1,5 +1,5 @@
 -- What a change of one key does to the maps of a shelf in memory, and what a walk over all keys lists.
-use Rattle.std.proofs.Common.{◌≡◌, ℕ, List, [], ◌∷◌, ◌++◌, map, flat_map, length, true, false, cond, Option, Some, None, option_map, is_some, IsSome, IsTrue, string_bytes, bytes_eq, Less, refl, sym, ap, subst, ◌∙◌, arith, inl, inr, ◌⊎◌}
+use Rattle.std.proofs.Common.{◌≡◌, ℕ, List, [], ◌∷◌, ◌++◌, map, flat_map, length, true, false, cond, Option, Some, None, option_map, is_some, IsSome, string_bytes, bytes_eq, Less, refl, sym, ap, subst, ◌∙◌, arith, inl, inr, ◌⊎◌}
 use Rattle.std.specs.Prelude.{if◌then◌else◌}
 use Rattle.std.specs.Option.{option_to_list}
 use Rattle.std.specs.Map.{update, lookup, keys_of}
@@ -14,10 +14,8 @@ use Rattle.std.specs.declared.alloc.Global.{Global}
 use Rattle.std.proofs.lemmas.Bool.{cases_Bool}
 use Rattle.std.proofs.lemmas.Slice.Eq.{bytes_eq-Decides}
 use Rattle.std.proofs.lemmas.Map.Text.{btree_map_updates_text, is_eq-slice_cmp}
-use Rattle.shelf.specs.Lines.{lines_of, text_of, are_single_lines}
 use Rattle.shelf.specs.Maps.{Maps, Same, Turns, AreKeys, AreEntries, with_list, with_renamed, with_sticker, with_stickers, no_stickers}
-use Rattle.shelf.specs.Memory.{Texts, lists_in, text_in, stickers_in, memory_of, memory_standing}
-use Rattle.shelf.proofs.LineLemmas.{lines_back}
+use Rattle.shelf.specs.Memory.{Lists, Texts, text_in, stickers_in, memory_of, memory_standing}
 
 abbrev pub Stickers : Type 0
 Stickers = BTreeMap (String Global) Texts
@@ -36,11 +34,9 @@ map_update f g key other w = elim (cases_Bool (bytes_eq key other)) [ inl is ↦
 abbrev Changes : {X : Type 0} → List ℕ → BTreeMap (String Global) X → BTreeMap (String Global) X → Option X → Type 0
 Changes key old new w = UpdatesBy string_cmp (λ k. slice_cmp nat_cmp key (string_bytes k)) old new w
 
-pub lists_changed : (key : List ℕ) (old new : Texts) (w : Option (String Global)) → Changes key old new w
-    → (other : List ℕ) → lists_in new other ≡ update bytes_eq (lists_in old) key (option_map (λ text. lines_of (string_bytes text)) w) other
-lists_changed key old new w h other =
-    ap (option_map (λ text. lines_of (string_bytes text))) (btree_map_updates_text key old new w h other)
-    ∙ map_update (λ text. lines_of (string_bytes text)) (get_by_text old) key other w
+pub lists_changed : (key : List ℕ) (old new : Lists) (w : Option (List (List ℕ))) → Changes key old new w
+    → (other : List ℕ) → get_by_text new other ≡ update bytes_eq (get_by_text old) key w other
+lists_changed key old new w h other = btree_map_updates_text key old new w h other
 
 pub texts_changed : (key : List ℕ) (old new : Texts) (w : Option (String Global)) → Changes key old new w
     → (other : List ℕ) → text_in (Some new) other ≡ update bytes_eq (text_in (Some old)) key (option_map string_bytes w) other
@@ -54,43 +50,42 @@ stickers_changed key old new w h other name = ap (λ names. text_in names name) 
     at (inl is) = rw is refl
     at (inr apart) = rw apart refl
 
-pub put_turns : (key text : String Global) (name : List ℕ) (uris : List (List ℕ)) (old new : Texts) (stickers : Stickers) → Updates string_cmp old new key (Some text)
-    → string_bytes key ≡ name → string_bytes text ≡ text_of uris → IsTrue (are_single_lines uris)
+pub put_turns : (key : String Global) (name : List ℕ) (kept uris : List (List ℕ)) (old new : Lists) (stickers : Stickers) → Updates string_cmp old new key (Some kept)
+    → string_bytes key ≡ name → kept ≡ uris
     → Turns (memory_standing old stickers) (memory_standing new stickers) true (with_list (memory_standing old stickers).maps name (Some uris))
-put_turns key text name uris old new stickers h named is single =
-    let kept : lines_of (string_bytes text) ≡ uris = ap lines_of is ∙ lines_back uris single in
-    let change : Changes name old new (Some text) = subst (λ bs. Changes bs old new (Some text)) named h in
+put_turns key name kept uris old new stickers h named same =
+    let change : Changes name old new (Some kept) = subst (λ bs. Changes bs old new (Some kept)) named h in
     turns_done _ _ _ (record {
-      lists = λ other. lists_changed name old new (Some text) change other ∙ ap (λ w. update bytes_eq (lists_in old) name (Some w) other) kept;
+      lists = λ other. lists_changed name old new (Some kept) change other ∙ ap (λ w. update bytes_eq (get_by_text old) name (Some w) other) same;
       stickers = λ uri name. refl;
     })
 
-pub rename_turns : (name new_name : List ℕ) (key text copy : String Global) (old mid new : Texts) (stickers : Stickers) → get_by_text old name ≡ Some text → get_by_text old new_name ≡ None
-    → string_bytes key ≡ new_name → string_bytes copy ≡ string_bytes text → Updates string_cmp old mid key (Some copy) → Changes name mid new None
+pub rename_turns : (name new_name : List ℕ) (key : String Global) (uris copy : List (List ℕ)) (old mid new : Lists) (stickers : Stickers) → get_by_text old name ≡ Some uris → get_by_text old new_name ≡ None
+    → string_bytes key ≡ new_name → copy ≡ uris → Updates string_cmp old mid key (Some copy) → Changes name mid new None
     → Turns (memory_standing old stickers) (memory_standing new stickers) true (with_renamed (memory_standing old stickers).maps name new_name)
-rename_turns name new_name key text copy old mid new stickers found free named same put gone = turns_done _ _ _ (record {
+rename_turns name new_name key uris copy old mid new stickers found free named same put gone = turns_done _ _ _ (record {
   lists = λ other. moved other (cases_Bool (bytes_eq name other)) (cases_Bool (bytes_eq new_name other));
   stickers = λ uri name. refl;
 })
   where
-    first : (other : List ℕ) → lists_in mid other ≡ update bytes_eq (lists_in old) new_name (Some (lines_of (string_bytes copy))) other
+    first : (other : List ℕ) → get_by_text mid other ≡ update bytes_eq (get_by_text old) new_name (Some copy) other
     first other = lists_changed new_name old mid (Some copy) (subst (λ bs. Changes bs old mid (Some copy)) named put) other
 
-    was : lists_in old name ≡ Some (lines_of (string_bytes copy))
-    was = ap (option_map (λ t. lines_of (string_bytes t))) found ∙ ap (λ t. Some (lines_of t)) (sym same)
+    was : get_by_text old name ≡ Some copy
+    was = found ∙ ap (λ w. Some w) (sym same)
 
     moved : (other : List ℕ) → (bytes_eq name other ≡ true) ⊎ (bytes_eq name other ≡ false) → (bytes_eq new_name other ≡ true) ⊎ (bytes_eq new_name other ≡ false)
-        → lists_in new other ≡ update bytes_eq (update bytes_eq (lists_in old) name None) new_name (lists_in old name) other
+        → get_by_text new other ≡ update bytes_eq (update bytes_eq (get_by_text old) name None) new_name (get_by_text old name) other
     moved other (inl is) (inl also) =
         let one = (bytes_eq-Decides name other).0 is in
         let two = (bytes_eq-Decides new_name other).0 also in
-        let both : Some text ≡ None = sym found ∙ ap (λ bs. get_by_text old bs) (one ∙ sym two) ∙ free in
+        let both : Some uris ≡ None = sym found ∙ ap (λ bs. get_by_text old bs) (one ∙ sym two) ∙ free in
         absurd (cc)
     moved other (inl is) (inr apart) = rw (lists_changed name mid new None gone other, is, apart) refl
     moved other (inr apart) (inl is) = rw (lists_changed name mid new None gone other, apart, first other, is) (sym was)
     moved other (inr apart) (inr also) = rw (lists_changed name mid new None gone other, apart, first other, also) refl
 
-pub remove_turns : (key : List ℕ) (old new : Texts) (stickers : Stickers) → Changes key old new None
+pub remove_turns : (key : List ℕ) (old new : Lists) (stickers : Stickers) → Changes key old new None
     → Turns (memory_standing old stickers) (memory_standing new stickers) true (with_list (memory_standing old stickers).maps key None)
 remove_turns key old new stickers h = turns_done _ _ _ (record { lists = lists_changed key old new None h; stickers = λ uri name. refl })
 
@@ -100,7 +95,7 @@ empty_from_length (e ∷ es) short = absurd (omega (arith, short))
 
 -- ---- stickers, under one URI that had some
 
-module _ (uri : List ℕ) (lists : Texts) (old new : Stickers) where
+module _ (uri : List ℕ) (lists : Lists) (old new : Stickers) where
   pub set_within : (name : List ℕ) (was now : Texts) (w : Option (String Global)) → get_by_text old uri ≡ Some was → Changes uri old new (Some now) → Changes name was now w
       → Turns (memory_standing lists old) (memory_standing lists new) true (with_sticker (memory_standing lists old).maps uri name (option_map string_bytes w))
   set_within name was now w known outer inner = turns_done _ _ _ (record { lists = λ n. refl; stickers = λ other n. stickers_changed uri old new (Some now) outer other n ∙ at other n (cases_Bool (bytes_eq uri other)) })
@@ -197,14 +192,10 @@ keys_whole key (e ∷ es) = rw is_eq-slice_cmp (elim (cases_Bool (bytes_eq key (
   | inr apart ↦ rw apart (keys_whole key es)
 ])
 
-some_mapped : {X Y : Type 0} (f : X → Y) (o : Option X) → is_some (option_map f o) ≡ is_some o
-some_mapped f None = refl
-some_mapped f (Some x) = refl
-
-pub keys_listed : (lists : Texts) → IsStrictlySortedBy string_cmp (keys_of lists.entries) → AreKeys (lists_in lists) (map string_bytes (keys_of lists.entries))
+pub keys_listed : (lists : Lists) → IsStrictlySortedBy string_cmp (keys_of lists.entries) → AreKeys (get_by_text lists) (map string_bytes (keys_of lists.entries))
 keys_listed lists rising = record {
   rising = sorted_texts (keys_of lists.entries) rising;
-  whole = λ key. keys_whole key lists.entries ∙ sym (some_mapped (λ text. lines_of (string_bytes text)) (get_by_text lists key));
+  whole = λ key. keys_whole key lists.entries;
 }
 
 abbrev pub pair_texts : String Global × String Global → List ℕ × List ℕ

@@ -1,9 +1,12 @@
 -- A stored playlist's text: each URI followed by one newline byte (this profile's tables, `uris`).
-use Rattle.std.specs.Prelude.{ℕ, Bool, not, List, [], ◌∷◌, ◌++◌, ◌==◌, flat_map, cond}
+use Rattle.std.specs.Prelude.{ℕ, Bool, not, List, [], ◌∷◌, ◌++◌, ◌==◌, Contains, flat_map, cond}
 use Rattle.std.specs.List.{list_any}
 
 abbrev pub newline : ℕ
 newline = 10
+
+abbrev pub HasNoNewline : List ℕ → Type 0
+HasNoNewline uri = ¬ Contains uri 10
 
 abbrev pub has_newline : List ℕ → Bool
 has_newline uri = list_any (λ b. b == newline) uri

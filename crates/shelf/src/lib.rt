@@ -2,13 +2,13 @@
 #![tactic(auto)]
 
 mod faults;
-mod lines;
 mod memory;
 mod names;
 mod traits;
+mod uri_list;
 
 pub use faults::{Entry, ShelfFault};
-pub use lines::{are_single_lines, lines_of_text, text_of_lines};
 pub use memory::MemShelf;
 pub use names::{is_list_name, is_sticker_name};
 pub use traits::Shelf;
+pub use uri_list::{UriList, next_uri};

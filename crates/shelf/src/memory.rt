@@ -6,9 +6,9 @@ ghost use Rattle.shelf.specs.Entries.{entry_texts};
 ghost use Rattle.shelf.specs.Maps.{Same, no_maps, Answers, AreEntries, no_refusal};
 
 use crate::faults::{Entry, ShelfFault};
-use crate::lines::{lines_of_text, text_of_lines};
 use crate::names::{is_list_name, is_sticker_name};
 use crate::traits::Shelf;
+use crate::uri_list::UriList;
 use std::alloc::Global;
 use std::collections::BTreeMap;
 
@@ -16,8 +16,8 @@ use std::collections::BTreeMap;
 #[derive(Drop)]
 pub struct MemShelf {
     alloc: Global,
-    // by name, each URI followed by a newline
-    lists: BTreeMap<String, String>,
+    // by name
+    lists: BTreeMap<String, UriList>,
     // by URI, then by name
     stickers: BTreeMap<String, BTreeMap<String, String>>,
 }
@@ -50,24 +50,24 @@ impl Shelf for MemShelf {
         Ok(names)
     }
 
-    fn list(&mut self, name: &str) -> Result<Vec<String>, ShelfFault> {
+    fn list(&mut self, name: &str) -> Result<UriList, ShelfFault> {
         match self.lists.get(name) {
-            Some(text) => Ok(lines_of_text(self.alloc, text.as_str())?),
+            Some(uris) => Ok(uris.clone()?),
             None => Err(ShelfFault::NoSuchList),
         }
     }
 
-    fn put(&mut self, name: &str, uris: &[String]) -> Result<(), ShelfFault> {
+    fn put(&mut self, name: &str, uris: &UriList) -> Result<(), ShelfFault> {
         if !is_list_name(name) {
             return Err(ShelfFault::BadName);
         }
-        let text = text_of_lines(self.alloc, uris)?;
+        let uris = uris.clone()?;
         let name = String::from_str(self.alloc, name)?;
-        self.lists.insert(name, text)?;
+        self.lists.insert(name, uris)?;
         Ok(())
     }
 
-    fn create(&mut self, name: &str, uris: &[String]) -> Result<(), ShelfFault> {
+    fn create(&mut self, name: &str, uris: &UriList) -> Result<(), ShelfFault> {
         if self.lists.contains_key(name) {
             return Err(ShelfFault::Exists);
         }
@@ -84,12 +84,12 @@ impl Shelf for MemShelf {
         if !is_list_name(new_name) {
             return Err(ShelfFault::BadName);
         }
-        let text = match self.lists.get(name) {
-            Some(text) => text.clone()?,
+        let uris = match self.lists.get(name) {
+            Some(uris) => uris.clone()?,
             None => return Err(ShelfFault::NoSuchList),
         };
         let new_name = String::from_str(self.alloc, new_name)?;
-        self.lists.insert(new_name, text)?;
+        self.lists.insert(new_name, uris)?;
         self.lists.remove(name);
         Ok(())
     }

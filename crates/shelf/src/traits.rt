@@ -1,12 +1,12 @@
 //! The calls of a shelf.
 
 ghost use Rattle.std.specs.Prelude.{◌≡◌, List, ℕ, Some, None, IfOk, IsTrue, is_ok, map, string_bytes};
-ghost use Rattle.shelf.specs.Lines.{are_single_lines};
 ghost use Rattle.shelf.specs.Maps.{Standing, Maps, Same, Turns, Trusted, Answers, AnswersAll, AreKeys, AreEntries, with_list, with_renamed, with_sticker, with_stickers, no_stickers, no_refusal, refusal_of_list, refusal_of_put, refusal_of_create, refusal_of_rename, refusal_of_set, refusal_of_sticker};
 ghost use Rattle.shelf.specs.Calls.{Call, Lists, ListOf, Put, Create, Rename, Remove, StickerOf, SetSticker, DeleteSticker, DeleteStickers, StickersOf, FindStickers};
 ghost use Rattle.shelf.specs.Entries.{entry_texts};
 
 use crate::faults::{Entry, ShelfFault};
+use crate::uri_list::UriList;
 
 /// Stored playlists and stickers, as two maps: a name has a list of URIs, and a URI and a name have a text.
 ///
@@ -25,24 +25,21 @@ pub trait Shelf {
         ensures names { Trusted (standing self.old) (standing self.new) → IfOk result (λ names. AreKeys (standing self.old).maps.lists (map string_bytes names.items)) }
         ensures turns { Turns (standing self.old) (standing self.new) (is_ok result) (standing self.old).maps };
 
-    /// The URIs of a stored playlist, none of them with a newline. Refused: `NoSuchList`.
-    fn list(&mut self, name: &str) -> Result<Vec<String>, ShelfFault>
+    /// The URIs of a stored playlist. Refused: `NoSuchList`.
+    fn list(&mut self, name: &str) -> Result<UriList, ShelfFault>
         ensures answers { Trusted (standing self.old) (standing self.new) → Answers (failed self.old self.new (ListOf name.now)) (refusal_of_list (standing self.old).maps name.now) result }
-        ensures uris { Trusted (standing self.old) (standing self.new) → IfOk result (λ uris. (standing self.old).maps.lists name.now ≡ Some (map string_bytes uris.items)) }
-        ensures lines { IfOk result (λ uris. IsTrue (are_single_lines (map string_bytes uris.items))) }
+        ensures uris { Trusted (standing self.old) (standing self.new) → IfOk result (λ uris. (standing self.old).maps.lists name.now ≡ Some uris) }
         ensures turns { Turns (standing self.old) (standing self.new) (is_ok result) (standing self.old).maps };
 
     /// Keeps the URIs under the name, in place of those it had. Refused: `BadName`.
-    fn put(&mut self, name: &str, uris: &[String]) -> Result<(), ShelfFault>
-        requires { IsTrue (are_single_lines (map string_bytes uris.now)) }
-        ensures answers { Trusted (standing self.old) (standing self.new) → Answers (failed self.old self.new (Put name.now (map string_bytes uris.now))) (refusal_of_put name.now) result }
-        ensures turns { Turns (standing self.old) (standing self.new) (is_ok result) (with_list (standing self.old).maps name.now (Some (map string_bytes uris.now))) };
+    fn put(&mut self, name: &str, uris: &UriList) -> Result<(), ShelfFault>
+        ensures answers { Trusted (standing self.old) (standing self.new) → Answers (failed self.old self.new (Put name.now uris.now)) (refusal_of_put name.now) result }
+        ensures turns { Turns (standing self.old) (standing self.new) (is_ok result) (with_list (standing self.old).maps name.now (Some uris.now)) };
 
     /// Keeps the URIs under a name that no list has. Refused, in this order: `Exists`, `BadName`.
-    fn create(&mut self, name: &str, uris: &[String]) -> Result<(), ShelfFault>
-        requires { IsTrue (are_single_lines (map string_bytes uris.now)) }
-        ensures answers { Trusted (standing self.old) (standing self.new) → Answers (failed self.old self.new (Create name.now (map string_bytes uris.now))) (refusal_of_create (standing self.old).maps name.now) result }
-        ensures turns { Turns (standing self.old) (standing self.new) (is_ok result) (with_list (standing self.old).maps name.now (Some (map string_bytes uris.now))) };
+    fn create(&mut self, name: &str, uris: &UriList) -> Result<(), ShelfFault>
+        ensures answers { Trusted (standing self.old) (standing self.new) → Answers (failed self.old self.new (Create name.now uris.now)) (refusal_of_create (standing self.old).maps name.now) result }
+        ensures turns { Turns (standing self.old) (standing self.new) (is_ok result) (with_list (standing self.old).maps name.now (Some uris.now)) };
 
     /// Gives a stored playlist another name. Refused, in this order: `NoSuchList`, `Exists` (also for its own name), `BadName`.
     fn rename(&mut self, name: &str, new_name: &str) -> Result<(), ShelfFault>

@@ -61,13 +61,13 @@ none_passes p q rows none within = find_none p rows (λ r h. elim (cases_Bool (p
   | inr other ↦ other
 ])
 
-module _ (uri : List ℕ) (db : Database) (rows : List Row) (answer : IsAnswer (over 3 (equals 1 0 ∷ []) (col 1 2 ∷ col 1 3 ∷ []) (rising 2)) (overlay db.trees []) (Text uri ∷ []) rows) where
-  abbrev of_uri : IsRead (Text uri ∷ []) 3 (equals 1 0 ∷ []) (col 1 2 ∷ col 1 3 ∷ []) (rising 2) (has_text 1 uri) (one_test 1 uri) (filter (has_text 1 uri) (db.trees 3)) rows
-  of_uri = answer_is (Text uri ∷ []) 3 (equals 1 0 ∷ []) (col 1 2 ∷ col 1 3 ∷ []) (rising 2) (has_text 1 uri) (one_test 1 uri) (overlay db.trees []) rows answer
+module _ (uri : List ℕ) (db : Database) (rows : List Row) (answer : IsAnswer (over 3 (equals 1 0 ∷ []) (col 1 2 ∷ []) (rising 2)) (overlay db.trees []) (Text uri ∷ []) rows) where
+  abbrev names_of_uri : IsRead (Text uri ∷ []) 3 (equals 1 0 ∷ []) (col 1 2 ∷ []) (rising 2) (has_text 1 uri) (one_test 1 uri) (filter (has_text 1 uri) (db.trees 3)) rows
+  names_of_uri = answer_is (Text uri ∷ []) 3 (equals 1 0 ∷ []) (col 1 2 ∷ []) (rising 2) (has_text 1 uri) (one_test 1 uri) (overlay db.trees []) rows answer
 
   pub sticker_there : (row : Row) (name : List ℕ) → slice_get rows 0 ≡ Some row → column row 0 ≡ Text name → IsSome ((maps_in db.trees).stickers uri name)
   sticker_there row name first read =
-      let from = shown_from (Text uri ∷ []) 3 (equals 1 0 ∷ []) (col 1 2 ∷ col 1 3 ∷ []) (rising 2) (has_text 1 uri) (one_test 1 uri) (filter (has_text 1 uri) (db.trees 3)) rows of_uri row (has_got rows 0 row first) in
+      let from = shown_from (Text uri ∷ []) 3 (equals 1 0 ∷ []) (col 1 2 ∷ []) (rising 2) (has_text 1 uri) (one_test 1 uri) (filter (has_text 1 uri) (db.trees 3)) rows names_of_uri row (has_got rows 0 row first) in
       let was = has_filtered (has_text 1 uri) (db.trees 3) from.0 from.1 in
       let name_is : column from.0 2 ≡ Text name = sym (ap (λ r. column r 0) from.2) ∙ read in
       let named : has_text 2 name from.0 ≡ true = rw name_is (same_bytes name name ∙ (bytes_eq-Decides name name).1 refl) in
@@ -76,7 +76,7 @@ module _ (uri : List ℕ) (db : Database) (rows : List Row) (answer : IsAnswer (
 
   pub no_sticker_there : slice_get rows 0 ≡ None → (name : List ℕ) → (maps_in db.trees).stickers uri name ≡ None
   no_sticker_there first name =
-      let none = none_shown (Text uri ∷ []) 3 (equals 1 0 ∷ []) (col 1 2 ∷ col 1 3 ∷ []) (rising 2) (has_text 1 uri) (one_test 1 uri) (filter (has_text 1 uri) (db.trees 3)) rows of_uri first in
+      let none = none_shown (Text uri ∷ []) 3 (equals 1 0 ∷ []) (col 1 2 ∷ []) (rising 2) (has_text 1 uri) (one_test 1 uri) (filter (has_text 1 uri) (db.trees 3)) rows names_of_uri first in
       ap (option_map (λ r. bytes (column r 3))) (none_passes (λ r. has_text 1 uri r && has_text 2 name r) (has_text 1 uri) (db.trees 3) none (λ r is. (and_parts _ _ is).0))
 
   -- the text of the first row is the name of one

@@ -24,7 +24,7 @@ use Rattle.sqlite_resolve.specs.declared.error.CompileError.{CompileError}
 use Rattle.sqlite_typing.specs.Types.{accepts_program}
 use Rattle.shelf_database.specs.Tables.{shelf_schema, IsReady}
 use Rattle.shelf_database.specs.Faults.{HasFailed}
-use Rattle.shelf_database.proofs.Statements.{Reading, over, equals, rising, uris_text, uris_is, names_text, names_are, value_text, value_is, of_uri_text, of_uri_is, of_name_text, of_name_is}
+use Rattle.shelf_database.proofs.Statements.{Reading, over, equals, rising, uris_text, uris_is, named_text, named_is, names_of_uri_text, names_of_uri_are, names_text, names_are, value_text, value_is, of_uri_text, of_uri_is, of_name_text, of_name_is}
 use Rattle.shelf_database.proofs.TablesLemmas.{asked_text, asked_is}
 
 abbrev pub tail_of : Result Compiled CompileError → ℕ
@@ -133,6 +133,13 @@ uris_whole name = (refl, refl)
 abbrev pub uris_asked : (name : List ℕ) → Question uris_text (Text name ∷ [])
 uris_asked name = asks uris_text (Text name ∷ []) 1 (equals 1 0 ∷ []) (col 1 2 ∷ []) [] _ uris_is (uris_whole name) refl
 
+pub named_whole : (name : List ℕ) → IsWhole named_text (Text name ∷ [])
+unfolding understood everything
+named_whole name = (refl, refl)
+
+abbrev pub named_asked : (name : List ℕ) → Question named_text (Text name ∷ [])
+named_asked name = asks named_text (Text name ∷ []) 1 (equals 1 0 ∷ []) (col 1 1 ∷ []) [] _ named_is (named_whole name) refl
+
 pub names_whole : IsWhole names_text []
 unfolding understood everything
 names_whole = (refl, refl)
@@ -146,6 +153,13 @@ value_whole uri name = (refl, refl)
 
 abbrev pub value_asked : (uri name : List ℕ) → Question value_text (Text uri ∷ Text name ∷ [])
 value_asked uri name = asks value_text (Text uri ∷ Text name ∷ []) 3 (equals 1 0 ∷ equals 2 1 ∷ []) (col 1 3 ∷ []) [] _ value_is (value_whole uri name) refl
+
+pub names_of_uri_whole : (uri : List ℕ) → IsWhole names_of_uri_text (Text uri ∷ [])
+unfolding understood everything
+names_of_uri_whole uri = (refl, refl)
+
+abbrev pub names_of_uri_asked : (uri : List ℕ) → Question names_of_uri_text (Text uri ∷ [])
+names_of_uri_asked uri = asks names_of_uri_text (Text uri ∷ []) 3 (equals 1 0 ∷ []) (col 1 2 ∷ []) (rising 2) _ names_of_uri_are (names_of_uri_whole uri) refl
 
 pub of_uri_whole : (uri : List ℕ) → IsWhole of_uri_text (Text uri ∷ [])
 unfolding understood everything

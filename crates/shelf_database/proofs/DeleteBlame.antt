@@ -1,8 +1,7 @@
 -- Why a deletion may be answered with an error: the limit on steps alone refuses it.
-use Rattle.std.proofs.Common.{◌≡◌, ◌≢◌, inl, inr, ℕ, List, [], ◌∷◌, slice_get, Bool, true, ◌&&◌, Option, Some, None, Err, refl, subst, IsSome}
+use Rattle.std.proofs.Common.{◌≡◌, inl, inr, ℕ, List, [], ◌∷◌, slice_get, Bool, true, ◌&&◌, Option, Some, None, Err, refl, subst, IsSome}
 use Rattle.std.specs.List.{list_all}
 use Rattle.sqlite.specs.declared.error.Error.{Error}
-use Rattle.sqlite.specs.declared.error.ErrorCode.TheVariants as code
 use Rattle.sqlite.specs.declared.types.Value.TheVariants.{Text}
 use Rattle.sqlite.specs.Order.{Row}
 use Rattle.sqlite.specs.Tree.{IsTable}

@@ -29,13 +29,13 @@ module _ (params : Row) (tree at : ℕ) (terms : List Term) (test : Row → Bool
       at_none (o ∷ more) shown none = absurd (omega (arith, none))
   one_shown (Some r) rows read = read.shown ∙ ap (map (λ (o : Output). o.1)) (one_permutation (shows params tree terms (col 1 at ∷ []) [] test tests r) read.sorted read.same)
 
-pub list_shown : (name : List ℕ) (db : Database) (rows : List Row) → IsShelf db → IsAnswer (over 1 (equals 1 0 ∷ []) (col 1 2 ∷ []) []) (overlay db.trees []) (Text name ∷ []) rows
-    → rows ≡ shown_of 2 (find (has_text 1 name) (db.trees 1))
-list_shown name db rows is answer =
-    let read = answer_is (Text name ∷ []) 1 (equals 1 0 ∷ []) (col 1 2 ∷ []) [] (has_text 1 name) (one_test 1 name) (overlay db.trees []) rows answer in
+pub list_shown : (at : ℕ) (name : List ℕ) (db : Database) (rows : List Row) → IsShelf db → IsAnswer (over 1 (equals 1 0 ∷ []) (col 1 at ∷ []) []) (overlay db.trees []) (Text name ∷ []) rows
+    → rows ≡ shown_of at (find (has_text 1 name) (db.trees 1))
+list_shown at name db rows is answer =
+    let read = answer_is (Text name ∷ []) 1 (equals 1 0 ∷ []) (col 1 at ∷ []) [] (has_text 1 name) (one_test 1 name) (overlay db.trees []) rows answer in
     let once = found_once (has_text 1 name) (db.trees 1) is.lists.rise (once_list name db is) in
-    one_shown (Text name ∷ []) 1 2 (equals 1 0 ∷ []) (has_text 1 name) (one_test 1 name) (find (has_text 1 name) (db.trees 1)) rows
-    (subst (λ found. IsRead (Text name ∷ []) 1 (equals 1 0 ∷ []) (col 1 2 ∷ []) [] (has_text 1 name) (one_test 1 name) found rows) once read)
+    one_shown (Text name ∷ []) 1 at (equals 1 0 ∷ []) (has_text 1 name) (one_test 1 name) (find (has_text 1 name) (db.trees 1)) rows
+    (subst (λ found. IsRead (Text name ∷ []) 1 (equals 1 0 ∷ []) (col 1 at ∷ []) [] (has_text 1 name) (one_test 1 name) found rows) once read)
 
 pub sticker_shown : (uri name : List ℕ) (db : Database) (rows : List Row) → IsShelf db → IsAnswer (over 3 (equals 1 0 ∷ equals 2 1 ∷ []) (col 1 3 ∷ []) []) (overlay db.trees []) (Text uri ∷ Text name ∷ []) rows
     → rows ≡ shown_of 3 (find (λ row. has_text 1 uri row && has_text 2 name row) (db.trees 3))

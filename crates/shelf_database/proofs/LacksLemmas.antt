@@ -25,9 +25,9 @@ first_lacks rows row first lacks = (row, has_got rows 0 row first, refl, 0, inl 
 abbrev Moves : Row → List Term → List ℕ → List ℕ → Type 0
 Moves params project columns wanted = (row : Row) (at : ℕ) → Has columns at → (place : ℕ) × Has wanted place × (column (eval_all project (params ∷ row ∷ [])) at ≡ column row place)
 
-first_moves : (params : Row) (place : ℕ) (more : List Term) → Moves params (col 1 place ∷ more) (0 ∷ []) (place ∷ [])
-first_moves params place more row at (inl is) = (place, inl refl, ap (column (eval_all (col 1 place ∷ more) (params ∷ row ∷ []))) is)
-first_moves params place more row at (inr never) = absurd never
+first_moves : (params : Row) (place : ℕ) → Moves params (col 1 place ∷ []) (0 ∷ []) (place ∷ [])
+first_moves params place row at (inl is) = (place, inl refl, ap (column (eval_all (col 1 place ∷ []) (params ∷ row ∷ []))) is)
+first_moves params place row at (inr never) = absurd never
 
 both_move : (params : Row) (a b : ℕ) → Moves params (col 1 a ∷ col 1 b ∷ []) (0 ∷ 1 ∷ []) (a ∷ b ∷ [])
 both_move params a b row at (inl is) = (a, inl refl, ap (column (eval_all (col 1 a ∷ col 1 b ∷ []) (params ∷ row ∷ []))) is)
@@ -49,16 +49,16 @@ module _ (params : Row) (tree : ℕ) (terms project : List Term) (order : List (
 
 module _ (db : Trees) (rows : List Row) where
   pub uris_lack : (name : List ℕ) → IsAnswer (over 1 (equals 1 0 ∷ []) (col 1 2 ∷ []) []) (overlay db []) (Text name ∷ []) rows → LacksText (0 ∷ []) (λ _. true) rows → LacksText (2 ∷ []) (has_text 1 name) (db 1)
-  uris_lack name = lacks_below (Text name ∷ []) 1 (equals 1 0 ∷ []) (col 1 2 ∷ []) [] (has_text 1 name) (one_test 1 name) (0 ∷ []) (2 ∷ []) (first_moves (Text name ∷ []) 2 []) (overlay db []) rows
+  uris_lack name = lacks_below (Text name ∷ []) 1 (equals 1 0 ∷ []) (col 1 2 ∷ []) [] (has_text 1 name) (one_test 1 name) (0 ∷ []) (2 ∷ []) (first_moves (Text name ∷ []) 2) (overlay db []) rows
 
   pub names_lack : IsAnswer (over 1 [] (col 1 1 ∷ []) (rising 1)) (overlay db []) [] rows → LacksText (0 ∷ []) (λ _. true) rows → LacksText (1 ∷ []) (λ _. true) (db 1)
-  names_lack = lacks_below [] 1 [] (col 1 1 ∷ []) (rising 1) (λ _. true) (λ _. refl) (0 ∷ []) (1 ∷ []) (first_moves [] 1 []) (overlay db []) rows
+  names_lack = lacks_below [] 1 [] (col 1 1 ∷ []) (rising 1) (λ _. true) (λ _. refl) (0 ∷ []) (1 ∷ []) (first_moves [] 1) (overlay db []) rows
 
   pub value_lacks : (uri name : List ℕ) → IsAnswer (over 3 (equals 1 0 ∷ equals 2 1 ∷ []) (col 1 3 ∷ []) []) (overlay db []) (Text uri ∷ Text name ∷ []) rows
       → LacksText (0 ∷ []) (λ _. true) rows → LacksText (3 ∷ []) (λ row. has_text 1 uri row && has_text 2 name row) (db 3)
   value_lacks uri name =
       lacks_below (Text uri ∷ Text name ∷ []) 3 (equals 1 0 ∷ equals 2 1 ∷ []) (col 1 3 ∷ []) [] (λ row. has_text 1 uri row && has_text 2 name row) (two_tests uri name)
-      (0 ∷ []) (3 ∷ []) (first_moves (Text uri ∷ Text name ∷ []) 3 []) (overlay db []) rows
+      (0 ∷ []) (3 ∷ []) (first_moves (Text uri ∷ Text name ∷ []) 3) (overlay db []) rows
 
   pub of_uri_lack : (uri : List ℕ) → IsAnswer (over 3 (equals 1 0 ∷ []) (col 1 2 ∷ col 1 3 ∷ []) (rising 2)) (overlay db []) (Text uri ∷ []) rows
       → LacksText (0 ∷ 1 ∷ []) (λ _. true) rows → LacksText (2 ∷ 3 ∷ []) (has_text 1 uri) (db 3)
@@ -66,12 +66,11 @@ module _ (db : Trees) (rows : List Row) where
       lacks_below (Text uri ∷ []) 3 (equals 1 0 ∷ []) (col 1 2 ∷ col 1 3 ∷ []) (rising 2) (has_text 1 uri) (one_test 1 uri)
       (0 ∷ 1 ∷ []) (2 ∷ 3 ∷ []) (both_move (Text uri ∷ []) 2 3) (overlay db []) rows
 
-  -- where their names alone are read
-  pub of_uri_unnamed : (uri : List ℕ) → IsAnswer (over 3 (equals 1 0 ∷ []) (col 1 2 ∷ col 1 3 ∷ []) (rising 2)) (overlay db []) (Text uri ∷ []) rows
+  pub names_of_uri_lack : (uri : List ℕ) → IsAnswer (over 3 (equals 1 0 ∷ []) (col 1 2 ∷ []) (rising 2)) (overlay db []) (Text uri ∷ []) rows
       → LacksText (0 ∷ []) (λ _. true) rows → LacksText (2 ∷ []) (has_text 1 uri) (db 3)
-  of_uri_unnamed uri =
-      lacks_below (Text uri ∷ []) 3 (equals 1 0 ∷ []) (col 1 2 ∷ col 1 3 ∷ []) (rising 2) (has_text 1 uri) (one_test 1 uri)
-      (0 ∷ []) (2 ∷ []) (first_moves (Text uri ∷ []) 2 (col 1 3 ∷ [])) (overlay db []) rows
+  names_of_uri_lack uri =
+      lacks_below (Text uri ∷ []) 3 (equals 1 0 ∷ []) (col 1 2 ∷ []) (rising 2) (has_text 1 uri) (one_test 1 uri)
+      (0 ∷ []) (2 ∷ []) (first_moves (Text uri ∷ []) 2) (overlay db []) rows
 
   pub of_name_lack : (name : List ℕ) → IsAnswer (over 3 (equals 2 0 ∷ []) (col 1 1 ∷ col 1 3 ∷ []) (rising 1)) (overlay db []) (Text name ∷ []) rows
       → LacksText (0 ∷ 1 ∷ []) (λ _. true) rows → LacksText (1 ∷ 3 ∷ []) (has_text 2 name) (db 3)

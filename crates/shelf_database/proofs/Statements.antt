@@ -71,12 +71,26 @@ pub names_are : Reading names_text (over 1 [] (col 1 1 ∷ []) (rising 1)) (code
 unfolding understood everything
 names_are = (refl, refl, (refl, refl))
 
+abbrev pub named_text : List ℕ
+named_text = codes "SELECT name FROM list WHERE name = ?1"
+
+pub named_is : Reading named_text (over 1 (equals 1 0 ∷ []) (col 1 1 ∷ []) []) (codes "name" ∷ [])
+unfolding understood everything
+named_is = (refl, refl, (refl, refl))
+
 abbrev pub value_text : List ℕ
 value_text = codes "SELECT value FROM sticker WHERE uri = ?1 AND name = ?2"
 
 pub value_is : Reading value_text (over 3 (equals 1 0 ∷ equals 2 1 ∷ []) (col 1 3 ∷ []) []) (codes "value" ∷ [])
 unfolding understood everything
 value_is = (refl, refl, (refl, refl))
+
+abbrev pub names_of_uri_text : List ℕ
+names_of_uri_text = codes "SELECT name FROM sticker WHERE uri = ?1 ORDER BY name"
+
+pub names_of_uri_are : Reading names_of_uri_text (over 3 (equals 1 0 ∷ []) (col 1 2 ∷ []) (rising 2)) (codes "name" ∷ [])
+unfolding understood everything
+names_of_uri_are = (refl, refl, (refl, refl))
 
 abbrev pub of_uri_text : List ℕ
 of_uri_text = codes "SELECT name, value FROM sticker WHERE uri = ?1 ORDER BY name"

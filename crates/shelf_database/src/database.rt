@@ -15,9 +15,7 @@ ghost use Rattle.shelf_database.specs.Faults.{HasFailed, StoreFailed};
 use crate::asks::{ask, change, first_text};
 use crate::profile::make_ready;
 use crate::rows::{entries_of, texts_of};
-use shelf::{
-    Entry, Shelf, ShelfFault, is_list_name, is_sticker_name, lines_of_text, text_of_lines,
-};
+use shelf::{Entry, Shelf, ShelfFault, UriList, is_list_name, is_sticker_name};
 use sqlite::{Alter, Connection, Error, ErrorCode, params};
 use std::alloc::Global;
 
@@ -78,11 +76,8 @@ fn has_list<S: Alter>(connection: &mut Connection<S>, name: &str) -> Result<bool
     ensures found { HasCleanDisk (state S.Store connection.new) → IsReady (state S.Store connection.old) → IfOk result (λ is_there. is_there ≡ is_some ((maps_in (state S.Store connection.old).now.trees).lists name.now)) }
     ensures refused { IfErr result (Refuses (state S.Store connection.old) (state S.Store connection.new) (HasFailed (state S.Store connection.old) (state S.Store connection.new))) }
 {
-    let rows = ask(
-        connection,
-        "SELECT uris FROM list WHERE name = ?1",
-        params![name],
-    )?;
+    let find = "SELECT name FROM list WHERE name = ?1";
+    let rows = ask(connection, find, params![name])?;
     Ok(rows.first().is_some())
 }
 
@@ -108,7 +103,7 @@ fn has_stickers<S: Alter>(connection: &mut Connection<S>, uri: &str) -> Result<b
     ensures missing { HasCleanDisk (state S.Store connection.new) → IsReady (state S.Store connection.old) → IfOk result (λ is_there. is_there ≡ false → (name : List ℕ) → (maps_in (state S.Store connection.old).now.trees).stickers uri.now name ≡ None) }
     ensures refused { IfErr result (Refuses (state S.Store connection.old) (state S.Store connection.new) (StoreFailed (state S.Store connection.old) (state S.Store connection.new) (DeleteStickers uri.now))) }
 {
-    let find = "SELECT name, value FROM sticker WHERE uri = ?1 ORDER BY name";
+    let find = "SELECT name FROM sticker WHERE uri = ?1 ORDER BY name";
     let name = first_text(connection, find, params![uri])?;
     Ok(name.is_some())
 }
@@ -129,24 +124,23 @@ impl<S: Alter + Drop> Shelf for SqlShelf<S> {
         texts_of(self.alloc, &rows)
     }
 
-    fn list(&mut self, name: &str) -> Result<Vec<String>, ShelfFault> {
+    fn list(&mut self, name: &str) -> Result<UriList, ShelfFault> {
         let find = "SELECT uris FROM list WHERE name = ?1";
         match first_text(&mut self.connection, find, params![name])? {
-            Some(text) => Ok(lines_of_text(self.alloc, text.as_str())?),
+            Some(text) => Ok(UriList::of_text(text)),
             None => Err(ShelfFault::NoSuchList),
         }
     }
 
-    fn put(&mut self, name: &str, uris: &[String]) -> Result<(), ShelfFault> {
+    fn put(&mut self, name: &str, uris: &UriList) -> Result<(), ShelfFault> {
         if !is_list_name(name) {
             return Err(ShelfFault::BadName);
         }
-        let text = text_of_lines(self.alloc, uris)?;
         let put = "INSERT OR REPLACE INTO list (name, uris) VALUES (?1, ?2)";
-        change(&mut self.connection, put, params![name, text.as_str()])
+        change(&mut self.connection, put, params![name, uris.text()])
     }
 
-    fn create(&mut self, name: &str, uris: &[String]) -> Result<(), ShelfFault> {
+    fn create(&mut self, name: &str, uris: &UriList) -> Result<(), ShelfFault> {
         if has_list(&mut self.connection, name)? {
             return Err(ShelfFault::Exists);
         }

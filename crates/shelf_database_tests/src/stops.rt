@@ -5,9 +5,9 @@
 //! that died leaves them, with all that was written, and once as a lost supply does, with what was synced alone. A stop before the
 //! call leaves the maps from before it, a stop in the call those from before it or after it, and a stop after it those from after it.
 
-use shelf::{Entry, Shelf, ShelfFault};
+use shelf::{Entry, Shelf, ShelfFault, UriList};
 use shelf_database::SqlShelf;
-use shelf_tests::calls::{keep, texts, wants};
+use shelf_tests::calls::{add_uris, keep, uri_list, wants};
 use sqlite::{Alter, Connection, FileStore, Files, Options};
 use sqlite_disk::{Crash, Disk, Fuse, Memory};
 use std::alloc::{AllocError, Global};
@@ -78,7 +78,7 @@ fn after(call: Call) -> &'static str {
     }
 }
 
-fn make<S: Shelf>(shelf: &mut S, call: Call, uris: &[String]) -> Result<(), ShelfFault> {
+fn make<S: Shelf>(shelf: &mut S, call: Call, uris: &UriList) -> Result<(), ShelfFault> {
     match call {
         Call::Over => Ok(()),
         Call::Put => keep(shelf, "x", uris, false),
@@ -88,25 +88,22 @@ fn make<S: Shelf>(shelf: &mut S, call: Call, uris: &[String]) -> Result<(), Shel
 }
 
 /// Puts one list and one sticker on the shelf.
-fn fill<S: Shelf>(shelf: &mut S, uris: &[String]) -> Result<(), ShelfFault> {
+fn fill<S: Shelf>(shelf: &mut S, uris: &UriList) -> Result<(), ShelfFault> {
     keep(shelf, "x", uris, true)?;
     shelf.set_sticker("a.wav", "r", "5")
 }
 
 /// Appends a list: its name, and each URI with a comma after it.
-fn add_list(shown: &mut String, name: &str, uris: &[String]) -> Result<(), AllocError> {
+fn add_list(shown: &mut String, name: &str, uris: &UriList) -> Result<(), AllocError> {
     shown.push_str(name)?;
     shown.push('=')?;
-    for uri in uris {
-        shown.push_str(uri.as_str())?;
-        shown.push(',')?;
-    }
+    add_uris(shown, uris, ',')?;
     shown.push(';')
 }
 
 fn show_list<S: Shelf>(shelf: &mut S, name: &str, shown: &mut String) -> Result<(), ShelfFault> {
     let uris = shelf.list(name)?;
-    Ok(add_list(shown, name, uris.as_slice())?)
+    Ok(add_list(shown, name, &uris)?)
 }
 
 /// Appends the shelf's lists.
@@ -146,7 +143,7 @@ fn show<S: Shelf>(shelf: &mut S, shown: &mut String) -> Result<(), ShelfFault> {
 fn run_visit<S: Shelf>(
     shelf: &mut S,
     what: Visit,
-    uris: &[String],
+    uris: &UriList,
     shown: &mut String,
 ) -> Result<(), ShelfFault> {
     match what {
@@ -171,7 +168,7 @@ fn over<S: Alter + Drop>(
 fn visited<S: Alter + Drop>(
     shelf: &mut SqlShelf<S>,
     what: Visit,
-    uris: &[String],
+    uris: &UriList,
     shown: &mut String,
 ) -> bool {
     run_visit(shelf, what, uris, shown).is_ok()
@@ -182,7 +179,7 @@ fn run_over<S: Alter + Drop>(
     alloc: Global,
     connection: Connection<S>,
     what: Visit,
-    uris: &[String],
+    uris: &UriList,
     shown: &mut String,
 ) -> Result<Connection<S>, (Step, S)> {
     let mut shelf = over(alloc, connection)?;
@@ -220,7 +217,7 @@ fn run<D: Disk + Drop>(
     alloc: Global,
     files: Files<D>,
     what: Visit,
-    uris: &[String],
+    uris: &UriList,
     shown: &mut String,
 ) -> (Option<Step>, Files<D>) {
     let connection = match opened(alloc, files) {
@@ -262,7 +259,7 @@ fn empty(alloc: Global) -> Half {
 
 /// Files with one list and one sticker, closed.
 fn filled(alloc: Global) -> Result<Half, Fail> {
-    let uris = texts(alloc, &["s.wav"])?;
+    let uris = uri_list(alloc, &["s.wav"])?;
     let mut shown = String::new(alloc);
     match run(alloc, empty(alloc), Visit::Fill, &uris, &mut shown) {
         (None, files) => Ok(files),
@@ -273,7 +270,8 @@ fn filled(alloc: Global) -> Result<Half, Fail> {
 /// What a shelf over files that do not stop shows.
 fn text_of(alloc: Global, files: Half) -> Result<String, Fail> {
     let mut shown = String::new(alloc);
-    match run(alloc, files, Visit::Show, &[], &mut shown) {
+    let none = uri_list(alloc, &[])?;
+    match run(alloc, files, Visit::Show, &none, &mut shown) {
         (None, _) => Ok(shown),
         (Some(_), _) => Err(Fail::new("the files are not shown")),
     }
@@ -312,7 +310,7 @@ fn count(stops: &mut Stops, step: Option<Step>) {
 }
 
 /// The step that was stopped by the file after so many calls, if one was, where the shelf shows what it may after it.
-fn stopped(alloc: Global, files: Half, call: Call, uris: &[String]) -> Result<Option<Step>, Fail> {
+fn stopped(alloc: Global, files: Half, call: Call, uris: &UriList) -> Result<Option<Step>, Fail> {
     let mut shown = String::new(alloc);
     let (step, left) = run(alloc, files, Visit::Make(call), uris, &mut shown);
     let text = written(alloc, &left)?;
@@ -324,7 +322,7 @@ fn stopped(alloc: Global, files: Half, call: Call, uris: &[String]) -> Result<Op
 
 /// Stops at each call of the file, counting upwards until a run ends without a stop.
 fn stops_in(alloc: Global, call: Call, side: Side) -> Result<Stops, Fail> {
-    let uris = texts(alloc, &["a.wav", "b.wav"])?;
+    let uris = uri_list(alloc, &["a.wav", "b.wav"])?;
     let files = match call {
         Call::Over => empty(alloc),
         _ => filled(alloc)?,

@@ -1,6 +1,6 @@
 //! The calls of a shelf, of which each tells one text.
 
-use shelf::{Entry, Shelf, ShelfFault, are_single_lines};
+use shelf::{Entry, Shelf, ShelfFault, UriList};
 use std::alloc::{AllocError, Global};
 use std::test::Fail;
 
@@ -43,16 +43,13 @@ fn done(answer: Result<(), ShelfFault>) -> &'static str {
     }
 }
 
-/// Puts the URIs at the name by `create`, or else by `put`. A URI with a newline is answered `StoreFault`.
+/// Puts the URIs at the name by `create`, or else by `put`.
 pub fn keep<S: Shelf>(
     shelf: &mut S,
     name: &str,
-    uris: &[String],
+    uris: &UriList,
     is_new: bool,
 ) -> Result<(), ShelfFault> {
-    if !are_single_lines(uris) {
-        return Err(ShelfFault::StoreFault);
-    }
     if is_new {
         shelf.create(name, uris)
     } else {
@@ -61,11 +58,11 @@ pub fn keep<S: Shelf>(
 }
 
 /// What is answered where these URIs are put at a name that is new.
-pub fn created<S: Shelf>(shelf: &mut S, name: &str, uris: &[String]) -> &'static str {
+pub fn created<S: Shelf>(shelf: &mut S, name: &str, uris: &UriList) -> &'static str {
     done(keep(shelf, name, uris, true))
 }
 
-fn put<S: Shelf>(shelf: &mut S, name: &str, uris: &[String]) -> &'static str {
+fn put<S: Shelf>(shelf: &mut S, name: &str, uris: &UriList) -> &'static str {
     done(keep(shelf, name, uris, false))
 }
 
@@ -89,13 +86,22 @@ fn stickers_deleted<S: Shelf>(shelf: &mut S, uri: &str) -> &'static str {
     done(shelf.delete_stickers(uri))
 }
 
-/// These texts, each in memory of its own.
-pub fn texts(alloc: Global, parts: &[&str]) -> Result<Vec<String>, AllocError> {
-    let mut texts = Vec::new(alloc);
-    for part in parts {
-        texts.push(String::from_str(alloc, part)?)?;
+/// The list of these URIs.
+pub fn uri_list(alloc: Global, uris: &[&str]) -> Result<UriList, AllocError> {
+    let mut text = String::new(alloc);
+    for uri in uris {
+        text.push_str(uri)?;
+        text.push('\n')?;
     }
-    Ok(texts)
+    Ok(UriList::of_text(text))
+}
+
+/// Appends the URIs of a list, with the character after each.
+pub fn add_uris(all: &mut String, uris: &UriList, after: char) -> Result<(), AllocError> {
+    for c in uris.text().chars() {
+        all.push(if c == '\n' { after } else { c })?;
+    }
+    Ok(())
 }
 
 /// The texts with a bar after each, or the fault.
@@ -137,8 +143,22 @@ fn joined_entries(alloc: Global, entries: &[Entry]) -> Result<String, AllocError
     Ok(all)
 }
 
+fn uris_told(alloc: Global, answer: Result<UriList, ShelfFault>) -> Result<String, AllocError> {
+    match answer {
+        Ok(uris) => joined_uris(alloc, &uris),
+        Err(fault) => String::from_str(alloc, fault_name(fault)),
+    }
+}
+
+/// The URIs with a bar after each.
+pub fn joined_uris(alloc: Global, uris: &UriList) -> Result<String, AllocError> {
+    let mut all = String::new(alloc);
+    add_uris(&mut all, uris, '|')?;
+    Ok(all)
+}
+
 fn list<S: Shelf>(alloc: Global, shelf: &mut S, name: &str) -> Result<String, AllocError> {
-    texts_told(alloc, shelf.list(name))
+    uris_told(alloc, shelf.list(name))
 }
 
 fn lists<S: Shelf>(alloc: Global, shelf: &mut S) -> Result<String, AllocError> {
@@ -173,8 +193,8 @@ fn told<S: Shelf>(alloc: Global, shelf: &mut S, call: Call<'_>) -> Result<String
         Call::Sticker(uri, name) => return sticker(alloc, shelf, uri, name),
         Call::FindStickers(name) => return found(alloc, shelf, name),
         Call::StickersOf(uri) => return stickers(alloc, shelf, uri),
-        Call::Create(name, uris) => created(shelf, name, texts(alloc, uris)?.as_slice()),
-        Call::Put(name, uris) => put(shelf, name, texts(alloc, uris)?.as_slice()),
+        Call::Create(name, uris) => created(shelf, name, &uri_list(alloc, uris)?),
+        Call::Put(name, uris) => put(shelf, name, &uri_list(alloc, uris)?),
         Call::Rename(name, new_name) => renamed(shelf, name, new_name),
         Call::Remove(name) => removed(shelf, name),
         Call::SetSticker(uri, name, value) => sticker_set(shelf, uri, name, value),

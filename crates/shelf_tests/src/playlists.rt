@@ -1,7 +1,7 @@
 //! What a shelf of any kind answers about stored playlists.
 
 use crate::calls::{Call, Step, created, follow, renamed, wants};
-use shelf::Shelf;
+use shelf::{Shelf, UriList};
 use std::alloc::{AllocError, Global};
 use std::test::Fail;
 
@@ -58,13 +58,21 @@ pub fn repeated(alloc: Global, letter: &str, bytes: usize) -> Result<String, All
 }
 
 /// So many URIs, told apart by a number of five digits before so many equal bytes.
-fn numbered(alloc: Global, count: u32, more: usize) -> Result<Vec<String>, AllocError> {
+fn numbered(alloc: Global, count: u32, more: usize) -> Result<UriList, AllocError> {
     let rest = repeated(alloc, "u", more)?;
-    let mut uris = Vec::new(alloc);
+    let mut text = String::new(alloc);
     for number in 0..count {
-        uris.push(format!(in alloc; "{number:05}{rest}")?)?;
+        text.push_str(format!(in alloc; "{number:05}{rest}\n")?.as_str())?;
     }
-    Ok(uris)
+    Ok(UriList::of_text(text))
+}
+
+fn count(uris: &UriList) -> usize {
+    uris.len()
+}
+
+fn bytes(uris: &UriList) -> usize {
+    uris.text().len()
 }
 
 /// A list of a name that is put, and renamed to another.
@@ -120,15 +128,15 @@ pub fn names_of_256_bytes_are_refused<S: Shelf>(alloc: Global, shelf: &mut S) ->
 }
 
 /// Whether the list of a name has these URIs.
-fn has<S: Shelf>(shelf: &mut S, name: &str, uris: &[String]) -> bool {
+fn has<S: Shelf>(shelf: &mut S, name: &str, uris: &UriList) -> bool {
     match shelf.list(name) {
-        Ok(found) => found.as_slice() == uris,
+        Ok(found) => found.is_same(uris),
         Err(_) => false,
     }
 }
 
 /// Whether the URIs come back under a name, and under another after a rename.
-fn come_back<S: Shelf>(shelf: &mut S, uris: &[String]) -> bool {
+fn come_back<S: Shelf>(shelf: &mut S, uris: &UriList) -> bool {
     created(shelf, "x", uris) == "ok"
         && has(shelf, "x", uris)
         && renamed(shelf, "x", "y") == "ok"
@@ -138,22 +146,13 @@ fn come_back<S: Shelf>(shelf: &mut S, uris: &[String]) -> bool {
 /// A list of 16,384 URIs comes back.
 pub fn the_longest_list_is_kept<S: Shelf>(alloc: Global, shelf: &mut S) -> Result<(), Fail> {
     let uris = numbered(alloc, 16_384, 8)?;
-    wants(uris.len() == 16_384, "16,384 URIs")?;
-    wants(come_back(shelf, uris.as_slice()), "a list of 16,384 URIs")
-}
-
-fn have_length(uris: &[String], length: usize) -> bool {
-    for uri in uris {
-        if uri.len() != length {
-            return false;
-        }
-    }
-    true
+    wants(count(&uris) == 16_384, "16,384 URIs")?;
+    wants(come_back(shelf, &uris), "a list of 16,384 URIs")
 }
 
 /// URIs of 1,024 bytes come back.
 pub fn long_uris_come_back<S: Shelf>(alloc: Global, shelf: &mut S) -> Result<(), Fail> {
     let uris = numbered(alloc, 300, 1_019)?;
-    wants(have_length(uris.as_slice(), 1_024), "URIs of 1,024 bytes")?;
-    wants(come_back(shelf, uris.as_slice()), "a list of long URIs")
+    wants(bytes(&uris) == 300 * 1_025, "URIs of 1,024 bytes")?;
+    wants(come_back(shelf, &uris), "a list of long URIs")
 }

@@ -4,7 +4,7 @@ use Rattle.std.specs.Map.Iter.{deref}
 use Rattle.std.proofs.lemmas.Map.Iter.{iter_end}
 use Rattle.std.proofs.lemmas.Simd.{map-map}
 use Rattle.shelf.specs.Maps.{AreKeys}
-use Rattle.shelf.specs.Memory.{lists_in}
+use Rattle.std.specs.BTreeMap.{get_by_text}
 use Rattle.shelf.proofs.MemoryLemmas.{keys_listed}
 use Rattle.shelf.proofs.memory.MemShelfShelf.lists.Goals as goal
 
@@ -14,4 +14,4 @@ returns-clause-names c = λ h.
     let walked : map deref c.loop-name.yielded ≡ keys_of lists.entries = search (rules, iter_end) in
     let is : map string_bytes c.loop-name.names.items ≡ map string_bytes (keys_of lists.entries) =
     c.loop-name.invariant ∙ sym (map-map string_bytes deref c.loop-name.yielded) ∙ ap (map string_bytes) walked in
-    subst (AreKeys (lists_in lists)) (sym is) (keys_listed lists c.keys-name-items.ensures.ordered)
+    subst (AreKeys (get_by_text lists)) (sym is) (keys_listed lists c.keys-name-items.ensures.ordered)

@@ -1,4 +1,4 @@
-use Rattle.std.proofs.Common.{Some, map, string_bytes, is_ok, inl, inr, subst, ◌≡◌, rules, sym, ◌∙◌, is_some, false}
+use Rattle.std.proofs.Common.{Some, is_ok, inl, inr, subst, ◌≡◌, rules, sym, ◌∙◌, is_some, false}
 use Rattle.sqlite.specs.Held.{state}
 use Rattle.sqlite.specs.Effect.{Database}
 use Rattle.shelf.specs.Maps.{Maps, refusal_of_create, with_list}
@@ -12,7 +12,7 @@ use Rattle.shelf_database.proofs.database.SqlShelfShelf.create.Goals as goal
 
 pub returns-clause-turns : goal.returns-clause-turns
 returns-clause-turns g c =
-    let made : Maps → Maps = λ maps. with_list maps c.args.name.now (Some (map string_bytes c.args.uris.now)) in
+    let made : Maps → Maps = λ maps. with_list maps c.args.name.now (Some c.args.uris.now) in
     read_then_by (state g.S.Store c.args.self.now.connection) (state g.S.Store c.has_list.new.connection) (state g.S.Store c.put.new.self.connection) (is_ok c.put.result) made
     c.in_ok-has_list.ensures.reads c.put.ensures.turns
 
@@ -23,7 +23,7 @@ pub returns-in_err-has_list-clause-answers : goal.returns-in_err-has_list-clause
 returns-in_err-has_list-clause-answers g c = λ trusted.
     let old = state g.S.Store c.args.self.now.connection in
     let new = state g.S.Store c.has_list.new.connection in
-    rw (handed_on c.from_residual.result _ c.from_residual.ensures.1) (refused_answers (Unit {0}) old new (HasFailed old new) (StoreFailed old new (Create c.args.name.now (map string_bytes c.args.uris.now)))
+    rw (handed_on c.from_residual.result _ c.from_residual.ensures.1) (refused_answers (Unit {0}) old new (HasFailed old new) (StoreFailed old new (Create c.args.name.now c.args.uris.now))
     (refusal_of_create (maps_in old.now.trees) c.args.name.now) c.in_err-has_list.field-0.0 (λ failed. inl failed) c.in_err-has_list.ensures.refused trusted)
 
 pub returns-clause-answers : goal.returns-clause-answers
@@ -31,7 +31,7 @@ returns-clause-answers g c = λ trusted.
     let old = state g.S.Store c.args.self.now.connection in
     let mid = state g.S.Store c.has_list.new.connection in
     let new = state g.S.Store c.put.new.self.connection in
-    let uris = map string_bytes c.args.uris.now in
+    let uris = c.args.uris.now in
     let clean = c.put.ensures.turns.clean trusted.0 in
     let reads = c.in_ok-has_list.ensures.reads in
     let same = reads.same clean trusted.1.ready in

@@ -1,10 +1,9 @@
-use Rattle.std.proofs.Common.{◌≡◌, ◌&&◌, Some, None, true, false, find, is_ok, option_map, string_bytes, rules, refl, sym, ap, subst, ◌∙◌, IsTrue}
+use Rattle.std.proofs.Common.{◌≡◌, Some, None, true, false, find, option_map, string_bytes, rules, refl, sym, ap, ◌∙◌}
 use Rattle.sqlite.specs.Order.{column, bytes}
 use Rattle.sqlite.specs.Held.{state}
 use Rattle.shelf.specs.Calls.{ListOf}
 use Rattle.shelf.specs.Maps.{refusal_of_list}
-use Rattle.shelf.specs.Lines.{lines_of, are_single_lines}
-use Rattle.shelf.proofs.LineLemmas.{lines_are_single}
+use Rattle.shelf.specs.Lines.{lines_of}
 use Rattle.shelf_database.specs.Faults.{CannotDo, StoreFailed}
 use Rattle.shelf_database.specs.Tables.{maps_in, has_text}
 use Rattle.shelf_database.proofs.AskLemmas.{handed_on, text_reads, text_refuses, asked_answer, refused_answers}
@@ -28,8 +27,8 @@ returns-in_err-text-clause-answers g c = λ trusted.
     let refuses = text_refuses _ _ (uris_asked c.args.name.now) old new (rw c.params-to_sql.ensures at c.first_text.ensures.survives) (CannotDo old.now.trees (ListOf c.args.name.now)) c.in_err-text.field-0.0 (λ rows answer lacks. uris_lack old.now.trees rows c.args.name.now answer lacks) (rw c.params-to_sql.ensures at c.in_err-text.ensures.refused) in
     rw (handed_on c.from_residual.result _ c.from_residual.ensures.1) (refused_answers (Unit {0}) old new (StoreFailed old new (ListOf c.args.name.now)) (StoreFailed old new (ListOf c.args.name.now)) (refusal_of_list (maps_in old.now.trees) c.args.name.now) c.in_err-text.field-0.0 (λ why. why) refuses trusted)
 
-pub returns-in_ok-lines_of_text-in-Some-clause-turns : goal.returns-in_ok-lines_of_text-in-Some-clause-turns
-returns-in_ok-lines_of_text-in-Some-clause-turns g c =
+pub returns-in-Some-clause-turns : goal.returns-in-Some-clause-turns
+returns-in-Some-clause-turns g c =
     let old = state g.S.Store c.args.self.now.connection in
     let new = state g.S.Store c.first_text.new.connection in
     read_turns old new true (text_reads _ _ (uris_asked c.args.name.now) old new (rw c.params-to_sql.ensures at c.first_text.ensures.survives) (λ clean. let h = (rw c.params-to_sql.ensures at c.in_ok-text.ensures.shown) clean in (h.0, h.1)))
@@ -45,37 +44,27 @@ returns-in-None-clause-answers g c = λ trusted.
     let old = state g.S.Store c.args.self.now.connection in
     let new = state g.S.Store c.first_text.new.connection in
     let h = (rw c.params-to_sql.ensures at c.in_ok-text.ensures.shown) trusted.0 in
-    let rows = list_shown c.args.name.now old.now h.0 trusted.1.ready.shelf (asked_answer _ _ (uris_asked c.args.name.now) old new (rw c.params-to_sql.ensures at c.first_text.ensures.survives) h.0 trusted.1.ready h.1) in
+    let rows = list_shown 2 c.args.name.now old.now h.0 trusted.1.ready.shelf (asked_answer _ _ (uris_asked c.args.name.now) old new (rw c.params-to_sql.ensures at c.first_text.ensures.survives) h.0 trusted.1.ready h.1) in
     let none : c.in_ok-text.field-0 ≡ None = search rules in
     let missing : option_map (λ r. bytes (column r 2)) (find (has_text 1 c.args.name.now) (old.now.trees 1)) ≡ None = first_is 2 (find (has_text 1 c.args.name.now) (old.now.trees 1)) h.0 _ rows h.2 ∙ ap (option_map string_bytes) none in
     rw missing refl
 
-pub returns-in_ok-lines_of_text-in-Some-clause-answers : goal.returns-in_ok-lines_of_text-in-Some-clause-answers
-returns-in_ok-lines_of_text-in-Some-clause-answers g c = λ trusted.
+pub returns-in-Some-clause-answers : goal.returns-in-Some-clause-answers
+returns-in-Some-clause-answers g c = λ trusted.
     let old = state g.S.Store c.args.self.now.connection in
     let new = state g.S.Store c.first_text.new.connection in
     let h = (rw c.params-to_sql.ensures at c.in_ok-text.ensures.shown) trusted.0 in
-    let rows = list_shown c.args.name.now old.now h.0 trusted.1.ready.shelf (asked_answer _ _ (uris_asked c.args.name.now) old new (rw c.params-to_sql.ensures at c.first_text.ensures.survives) h.0 trusted.1.ready h.1) in
+    let rows = list_shown 2 c.args.name.now old.now h.0 trusted.1.ready.shelf (asked_answer _ _ (uris_asked c.args.name.now) old new (rw c.params-to_sql.ensures at c.first_text.ensures.survives) h.0 trusted.1.ready h.1) in
     let some : c.in_ok-text.field-0 ≡ Some c.in-Some.text = search rules in
     let there : option_map (λ r. bytes (column r 2)) (find (has_text 1 c.args.name.now) (old.now.trees 1)) ≡ Some (string_bytes c.in-Some.text) = first_is 2 (find (has_text 1 c.args.name.now) (old.now.trees 1)) h.0 _ rows h.2 ∙ ap (option_map string_bytes) some in
     rw there refl
 
-pub returns-in_ok-lines_of_text-in-Some-clause-uris : goal.returns-in_ok-lines_of_text-in-Some-clause-uris
-returns-in_ok-lines_of_text-in-Some-clause-uris g c = λ trusted.
+pub returns-in-Some-clause-uris : goal.returns-in-Some-clause-uris
+returns-in-Some-clause-uris g c = λ trusted.
     let old = state g.S.Store c.args.self.now.connection in
     let new = state g.S.Store c.first_text.new.connection in
     let h = (rw c.params-to_sql.ensures at c.in_ok-text.ensures.shown) trusted.0 in
-    let rows = list_shown c.args.name.now old.now h.0 trusted.1.ready.shelf (asked_answer _ _ (uris_asked c.args.name.now) old new (rw c.params-to_sql.ensures at c.first_text.ensures.survives) h.0 trusted.1.ready h.1) in
+    let rows = list_shown 2 c.args.name.now old.now h.0 trusted.1.ready.shelf (asked_answer _ _ (uris_asked c.args.name.now) old new (rw c.params-to_sql.ensures at c.first_text.ensures.survives) h.0 trusted.1.ready h.1) in
     let some : c.in_ok-text.field-0 ≡ Some c.in-Some.text = search rules in
     let there : option_map (λ r. bytes (column r 2)) (find (has_text 1 c.args.name.now) (old.now.trees 1)) ≡ Some (string_bytes c.in-Some.text) = first_is 2 (find (has_text 1 c.args.name.now) (old.now.trees 1)) h.0 _ rows h.2 ∙ ap (option_map string_bytes) some in
-    ap (option_map lines_of) there ∙ ap Some (sym (c.in_ok-lines_of_text-in-Some.ensures ∙ ap lines_of c.as_str.ensures.value))
-
-pub returns-in_ok-lines_of_text-in-Some-clause-lines : goal.returns-in_ok-lines_of_text-in-Some-clause-lines
-returns-in_ok-lines_of_text-in-Some-clause-lines g c = subst (λ lines. IsTrue (are_single_lines lines)) (sym c.in_ok-lines_of_text-in-Some.ensures) (lines_are_single _)
-
-pub returns-in_err-lines_of_text-in-Some-clause-turns : goal.returns-in_err-lines_of_text-in-Some-clause-turns
-returns-in_err-lines_of_text-in-Some-clause-turns g c =
-    let old = state g.S.Store c.args.self.now.connection in
-    let new = state g.S.Store c.first_text.new.connection in
-    let failed : is_ok c.from_residual-in_err-lines_of_text-in-Some.result ≡ false = search rules in
-    rw failed (read_turns old new false (text_reads _ _ (uris_asked c.args.name.now) old new (rw c.params-to_sql.ensures at c.first_text.ensures.survives) (λ clean. let h = (rw c.params-to_sql.ensures at c.in_ok-text.ensures.shown) clean in (h.0, h.1))))
+    ap (option_map lines_of) there ∙ ap Some (sym c.of_text.ensures)

@@ -1,4 +1,4 @@
-use Rattle.std.proofs.Common.{◌≡◌, ◌⊎◌, ℕ, List, [], ◌∷◌, Some, map, string_bytes, refl, ap, subst, ◌∙◌, rules}
+use Rattle.std.proofs.Common.{◌⊎◌, ℕ, List, [], ◌∷◌, Some, refl, subst, rules}
 use Rattle.sqlite.specs.declared.types.Value.{Value}
 use Rattle.sqlite.specs.declared.types.Value.TheVariants.{Int, Text}
 use Rattle.sqlite.specs.Source.TheVariants.{Values}
@@ -9,10 +9,8 @@ use Rattle.sqlite.specs.Edit.{next_rowid}
 use Rattle.sqlite.specs.Listing.{understood}
 use Rattle.sqlite_schema.specs.declared.command.Conflict.TheVariants.{Replace}
 use Rattle.sqlite_tied.specs.Compute.{everything}
-use Rattle.shelf.specs.Lines.{lines_of}
 use Rattle.shelf.specs.Maps.{with_list, refusal_of_put}
 use Rattle.shelf.specs.Calls.{Put}
-use Rattle.shelf.proofs.LineLemmas.{lines_back}
 use Rattle.shelf_database.specs.Tables.{maps_in, IsReady}
 use Rattle.shelf_database.specs.Faults.{HasFailed, IsUnstorable, StoreFailed}
 use Rattle.shelf_database.proofs.AskLemmas.{change_turns, change_blames, answers_done}
@@ -29,14 +27,12 @@ command = InsertOr 1 Replace (Values list_values 3) []
 pub returns-clause-turns : goal.returns-clause-turns
 returns-clause-turns g c =
     let old = state g.S.Store c.args.self.now.connection in
-    let text = string_bytes c.in_ok-text.text in
-    let uris = map string_bytes c.args.uris.now in
-    let back : lines_of text ≡ uris = ap lines_of c.in_ok-text.ensures ∙ lines_back uris c.requires in
+    let text = c.text.result.now in
     let params : List Value = Text c.args.name.now ∷ Text text ∷ [] in
-    let does : IsReady old → DoesSo old put_text params command (with_list (maps_in old.now.trees) c.args.name.now (Some uris)) =
-    λ ready. subst (λ lines. DoesSo old put_text params command (with_list (maps_in old.now.trees) c.args.name.now (Some lines))) back (puts_list old c.args.name.now text ready) in
-    change_turns put_text params command put_is tt old (state g.S.Store c.change.new.connection) c.change.result (rw (c.params-to_sql.ensures, c.params-to_sql-2.ensures, c.as_str.ensures.value) at c.change.ensures.ran) _ does
-    (rw (c.params-to_sql.ensures, c.params-to_sql-2.ensures, c.as_str.ensures.value) at c.change.ensures.survives)
+    let does : IsReady old → DoesSo old put_text params command (with_list (maps_in old.now.trees) c.args.name.now (Some c.args.uris.now)) =
+    λ ready. subst (λ lines. DoesSo old put_text params command (with_list (maps_in old.now.trees) c.args.name.now (Some lines))) c.text.ensures.uris (puts_list old c.args.name.now text ready) in
+    change_turns put_text params command put_is tt old (state g.S.Store c.change.new.connection) c.change.result (rw (c.params-to_sql.ensures, c.params-to_sql-2.ensures) at c.change.ensures.ran) _ does
+    (rw (c.params-to_sql.ensures, c.params-to_sql-2.ensures) at c.change.ensures.survives)
 
 put_whole : (name text : List ℕ) → IsWhole put_text (Text name ∷ Text text ∷ [])
 unfolding understood everything
@@ -47,8 +43,8 @@ returns-clause-answers g c = λ trusted.
     let old = state g.S.Store c.args.self.now.connection in
     let new = state g.S.Store c.change.new.connection in
     let name = c.args.name.now in
-    let text = string_bytes c.in_ok-text.text in
-    let failed : Type 0 = StoreFailed old new (Put name (map string_bytes c.args.uris.now)) in
+    let text = c.text.result.now in
+    let failed : Type 0 = StoreFailed old new (Put name c.args.uris.now) in
     answers_done failed (refusal_of_put name) c.change.result (search rules)
-    (change_blames put_text (Text name ∷ Text text ∷ []) command put_is tt old new c.change.result (rw (c.params-to_sql.ensures, c.params-to_sql-2.ensures, c.as_str.ensures.value) at c.change.ensures.ran) _ failed (put_whole name text)
-    (put_refused old name text trusted.1.ready) trusted.1.ready trusted.0 (λ why. subst (λ t. HasFailed old new ⊎ IsUnstorable (Int (next_rowid (old.now.trees 1)) ∷ Text name ∷ Text t ∷ [])) c.in_ok-text.ensures why))
+    (change_blames put_text (Text name ∷ Text text ∷ []) command put_is tt old new c.change.result (rw (c.params-to_sql.ensures, c.params-to_sql-2.ensures) at c.change.ensures.ran) _ failed (put_whole name text)
+    (put_refused old name text trusted.1.ready) trusted.1.ready trusted.0 (λ why. subst (λ t. HasFailed old new ⊎ IsUnstorable (Int (next_rowid (old.now.trees 1)) ∷ Text name ∷ Text t ∷ [])) c.text.ensures.text why))
