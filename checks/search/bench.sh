@@ -15,13 +15,8 @@ done
 cp -r "$here/search_bench" "$work/crates/search_bench"
 mv "$work/crates/search_bench/src/main.rt.txt" "$work/crates/search_bench/src/main.rt"
 cp "$root/HANDLES" "$work/HANDLES"
-cat > "$work/crates.txt" <<END
-mpd_text:
-song_db: mpd_text
-filters: mpd_text caseless
-song_search: song_db filters mpd_text
-search_bench: song_search song_db filters mpd_text
-END
+grep -E '^(mpd_text|song_db|filters|song_search):' "$root/crates.txt" > "$work/crates.txt"
+echo 'search_bench: song_search song_db filters mpd_text' >> "$work/crates.txt"
 (cd "$work/crates/search_bench" && rt run > "$work/log" 2>&1) || true
 [ -x "$work/crates/search_bench/out/search_bench" ] || { cat "$work/log"; exit 1; }
 python3 - "$work/crates/search_bench/out/search_bench" > "$work/told" <<'END'

@@ -3,10 +3,9 @@
 Usage: bench.py PROGRAM     (shelf_bench, which bench.sh builds)
 
 `command` is the program sqlite3 over a script of the same statements, less its time for the script without them; `library` is
-SQLite as Python has it, where each statement is compiled once and its texts are bound, as the shelf's are. Neither joins URIs
-into a text or splits one: `SQL alone` is the shelf's time less what it takes for that. `whole` and `alone` are the multiples of the
-library's time. On a file all have a log and sync at each commit (journal_mode WAL, synchronous FULL), as the port does; `no syncs`
-is the library with synchronous OFF. Syncs are counted with strace, where that is there.
+SQLite as Python has it, where each statement is compiled once and its texts are bound, as the shelf's are. `times` is the multiple
+of the library's time. On a file all have a log and sync at each commit (journal_mode WAL, synchronous FULL), as the port does;
+`no syncs` is the library with synchronous OFF. Syncs are counted with strace, where that is there.
 """
 import os
 import re
@@ -123,17 +122,14 @@ def syncs(program, call, count):
 
 def main():
     program = sys.argv[1]
-    texts = {call: least('memory', ours(program, word, CALLS[call])) / CALLS[call] for call, word in (('put', 'join'), ('list', 'split'))}
-    print('%-8s %-10s %7s %12s %12s %12s %12s %8s %8s  %s' %
-          ('', 'call', 'calls', 'us a call', 'SQL alone', 'command', 'library', 'whole', 'alone', 'wanted'))
+    print('%-8s %-10s %7s %12s %12s %12s %8s  %s' % ('', 'call', 'calls', 'us a call', 'command', 'library', 'times', 'wanted'))
     for place in ('memory', 'file'):
         for call, count in CALLS.items():
-            whole = least(place, ours(program, call, count)) / count * 1e6
-            alone = whole - texts.get(call, 0) * 1e6
+            own = least(place, ours(program, call, count)) / count * 1e6
             by_command = least(place, command(call, count)) / count * 1e6
             by_library = least(place, library(call, count, 'FULL')) / count * 1e6
-            print('%-8s %-10s %7d %12.1f %12.1f %12.1f %12.1f %8.1f %8.1f  %s' %
-                  (place, call, count, whole, alone, by_command, by_library, whole / by_library, alone / by_library,
+            print('%-8s %-10s %7d %12.1f %12.1f %12.1f %8.1f  %s' %
+                  (place, call, count, own, by_command, by_library, own / by_library,
                    'within %d times' % WANTED if place == 'memory' else 'what the syncs cost'))
     print()
     for call, count in (('put', 50), ('stickers', 1000)):

@@ -17,10 +17,11 @@ use Rattle.script_lines.specs.declared.step.Step.{Step}
 use Rattle.script_lines.specs.declared.step.Step.TheVariants.{Song, Limit, Gone, Scanned, Want as WantStep, Have as HaveStep, Failed as FailedStep, Turn as TurnStep}
 use Rattle.partition.specs.Answers.{Told}
 use Rattle.partition.specs.Lists.{ends_list}
+use Rattle.partition.specs.Shelves.{nothing_heard}
 use Rattle.mpd_command.specs.Requests.{request_of}
 use Rattle.mpd_command.specs.declared.request.Request.{Request}
 use Rattle.partition.specs.declared.event.Event.{Event}
-use Rattle.partition.specs.declared.event.Stand.TheVariants.{Alone, InList}
+use Rattle.partition.specs.declared.event.Stand.TheVariants.{InList}
 use Rattle.partition.specs.declared.event.Event.TheVariants.{Connect, Disconnect, Line, Want, Have, Failed, OutputTurn}
 use Rattle.partition.specs.declared.partition.PartitionFault.{PartitionFault}
 use Rattle.partition.specs.declared.state.Limits.{Limits}
@@ -29,7 +30,7 @@ use Rattle.daemon_script.specs.declared.memory.Memory.TheVariants.{Ample, NoneTo
 use Rattle.daemon_script.specs.Kinds.{PlayerKind}
 use Rattle.daemon_script.specs.Output.{Run, script_after, text_of}
 use Rattle.daemon_script.specs.Reports.{report_text}
-use Rattle.daemon_script.specs.Script.{ScriptData, Shown, LineRun, bad, collects, lowers, limits_with, has_uri, told_for, notices_for, fault_of, connects, sent_off, sends_off, applied, applies, scan_result, shown_step, step_line, request_run, asked_run, alone_run, runs, request_in, read_of, end_of, place_without, is_at, closed_line, ListRun, list_goes, list_step, list_run, notices_by_number, lines_for, list_of, with_list, commands_run, collected_run, too_large_run, taken_run, line_run, connect_run, line_after, client_run, shown_client, shown_kind, shown_of}
+use Rattle.daemon_script.specs.Script.{ScriptData, Shown, LineRun, bad, collects, lowers, limits_with, has_uri, told_for, notices_for, fault_of, connects, sent_off, sends_off, applied, applies, scan_result, shown_step, step_line, alone_line, request_run, asked_run, alone_run, runs, request_in, read_of, end_of, place_without, is_at, closed_line, ListRun, list_goes, list_step, list_run, notices_by_number, lines_for, list_of, with_list, commands_run, collected_run, too_large_run, taken_run, line_run, connect_run, line_after, client_run, shown_client, shown_kind, shown_of}
 use Rattle.daemon_script.proofs.Ranges.{limit_at_least_one}
 
 -- two kinds agree: a relation of their players holds at the opening and is kept by events, and related players answer alike
@@ -110,9 +111,9 @@ module _ {P Q : Type 0} (m : PlayerKind P) (n : PlayerKind Q) (R : P → Q → T
       → SameRun R (request_run m p number request fault) (request_run n q number request fault)
   request_same p q number request (Some fault) r = record { player = r; list = refl; text = refl; connected = refl }
   request_same p q number request None r = record {
-    player = agree.after p q (Line number Alone request) r;
+    player = agree.after p q (alone_line number request) r;
     list = refl;
-    text = ap (told_for number) (agree.told p q (Line number Alone request) r);
+    text = ap (told_for number) (agree.told p q (alone_line number request) r);
     connected = refl;
   }
 
@@ -121,7 +122,7 @@ module _ {P Q : Type 0} (m : PlayerKind P) (n : PlayerKind Q) (R : P → Q → T
       → SameRun R (asked_run m p number request ample) (asked_run n q number request ample)
   asked_same p q number request ample r =
       subst (λ (limit : Option PartitionFault). SameRun R (asked_run m p number request ample) (request_run n q number request (fault_of ample limit)))
-      (agree.limit p q (Line number Alone request) r) (request_same p q number request (fault_of ample (m.limit p (Line number Alone request))) r)
+      (agree.limit p q (alone_line number request) r) (request_same p q number request (fault_of ample (m.limit p (alone_line number request))) r)
 
   alone_same : (p : P) (q : Q) (number : ℕ) (line : List ℕ) (memory : Memory) → R p q → SameRun R (alone_run m p number line memory) (alone_run n q number line memory)
   alone_same p q number line Ample r = asked_same p q number (request_of line false) true r
@@ -151,7 +152,7 @@ module _ {P Q : Type 0} (m : PlayerKind P) (n : PlayerKind Q) (R : P → Q → T
   unfolding list_run
   list_same p q number form place [] without end r = record { player = r; tolds = refl; ending = refl }
   list_same p q number form place (request ∷ requests) without end r =
-      let event : Event = Line number (InList form place) request in
+      let event : Event = Line number (InList form place) request nothing_heard in
       let after : R (m.after p event) (n.after q event) = agree.after p q event r in
       let rest = list_same (m.after p event) (n.after q event) number form (place + 1) requests without end after in
       subst (λ (limit : Option PartitionFault). SameList (list_run m p number form place (request ∷ requests) without end)

@@ -1,6 +1,10 @@
 pub mod Alike
+pub mod Applied
 pub mod Collected
+pub mod Edited
+pub mod Held
 pub mod ListRuns
+pub mod Listed
 pub mod Lives
 pub mod Numbered
 pub mod Outputs
@@ -8,4 +12,5 @@ pub mod Ran
 pub mod Ranges
 pub mod Refused
 pub mod Runs
+pub mod Served
 pub mod Writes

@@ -1,12 +1,12 @@
 -- What commands read of a player, and its life, agree.
-use Rattle.std.proofs.Common.{◌≡◌, ℕ, ◌≤◌, ◌==◌, Bool, true, false, List, [], ◌∷◌, ◌++◌, map, Option, None, Some, refl, sym, ap, ◌∙◌, arith, append_assoc, append-nil, if◌then◌else◌}
+use Rattle.std.proofs.Common.{◌≡◌, ℕ, ◌≤◌, ◌==◌, Bool, true, false, List, [], ◌∷◌, ◌++◌, map, Option, None, Some, refl, sym, ap, ◌∙◌, arith, append_assoc, append-nil, subst, if◌then◌else◌}
 use Rattle.std.specs.Prelude.{is_some, option_map, ◌||◌}
 use Rattle.std.specs.List.{list_any}
 use Rattle.mpd_text.specs.Songs.Song.{SongData}
 use Rattle.partition.specs.History.{replay}
 use Rattle.partition.specs.Image.{Image, opening, client_of}
 use Rattle.partition.specs.Legal.{ReplaysWorlds}
-use Rattle.partition.specs.Step.{limit_of, next_image, told}
+use Rattle.partition.specs.Step.{hearing, limit_of, next_image, told}
 use Rattle.partition.specs.World.{Life, Listener, Moment, client_in, image_of, life_after_event, life_from, life_after, opening_life}
 use Rattle.partition.specs.declared.event.Event.{Event}
 use Rattle.partition.specs.declared.event.Happened.{Happened}
@@ -14,9 +14,10 @@ use Rattle.partition.specs.declared.state.Client.{Client}
 use Rattle.partition.specs.declared.state.Library.{Library}
 use Rattle.partition.specs.declared.state.Limits.{Limits}
 use Rattle.partition.specs.declared.state.Setup.{Setup}
-use Rattle.daemon_script.specs.Kinds.{library_of, setup_of, Lived, images, lives, lived_after, told_at, seen}
-use Rattle.daemon_script.specs.Output.{RunsAreLived, seen_script}
+use Rattle.daemon_script.specs.Kinds.{library_of, setup_of, Lived, Shelved, heard, image_kind, images, life_kind, lives, lived_after, told_at, seen}
+use Rattle.daemon_script.specs.Output.{RunsAreLived, seen_beside, seen_script}
 use Rattle.daemon_script.specs.Script.{ScriptData, opening_script}
+use Rattle.daemon_script.specs.Shelf.{heard_by, shelf_after}
 use Rattle.daemon_script.proofs.Alike.{Agree, SamePlayer, SameScript, runs_same}
 
 -- a life from an opening
@@ -83,7 +84,7 @@ module _ (law : ReplaysWorlds) where
   unfolding told
   told_seen lived event = refl
 
-  agree : Agree images lives Shows
+  agree : Agree image_kind life_kind Shows
   agree = record {
     opens = opens;
     there = λ i lived number shows. ap (λ (x : Image). is_some (client_of number x.clients)) shows.0 ∙ among lived.life.moments number lived.life.world.clients;
@@ -92,16 +93,36 @@ module _ (law : ReplaysWorlds) where
     told = λ i lived event shows. ap (λ (x : Image). told x event) shows.0 ∙ told_seen lived event;
   }
 
-  player_seen : (p : Option Image) (q : Option Lived) → SamePlayer Shows p q → p ≡ option_map seen q
+  -- beside the same shelf
+  abbrev pub ShowsBeside : Shelved Image → Shelved Lived → Type 0
+  ShowsBeside p q = Shows p.player q.player × (p.shelf ≡ q.shelf)
+
+  heard_same : (p : Shelved Image) (q : Shelved Lived) (event : Event) → ShowsBeside p q → heard image_kind (λ i. i) p event ≡ heard life_kind seen q event
+  heard_same p q event same = λ j. hearing event (heard_by (same.1 j) (same.0.0 j) event)
+
+  agree_beside : Agree images lives ShowsBeside
+  agree_beside = record {
+    opens = λ limits songs above. (agree.opens limits songs above, refl);
+    there = λ p q number same. agree.there p.player q.player number same.0;
+    limit = λ p q event same. ap (λ (e : Event). limit_of 0 p.player e) (heard_same p q event same) ∙ agree.limit p.player q.player (heard life_kind seen q event) same.0;
+    after = λ p q event same. (
+      subst (λ (e : Event). Shows (next_image 0 p.player e) (lived_after q.player (heard life_kind seen q event))) (sym (heard_same p q event same))
+          (agree.after p.player q.player (heard life_kind seen q event) same.0),
+      λ j. shelf_after (same.1 j) (same.0.0 j) event (heard_by (same.1 j) (same.0.0 j) event),
+    );
+    told = λ p q event same. ap (λ (e : Event). told p.player e) (heard_same p q event same) ∙ agree.told p.player q.player (heard life_kind seen q event) same.0;
+  }
+
+  player_seen : (p : Option (Shelved Image)) (q : Option (Shelved Lived)) → SamePlayer ShowsBeside p q → p ≡ option_map seen_beside q
   player_seen None None same = refl
   player_seen None (Some q) same = absurd same
   player_seen (Some p) None same = absurd same
-  player_seen (Some p) (Some q) same = ap Some same.0
+  player_seen (Some p) (Some q) same = λ i. Some (record { player = same.0.0 i; shelf = same.1 i })
 
-  script_seen : (s : ScriptData Image) (t : ScriptData Lived) → SameScript Shows s t → s ≡ seen_script t
+  script_seen : (s : ScriptData (Shelved Image)) (t : ScriptData (Shelved Lived)) → SameScript ShowsBeside s t → s ≡ seen_script t
   script_seen s t same = λ i. record { limits = same.limits i; songs = same.songs i; lists = same.lists i; player = player_seen s.player t.player same.player i }
 
   pub runs_are_lived : RunsAreLived
   runs_are_lived run =
-      let both = runs_same images lives Shows agree opening_script opening_script run (record { limits = refl; songs = refl; lists = refl; above = omega arith; player = tt }) in
+      let both = runs_same images lives ShowsBeside agree_beside opening_script opening_script run (record { limits = refl; songs = refl; lists = refl; above = omega arith; player = tt }) in
       (both.0, script_seen _ _ both.1)

@@ -10,7 +10,7 @@ use Rattle.mpd_text.specs.Lines.Cut.{split, cut, split_from, then_split}
 use Rattle.mpd_text.specs.Devices.Tally.{NoFewer, one_call}
 use Rattle.mpd_text.specs.Lines.Split.{line_of}
 use Rattle.partition.specs.Image.{Image}
-use Rattle.daemon_script.specs.Kinds.{images}
+use Rattle.daemon_script.specs.Kinds.{Shelved, images}
 use Rattle.daemon_script.specs.Output.{Run, script_after, text_of, lines_in, ending, IsRunOf, output_of, WritesOutput, AppendsFront, WritesAll, WritesFront, CalledTooOften}
 use Rattle.daemon_script.specs.Pieces.{ShowsPiece}
 use Rattle.daemon_script.specs.Script.{ScriptData, opening_script}
@@ -21,7 +21,7 @@ abbrev Called : ℕ → Tally → Tally → Type 0
 Called turns old new = ((turns ≡ 0) × (new.calls ≡ old.calls)) ⊎ (new.calls ≡ min (old.calls + turns) (2 ^ 64 - 1))
 
 -- what was read and written so far, by what its lines found of memory
-pub record Ran (unread left old new start : Option (List ℕ)) (script : ScriptData Image) (turns : ℕ) (reader reader' writer writer' : Tally) : Type 0 where
+pub record Ran (unread left old new start : Option (List ℕ)) (script : ScriptData (Shelved Image)) (turns : ℕ) (reader reader' writer writer' : Tally) : Type 0 where
   pub read : List ℕ
   pub run : Run
   pub consumed : Consumes unread left read
@@ -116,12 +116,12 @@ none_ran unread old reader writer = record {
   calls = inl (refl, refl);
 }
 
-pub start_ran : (unread old start : Option (List ℕ)) (script : ScriptData Image) (reader writer : Tally) → start ≡ Some [] → script ≡ opening_script
+pub start_ran : (unread old start : Option (List ℕ)) (script : ScriptData (Shelved Image)) (reader writer : Tally) → start ≡ Some [] → script ≡ opening_script
     → Ran unread unread old old start script 0 reader reader writer writer
 start_ran unread old start script reader writer e f = rw (e, f) (none_ran unread old reader writer)
 
 -- all that was read is answered
-pub all_here : (unread left left' old new start : Option (List ℕ)) (script : ScriptData Image) (turns : ℕ) (r r' w w' : Tally)
+pub all_here : (unread left left' old new start : Option (List ℕ)) (script : ScriptData (Shelved Image)) (turns : ℕ) (r r' w w' : Tally)
     → Ran unread left old new start script turns r r' w w' → Keeps left left' → WritesAll images unread left' old new
 all_here unread left left' old new start script turns r r' w w' ran keeps = (
   ran.read,
@@ -134,7 +134,7 @@ front_of_all unread left old new (read, consumes, (run, are, written)) =
     (read, consumes, run, are, (output_of images read run, [], sym (append-nil (output_of images read run)), written))
 
 -- a front of what a piece prints was written
-pub front_piece : Cuts → (unread left left' old mid new start : Option (List ℕ)) (script : ScriptData Image) (piece : List ℕ) (more : Run) (turns : ℕ) (r r' w w' : Tally)
+pub front_piece : Cuts → (unread left left' old mid new start : Option (List ℕ)) (script : ScriptData (Shelved Image)) (piece : List ℕ) (more : Run) (turns : ℕ) (r r' w w' : Tally)
     → Ran unread left old mid start script turns r r' w w' → Consumes left left' piece → lines_in more ≡ map line_of (split_from start piece).lines
     → AppendsFront mid new (text_of images script more ++ ending (split_from start piece).next) → WritesFront images unread left' old new
 front_piece cuts unread left left' old mid new start script piece more turns r r' w w' ran consumes lines front =
@@ -147,14 +147,14 @@ front_piece cuts unread left left' old mid new start script piece more turns r r
         texts ++ front.0,
         front.1,
         output_more cuts ran.read piece start ran.run more ran.next
-            ∙ ap (λ (s : ScriptData Image). texts ++ (text_of images s more ++ ending (split_from start piece).next)) (sym ran.script_is)
+            ∙ ap (λ (s : ScriptData (Shelved Image)). texts ++ (text_of images s more ++ ending (split_from start piece).next)) (sym ran.script_is)
             ∙ ap (λ (t : List ℕ). texts ++ t) front.2 ∙ sym (append_assoc texts front.0 front.1),
         appends_both old mid new texts front.0 ran.written front.3,
       ),
     )
 
 -- nothing of a piece was written
-pub none_of_piece : Cuts → (unread left left' old mid start : Option (List ℕ)) (script : ScriptData Image) (piece : List ℕ) (turns : ℕ) (r r' w w' : Tally)
+pub none_of_piece : Cuts → (unread left left' old mid start : Option (List ℕ)) (script : ScriptData (Shelved Image)) (piece : List ℕ) (turns : ℕ) (r r' w w' : Tally)
     → Ran unread left old mid start script turns r r' w w' → Consumes left left' piece → WritesFront images unread left' old mid
 none_of_piece cuts unread left left' old mid start script piece turns r r' w w' ran consumes =
     let more : Run = ample (map line_of (split_from start piece).lines) in
@@ -167,7 +167,7 @@ ends_all None left read P c e h = tt
 ends_all (Some x) None read P c e h = absurd c
 ends_all (Some x) (Some y) read P c e h = subst P (sym (c ∙ ap (λ (l : List ℕ). read ++ l) e ∙ append-nil read)) h
 
-pub whole_input : (unread left left' old new start : Option (List ℕ)) (script : ScriptData Image) (turns : ℕ) (r r' w w' : Tally)
+pub whole_input : (unread left left' old new start : Option (List ℕ)) (script : ScriptData (Shelved Image)) (turns : ℕ) (r r' w w' : Tally)
     → Ran unread left old new start script turns r r' w w' → Consumes left left' [] → IsAtEnd left' → IfSome unread (WritesOutput images old new)
 whole_input unread left left' old new start script turns r r' w w' ran consumes ends =
     let consumed = subst (Consumes unread left') (append-nil ran.read) (consumes_both unread left left' ran.read [] ran.consumed consumes) in
@@ -195,7 +195,7 @@ text_alone : (before after text : List ℕ) → before ≡ [] → after ≡ befo
 text_alone before after text e f = rw e at f
 
 -- what a piece prints was written
-piece_written : Cuts → (old mid new start : Option (List ℕ)) (script script' : ScriptData Image) (read piece before after : List ℕ) (run : Run)
+piece_written : Cuts → (old mid new start : Option (List ℕ)) (script script' : ScriptData (Shelved Image)) (read piece before after : List ℕ) (run : Run)
     → (split read).next ≡ start → script ≡ script_after images opening_script run → Appends old mid (text_of images opening_script run)
     → before ≡ [] → (shows : ShowsPiece start piece script script' before after) → Appends mid new after
     → Appends old new (output_of images (read ++ piece) (run ++ shows.run))
@@ -203,12 +203,12 @@ piece_written cuts old mid new start script script' read piece before after run 
     let texts : List ℕ = text_of images opening_script run in
     subst (Appends old new)
     (sym (output_more cuts read piece start run shows.run e
-    ∙ ap (λ (s : ScriptData Image). texts ++ (text_of images s shows.run ++ ending (split_from start piece).next)) (sym script_is)
+    ∙ ap (λ (s : ScriptData (Shelved Image)). texts ++ (text_of images s shows.run ++ ending (split_from start piece).next)) (sym script_is)
     ∙ ap (λ (t : List ℕ). texts ++ t) (sym (text_alone before after _ none shows.text))))
     (appends_both old mid new texts after written appends)
 
 -- a line was too long
-pub all_closed : Cuts → (unread left left' old mid new start : Option (List ℕ)) (script script' : ScriptData Image) (piece before after : List ℕ) (turns : ℕ) (r r' w w' : Tally)
+pub all_closed : Cuts → (unread left left' old mid new start : Option (List ℕ)) (script script' : ScriptData (Shelved Image)) (piece before after : List ℕ) (turns : ℕ) (r r' w w' : Tally)
     → Ran unread left old mid start script turns r r' w w' → Consumes left left' piece
     → before ≡ [] → ShowsPiece start piece script script' before after → Appends mid new after → (split_from start piece).next ≡ None
     → IfSome unread (WritesOutput images old new)
@@ -221,7 +221,7 @@ all_closed cuts unread left left' old mid new start script script' piece before 
     )
 
 -- only a front of what a piece prints was written
-pub front_shown : Cuts → (unread left left' old mid new start : Option (List ℕ)) (script script' : ScriptData Image) (piece before after : List ℕ) (turns : ℕ) (r r' w w' : Tally)
+pub front_shown : Cuts → (unread left left' old mid new start : Option (List ℕ)) (script script' : ScriptData (Shelved Image)) (piece before after : List ℕ) (turns : ℕ) (r r' w w' : Tally)
     → Ran unread left old mid start script turns r r' w w' → Consumes left left' piece
     → before ≡ [] → ShowsPiece start piece script script' before after → AppendsFront mid new after → WritesFront images unread left' old new
 front_shown cuts unread left left' old mid new start script script' piece before after turns r r' w w' ran consumes none shows front =
@@ -248,22 +248,22 @@ all_calls : (old new : Tally) (turns : ℕ) → Called turns old new → turns �
 all_calls old new turns called e = elim called [ inl h ↦ absurd (omega (arith, h.0, e)) | inr h ↦ h ∙ ap (λ (n : ℕ). min (old.calls + n) (2 ^ 64 - 1)) e ]
 
 -- after one call more than were made so far
-pub few : (unread left old new start : Option (List ℕ)) (script : ScriptData Image) (turns : ℕ) (r r' w w' : Tally) (now : ℕ)
+pub few : (unread left old new start : Option (List ℕ)) (script : ScriptData (Shelved Image)) (turns : ℕ) (r r' w w' : Tally) (now : ℕ)
     → Ran unread left old new start script turns r r' w w' → now ≡ (one_call r').calls → turns < 2 ^ 32 → now ≤ r.calls + 2 ^ 32
 few unread left old new start script turns r r' w w' now ran calls less =
     at_most r.calls now (turns + 1) (2 ^ 64 - 1) (more_calls r r' turns now ran.calls calls) (omega (arith, less))
 
 -- after all calls
-pub too_often : (unread left old new start : Option (List ℕ)) (script : ScriptData Image) (turns : ℕ) (r r' w w' : Tally)
+pub too_often : (unread left old new start : Option (List ℕ)) (script : ScriptData (Shelved Image)) (turns : ℕ) (r r' w w' : Tally)
     → Ran unread left old new start script turns r r' w w' → turns ≡ 2 ^ 32 → CalledTooOften r r'
 too_often unread left old new start script turns r r' w w' ran e = all_calls r r' turns ran.calls e
 
-pub few_in_all : (unread left old new start : Option (List ℕ)) (script : ScriptData Image) (turns : ℕ) (r r' w w' : Tally)
+pub few_in_all : (unread left old new start : Option (List ℕ)) (script : ScriptData (Shelved Image)) (turns : ℕ) (r r' w w' : Tally)
     → Ran unread left old new start script turns r r' w w' → turns ≡ 2 ^ 32 → r'.calls ≤ r.calls + 2 ^ 32
 few_in_all unread left old new start script turns r r' w w' ran e = at_most r.calls r'.calls (2 ^ 32) (2 ^ 64 - 1) (all_calls r r' turns ran.calls e) (omega arith)
 
 -- one more turn
-pub one_turn : Cuts → (unread left left' old mid new start start' : Option (List ℕ)) (script script' : ScriptData Image) (piece before after : List ℕ) (turns : ℕ) (r r' r'' w w' w'' : Tally)
+pub one_turn : Cuts → (unread left left' old mid new start start' : Option (List ℕ)) (script script' : ScriptData (Shelved Image)) (piece before after : List ℕ) (turns : ℕ) (r r' r'' w w' w'' : Tally)
     → Ran unread left old mid start script turns r r' w w' → Consumes left left' piece
     → before ≡ [] → ShowsPiece start piece script script' before after → Appends mid new after → start' ≡ (split_from start piece).next → IsSome start'
     → NoFewer r' r'' → r''.calls ≡ (one_call r').calls → NoFewer w' w'' → Ran unread left' old new start' script' (turns + 1) r r'' w w''
@@ -276,7 +276,7 @@ one_turn cuts unread left left' old mid new start start' script script' piece be
       next = next;
       goes = some;
       are = are_more cuts ran.read piece start ran.run shows.run ran.next ran.are shows.are;
-      script_is = shows.script ∙ ap (λ (s : ScriptData Image). script_after images s shows.run) ran.script_is ∙ sym (script_after-append opening_script ran.run shows.run);
+      script_is = shows.script ∙ ap (λ (s : ScriptData (Shelved Image)). script_after images s shows.run) ran.script_is ∙ sym (script_after-append opening_script ran.run shows.run);
       written = subst (Appends old new) (output_open (ran.read ++ piece) start' (ran.run ++ shows.run) next some)
           (piece_written cuts old mid new start script script' ran.read piece before after ran.run ran.next ran.script_is ran.written none shows appends);
       reads = (omega (arith, ran.reads.0, reads.0), omega (arith, ran.reads.1, reads.1), omega (arith, ran.reads.2, reads.2));

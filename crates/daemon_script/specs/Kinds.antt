@@ -1,11 +1,11 @@
--- Two kinds of player: one that has what commands read, and one that has its whole past.
+-- Two kinds of player: one that has what commands read, and one that has its whole past. Beside each is a shelf in memory.
 use Rattle.std.specs.Prelude.{ℕ, Bool, false, true, List, [], ◌∷◌, ◌++◌, Option, is_some, codes}
 use Rattle.mpd_text.specs.Songs.Song.{SongData}
 use Rattle.partition.specs.Answers.{Told}
 use Rattle.partition.specs.Image.{Image, opening, client_of}
 use Rattle.partition.specs.Outputs.{OutputsData, no_outputs, switched}
 use Rattle.partition.specs.Scans.{never_scanned}
-use Rattle.partition.specs.Step.{limit_of, next_image, told}
+use Rattle.partition.specs.Step.{hearing, limit_of, next_image, told}
 use Rattle.partition.specs.World.{Life, Moment, is_there, image_of, life_after_event, opening_life}
 use Rattle.partition.specs.declared.event.Event.{Event}
 use Rattle.partition.specs.declared.event.Happened.{Happened}
@@ -15,6 +15,8 @@ use Rattle.partition.specs.declared.report.Report.TheVariants.{Nothing}
 use Rattle.partition.specs.declared.state.Library.{Library}
 use Rattle.partition.specs.declared.state.Limits.{Limits}
 use Rattle.partition.specs.declared.state.Setup.{Setup}
+use Rattle.daemon_script.specs.Contents.{Contents, no_contents}
+use Rattle.daemon_script.specs.Shelf.{heard_by, shelf_after}
 
 -- a script's songs have 8,000 frames a second
 abbrev pub library_of : List SongData → Library
@@ -38,8 +40,8 @@ pub record PlayerKind (P : Type 0) : Type 0 where
   pub told : P → Event → Told
 
 -- a player is what commands read: its queue has stamps and marks, and its clients have flags. All events are of seat 0
-abbrev pub images : PlayerKind Image
-images = record {
+abbrev pub image_kind : PlayerKind Image
+image_kind = record {
   opens = λ limits songs. opening (setup_of limits) (library_of songs);
   is_there = λ number i. is_some (client_of number i.clients);
   limit = λ i event. limit_of 0 i event;
@@ -68,11 +70,40 @@ lived_after lived event =
 
 -- a player is its life: every queue that it had, and every moment, at which clients hear what is said to them. All events
 -- are of seat 0
-abbrev pub lives : PlayerKind Lived
-lives = record {
+abbrev pub life_kind : PlayerKind Lived
+life_kind = record {
   opens = λ limits songs. record { life = opening_life (opening (setup_of limits) (library_of songs)); history = [] };
   is_there = λ number lived. is_there number lived.life.world;
   limit = λ lived event. limit_of 0 (seen lived) event;
   after = lived_after;
   told = λ lived event. told_at (lived_after lived event).life.moments;
 }
+
+-- a player beside a shelf
+pub record Shelved (P : Type 0) : Type 0 where
+  pub player : P
+  pub shelf : Contents
+
+module _ {P : Type 0} (kind : PlayerKind P) (read : P → Image) where
+  -- an event with what the shelf answers to it
+  abbrev pub heard : Shelved P → Event → Event
+  heard p event = hearing event (heard_by p.shelf (read p.player) event)
+
+  -- a player that is lent the shelf at each event
+  abbrev pub beside_shelf : PlayerKind (Shelved P)
+  beside_shelf = record {
+    opens = λ limits songs. record { player = kind.opens limits songs; shelf = no_contents };
+    is_there = λ number p. kind.is_there number p.player;
+    limit = λ p event. kind.limit p.player (heard p event);
+    after = λ p event. record {
+      player = kind.after p.player (heard p event);
+      shelf = shelf_after p.shelf (read p.player) event (heard_by p.shelf (read p.player) event);
+    };
+    told = λ p event. kind.told p.player (heard p event);
+  }
+
+abbrev pub images : PlayerKind (Shelved Image)
+images = beside_shelf image_kind (λ i. i)
+
+abbrev pub lives : PlayerKind (Shelved Lived)
+lives = beside_shelf life_kind seen

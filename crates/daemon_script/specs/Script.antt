@@ -34,6 +34,7 @@ use Rattle.partition.specs.declared.event.Notice.{Notice}
 use Rattle.partition.specs.declared.partition.PartitionFault.{PartitionFault}
 use Rattle.partition.specs.declared.partition.PartitionFault.TheVariants.{NoMemory}
 use Rattle.partition.specs.declared.state.Limits.{Limits}
+use Rattle.partition.specs.Shelves.{nothing_heard}
 use Rattle.daemon_script.specs.Kinds.{PlayerKind}
 use Rattle.daemon_script.specs.Reports.{report_text}
 use Rattle.daemon_script.specs.declared.memory.Memory.{Memory}
@@ -221,6 +222,10 @@ list_of number lists = slice_index_or lists number None
 abbrev pub with_list : ℕ → Option CommandList → List (Option CommandList) → List (Option CommandList)
 with_list number list lists = slice_set lists number list
 
+-- a request in no list; the shelf answers to it when it is run
+abbrev pub alone_line : ℕ → Request → Event
+alone_line number request = Line number Alone request nothing_heard
+
 -- the scan that runs ends with all songs that were collected
 abbrev pub scan_result : {P : Type 0} → ScriptData P → Event
 scan_result s = ScanResult (Some (in_byte_order s.songs))
@@ -280,15 +285,15 @@ module _ {P : Type 0} (kind : PlayerKind P) where
       record { player = player; list = None; text = fault_for number (name_in request) fault; connected = true }
   request_run player number request None =
       record {
-        player = kind.after player (Line number Alone request);
+        player = kind.after player (alone_line number request);
         list = None;
-        text = told_for number (kind.told player (Line number Alone request));
+        text = told_for number (kind.told player (alone_line number request));
         connected = true;
       }
 
   -- a request in no list, by whether there is memory to run it
   abbrev pub asked_run : P → ℕ → Request → Bool → LineRun P
-  asked_run player number request ample = request_run player number request (fault_of ample (kind.limit player (Line number Alone request)))
+  asked_run player number request ample = request_run player number request (fault_of ample (kind.limit player (alone_line number request)))
 
   -- a line in no list
   abbrev pub alone_run : P → ℕ → List ℕ → Memory → LineRun P
@@ -301,7 +306,7 @@ module _ {P : Type 0} (kind : PlayerKind P) where
   unfoldable pub list_run : P → ℕ → ListForm → ℕ → List Request → Option ℕ → List ℕ → ListRun P
   list_run player number form place [] without end = record { player = player; tolds = []; ending = end }
   list_run player number form place (request ∷ requests) without end =
-      let event = Line number (InList form place) request in
+      let event = Line number (InList form place) request nothing_heard in
       list_step player place request (fault_of (not (is_at place without)) (kind.limit player event)) (kind.after player event) (kind.told player event)
       (list_run (kind.after player event) number form (place + 1) requests without end)
 

@@ -7,14 +7,12 @@ ghost use Rattle.daemon_script.specs.Script.{alone_run, asked_run, connect_run, 
 
 use crate::lists::run_commands;
 use crate::memory::Memory;
+use crate::player::Player;
 use command_lists::{ListCollector, Taken};
 use mpd_command::Request;
 use mpd_text::{Answer, ErrorNumber};
-use partition::{Event, Next, Notice, Outcome, Partition, PartitionFault, Reply, Stand};
+use partition::{Event, Next, Notice, Outcome, PartitionFault, Reply, Stand};
 use std::alloc::{AllocError, Global};
-
-/// The one seat of a script's events.
-pub(crate) const SEAT: u8 = 0;
 
 /// What a client line found of memory, and whether its client was there when it was run.
 #[derive(Clone, Copy)]
@@ -27,16 +25,16 @@ pub(crate) struct LineRun {
 #[tactic(auto, unfolding(crate::specs::Script::client_run))]
 pub(crate) fn run_line(
     alloc: Global,
-    player: &mut Partition,
+    player: &mut Player,
     list: &mut ListCollector,
     number: u32,
     line: &str,
     shown: &mut Vec<u8>,
 ) -> Result<LineRun, AllocError>
-    ensures player { IfOk result (λ ran. player.new.present ≡ (client_run images player.old.present list.old number line.now ran.memory).player) }
-    ensures list { IfOk result (λ ran. list.new ≡ (client_run images player.old.present list.old number line.now ran.memory).list) }
-    ensures text { IfOk result (λ ran. shown.new.items ≡ shown.old.items ++ (client_run images player.old.present list.old number line.now ran.memory).text) }
-    ensures connected { IfOk result (λ ran. ran.connected ≡ (client_run images player.old.present list.old number line.now ran.memory).connected) }
+    ensures player { IfOk result (λ ran. player.new ≡ (client_run images player.old list.old number line.now ran.memory).player) }
+    ensures list { IfOk result (λ ran. list.new ≡ (client_run images player.old list.old number line.now ran.memory).list) }
+    ensures text { IfOk result (λ ran. shown.new.items ≡ shown.old.items ++ (client_run images player.old list.old number line.now ran.memory).text) }
+    ensures connected { IfOk result (λ ran. ran.connected ≡ (client_run images player.old list.old number line.now ran.memory).connected) }
     // Where its client's connect is refused, an open list stays.
     ensures kept { IfOk result (λ ran. ran.connected ≡ false → list.new ≡ list.old) }
 {
@@ -59,15 +57,15 @@ pub(crate) fn run_line(
 /// was refused; `None` where it was not.
 fn connect(
     alloc: Global,
-    player: &mut Partition,
+    player: &mut Player,
     number: u32,
     shown: &mut Vec<u8>,
 ) -> Result<Option<Memory>, AllocError>
-    ensures player { IfOk result (λ refused. player.new.present ≡ (connect_run images player.old.present None number (fault_of (connects (unwrap_or refused Memory.Ample)) (images.limit player.old.present (Event.Connect number)))).player) }
-    ensures text { IfOk result (λ refused. shown.new.items ≡ shown.old.items ++ (connect_run images player.old.present None number (fault_of (connects (unwrap_or refused Memory.Ample)) (images.limit player.old.present (Event.Connect number)))).text) }
-    ensures connected { IfOk result (λ refused. is_none refused ≡ (connect_run images player.old.present None number (fault_of (connects (unwrap_or refused Memory.Ample)) (images.limit player.old.present (Event.Connect number)))).connected) }
+    ensures player { IfOk result (λ refused. player.new ≡ (connect_run images player.old None number (fault_of (connects (unwrap_or refused Memory.Ample)) (images.limit player.old (Event.Connect number)))).player) }
+    ensures text { IfOk result (λ refused. shown.new.items ≡ shown.old.items ++ (connect_run images player.old None number (fault_of (connects (unwrap_or refused Memory.Ample)) (images.limit player.old (Event.Connect number)))).text) }
+    ensures connected { IfOk result (λ refused. is_none refused ≡ (connect_run images player.old None number (fault_of (connects (unwrap_or refused Memory.Ample)) (images.limit player.old (Event.Connect number)))).connected) }
 {
-    match apply(player, Event::Connect(number)) {
+    match player.apply(Event::Connect(number)) {
         Ok(greeting) => {
             push_outcome(alloc, shown, number, &greeting)?;
             Ok(None)
@@ -77,17 +75,6 @@ fn connect(
             Ok(Some(memory_to_connect(fault)))
         }
     }
-}
-
-/// Applies an event of the script's seat.
-pub(crate) fn apply(player: &mut Partition, event: Event) -> Result<Outcome, PartitionFault>
-    ensures told { IfOk result (λ outcome. outcome ≡ images.told player.old.present event) }
-    ensures player { OnOk result (player.new.present ≡ images.after player.old.present event) }
-    ensures err { OnErr result (player.new.present ≡ player.old.present) }
-    ensures within { OnOk result (fault_of true (images.limit player.old.present event) ≡ None) }
-    ensures refused { IfErr result (λ fault. fault_of (has_memory_lem fault) (images.limit player.old.present event) ≡ Some fault) }
-{
-    player.apply(SEAT, event)
 }
 
 /// What a connect found of memory that was refused.
@@ -111,15 +98,15 @@ fn has_memory(fault: PartitionFault) -> bool
 /// Runs the line of a client that is there, by the command list that it has open.
 fn run_connected_line(
     alloc: Global,
-    player: &mut Partition,
+    player: &mut Player,
     list: &mut ListCollector,
     number: u32,
     line: &str,
     shown: &mut Vec<u8>,
 ) -> Result<Memory, AllocError>
-    ensures player { IfOk result (λ memory. player.new.present ≡ (line_run images player.old.present list.old number line.now memory).player) }
-    ensures list { IfOk result (λ memory. list.new ≡ (line_run images player.old.present list.old number line.now memory).list) }
-    ensures text { IfOk result (λ memory. shown.new.items ≡ shown.old.items ++ (line_run images player.old.present list.old number line.now memory).text) }
+    ensures player { IfOk result (λ memory. player.new ≡ (line_run images player.old list.old number line.now memory).player) }
+    ensures list { IfOk result (λ memory. list.new ≡ (line_run images player.old list.old number line.now memory).list) }
+    ensures text { IfOk result (λ memory. shown.new.items ≡ shown.old.items ++ (line_run images player.old list.old number line.now memory).text) }
     ensures connects { IfOk result (λ memory. memory ≢ Memory.NoneToConnect) }
 {
     if list.is_too_large_with(Some(line)) {
@@ -140,17 +127,17 @@ fn run_connected_line(
 /// Disconnects a client whose open list would be too large with its line. Where the player refuses that, the list stays open.
 fn close_with_list(
     alloc: Global,
-    player: &mut Partition,
+    player: &mut Player,
     list: &mut ListCollector,
     number: u32,
     shown: &mut Vec<u8>,
 ) -> Result<Memory, AllocError>
-    ensures player { IfOk result (λ memory. player.new.present ≡ (too_large_run images player.old.present list.old number (fault_of (runs memory) (images.limit player.old.present (Event.Disconnect number)))).player) }
-    ensures list { IfOk result (λ memory. list.new ≡ (too_large_run images player.old.present list.old number (fault_of (runs memory) (images.limit player.old.present (Event.Disconnect number)))).list) }
-    ensures text { IfOk result (λ memory. shown.new.items ≡ shown.old.items ++ (too_large_run images player.old.present list.old number (fault_of (runs memory) (images.limit player.old.present (Event.Disconnect number)))).text) }
+    ensures player { IfOk result (λ memory. player.new ≡ (too_large_run images player.old list.old number (fault_of (runs memory) (images.limit player.old (Event.Disconnect number)))).player) }
+    ensures list { IfOk result (λ memory. list.new ≡ (too_large_run images player.old list.old number (fault_of (runs memory) (images.limit player.old (Event.Disconnect number)))).list) }
+    ensures text { IfOk result (λ memory. shown.new.items ≡ shown.old.items ++ (too_large_run images player.old list.old number (fault_of (runs memory) (images.limit player.old (Event.Disconnect number)))).text) }
     ensures connects { IfOk result (λ memory. memory ≢ Memory.NoneToConnect) }
 {
-    match apply(player, Event::Disconnect(number)) {
+    match player.apply(Event::Disconnect(number)) {
         Ok(outcome) => {
             list.drop_list();
             push_outcome(alloc, shown, number, &outcome)?;
@@ -178,13 +165,13 @@ fn memory_to_close(fault: PartitionFault) -> Memory
 /// Runs a line that is in no list.
 fn run_line_alone(
     alloc: Global,
-    player: &mut Partition,
+    player: &mut Player,
     number: u32,
     line: &str,
     shown: &mut Vec<u8>,
 ) -> Result<Memory, AllocError>
-    ensures player { IfOk result (λ memory. player.new.present ≡ (alone_run images player.old.present number line.now memory).player) }
-    ensures text { IfOk result (λ memory. shown.new.items ≡ shown.old.items ++ (alone_run images player.old.present number line.now memory).text) }
+    ensures player { IfOk result (λ memory. player.new ≡ (alone_run images player.old number line.now memory).player) }
+    ensures text { IfOk result (λ memory. shown.new.items ≡ shown.old.items ++ (alone_run images player.old number line.now memory).text) }
     ensures connects { IfOk result (λ memory. memory ≢ Memory.NoneToConnect) }
 {
     let Ok(request) = Request::of_line(alloc, line, false) else {
@@ -201,16 +188,16 @@ fn run_line_alone(
 /// Runs the request of a client that is there. The result says whether there was memory to run it.
 fn run_request(
     alloc: Global,
-    player: &mut Partition,
+    player: &mut Player,
     number: u32,
     request: Request,
     shown: &mut Vec<u8>,
 ) -> Result<bool, AllocError>
-    ensures player { IfOk result (λ ample. player.new.present ≡ (asked_run images player.old.present number request ample).player) }
-    ensures text { IfOk result (λ ample. shown.new.items ≡ shown.old.items ++ (asked_run images player.old.present number request ample).text) }
+    ensures player { IfOk result (λ ample. player.new ≡ (asked_run images player.old number request ample).player) }
+    ensures text { IfOk result (λ ample. shown.new.items ≡ shown.old.items ++ (asked_run images player.old number request ample).text) }
 {
     let name = request.name();
-    match apply(player, Event::Line(number, Stand::Alone, request)) {
+    match player.apply(Event::line(number, Stand::Alone, request)) {
         Ok(outcome) => {
             push_outcome(alloc, shown, number, &outcome)?;
             Ok(true)

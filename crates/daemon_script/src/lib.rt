@@ -5,6 +5,7 @@ mod client_lines;
 mod laws;
 mod lists;
 mod memory;
+mod player;
 mod reports;
 mod run;
 mod script;

@@ -6,12 +6,13 @@ ghost use Rattle.daemon_script.specs.Kinds.{images};
 ghost use Rattle.daemon_script.specs.Pieces.{stopped_at as stopped_at_lem};
 ghost use Rattle.daemon_script.specs.Script.{commands_run, end_of as end_of_lem, ending_of, lines_for, notices_by_number, client_numbers, notices_to, place_without, read_of, request_in as request_in_lem};
 
-use crate::client_lines::{SEAT, push_lines, push_notice};
+use crate::client_lines::{push_lines, push_notice};
 use crate::memory::Memory;
+use crate::player::Player;
 use command_lists::{CommandList, ListLine};
 use mpd_command::{Ack, Request};
 use mpd_text::{Answer, ErrorNumber, Text};
-use partition::{ListFault, ListOutcome, Notice, Outcome, Partition, PartitionFault};
+use partition::{ListFault, ListOutcome, Notice, Outcome, PartitionFault};
 use std::alloc::{AllocError, Global};
 
 /// The numbers of a script's clients.
@@ -21,18 +22,18 @@ const CLIENT_NUMBERS: [u32; 9] = [1, 2, 3, 4, 5, 6, 7, 8, 9];
 /// commands before one that cannot be read or run for want of memory stand.
 pub(crate) fn run_commands(
     alloc: Global,
-    player: &mut Partition,
+    player: &mut Player,
     number: u32,
     commands: &CommandList,
     shown: &mut Vec<u8>,
 ) -> Result<Memory, AllocError>
-    ensures player { IfOk result (λ memory. player.new.present ≡ (commands_run images player.old.present number commands.now memory).player) }
-    ensures text { IfOk result (λ memory. shown.new.items ≡ shown.old.items ++ (commands_run images player.old.present number commands.now memory).text) }
+    ensures player { IfOk result (λ memory. player.new ≡ (commands_run images player.old number commands.now memory).player) }
+    ensures text { IfOk result (λ memory. shown.new.items ≡ shown.old.items ++ (commands_run images player.old number commands.now memory).text) }
     ensures connects { IfOk result (λ memory. memory ≢ Memory.NoneToConnect) }
 {
     let (requests, memory) = read_all(alloc, commands.lines.items());
     let end = end_of(alloc, memory, commands.lines.items().len())?;
-    match player.run_list(SEAT, number, commands.form, requests) {
+    match player.run_list(number, commands.form, requests) {
         Ok(outcome) => {
             push_list_outcome(alloc, shown, number, &outcome, end.as_str())?;
             Ok(memory)

@@ -6,12 +6,13 @@ ghost use Rattle.daemon_script.specs.Kinds.{images, one_output as one_output_lem
 ghost use Rattle.daemon_script.specs.Pieces.{memory_of};
 ghost use Rattle.daemon_script.specs.Script.{no_lists as no_lists_lem, client_run, list_of, with_list, opening_script, shown_of, step_line, collect_line, gone_line, event_line, scan_result, lowers, shown_client, refusal_text, has_uri as has_uri_lem};
 
-use crate::client_lines::{LineRun, apply, push_fault, push_notices, run_line};
+use crate::client_lines::{LineRun, push_fault, push_notices, run_line};
 use crate::memory::Memory;
+use crate::player::Player;
 use crate::reports::push_report;
 use command_lists::ListCollector;
 use mpd_text::{Line, SharedText, Song, Tag};
-use partition::{Event, Library, Limits, Outputs, Partition, PartitionFault, Scan, Setup};
+use partition::{Event, Library, Limits, Outputs, PartitionFault, Scan, Setup};
 use script_lines::{LimitName, MAX_ID, MAX_QUEUE, MAX_VERSION, ScriptLine, Step};
 use song_db::{Db, DbFault, MAX_SONGS, Rate, SharedDb};
 use std::alloc::{AllocError, Global};
@@ -28,18 +29,24 @@ pub(crate) struct Script {
     songs: Vec<Song>,
     /// The command list that each client has open, by its number.
     lists: [ListCollector; 10],
-    player: Option<Partition>,
+    player: Option<Player>,
 }
 
 impl Model for Script {
-    ghost use Rattle.std.specs.Prelude.{option_map};
     ghost use Rattle.partition.specs.Image.{Image};
+    ghost use Rattle.daemon_script.specs.Kinds.{Shelved};
     ghost use Rattle.daemon_script.specs.Script.{ScriptData};
     ghost use Rattle.daemon_script.specs.Invariant.{IsScript};
 
-    ghost Value = { ScriptData Image };
+    ghost Value = { ScriptData (Shelved Image) };
 
-    ghost view = { λ s. record { limits = s.limits; songs = s.songs.items; lists = s.lists; player = option_map (λ p. p.present) s.player } };
+    // A map has no code of its own, so its code is named.
+    ghost use Rattle.std.specs.Coded.{codes};
+    ghost use Rattle.std.specs.FinMap as finite;
+
+    ghost coded = { Prim.hlevel (codes, finite.code) };
+
+    ghost view = { λ s. record { limits = s.limits; songs = s.songs.items; lists = s.lists; player = s.player } };
 
     ghost invariant = { λ s. IsScript s.limits s.songs.items };
 }
@@ -143,7 +150,7 @@ impl Script {
         let Some(player) = &mut self.player else {
             return push_bad(shown);
         };
-        match apply(player, Event::Disconnect(number)) {
+        match player.apply(Event::Disconnect(number)) {
             Ok(outcome) => {
                 drop_list_of(&mut self.lists, number);
                 push_notices(self.alloc, shown, outcome.notices())?;
@@ -176,7 +183,7 @@ impl Script {
             discard_event(event);
             return push_bad(shown);
         };
-        match apply(player, event) {
+        match player.apply(event) {
             Ok(outcome) => {
                 push_report(self.alloc, shown, outcome.report())?;
                 push_notices(self.alloc, shown, outcome.notices())?;
@@ -232,8 +239,8 @@ impl Script {
     }
 
     /// A player over the songs so far.
-    fn opened(&self) -> Result<Partition, AllocError>
-        ensures { IfOk result (λ player. player.present ≡ images.opens self.now.limits (in_byte_order self.now.songs)) }
+    fn opened(&self) -> Result<Player, AllocError>
+        ensures { IfOk result (λ player. player ≡ images.opens self.now.limits (in_byte_order self.now.songs)) }
     {
         let library = Library {
             songs: collected(self.alloc, &self.songs)?,
@@ -245,7 +252,7 @@ impl Script {
             random_start: 0,
             outputs: one_output(self.alloc)?,
         };
-        Partition::open(self.alloc, setup, library)
+        Player::open(self.alloc, setup, library)
     }
 }
 
@@ -263,7 +270,7 @@ fn one_output(alloc: Global) -> Result<Outputs, AllocError>
 fn discard_event(_event: Event) {}
 
 /// Drops a player. It is a function of its own so that the proof of what holds one does not go through all that it owns.
-fn discard_player(_player: Partition) {}
+fn discard_player(_player: Player) {}
 
 /// The library of all songs that were collected.
 fn collected(alloc: Global, songs: &[Song]) -> Result<SharedDb, AllocError>
@@ -281,17 +288,17 @@ fn collected(alloc: Global, songs: &[Song]) -> Result<SharedDb, AllocError>
 /// Runs a client's line, by the command list that it has open.
 fn run_listed_line(
     alloc: Global,
-    player: &mut Partition,
+    player: &mut Player,
     lists: &mut [ListCollector; 10],
     number: u32,
     line: &str,
     shown: &mut Vec<u8>,
 ) -> Result<LineRun, AllocError>
     requires { number < 10 }
-    ensures player { IfOk result (λ ran. player.new.present ≡ (client_run images player.old.present (list_of number lists.old) number line.now ran.memory).player) }
-    ensures lists { IfOk result (λ ran. lists.new ≡ with_list number (client_run images player.old.present (list_of number lists.old) number line.now ran.memory).list lists.old) }
-    ensures text { IfOk result (λ ran. shown.new.items ≡ shown.old.items ++ (client_run images player.old.present (list_of number lists.old) number line.now ran.memory).text) }
-    ensures connected { IfOk result (λ ran. ran.connected ≡ (client_run images player.old.present (list_of number lists.old) number line.now ran.memory).connected) }
+    ensures player { IfOk result (λ ran. player.new ≡ (client_run images player.old (list_of number lists.old) number line.now ran.memory).player) }
+    ensures lists { IfOk result (λ ran. lists.new ≡ with_list number (client_run images player.old (list_of number lists.old) number line.now ran.memory).list lists.old) }
+    ensures text { IfOk result (λ ran. shown.new.items ≡ shown.old.items ++ (client_run images player.old (list_of number lists.old) number line.now ran.memory).text) }
+    ensures connected { IfOk result (λ ran. ran.connected ≡ (client_run images player.old (list_of number lists.old) number line.now ran.memory).connected) }
     ensures kept { IfOk result (λ ran. ran.connected ≡ false → lists.new ≡ lists.old) }
 {
     run_line(

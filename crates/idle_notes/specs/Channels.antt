@@ -61,6 +61,18 @@ listens client name members = has_name name (names_of client members)
 abbrev pub pairs : List MemberData → List (ℕ × List ℕ)
 pairs members = flat_map (λ (m : MemberData). map (λ name. (m.client, name)) m.names) members
 
+-- whether a client listens to any channel
+abbrev pub is_listening : ℕ → List MemberData → Bool
+is_listening client members = list_any (λ (m : MemberData). (m.client == client) && not (length m.names == 0)) members
+
+-- the clients for which messages wait
+abbrev pub clients_with_messages : List MemberData → List ℕ
+clients_with_messages members = map (λ (m : MemberData). m.client) (filter (λ (m : MemberData). not (length (messages_of m.client members) == 0)) members)
+
+-- whether messages wait for a client that is none of these
+abbrev pub has_messages_beyond : List ℕ → List MemberData → Bool
+has_messages_beyond clients members = list_any (λ client. not (list_any (λ known. known == client) clients)) (clients_with_messages members)
+
 -- whether somebody listens to a channel
 abbrev pub hears : List ℕ → List MemberData → Bool
 hears name members = list_any (λ (m : MemberData). has_name name m.names) members

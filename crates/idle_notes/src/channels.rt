@@ -1,11 +1,11 @@
 //! The channels by which clients send one another messages (MPD protocol reference, Client to client).
 ghost use Rattle.std.specs.Prelude.{◌≡◌, ◌↔◌, ℕ, ◌+◌, ◌<◌, ◌≤◌, ◌==◌, true, [], ◌++◌, ◌∷◌, List, None, Some, IfOk, IfErr, OnOk, OnErr, All, Contains, if◌then◌else◌, unwrap_or, length, map, filter, not, count_by, option_copied, vec_len, vec_capacity};
-ghost use Rattle.std.specs.List.{flat_map, list_all, position_or_len};
+ghost use Rattle.std.specs.List.{flat_map, list_all, list_any, position_or_len};
 ghost use Rattle.std.specs.List.Sorted.{IsStrictlySortedBy};
 ghost use Rattle.std.specs.Option.{option_map};
 ghost use Rattle.std.specs.Str.{bytes_eq};
 ghost use Rattle.idle_notes.specs.Texts.{by_bytes, ascending};
-ghost use Rattle.idle_notes.specs.Channels.{MemberData, data_of, is_name_byte as is_name_byte_lem, is_channel_name as is_channel_name_lem, has_name as has_name_lem, member_of, names_of, messages_of, listens, hears, receives as receives_lem, has_room, channel_names, with_name, without_name, without_messages, subscribed, unsubscribed, given, sent, emptied, left, subscribe_refusal, unsubscribe_refusal, send_refusal, IsReady, changed, ClientsDiffer};
+ghost use Rattle.idle_notes.specs.Channels.{MemberData, data_of, is_name_byte as is_name_byte_lem, is_channel_name as is_channel_name_lem, has_name as has_name_lem, member_of, names_of, messages_of, clients_with_messages, is_listening, has_messages_beyond, listens, hears, receives as receives_lem, has_room, channel_names, with_name, without_name, without_messages, subscribed, unsubscribed, given, sent, emptied, left, subscribe_refusal, unsubscribe_refusal, send_refusal, IsReady, changed, ClientsDiffer};
 
 use mpd_text::{SharedText, Text};
 use std::alloc::{AllocError, Global};
@@ -181,6 +181,43 @@ impl Channels {
         }
     }
 
+    /// Whether a client listens to any channel.
+    pub fn is_listening(&self, client: u32) -> bool
+        ensures { result ≡ is_listening client self.now }
+    {
+        for member in &self.members {
+            if member.client == client && !member.names.is_empty() {
+                return true;
+            }
+        }
+        false
+    }
+
+    /// The clients for which messages wait.
+    pub fn clients_with_messages(&self, alloc: Global) -> Result<Vec<u32>, AllocError>
+        ensures { IfOk result (λ clients. clients.items ≡ clients_with_messages self.now) }
+    {
+        let mut clients = Vec::new(alloc);
+        for member in &self.members {
+            if self.has_messages(member.client) {
+                clients.push(member.client)?;
+            }
+        }
+        Ok(clients)
+    }
+
+    /// Whether messages wait for a client that is none of these.
+    pub fn has_messages_beyond(&self, clients: &[u32]) -> bool
+        ensures { result ≡ has_messages_beyond clients.now self.now }
+    {
+        for member in &self.members {
+            if self.has_messages(member.client) && !is_among(clients, member.client) {
+                return true;
+            }
+        }
+        false
+    }
+
     /// How many channels a client listens to.
     pub fn count_of(&self, client: u32) -> usize
         ensures { result ≡ length (names_of client self.now) }
@@ -292,6 +329,12 @@ pub fn clients_stay_apart()
 pub fn hears_where_one_listens()
     ensures { (name : List ℕ) (members : List MemberData) → ClientsDiffer members → (hears name members ≡ true) ↔ ((client : ℕ) × (listens client name members ≡ true)) }
 {}
+
+fn is_among(clients: &[u32], client: u32) -> bool
+    ensures { result ≡ list_any (λ known. known == client) clients.now }
+{
+    clients.iter().any(|known| *known == client)
+}
 
 fn has_name(names: &[Text], name: &str) -> bool
     ensures { result ≡ has_name_lem name.now names.now }

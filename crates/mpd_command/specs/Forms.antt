@@ -17,6 +17,10 @@ use Rattle.mpd_command.specs.declared.forms.SingleMode.{SingleMode}
 use Rattle.mpd_command.specs.declared.forms.SingleMode.TheVariants.{Off, On, Oneshot}
 use Rattle.mpd_command.specs.declared.forms.Window.{Window}
 
+-- any text, an empty one too
+abbrev pub any_text : List ℕ → Option (List ℕ)
+any_text word = Some word
+
 -- a URI, without one slash at its end
 abbrev pub uri_of : List ℕ → Option Uri
 uri_of word = Some (record { 0 = if slice_index word (length word - 1) == 47 then take (length word - 1) word else word })
@@ -42,6 +46,13 @@ up_to_full n = up_to 100 (Some n)
 
 abbrev pub volume_of : List ℕ → Option ℕ
 volume_of word = up_to 100 (number_of word)
+
+-- the seconds of a fade, 0 to 3600
+abbrev pub up_to_an_hour : ℕ → Option ℕ
+up_to_an_hour n = up_to 3600 (Some n)
+
+abbrev pub fade_of : List ℕ → Option ℕ
+fade_of word = up_to 3600 (number_of word)
 
 -- a number up to 255
 abbrev pub byte_of : List ℕ → Option ℕ

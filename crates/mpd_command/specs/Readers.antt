@@ -55,6 +55,11 @@ abbrev pub two_of : {A B : Type 0} → (List ℕ → Option A) → (List ℕ →
 two_of first second (a ∷ b ∷ []) = both (argument_of first a) (argument_of second b)
 two_of first second _ = Err WrongNumber
 
+-- three arguments
+abbrev pub three_of : {A B C : Type 0} → (List ℕ → Option A) → (List ℕ → Option B) → (List ℕ → Option C) → List (List ℕ) → Result (A × B × C) Misread
+three_of first second third (a ∷ b ∷ c ∷ []) = map_ok (λ p. (p.0, p.1.0, p.1.1)) (both (argument_of first a) (both (argument_of second b) (argument_of third c)))
+three_of first second third _ = Err WrongNumber
+
 -- one argument, and perhaps one after it
 abbrev pub one_perhaps_of : {A B : Type 0} → (List ℕ → Option A) → (List ℕ → Option B) → List (List ℕ) → Result (A × Option B) Misread
 one_perhaps_of first second (a ∷ []) = map_ok (λ x. (x, None)) (argument_of first a)

@@ -1,11 +1,11 @@
 -- What a line asks for (MPD protocol reference, Requests and Failure responses; the texts and their order are this profile's).
-use Rattle.std.specs.Prelude.{◌≡◌, ℕ, Bool, not, ◌&&◌, List, [], ◌∷◌, ◌++◌, codes, Option, Some, None, Result, Ok, Err, if◌then◌else◌}
+use Rattle.std.specs.Prelude.{◌≡◌, ℕ, Bool, List, [], ◌∷◌, ◌++◌, codes, Option, Some, None, Result, Ok, Err, if◌then◌else◌}
 use Rattle.mpd_text.specs.Lines.Scan.{words_of}
 use Rattle.mpd_text.specs.declared.answers.answer.ErrorNumber.TheVariants.{Argument, Permission, Unknown}
 use Rattle.mpd_text.specs.declared.lines.quoting.WordsFault.{WordsFault}
 use Rattle.mpd_text.specs.declared.lines.quoting.WordsFault.TheVariants.{BadUnquoted, NoClosingQuote, NoSpaceAfterQuote, TooMany, NoMemory as NoMemoryForWords}
 use Rattle.mpd_command.specs.Commands.{command_of}
-use Rattle.mpd_command.specs.Names.{name_of, needs_leave, text_of}
+use Rattle.mpd_command.specs.Names.{name_of, is_forbidden, text_of}
 use Rattle.mpd_command.specs.declared.readers.Misread.{Misread}
 use Rattle.mpd_command.specs.declared.readers.Misread.TheVariants.{WrongNumber, Bad, NoMemory as NoMemoryToRead}
 use Rattle.mpd_command.specs.declared.name.Name.{Name}
@@ -35,8 +35,8 @@ read_as name (Err misread) = Err (ack_of name misread)
 abbrev pub of_name : Option Name → List ℕ → List (List ℕ) → Bool → Result (Name × Command) Ack
 of_name None word words allow_kill = Err (unknown word)
 of_name (Some name) word words allow_kill =
-    if needs_leave name && not allow_kill then Err (record { number = Permission; command = Some name; text = codes "no permission for \"kill\"" })
-    else read_as name (command_of name words)
+    if is_forbidden name allow_kill then Err (record { number = Permission; command = Some name; text = codes "no permission for \"kill\"" })
+    else read_as name (command_of allow_kill name words)
 
 -- the command of words, under its name, or the first refusal: unknown, not allowed, wrong number, first argument of a wrong form
 abbrev pub named_of : List (List ℕ) → Bool → Result (Name × Command) Ack

@@ -5,8 +5,9 @@ ghost use Rattle.mpd_text.specs.Answers.Millis.{millis_of};
 ghost use Rattle.mpd_text.specs.Answers.Number.{number_of};
 ghost use Rattle.mpd_text.specs.Answers.Range.{range_of};
 ghost use Rattle.idle_notes.specs.Names.{subsystem_of};
-ghost use Rattle.mpd_command.specs.Forms.{first_is, uri_of, switch_of, single_of, volume_of, byte_of, place_of, seeking_of, tag_of, window_of};
+ghost use Rattle.mpd_command.specs.Forms.{first_is, any_text, uri_of, switch_of, single_of, volume_of, fade_of, byte_of, place_of, seeking_of, tag_of, window_of};
 
+use crate::fade::FadeSeconds;
 use crate::volume::Volume;
 use idle_notes::Subsystem;
 use mpd_text::{Millis, Range, TAG_NAMES, TagName, Text, number};
@@ -38,6 +39,15 @@ impl Form for u8 {
             Some(n) if n <= 255 => Ok(Some(n as u8)),
             _ => Ok(None),
         }
+    }
+}
+
+/// Any text: a name, a channel, a message or a value.
+impl Form for Text {
+    ghost read_gives = { any_text };
+
+    fn read(alloc: Global, word: &str) -> Result<Option<Text>, AllocError> {
+        Ok(Some(Text::new(alloc, word)?))
     }
 }
 
@@ -85,6 +95,17 @@ impl Form for Volume {
     fn read(_alloc: Global, word: &str) -> Result<Option<Volume>, AllocError> {
         match number(word) {
             Some(n) => Ok(Volume::new(n)),
+            None => Ok(None),
+        }
+    }
+}
+
+impl Form for FadeSeconds {
+    ghost read_gives = { fade_of };
+
+    fn read(_alloc: Global, word: &str) -> Result<Option<FadeSeconds>, AllocError> {
+        match number(word) {
+            Some(n) => Ok(FadeSeconds::new(n)),
             None => Ok(None),
         }
     }

@@ -1,7 +1,7 @@
 //! What the words of a command are read as: their number first, then their forms from the left.
 ghost use Rattle.std.specs.Prelude.{◌≡◌, ℕ, List, [], ◌∷◌, Ok, string_bytes, map};
 ghost use Rattle.idle_notes.specs.Names.{subsystem_of};
-ghost use Rattle.mpd_command.specs.Readers.{Gives, argument_of, none_of, one_of, perhaps_of, two_of, one_perhaps_of, many_of, one_many_of, subsystems_of, joined};
+ghost use Rattle.mpd_command.specs.Readers.{Gives, argument_of, none_of, one_of, perhaps_of, two_of, three_of, one_perhaps_of, many_of, one_many_of, subsystems_of, joined};
 ghost use Rattle.mpd_command.specs.declared.readers.Misread.TheVariants.{NoMemory};
 
 use crate::forms::Form;
@@ -86,6 +86,22 @@ pub(crate) fn two<A: Form, B: Form>(alloc: Global, words: &[String]) -> Result<(
     let first = read_word(alloc, first.as_str())?;
     let second = read_word(alloc, second.as_str())?;
     Ok((first, second))
+}
+
+/// Three arguments.
+pub(crate) fn three<A: Form, B: Form, C: Form>(
+    alloc: Global,
+    words: &[String],
+) -> Result<(A, B, C), Misread>
+    ensures { Gives result (three_of A.read_gives B.read_gives C.read_gives (map string_bytes words.now)) }
+{
+    let [first, second, third] = words else {
+        return Err(Misread::WrongNumber);
+    };
+    let first = read_word(alloc, first.as_str())?;
+    let second = read_word(alloc, second.as_str())?;
+    let third = read_word(alloc, third.as_str())?;
+    Ok((first, second, third))
 }
 
 /// One argument, and perhaps one after it.

@@ -71,22 +71,23 @@ fn named(alloc: Global, words: &[String], allow_kill: bool) -> Result<(Name, Com
     let Some(name) = Name::of_word(word.as_str()) else {
         return Err(unknown_command(alloc, word.as_str())?);
     };
-    if name.needs_leave() && !allow_kill {
+    if name.is_forbidden(allow_kill) {
         let text = "no permission for \"kill\"";
         return Err(refused(alloc, ErrorNumber::Permission, Some(name), text)?);
     }
-    with_arguments(alloc, name, arguments)
+    with_arguments(alloc, allow_kill, name, arguments)
 }
 
 /// A command, by the words after its name.
 fn with_arguments(
     alloc: Global,
+    allow_kill: bool,
     name: Name,
     arguments: &[String],
 ) -> Result<(Name, Command), CommandFault>
-    ensures { AnswersAs result (read_as name (command_of name (map string_bytes arguments.now))) }
+    ensures { AnswersAs result (read_as name (command_of allow_kill name (map string_bytes arguments.now))) }
 {
-    match read(alloc, name, arguments) {
+    match read(alloc, allow_kill, name, arguments) {
         Ok(command) => Ok((name, command)),
         Err(Misread::WrongNumber) => Err(wrong_number(alloc, name)?),
         Err(Misread::Bad(argument)) => Err(bad_argument(alloc, name, argument.as_str())?),

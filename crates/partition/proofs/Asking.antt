@@ -22,11 +22,14 @@ use Rattle.partition.specs.declared.event.Stand.{Stand}
 use Rattle.partition.specs.declared.event.Stand.TheVariants.{Alone, InList}
 use Rattle.partition.specs.declared.state.Client.{Client}
 use Rattle.partition.specs.declared.state.Part.{Part}
-use Rattle.partition.specs.Answers.{Answer, Said, refuses, shut, stays, tells}
+use Rattle.partition.specs.Answers.{Answer, Said, refused_by_shelf, refuses, shut, stays, tells}
+use Rattle.partition.specs.Shelves.{is_written}
+use Rattle.partition.specs.declared.shelf_calls.Heard.{Heard}
+use Rattle.shelf.specs.declared.faults.ShelfFault.{ShelfFault}
 use Rattle.partition.specs.Clients.{closes, notified, at, moved, move_of}
 use Rattle.partition.specs.Commands.Status.{Wish, ToWait, ToGoOn, granted, resumes, wish_of}
 use Rattle.partition.specs.Image.{Turn, client_of}
-use Rattle.partition.specs.Step.{acts, deed_of, ends_by, greeting, quiet, turn_of, turn_line, turn_wished, unspoken}
+use Rattle.partition.specs.Step.{acts, deed_of, departs, ends_by, greeting, name_of, once_written, quiet, turn_of, turn_line, turn_wished, unspoken, written_turn}
 use Rattle.partition.specs.World.{is_learning}
 use Rattle.partition.specs.Notices.{IsIn}
 use Rattle.partition.proofs.Members.{of_map}
@@ -69,6 +72,17 @@ quiet_said false x y p q = q
 quiet_resumes : (client : Client) → Quiet (move_of (resumes client))
 quiet_resumes client = quiet_said (is_some client.pending.waiting) (record { answer = tells (codes "OK\n"); move = Resume }) (stays (tells (codes ""))) tt tt
 
+quiet_refusal : (stand : Stand) (name : Option Name) (fault : ShelfFault) → Quiet (move_of (stays (refused_by_shelf stand name fault)))
+quiet_refusal stand name fault = quiet_stays (refused_by_shelf stand name fault)
+
+-- a turn that writes to the shelf is as quiet as it would be else
+quiet_written : (stand : Stand) (request : Request) (refused : Option ShelfFault) (t : Turn) → Quiet (move_of t.said) → Quiet (move_of (written_turn stand request refused t).said)
+quiet_written stand request refused t q =
+    elim (is_written t.written) as (λ b. Quiet (move_of (if b then once_written stand request refused t else t).said)) [
+      | true ↦ elim refused as (λ r. Quiet (move_of (once_written stand request r t).said)) [ None ↦ q | Some fault ↦ quiet_refusal stand (name_of request) fault ]
+      | false ↦ q
+    ]
+
 -- a client that is there and does not wait asks by `idle`, alone in its line
 pub record IsAsking (clients : List Client) (event : Event) : Type 0 where
   pub number : ℕ
@@ -76,7 +90,8 @@ pub record IsAsking (clients : List Client) (event : Event) : Type 0 where
   pub name : Name
   pub command : Command
   pub client : Client
-  pub is : event ≡ Line number Alone (Run name command)
+  pub heard : Heard
+  pub is : event ≡ Line number Alone (Run name command) heard
   pub wish : wish_of command ≡ Some (ToWait named)
   pub found : client_of number clients ≡ Some client
   pub free : client.pending.waiting ≡ None
@@ -90,37 +105,37 @@ wish_is _ named e = cc
 abbrev pub turn_idle : Client → Subsystems → Turn
 turn_idle client named = quiet (granted client (ToWait named))
 
-module _ (part : Part) (library : Library) (clients : List Client) (number : ℕ) (k : Client) (is_there : client_of number clients ≡ Some k) where
+module _ (part : Part) (library : Library) (heard : Heard) (clients : List Client) (number : ℕ) (k : Client) (is_there : client_of number clients ≡ Some k) where
   -- a line of a client that is there: it is closed, or this is done
   abbrev line : Bool → Turn → Turn
-  line ends done = if is_some k.pending.waiting && not ends then quiet (stays shut) else done
+  line ends done = if is_some k.pending.waiting && not ends then departs k.number else done
 
   quiet_line : (ends : Bool) (done : Turn) → Quiet (move_of done.said) → Quiet (move_of (line ends done).said)
-  quiet_line ends done q = quiet_if (is_some k.pending.waiting && not ends) (quiet (stays shut)) done tt q
+  quiet_line ends done q = quiet_if (is_some k.pending.waiting && not ends) (departs k.number) done tt q
 
   module _ (name : Name) (command : Command) where
     abbrev run : Stand → Option Wish → Turn
-    run stand wish = turn_wished (record { name = name; stand = stand }) k (deed_of (record { name = name; stand = stand }) part library command) wish
+    run stand wish = turn_wished (record { client = k.number; name = name; stand = stand }) k (deed_of (record { client = k.number; name = name; stand = stand }) part library heard.read command) wish
 
     abbrev Kind : Stand → Option Wish → Type 0
-    Kind stand wish = Quiet (move_of (line (ends_by stand wish) (run stand wish)).said) ⊎ IsAsking clients (Line number stand (Run name command))
+    Kind stand wish = Quiet (move_of (line (ends_by stand wish) (run stand wish)).said) ⊎ IsAsking clients (Line number stand (Run name command) heard)
 
     asking : (named : Subsystems) → wish_of command ≡ Some (ToWait named) → Kind Alone (Some (ToWait named))
     asking named e =
         let cases : (w : Option Subsystems) → k.pending.waiting ≡ w → Kind Alone (Some (ToWait named)) =
         λ w. elim w as (λ w. k.pending.waiting ≡ w → Kind Alone (Some (ToWait named))) [
-          | None ↦ λ free. inr (record { number = number; named = named; name = name; command = command; client = k; is = refl; wish = e; found = is_there; free = free })
+          | None ↦ λ free. inr (record { number = number; named = named; name = name; command = command; client = k; heard = heard; is = refl; wish = e; found = is_there; free = free })
           | Some more ↦ λ waits_more. inl (rw waits_more tt)
         ] in
         cases k.pending.waiting refl
 
     kind_of_wish : (stand : Stand) (wish : Option Wish) → wish_of command ≡ wish → Kind stand wish
-    kind_of_wish stand None e = inl (quiet_line (ends_by stand None) (run stand None) (quiet_stays (deed_of (record { name = name; stand = stand }) part library command).answer))
+    kind_of_wish stand None e = inl (quiet_line (ends_by stand None) (run stand None) (quiet_stays (deed_of (record { client = k.number; name = name; stand = stand }) part library heard.read command).answer))
     kind_of_wish Alone (Some (ToWait named)) e = asking named e
     kind_of_wish Alone (Some ToGoOn) e = inl (quiet_line true (run Alone (Some ToGoOn)) (quiet_resumes k))
     kind_of_wish (InList form place) (Some wish) e = inl (quiet_line false (run (InList form place) (Some wish)) tt)
 
-  kind_of_line : (stand : Stand) (request : Request) → Quiet (move_of (turn_line part library (Some k) stand request).said) ⊎ IsAsking clients (Line number stand request)
+  kind_of_line : (stand : Stand) (request : Request) → Quiet (move_of (turn_line part library (Some k) stand request heard.read).said) ⊎ IsAsking clients (Line number stand request heard)
   kind_of_line Alone (Run name command) = kind_of_wish name command Alone (wish_of command) refl
   kind_of_line (InList form place) (Run name command) = kind_of_wish name command (InList form place) (wish_of command) refl
   kind_of_line Alone (Refused ack) = inl (quiet_line false (quiet (stays (refuses Alone ack.command ack.number ack.text))) tt)
@@ -140,11 +155,14 @@ kind_of part library clients (Have number frames) = inl tt
 kind_of part library clients (Failed number partner) = inl tt
 kind_of part library clients (OutputTurn output written discarded failed) =
     inl (quiet_if (is_output part.outputs output) (acts (Settles output written discarded failed)) (quiet unspoken) tt tt)
-kind_of part library clients (Line number stand request) =
-    let cases : (o : Option Client) → client_of number clients ≡ o → Quiet (move_of (turn_line part library o stand request).said) ⊎ IsAsking clients (Line number stand request) =
-    λ o. elim o as (λ o. client_of number clients ≡ o → Quiet (move_of (turn_line part library o stand request).said) ⊎ IsAsking clients (Line number stand request))
-    [ None ↦ λ e. inl tt | Some k ↦ λ e. kind_of_line part library clients number k e stand request ] in
-    cases (client_of number clients) refl
+kind_of part library clients (Line number stand request heard) =
+    let cases : (o : Option Client) → client_of number clients ≡ o → Quiet (move_of (turn_line part library o stand request heard.read).said) ⊎ IsAsking clients (Line number stand request heard) =
+    λ o. elim o as (λ o. client_of number clients ≡ o → Quiet (move_of (turn_line part library o stand request heard.read).said) ⊎ IsAsking clients (Line number stand request heard))
+    [ None ↦ λ e. inl tt | Some k ↦ λ e. kind_of_line part library heard clients number k e stand request ] in
+    elim (cases (client_of number clients) refl) [
+      | inl q ↦ inl (quiet_written stand request heard.refused (turn_line part library (client_of number clients) stand request heard.read) q)
+      | inr a ↦ inr a
+    ]
 
 -- a client that is found is one of them, and has the number
 pub is_found : (number : ℕ) (k : Client) (ks : List Client) → client_of number ks ≡ Some k → IsIn k ks × (k.number ≡ number)
@@ -167,10 +185,10 @@ of_any p (z ∷ zs) e =
     ] in
     cases (p z) refl e
 
-module _ (n : ℕ) (r : Subsystems) where
+module _ (n : ℕ) (r : ℕ → Subsystems) where
   pub notified_some : (k : Client) (named : Subsystems) → (notified r k).pending.waiting ≡ Some named → k.pending.waiting ≡ Some named
   notified_some k named =
-      elim (is_nonempty (due (noted r k.pending))) as (λ b. (if b then fresh else noted r k.pending).waiting ≡ Some named → k.pending.waiting ≡ Some named)
+      elim (is_nonempty (due (noted (r k.number) k.pending))) as (λ b. (if b then fresh else noted (r k.number) k.pending).waiting ≡ Some named → k.pending.waiting ≡ Some named)
       [ true ↦ λ e. cc | false ↦ λ e. e ]
 
   -- a client that waits after its move waited before it, or begins to

@@ -7,100 +7,28 @@ use Rattle.std.proofs.Math.Seq.{take-append_seam}
 use Rattle.command_lists.specs.declared.word.ListForm.{ListForm}
 use Rattle.mpd_command.specs.Requests.{name_in}
 use Rattle.mpd_command.specs.declared.request.Request.{Request}
+use Rattle.shelf.specs.Calls.{Call}
+use Rattle.shelf.specs.Maps.{Standing}
 use Rattle.partition.specs.declared.event.Event.{Event}
 use Rattle.partition.specs.declared.event.Event.TheVariants.{Line}
 use Rattle.partition.specs.declared.event.Happened.{Happened}
 use Rattle.partition.specs.declared.event.Stand.TheVariants.{InList}
 use Rattle.partition.specs.declared.partition.PartitionFault.{PartitionFault}
 use Rattle.partition.specs.declared.partition.PartitionFault.TheVariants.{NoMemory}
+use Rattle.partition.specs.declared.shelf_calls.Heard.{Heard}
 use Rattle.partition.specs.Answers.{Told}
 use Rattle.partition.specs.History.{Chronicle, replay}
 use Rattle.partition.specs.Image.{Image}
-use Rattle.partition.specs.Lists.{ends_list, entries_of, AllWithin, Joins, MayRefuse, RunsList, StopsList}
-use Rattle.partition.specs.Step.{limit_of, next_image, told}
+use Rattle.partition.specs.Lent.{IsRefused, Records, ServesAll, question, writing}
+use Rattle.partition.specs.Lists.{Answered, ends_list, entries_of, AllWithin, Joins, RunsList, StopsList}
+use Rattle.partition.specs.Shelves.{Serves, Spares, nothing_heard}
+use Rattle.partition.specs.Step.{hearing, heard_at, limit_of, next_image, told}
 use Rattle.partition.proofs.Chronicles.{replay-append}
-
--- some requests of a list ran, none ended it, and the rest are to come
-pub record Ran (seat client : ℕ) (form : ListForm) (before now : Chronicle) (requests rest : List Request) (tolds : List Told) : Type 0 where
-  pub done : List Happened
-  pub front : List Request
-  pub joins : Joins before now done
-  pub told_are : tolds ≡ map (λ (h : Happened). h.told) done
-  pub all : entries_of seat before.present client form 0 requests ≡ done ++ entries_of seat now.present client form (length done) rest
-  pub cut : requests ≡ front ++ rest
-  pub as_many : length front ≡ length done
-
--- what an event of a list did
-pub record Does (seat : ℕ) (before now : Chronicle) (event : Event) (t : Told) : Type 0 where
-  pub base : now.base ≡ before.base
-  pub window : now.window ≡ before.window ++ record { seat = seat; event = event; told = t } ∷ []
-  pub told_is : t ≡ told before.present event
-  pub present : now.present ≡ next_image seat before.present event
-  pub within : limit_of seat before.present event ≡ None
+use Rattle.partition.proofs.Lending.{wanting}
 
 pub nothing_left : {X : Type 0} (l : List X) → length l ≡ 0 → l ≡ []
 nothing_left [] h = refl
 nothing_left (x ∷ xs) h = absurd (omega arith)
-
--- an event that was applied
-pub does_so : (seat : ℕ) (before now : Chronicle) (client : ℕ) (form : ListForm) (place place' : ℕ) (request : Request) (t : Told)
-    → place ≡ place' → now.base ≡ before.base → now.window ≡ before.window ++ record { seat = seat; event = Line client (InList form place) request; told = t } ∷ []
-    → t ≡ told before.present (Line client (InList form place) request) → now.present ≡ next_image seat before.present (Line client (InList form place) request)
-    → limit_of seat before.present (Line client (InList form place) request) ≡ None
-    → Does seat before now (Line client (InList form place') request) t
-does_so seat before now client form place place' request t e base window tells present within =
-    subst (λ (n : ℕ). Does seat before now (Line client (InList form n) request) t) e
-    (record { base = base; window = window; told_is = tells; present = present; within = within })
-
-pub none_ran : (seat client : ℕ) (form : ListForm) (before : Chronicle) (requests : List Request) (tolds : List Told)
-    → tolds ≡ [] → Ran seat client form before before requests requests tolds
-none_ran seat client form before requests tolds none = record {
-  done = [];
-  front = [];
-  joins = record { base = refl; window = sym (append-nil before.window); present = refl; within = tt };
-  told_are = none;
-  all = refl;
-  cut = refl;
-  as_many = refl;
-}
-
-entries_more : (seat : ℕ) (i : Image) (client : ℕ) (form : ListForm) (place : ℕ) (request : Request) (requests : List Request) (t : Told)
-    → t ≡ told i (Line client (InList form place) request) → ends_list t ≡ false
-    → entries_of seat i client form place (request ∷ requests)
-    ≡ record { seat = seat; event = Line client (InList form place) request; told = t } ∷ entries_of seat (next_image seat i (Line client (InList form place) request)) client form (place + 1) requests
-unfolding entries_of
-entries_more seat i client form place request requests t is goes =
-    let goes' : ends_list (told i (Line client (InList form place) request)) ≡ false = rw is at goes in
-    rw goes' (ap (λ (u : Told). record { seat = seat; event = Line client (InList form place) request; told = u }
-    ∷ entries_of seat (next_image seat i (Line client (InList form place) request)) client form (place + 1) requests) (sym is))
-
-entries_last : (seat : ℕ) (i : Image) (client : ℕ) (form : ListForm) (place : ℕ) (request : Request) (requests : List Request) (t : Told)
-    → t ≡ told i (Line client (InList form place) request) → ends_list t ≡ true
-    → entries_of seat i client form place (request ∷ requests) ≡ record { seat = seat; event = Line client (InList form place) request; told = t } ∷ []
-unfolding entries_of
-entries_last seat i client form place request requests t is ends =
-    let ends' : ends_list (told i (Line client (InList form place) request)) ≡ true = rw is at ends in
-    rw ends' (ap (λ (u : Told). record { seat = seat; event = Line client (InList form place) request; told = u } ∷ []) (sym is))
-
-entries_some : (seat : ℕ) (i : Image) (client : ℕ) (form : ListForm) (place : ℕ) (request : Request) (requests : List Request)
-    → 1 ≤ length (entries_of seat i client form place (request ∷ requests))
-unfolding entries_of
-entries_some seat i client form place request requests = omega arith
-
-within_more : (i : Image) (hs : List Happened) (h : Happened) → AllWithin i hs → limit_of h.seat (replay i hs) h.event ≡ None → AllWithin i (hs ++ h ∷ [])
-within_more i [] h all e = (e, tt)
-within_more i (g ∷ gs) h all e = (all.0, within_more (next_image g.seat i g.event) gs h all.1 e)
-
--- one entry more joins
-joins_more : (before mid now : Chronicle) (done : List Happened) (h : Happened)
-    → Joins before mid done → limit_of h.seat mid.present h.event ≡ None → now.base ≡ mid.base → now.window ≡ mid.window ++ h ∷ [] → now.present ≡ next_image h.seat mid.present h.event
-    → Joins before now (done ++ h ∷ [])
-joins_more before mid now done h joins within base window present = record {
-  base = base ∙ joins.base;
-  window = window ∙ ap (λ (hs : List Happened). hs ++ h ∷ []) joins.window ∙ append_assoc before.window done (h ∷ []);
-  present = present ∙ ap (λ (i : Image). next_image h.seat i h.event) joins.present ∙ sym (replay-append before.present done h);
-  within = within_more before.present done h joins.within (ap (λ (i : Image). limit_of h.seat i h.event) (sym joins.present) ∙ within);
-}
 
 length-more : {X : Type 0} (xs : List X) (x : X) → length (xs ++ x ∷ []) ≡ length xs + 1
 length-more xs x = length-append xs (x ∷ [])
@@ -119,125 +47,261 @@ told_more tolds tolds' t done h were is more =
     more ∙ ap (λ (ts : List Told). ts ++ t ∷ []) were ∙ ap (λ (u : Told). map (λ (g : Happened). g.told) done ++ u ∷ []) (sym is)
     ∙ sym (map-append (λ (g : Happened). g.told) done (h ∷ []))
 
-pub ran_more : (seat client : ℕ) (form : ListForm) (before mid now : Chronicle) (requests rest rest' : List Request) (request : Request) (tolds tolds' : List Told) (t : Told)
-    → Ran seat client form before mid requests rest tolds → rest ≡ request ∷ rest'
-    → Does seat mid now (Line client (InList form (length tolds)) request) t → ends_list t ≡ false → tolds' ≡ tolds ++ t ∷ []
-    → Ran seat client form before now requests rest' tolds'
-ran_more seat client form before mid now requests rest rest' request tolds tolds' t ran first does goes more =
-    let place : length tolds ≡ length ran.done = place_is tolds ran.done ran.told_are in
-    let event : Event = Line client (InList form (length tolds)) request in
-    let h : Happened = record { seat = seat; event = event; told = t } in
-    let longer : length (ran.done ++ h ∷ []) ≡ length ran.done + 1 = length-more ran.done h in
-    record {
-      done = ran.done ++ h ∷ [];
-      front = ran.front ++ request ∷ [];
-      joins = joins_more before mid now ran.done h ran.joins does.within does.base does.window does.present;
-      told_are = told_more tolds tolds' t ran.done h ran.told_are refl more;
-      all = ran.all
-          ∙ ap (λ (rs : List Request). ran.done ++ entries_of seat mid.present client form (length ran.done) rs) first
-          ∙ ap (λ (n : ℕ). ran.done ++ entries_of seat mid.present client form n (request ∷ rest')) (sym place)
-          ∙ ap (λ (hs : List Happened). ran.done ++ hs) (entries_more seat mid.present client form (length tolds) request rest' t does.told_is goes)
-          ∙ sym (append_assoc ran.done (h ∷ []) (entries_of seat (next_image seat mid.present event) client form (length tolds + 1) rest'))
-          ∙ ap (λ (i : Image). (ran.done ++ h ∷ []) ++ entries_of seat i client form (length tolds + 1) rest') (sym does.present)
-          ∙ ap (λ (n : ℕ). (ran.done ++ h ∷ []) ++ entries_of seat now.present client form n rest') (ap (λ n. n + 1) place ∙ sym longer);
-      cut = ran.cut ∙ ap (λ (rs : List Request). ran.front ++ rs) first ∙ sym (append_assoc ran.front (request ∷ []) rest');
-      as_many = length-more ran.front request ∙ ap (λ n. n + 1) ran.as_many ∙ sym longer;
-    }
+within_more : (i : Image) (hs : List Happened) (h : Happened) → AllWithin i hs → limit_of h.seat (replay i hs) h.event ≡ None → AllWithin i (hs ++ h ∷ [])
+within_more i [] h all e = (e, tt)
+within_more i (g ∷ gs) h all e = (all.0, within_more (next_image g.seat i g.event) gs h all.1 e)
 
-pub ran_last : (seat client : ℕ) (form : ListForm) (before mid now : Chronicle) (requests rest rest' : List Request) (request : Request) (tolds tolds' : List Told) (t : Told)
-    → Ran seat client form before mid requests rest tolds → rest ≡ request ∷ rest'
-    → Does seat mid now (Line client (InList form (length tolds)) request) t → ends_list t ≡ true → tolds' ≡ tolds ++ t ∷ []
-    → RunsList before now (entries_of seat before.present client form 0 requests) tolds'
-ran_last seat client form before mid now requests rest rest' request tolds tolds' t ran first does ends more =
-    let place : length tolds ≡ length ran.done = place_is tolds ran.done ran.told_are in
-    let h : Happened = record { seat = seat; event = Line client (InList form (length tolds)) request; told = t } in
-    let all : entries_of seat before.present client form 0 requests ≡ ran.done ++ h ∷ [] =
-    ran.all
-    ∙ ap (λ (rs : List Request). ran.done ++ entries_of seat mid.present client form (length ran.done) rs) first
-    ∙ ap (λ (n : ℕ). ran.done ++ entries_of seat mid.present client form n (request ∷ rest')) (sym place)
-    ∙ ap (λ (hs : List Happened). ran.done ++ hs) (entries_last seat mid.present client form (length tolds) request rest' t does.told_is ends) in
-    rw all record {
-      joins = joins_more before mid now ran.done h ran.joins does.within does.base does.window does.present;
-      told = told_more tolds tolds' t ran.done h ran.told_are refl more;
-    }
-
-pub ran_all : (seat client : ℕ) (form : ListForm) (before now : Chronicle) (requests rest : List Request) (tolds : List Told)
-    → Ran seat client form before now requests rest tolds → rest ≡ []
-    → RunsList before now (entries_of seat before.present client form 0 requests) tolds
-unfolding entries_of
-ran_all seat client form before now requests rest tolds ran none =
-    let all : entries_of seat before.present client form 0 requests ≡ ran.done =
-    ran.all ∙ ap (λ (rs : List Request). ran.done ++ entries_of seat now.present client form (length ran.done) rs) none ∙ append-nil ran.done in
-    rw all record { joins = ran.joins; told = ran.told_are }
-
--- the name of the first request that did not run
-name_at : (front rest : List Request) (request : Request) → slice_index_or (map name_in (front ++ request ∷ rest)) (length front) [] ≡ name_in request
-name_at [] rest request = refl
-name_at (r ∷ front) rest request = name_at front rest request
-
--- the entry behind those that ran
-behind : (done : List Happened) (entry : Happened) (more : List Happened) → slice_get (done ++ entry ∷ more) (length done) ≡ Some entry
-behind [] entry more = refl
-behind (h ∷ done) entry more = behind done entry more
-
-of_first : (entry : Happened) (P : Happened → Type 0) (found : Option Happened) → found ≡ Some entry → P entry → ForSome found P
-of_first entry P found e p = λ x is. (let both : Some entry ≡ Some x = sym e ∙ is in let same : entry ≡ x = cc in subst P same p)
-
-pub ran_stop : (seat client : ℕ) (form : ListForm) (before now : Chronicle) (requests rest rest' : List Request) (request : Request) (tolds : List Told) (command : List ℕ) (cause : PartitionFault)
-    → Ran seat client form before now requests rest tolds → rest ≡ request ∷ rest' → command ≡ name_in request
-    → MayRefuse (limit_of seat now.present (Line client (InList form (length tolds)) request)) cause
-    → StopsList before now (entries_of seat before.present client form 0 requests) requests (record { done = length tolds; tolds = tolds; command = command; cause = cause })
-unfolding entries_of
-ran_stop seat client form before now requests rest rest' request tolds command cause ran first named refused =
-    let place : length tolds ≡ length ran.done = place_is tolds ran.done ran.told_are in
-    let others : List Happened = entries_of seat now.present client form (length ran.done) (request ∷ rest') in
-    let all : entries_of seat before.present client form 0 requests ≡ ran.done ++ others =
-    ran.all ∙ ap (λ (rs : List Request). ran.done ++ entries_of seat now.present client form (length ran.done) rs) first in
-    let some = entries_some seat now.present client form (length ran.done) request rest' in
-    let long = length-append ran.done others in
-    let front : take (length tolds) (ran.done ++ others) ≡ ran.done = ap (λ (n : ℕ). take n (ran.done ++ others)) place ∙ take-append_seam ran.done others in
-    let entry : Happened = record { seat = seat; event = Line client (InList form (length ran.done)) request; told = told now.present (Line client (InList form (length ran.done)) request) } in
-    let later : List Happened = if ends_list entry.told then [] else entries_of seat (next_image seat now.present entry.event) client form (length ran.done + 1) rest' in
-    let cut : requests ≡ ran.front ++ request ∷ rest' = ran.cut ∙ ap (λ (rs : List Request). ran.front ++ rs) first in
-    rw all record {
-      joins = rw front ran.joins;
-      told = rw front ran.told_are;
-      more = omega (arith, place, some, long);
-      command = named ∙ sym (ap (λ (rs : List Request). slice_index_or (map name_in rs) (length tolds) []) cut
-          ∙ ap (λ (n : ℕ). slice_index_or (map name_in (ran.front ++ request ∷ rest')) n []) (place ∙ sym ran.as_many)
-          ∙ name_at ran.front rest' request);
-      cause = of_first entry (λ (h : Happened). MayRefuse (limit_of h.seat now.present h.event) cause) (slice_get (ran.done ++ others) (length tolds))
-          (ap (slice_get (ran.done ++ others)) place ∙ behind ran.done entry later)
-          (subst (λ (n : ℕ). MayRefuse (limit_of seat now.present (Line client (InList form n) request)) cause) place refused);
-    }
-
--- a list without requests
-pub empty_ran : (seat client : ℕ) (form : ListForm) (c : Chronicle) (requests : List Request) → length requests ≡ 0 → RunsList c c (entries_of seat c.present client form 0 requests) []
-unfolding entries_of
-empty_ran seat client form c requests none =
-    let empty : requests ≡ [] = nothing_left requests none in
-    rw empty (record { joins = record { base = refl; window = sym (append-nil c.window); present = refl; within = tt }; told = refl })
-
-some_entries : (seat : ℕ) (i : Image) (client : ℕ) (form : ListForm) (requests : List Request) → 1 ≤ length requests → 1 ≤ length (entries_of seat i client form 0 requests)
-some_entries seat i client form [] some = absurd (omega (arith, some))
-some_entries seat i client form (request ∷ requests) some = entries_some seat i client form 0 request requests
-
--- want of memory may come in the place of each limit
-may_want : (limit : Option PartitionFault) → MayRefuse limit NoMemory
-may_want None = refl
-may_want (Some limit) = inr refl
-
-wanted_at : (i : Image) (found : Option Happened) → ForSome found (λ h. MayRefuse (limit_of h.seat i h.event) NoMemory)
-wanted_at i found = λ h e. may_want (limit_of h.seat i h.event)
-
--- a list whose first request found no memory
-pub first_stop : (seat client : ℕ) (form : ListForm) (c : Chronicle) (requests : List Request) (tolds : List Told) (command : List ℕ)
-    → 1 ≤ length requests → tolds ≡ [] → command ≡ slice_index_or (map name_in requests) 0 []
-    → StopsList c c (entries_of seat c.present client form 0 requests) requests (record { done = 0; tolds = tolds; command = command; cause = NoMemory })
-first_stop seat client form c requests tolds command some none named = record {
-  joins = record { base = refl; window = sym (append-nil c.window); present = refl; within = tt };
-  told = none;
-  more = some_entries seat c.present client form requests some;
-  command = named;
-  cause = wanted_at c.present (slice_get (entries_of seat c.present client form 0 requests) 0);
+-- one entry more joins
+joins_more : (before mid now : Chronicle) (done : List Happened) (h : Happened)
+    → Joins before mid done → limit_of h.seat mid.present h.event ≡ None → now.base ≡ mid.base → now.window ≡ mid.window ++ h ∷ [] → now.present ≡ next_image h.seat mid.present h.event
+    → Joins before now (done ++ h ∷ [])
+joins_more before mid now done h joins within base window present = record {
+  base = base ∙ joins.base;
+  window = window ∙ ap (λ (hs : List Happened). hs ++ h ∷ []) joins.window ∙ append_assoc before.window done (h ∷ []);
+  present = present ∙ ap (λ (i : Image). next_image h.seat i h.event) joins.present ∙ sym (replay-append before.present done h);
+  within = within_more before.present done h joins.within (ap (λ (i : Image). limit_of h.seat i h.event) (sym joins.present) ∙ within);
 }
+
+-- the requests, each before the shelf heard of it
+abbrev unheard : List Request → List Answered
+unheard requests = map (λ (r : Request). (r, nothing_heard)) requests
+
+asked_unheard : (requests : List Request) → map (λ (a : Answered). a.0) (unheard requests) ≡ requests
+asked_unheard [] = refl
+asked_unheard (r ∷ rs) = ap (λ l. r ∷ l) (asked_unheard rs)
+
+module _ {S : Type 0} (standing : S → Standing) (failed : S → S → Call → Type 0) (seat client : ℕ) (form : ListForm) where
+  -- the entries of requests, from a place on
+  abbrev entries : Image → ℕ → List Answered → List Happened
+  entries i place answered = entries_of seat i client form place answered
+
+  abbrev event_at : ℕ → Request → Heard → Event
+  event_at place request heard = Line client (InList form place) request heard
+
+  entries_more : (i : Image) (place : ℕ) (request : Request) (heard : Heard) (more : List Answered) (t : Told)
+      → t ≡ told i (event_at place request heard) → ends_list t ≡ false
+      → entries i place ((request, heard) ∷ more)
+      ≡ record { seat = seat; event = event_at place request heard; told = t } ∷ entries (next_image seat i (event_at place request heard)) (place + 1) more
+  unfolding entries_of
+  entries_more i place request heard more t is goes =
+      let goes' : ends_list (told i (event_at place request heard)) ≡ false = rw is at goes in
+      rw goes' (ap (λ (u : Told). record { seat = seat; event = event_at place request heard; told = u } ∷ entries (next_image seat i (event_at place request heard)) (place + 1) more) (sym is))
+
+  entries_last : (i : Image) (place : ℕ) (request : Request) (heard : Heard) (more : List Answered) (t : Told)
+      → t ≡ told i (event_at place request heard) → ends_list t ≡ true
+      → entries i place ((request, heard) ∷ more) ≡ record { seat = seat; event = event_at place request heard; told = t } ∷ []
+  unfolding entries_of
+  entries_last i place request heard more t is ends =
+      let ends' : ends_list (told i (event_at place request heard)) ≡ true = rw is at ends in
+      rw ends' (ap (λ (u : Told). record { seat = seat; event = event_at place request heard; told = u } ∷ []) (sym is))
+
+  entries_some : (i : Image) (place : ℕ) (a : Answered) (more : List Answered) → 1 ≤ length (entries i place (a ∷ more))
+  unfolding entries_of
+  entries_some i place a more = omega arith
+
+  -- one entry more is served
+  serves_more : (i : Image) (hs : List Happened) (h : Happened) (old mid new : S) → ServesAll standing failed old mid i hs
+      → Serves standing failed mid new (question (replay i hs) h.event) (writing (replay i hs) h.event (heard_at h.event)) (heard_at h.event)
+      → ServesAll standing failed old new i (hs ++ h ∷ [])
+  serves_more i [] h old mid new all one =
+      (new, subst (λ (s : S). Serves standing failed s new (question i h.event) (writing i h.event (heard_at h.event)) (heard_at h.event)) all one, refl)
+  serves_more i (g ∷ gs) h old mid new all one = (all.0, all.1, serves_more (next_image g.seat i g.event) gs h all.0 mid new all.2 one)
+
+  -- some requests of a list ran, none ended it, and the rest are to come
+  pub record Ran (before now : Chronicle) (old new : S) (requests rest : List Request) (tolds : List Told) : Type 0 where
+    pub done : List Happened
+    pub front : List Answered
+    pub joins : Joins before now done
+    pub told_are : tolds ≡ map (λ (h : Happened). h.told) done
+    pub all : (more : List Answered) → entries before.present 0 (front ++ more) ≡ done ++ entries now.present (length done) more
+    pub cut : requests ≡ map (λ (a : Answered). a.0) front ++ rest
+    pub as_many : length front ≡ length done
+    pub shelf : ServesAll standing failed old new before.present done
+
+  -- what an event of a list did
+  pub record Does (before now : Chronicle) (old new : S) (place : ℕ) (request : Request) (t : Told) : Type 0 where
+    pub base : now.base ≡ before.base
+    pub records : Records standing failed before.present now.present before.window now.window old new seat (event_at place request nothing_heard) t
+
+  -- an event that was applied
+  pub does_so : (before now : Chronicle) (old new : S) (place place' : ℕ) (request : Request) (t : Told) → place ≡ place' → now.base ≡ before.base
+      → Records standing failed before.present now.present before.window now.window old new seat (event_at place request nothing_heard) t
+      → Does before now old new place' request t
+  does_so before now old new place place' request t e base records =
+      subst (λ (n : ℕ). Does before now old new n request t) e (record { base = base; records = records })
+
+  pub none_ran : (before : Chronicle) (old : S) (requests : List Request) (tolds : List Told) → tolds ≡ [] → Ran before before old old requests requests tolds
+  none_ran before old requests tolds none = record {
+    done = [];
+    front = [];
+    joins = record { base = refl; window = sym (append-nil before.window); present = refl; within = tt };
+    told_are = none;
+    all = λ more. refl;
+    cut = refl;
+    as_many = refl;
+    shelf = refl;
+  }
+
+  front_more : (front : List Answered) (request : Request) (heard : Heard) (requests rest rest' : List Request)
+      → requests ≡ map (λ (a : Answered). a.0) front ++ rest → rest ≡ request ∷ rest'
+      → requests ≡ map (λ (a : Answered). a.0) (front ++ (request, heard) ∷ []) ++ rest'
+  front_more front request heard requests rest rest' cut first =
+      cut ∙ ap (λ (rs : List Request). map (λ (a : Answered). a.0) front ++ rs) first
+      ∙ sym (append_assoc (map (λ (a : Answered). a.0) front) (request ∷ []) rest')
+      ∙ ap (λ (rs : List Request). rs ++ rest') (sym (map-append (λ (a : Answered). a.0) front ((request, heard) ∷ [])))
+
+  module _ (before mid now : Chronicle) (old between new : S) (requests rest rest' : List Request) (request : Request) (tolds tolds' : List Told) (t : Told)
+      (ran : Ran before mid old between requests rest tolds) (first : rest ≡ request ∷ rest') (does : Does mid now between new (length tolds) request t)
+      (more_told : tolds' ≡ tolds ++ t ∷ []) where
+    abbrev heard : Heard
+    heard = does.records.heard
+
+    abbrev event : Event
+    event = event_at (length tolds) request heard
+
+    abbrev h : Happened
+    h = record { seat = seat; event = event; told = t }
+
+    place : length tolds ≡ length ran.done
+    place = place_is tolds ran.done ran.told_are
+
+    longer : length (ran.done ++ h ∷ []) ≡ length ran.done + 1
+    longer = length-more ran.done h
+
+    joins : Joins before now (ran.done ++ h ∷ [])
+    joins = joins_more before mid now ran.done h ran.joins does.records.within does.base does.records.window does.records.present
+
+    served : ServesAll standing failed old new before.present (ran.done ++ h ∷ [])
+    served =
+        serves_more before.present ran.done h old between new ran.shelf
+        (subst (λ (i : Image). Serves standing failed between new (question i event) (writing i event heard) heard) ran.joins.present does.records.shelf)
+
+    tolds_are : tolds' ≡ map (λ (g : Happened). g.told) (ran.done ++ h ∷ [])
+    tolds_are = told_more tolds tolds' t ran.done h ran.told_are refl more_told
+
+    pub ran_more : ends_list t ≡ false → Ran before now old new requests rest' tolds'
+    ran_more goes =
+        record {
+          done = ran.done ++ h ∷ [];
+          front = ran.front ++ (request, heard) ∷ [];
+          joins = joins;
+          told_are = tolds_are;
+          all = λ more.
+              ap (entries before.present 0) (append_assoc ran.front ((request, heard) ∷ []) more)
+              ∙ ran.all ((request, heard) ∷ more)
+              ∙ ap (λ (n : ℕ). ran.done ++ entries mid.present n ((request, heard) ∷ more)) (sym place)
+              ∙ ap (λ (hs : List Happened). ran.done ++ hs) (entries_more mid.present (length tolds) request heard more t does.records.told_is goes)
+              ∙ sym (append_assoc ran.done (h ∷ []) (entries (next_image seat mid.present event) (length tolds + 1) more))
+              ∙ ap (λ (i : Image). (ran.done ++ h ∷ []) ++ entries i (length tolds + 1) more) (sym does.records.present)
+              ∙ ap (λ (n : ℕ). (ran.done ++ h ∷ []) ++ entries now.present n more) (ap (λ n. n + 1) place ∙ sym longer);
+          cut = front_more ran.front request heard requests rest rest' ran.cut first;
+          as_many = length-more ran.front (request, heard) ∙ ap (λ n. n + 1) ran.as_many ∙ sym longer;
+          shelf = served;
+        }
+
+    pub ran_last : ends_list t ≡ true → RunsList standing failed before now old new seat client form requests tolds'
+    ran_last ends =
+        let answered : List Answered = (ran.front ++ (request, heard) ∷ []) ++ unheard rest' in
+        let all : entries before.present 0 answered ≡ ran.done ++ h ∷ [] =
+        ap (entries before.present 0) (append_assoc ran.front ((request, heard) ∷ []) (unheard rest'))
+        ∙ ran.all ((request, heard) ∷ unheard rest')
+        ∙ ap (λ (n : ℕ). ran.done ++ entries mid.present n ((request, heard) ∷ unheard rest')) (sym place)
+        ∙ ap (λ (hs : List Happened). ran.done ++ hs) (entries_last mid.present (length tolds) request heard (unheard rest') t does.records.told_is ends) in
+        record {
+          answered = answered;
+          asked = map-append (λ (a : Answered). a.0) (ran.front ++ (request, heard) ∷ []) (unheard rest')
+              ∙ ap (λ (rs : List Request). map (λ (a : Answered). a.0) (ran.front ++ (request, heard) ∷ []) ++ rs) (asked_unheard rest')
+              ∙ sym (front_more ran.front request heard requests rest rest' ran.cut first);
+          joins = subst (Joins before now) (sym all) joins;
+          told = tolds_are ∙ ap (map (λ (g : Happened). g.told)) (sym all);
+          shelf = subst (ServesAll standing failed old new before.present) (sym all) served;
+        }
+
+  pub ran_all : (before now : Chronicle) (old new : S) (requests rest : List Request) (tolds : List Told)
+      → Ran before now old new requests rest tolds → rest ≡ [] → RunsList standing failed before now old new seat client form requests tolds
+  unfolding entries_of
+  ran_all before now old new requests rest tolds ran none =
+      let all : entries before.present 0 ran.front ≡ ran.done =
+      ap (entries before.present 0) (sym (append-nil ran.front)) ∙ ran.all [] ∙ append-nil ran.done in
+      record {
+        answered = ran.front;
+        asked = sym (ran.cut ∙ ap (λ (rs : List Request). map (λ (a : Answered). a.0) ran.front ++ rs) none ∙ append-nil (map (λ (a : Answered). a.0) ran.front));
+        joins = subst (Joins before now) (sym all) ran.joins;
+        told = ran.told_are ∙ ap (map (λ (g : Happened). g.told)) (sym all);
+        shelf = subst (ServesAll standing failed old new before.present) (sym all) ran.shelf;
+      }
+
+  -- the name of the first request that did not run
+  name_at : (front rest : List Request) (request : Request) → slice_index_or (map name_in (front ++ request ∷ rest)) (length front) [] ≡ name_in request
+  name_at [] rest request = refl
+  name_at (r ∷ front) rest request = name_at front rest request
+
+  -- the entry behind those that ran
+  behind : (done : List Happened) (entry : Happened) (more : List Happened) → slice_get (done ++ entry ∷ more) (length done) ≡ Some entry
+  behind [] entry more = refl
+  behind (h ∷ done) entry more = behind done entry more
+
+  of_first : (entry : Happened) (P : Happened → Type 0) (found : Option Happened) → found ≡ Some entry → P entry → ForSome found P
+  of_first entry P found e p = λ x is. (let both : Some entry ≡ Some x = sym e ∙ is in let same : entry ≡ x = cc in subst P same p)
+
+  length-asked : (front : List Answered) → length (map (λ (a : Answered). a.0) front) ≡ length front
+  length-asked [] = refl
+  length-asked (a ∷ front) = ap suc (length-asked front)
+
+  pub ran_stop : (before now : Chronicle) (old between new : S) (requests rest rest' : List Request) (request : Request) (tolds : List Told) (command : List ℕ) (cause : PartitionFault)
+      → Ran before now old between requests rest tolds → rest ≡ request ∷ rest' → command ≡ name_in request
+      → IsRefused standing failed now.present between new seat (event_at (length tolds) request nothing_heard) cause
+      → StopsList standing failed before now old new seat client form requests (record { done = length tolds; tolds = tolds; command = command; cause = cause })
+  unfolding entries_of
+  ran_stop before now old between new requests rest rest' request tolds command cause ran first named refused =
+      let place : length tolds ≡ length ran.done = place_is tolds ran.done ran.told_are in
+      let more : List Answered = (request, nothing_heard) ∷ unheard rest' in
+      let answered : List Answered = ran.front ++ more in
+      let others : List Happened = entries now.present (length ran.done) more in
+      let all : entries before.present 0 answered ≡ ran.done ++ others = ran.all more in
+      let some = entries_some now.present (length ran.done) (request, nothing_heard) (unheard rest') in
+      let long = length-append ran.done others in
+      let same = ap length all in
+      let front : take (length tolds) (entries before.present 0 answered) ≡ ran.done =
+      ap (take (length tolds)) all ∙ ap (λ (n : ℕ). take n (ran.done ++ others)) place ∙ take-append_seam ran.done others in
+      let entry : Happened = record { seat = seat; event = event_at (length ran.done) request nothing_heard; told = told now.present (event_at (length ran.done) request nothing_heard) } in
+      let later : List Happened = if ends_list entry.told then [] else entries (next_image seat now.present entry.event) (length ran.done + 1) (unheard rest') in
+      let cut : requests ≡ map (λ (a : Answered). a.0) ran.front ++ request ∷ rest' = ran.cut ∙ ap (λ (rs : List Request). map (λ (a : Answered). a.0) ran.front ++ rs) first in
+      record {
+        answered = answered;
+        asked = map-append (λ (a : Answered). a.0) ran.front more
+            ∙ ap (λ (rs : List Request). map (λ (a : Answered). a.0) ran.front ++ request ∷ rs) (asked_unheard rest') ∙ sym cut;
+        joins = subst (Joins before now) (sym front) ran.joins;
+        told = ran.told_are ∙ ap (map (λ (g : Happened). g.told)) (sym front);
+        more = omega (arith, place, some, long, same);
+        command = named ∙ sym (ap (λ (rs : List Request). slice_index_or (map name_in rs) (length tolds) []) cut
+            ∙ ap (λ (n : ℕ). slice_index_or (map name_in (map (λ (a : Answered). a.0) ran.front ++ request ∷ rest')) n []) (place ∙ sym ran.as_many ∙ sym (length-asked ran.front))
+            ∙ name_at (map (λ (a : Answered). a.0) ran.front) rest' request);
+        between = between;
+        shelf = subst (ServesAll standing failed old between before.present) (sym front) ran.shelf;
+        cause = of_first entry (λ (h : Happened). IsRefused standing failed now.present between new h.seat h.event cause) (slice_get (entries before.present 0 answered) (length tolds))
+            (ap (λ (hs : List Happened). slice_get hs (length tolds)) all ∙ ap (slice_get (ran.done ++ others)) place ∙ behind ran.done entry later)
+            (subst (λ (n : ℕ). IsRefused standing failed now.present between new seat (event_at n request nothing_heard) cause) place refused);
+      }
+
+  -- a list without requests
+  pub empty_ran : (c : Chronicle) (old : S) (requests : List Request) → length requests ≡ 0 → RunsList standing failed c c old old seat client form requests []
+  unfolding entries_of
+  empty_ran c old requests none =
+      record {
+        answered = [];
+        asked = sym (nothing_left requests none);
+        joins = record { base = refl; window = sym (append-nil c.window); present = refl; within = tt };
+        told = refl;
+        shelf = refl;
+      }
+
+  -- a list whose first request found no memory
+  pub first_stop : (c : Chronicle) (old : S) (requests : List Request) (tolds : List Told) (command : List ℕ)
+      → 1 ≤ length requests → tolds ≡ [] → command ≡ slice_index_or (map name_in requests) 0 []
+      → StopsList standing failed c c old old seat client form requests (record { done = 0; tolds = tolds; command = command; cause = NoMemory })
+  first_stop c old [] tolds command some none named = absurd (omega (arith, some))
+  first_stop c old (request ∷ requests) tolds command some none named =
+      subst (λ (n : ℕ). StopsList standing failed c c old old seat client form (request ∷ requests) (record { done = n; tolds = tolds; command = command; cause = NoMemory })) (ap length none)
+      (ran_stop c c old old old (request ∷ requests) (request ∷ requests) requests request tolds command NoMemory
+      (none_ran c old (request ∷ requests) tolds none) refl named (wanting standing failed seat c.present old (event_at (length tolds) request nothing_heard)))

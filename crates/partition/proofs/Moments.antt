@@ -8,6 +8,8 @@ use Rattle.idle_notes.specs.declared.subsystem.Subsystem.TheVariants.{Database, 
 use Rattle.idle_notes.specs.Names.{changed_lines}
 use Rattle.idle_notes.specs.Notes.{waits, notice_of}
 use Rattle.idle_notes.specs.Sets.{union, meet, has, is_nonempty}
+use Rattle.idle_notes.specs.Channels.{messages_of, pairs}
+use Rattle.partition.specs.Shelves.{changes_lists, changes_stickers}
 use Rattle.song_queue.specs.Past.{present}
 use Rattle.mpd_command.specs.declared.command.Command.{Command}
 use Rattle.mpd_command.specs.declared.command.Command.TheVariants.{Idle}
@@ -24,10 +26,10 @@ use Rattle.partition.specs.declared.state.Client.{Client}
 use Rattle.partition.specs.Answers.{Said}
 use Rattle.partition.specs.Clients.{notified, move_of, closes, options, playing, Rising}
 use Rattle.partition.specs.Commands.Status.{idles}
-use Rattle.partition.specs.Doings.{Change, change_of, outputs_after, player_after, volume_after}
+use Rattle.partition.specs.Doings.{Change, change_of, channels_after, outputs_after, player_after, volume_after}
 use Rattle.partition.specs.Image.{Image, Turn, client_of, library_after}
-use Rattle.partition.specs.Step.{turn, turn_of, turn_line, speaker, mover, raised_by, report_of, after_turn, told_by}
-use Rattle.partition.specs.World.{Listener, Moment, Life, PartDiffers, IsPending, parts_in, raised_at, is_there, is_learning, is_told, begins_anew, pending_for, client_in, listener_of, image_of, past_after, world_after_turn}
+use Rattle.partition.specs.Step.{turn, turn_of, turn_line, written_turn, speaker, mover, raised_by, report_of, after_turn, told_by}
+use Rattle.partition.specs.World.{Listener, Moment, Life, Differs, IsPending, parts_in, raised_at, is_there, is_learning, is_told, begins_anew, pending_for, client_in, listener_of, image_of, past_after, world_after_turn}
 use Rattle.partition.specs.Notices.{Raises, IsIn, WaitsFor, HasChanged, Meets, HasNews, IsSent, IsClear, Asks, IsToldNews, Tells}
 use Rattle.partition.proofs.Asking.{wish_is, turn_idle, Quiet, quiet_unheard, quiet_unwaiting, IsAsking, kind_of, is_found, of_any, notified_some, does_some, of_moved}
 use Rattle.partition.proofs.Members.{in_map, of_map, any_in, same_sets, has_meet, has_some, is_some}
@@ -81,7 +83,7 @@ module _ (life : Life) (done : List Happened) (event : Event) (above : 1 ≤ lif
   abbrev t : Turn
   t = turn i event
 
-  abbrev r : Subsystems
+  abbrev r : ℕ → Subsystems
   r = raised_by i.part i.shared.library t
 
   abbrev ms : List Moment
@@ -96,30 +98,30 @@ module _ (life : Life) (done : List Happened) (event : Event) (above : 1 ≤ lif
   abbrev change : Change
   change = change_of i.shared.library.rate i.part t.doing
 
-  is_raised : raised_at m ≡ r
-  is_raised = same_raised life.world.limits life.world.past change (parts_in m.before) (parts_in m.after) above some (keeps i.shared.library.rate i.part t.doing)
+  is_raised : (λ (n : ℕ). raised_at n m) ≡ r
+  is_raised = same_raised t.written life.world.limits life.world.past change (parts_in m.before) (parts_in m.after) above some (keeps i.shared.library.rate i.part t.doing)
 
   pub raises : Raises m
-  raises = record { each = λ x. raised_differ m.before m.after x; all = λ none. agree life.world i event t refl none }
+  raises = record { each = λ number x. raised_differ number m x; all = λ none. agree life.world i event t m.notices m.report refl none }
 
-  differs : (x : Subsystem) → (has r x ≡ true) ↔ PartDiffers x m.before m.after
-  differs x = subst (λ (s : Subsystems). (has s x ≡ true) ↔ PartDiffers x m.before m.after) is_raised (raised_differ m.before m.after x)
+  differs : (number : ℕ) (x : Subsystem) → (has (r number) x ≡ true) ↔ Differs number x m
+  differs number x = subst (λ (s : ℕ → Subsystems). (has (s number) x ≡ true) ↔ Differs number x m) is_raised (raised_differ number m x)
 
   -- what of a named set changed, by the flags
   abbrev news_of : ℕ → Subsystems → Subsystems
-  news_of number named = meet (union (pending_for number ms) r) named
+  news_of number named = meet (union (pending_for number ms) (r number)) named
 
   changes : (number : ℕ) (named : Subsystems) (x : Subsystem) → (has (news_of number named) x ≡ true) ↔ ((has named x ≡ true) × HasChanged number x m ms)
   changes number named x =
       let pending : Subsystems = pending_for number ms in
-      let meets : has (news_of number named) x ≡ (has (union pending r) x && has named x) = has_meet (union pending r) named x in
-      let joins : has (union pending r) x ≡ (has pending x || has r x) = has_union pending r x in (
+      let meets : has (news_of number named) x ≡ (has (union pending (r number)) x && has named x) = has_meet (union pending (r number)) named x in
+      let joins : has (union pending (r number)) x ≡ (has pending x || has (r number) x) = has_union pending (r number) x in (
         λ e. (let p = parts _ _ (sym meets ∙ e) in (
           p.1,
-          elim (either _ _ (sym joins ∙ p.0)) [ inl q ↦ inl ((reads_pending number x ms).0 q) | inr q ↦ inr ((differs x).0 q) ],
+          elim (either _ _ (sym joins ∙ p.0)) [ inl q ↦ inl ((reads_pending number x ms).0 q) | inr q ↦ inr ((differs number x).0 q) ],
         )),
-        λ p. meets ∙ both _ _ (joins ∙ one_of _ _ (elim p.1 as (λ _. (has pending x ≡ true) ⊎ (has r x ≡ true))
-            [ inl q ↦ inl ((reads_pending number x ms).1 q) | inr q ↦ inr ((differs x).1 q) ])) p.0,
+        λ p. meets ∙ both _ _ (joins ∙ one_of _ _ (elim p.1 as (λ _. (has pending x ≡ true) ⊎ (has (r number) x ≡ true))
+            [ inl q ↦ inl ((reads_pending number x ms).1 q) | inr q ↦ inr ((differs number x).1 q) ])) p.0,
       )
 
   meets_of : (number : ℕ) (named : Subsystems) → is_nonempty (news_of number named) ≡ true → Meets number named (news_of number named) m ms
@@ -239,23 +241,23 @@ module _ (life : Life) (done : List Happened) (event : Event) (above : 1 ≤ lif
     turn_is : t ≡ turn_idle k named
     turn_is =
         ap (turn_of i.part i.shared.library i.clients) asks.event
-        ∙ ap (λ (o : Option Client). turn_line i.part i.shared.library o Alone (Run asks.name (Idle named))) (found k i.clients rising (listed number None asks.free))
+        ∙ ap (λ (o : Option Client). written_turn Alone (Run asks.name (Idle named)) asks.heard.refused (turn_line i.part i.shared.library o Alone (Run asks.name (Idle named)) asks.heard.read)) (found k i.clients rising (listed number None asks.free))
 
     pub speaks : n ≡ number
     speaks = ap mover asks.event
 
-    same_parts : (x : Subsystem) → PartDiffers x m.before m.after → ⊥
+    same_parts : (x : Subsystem) → Differs number x m → ⊥
     same_parts Database e = e (ap (λ (u : Turn). (library_after life.world.library u.scan).songs) (sym turn_is))
     same_parts Update e = e (ap (λ (u : Turn). (library_after life.world.library u.scan).scan.runs) (sym turn_is))
-    same_parts StoredPlaylist e = e
+    same_parts StoredPlaylist e = (let clash : true ≡ false = sym e ∙ ap (λ (u : Turn). changes_lists u.written) turn_is in cc)
     same_parts Playlist e = e (ap (λ (u : Turn). present (past_after life.world.past (change_of i.shared.library.rate i.part u.doing))) (sym turn_is))
     same_parts Player e = e (ap (λ (u : Turn). playing (player_after i.shared.library.rate i.part u.doing)) (sym turn_is))
     same_parts Mixer e = e (ap (λ (u : Turn). volume_after life.world.volume u.doing) (sym turn_is))
     same_parts Output e = e (ap (λ (u : Turn). (outputs_after life.world.outputs u.doing).enabled) (sym turn_is))
     same_parts Options e = e (ap (λ (u : Turn). options (player_after i.shared.library.rate i.part u.doing)) (sym turn_is))
-    same_parts Sticker e = e
-    same_parts Subscription e = e
-    same_parts Message e = e
+    same_parts Sticker e = (let clash : true ≡ false = sym e ∙ ap (λ (u : Turn). changes_stickers u.written) turn_is in cc)
+    same_parts Subscription e = e (ap (λ (u : Turn). pairs (channels_after life.world.channels u.doing)) (sym turn_is))
+    same_parts Message e = e.1 (ap (λ (u : Turn). messages_of number (channels_after life.world.channels u.doing)) turn_is ∙ e.0)
 
     asked : (x : Subsystem) → (has d x ≡ true) ↔ ((has named x ≡ true) × HasChanged number x m ms)
     asked x =
@@ -339,7 +341,7 @@ module _ (life : Life) (done : List Happened) (event : Event) (above : 1 ≤ lif
       let number : was.0.number ≡ a.number = ap (λ (c : Client). c.number) was.2 ∙ is.1 in
       let free : was.0.waiting ≡ None = ap (λ (c : Client). c.pending.waiting) was.2 ∙ a.free in
       let same : was.0 ≡ record { number = a.number; waiting = None } = λ j. record { number = number j; waiting = free j } in
-      record { name = a.name; event = a.is ∙ ap (λ (c : Command). Line a.number Alone (Run a.name c)) (wish_is a.command a.named a.wish); free = subst (λ (l : Listener). IsIn l life.world.clients) same was.1 }
+      record { name = a.name; heard = a.heard; event = a.is ∙ ap (λ (c : Command). Line a.number Alone (Run a.name c) a.heard) (wish_is a.command a.named a.wish); free = subst (λ (l : Listener). IsIn l life.world.clients) same was.1 }
 
   told_news : (number : ℕ) → is_told number m ≡ true → IsToldNews number m ms
   told_news number e =

@@ -27,10 +27,10 @@ each_filter P p [] e = tt
 each_filter P p (k ∷ ks) e =
     elim (p k) as (λ b. Each P (if b then k ∷ filter p ks else filter p ks)) [ true ↦ (e.0, each_filter P p ks e.1) | false ↦ each_filter P p ks e.1 ]
 
-module _ (raised : Subsystems) where
+module _ (raised : ℕ → Subsystems) where
   -- whether a client is told
   abbrev pub told : Client → Bool
-  told k = is_nonempty (due (noted raised k.pending))
+  told k = is_nonempty (due (noted (raised k.number) k.pending))
 
   -- whether a client of this number is named among the notices to some
   abbrev pub named : ℕ → List Client → Bool
@@ -38,7 +38,7 @@ module _ (raised : Subsystems) where
 
   named_one : (n : ℕ) (k : Client) → list_any (λ x. x.client == n) (notice_for raised k) ≡ (told k && (k.number == n))
   named_one n k =
-      elim (told k) as (λ b. list_any (λ x. x.client == n) (notice_to k.number (if b then Some (due (noted raised k.pending)) else None)) ≡ (b && (k.number == n)))
+      elim (told k) as (λ b. list_any (λ x. x.client == n) (notice_to k.number (if b then Some (due (noted (raised k.number) k.pending)) else None)) ≡ (b && (k.number == n)))
       [ true ↦ elim (k.number == n) as (λ c. (c || false) ≡ c) [ true ↦ refl | false ↦ refl ] | false ↦ refl ]
 
   named_more : (n : ℕ) (k : Client) (ks : List Client) → named n (k ∷ ks) ≡ ((told k && (k.number == n)) || named n ks)
@@ -87,10 +87,10 @@ flagged flag k = record k { pending = record k.pending { changed = flag k.number
 pub unchanged : (flag : ℕ → Subsystems) (k : Client) → flag k.number ≡ k.pending.changed → flagged flag k ≡ k
 unchanged flag k e = ap (λ (s : Subsystems). record k { pending = record k.pending { changed = s } }) e
 
-module _ (raised : Subsystems) (flag after : ℕ → Subsystems) (there : ℕ → Bool) (speaker : ℕ) where
+module _ (raised : ℕ → Subsystems) (flag after : ℕ → Subsystems) (there : ℕ → Bool) (speaker : ℕ) where
   -- what a client's flags are after an event by which it begins anew or not
   abbrev pub grown : ℕ → Bool → Subsystems
-  grown n anew = if anew then none else union (flag n) raised
+  grown n anew = if anew then none else union (flag n) (raised n)
 
   -- the client was there, and its flags were right
   abbrev pub Right : Client → Type 0
@@ -99,18 +99,18 @@ module _ (raised : Subsystems) (flag after : ℕ → Subsystems) (there : ℕ �
   abbrev pub anew : List Client → Bool → ℕ → Bool
   anew ks heard n = not (there n) || (named raised n ks || ((n == speaker) && heard))
 
-  quiet : (d s : Bool) (f : Subsystems) (p : Pending) → p.changed ≡ f
-      → (if d || (s && false) then none else union f raised) ≡ (if d then fresh else noted raised p).changed
-  quiet true s f p e = refl
-  quiet false true f p e = ap (λ x. union x raised) (sym e)
-  quiet false false f p e = ap (λ x. union x raised) (sym e)
+  quiet : (d s : Bool) (r f : Subsystems) (p : Pending) → p.changed ≡ f
+      → (if d || (s && false) then none else union f r) ≡ (if d then fresh else noted r p).changed
+  quiet true s r f p e = refl
+  quiet false true r f p e = ap (λ x. union x r) (sym e)
+  quiet false false r f p e = ap (λ x. union x r) (sym e)
 
-  told_now : (d s : Bool) (f : Subsystems) (p : Pending) → p.changed ≡ f
-      → (if d || (s && true) then none else union f raised) ≡ (if s then fresh else (if d then fresh else noted raised p)).changed
-  told_now true true f p e = refl
-  told_now true false f p e = refl
-  told_now false true f p e = refl
-  told_now false false f p e = ap (λ x. union x raised) (sym e)
+  told_now : (d s : Bool) (r f : Subsystems) (p : Pending) → p.changed ≡ f
+      → (if d || (s && true) then none else union f r) ≡ (if s then fresh else (if d then fresh else noted r p)).changed
+  told_now true true r f p e = refl
+  told_now true false r f p e = refl
+  told_now false true r f p e = refl
+  told_now false false r f p e = ap (λ x. union x r) (sym e)
 
   module _ (heard : Bool) (ks : List Client) (is : (n : ℕ) → after n ≡ grown n (anew ks heard n)) where
     -- the flags of a client that is there, by whether it is told
@@ -157,18 +157,18 @@ module _ (raised : Subsystems) (flag after : ℕ → Subsystems) (there : ℕ �
     pub stays : ((n : ℕ) → after n ≡ grown n (anew ks false n)) → Each (λ k. flagged after k ≡ k) (map (notified raised) ks)
     stays is =
         identical (λ k. flagged after k ≡ k) (map (notified raised) ks)
-        (each_unchanged (λ k. k) false ks is (λ k. refl) (λ k e. quiet (told raised k) (k.number == speaker) (flag k.number) k.pending e) ks right names)
+        (each_unchanged (λ k. k) false ks is (λ k. refl) (λ k e. quiet (told raised k) (k.number == speaker) (raised k.number) (flag k.number) k.pending e) ks right names)
 
     pub keeps_flags : (change : Pending → Pending) → ((p : Pending) → (change p).changed ≡ p.changed) → ((n : ℕ) → after n ≡ grown n (anew ks false n))
         → Each (λ k. flagged after k ≡ k) (map (at speaker change) (map (notified raised) ks))
     keeps_flags change same is =
         each_unchanged (at speaker change) false ks is (same_number change)
-        (λ k e. quiet (told raised k) (k.number == speaker) (flag k.number) k.pending e ∙ sym (same_flags change same (notified raised k))) ks right names
+        (λ k e. quiet (told raised k) (k.number == speaker) (raised k.number) (flag k.number) k.pending e ∙ sym (same_flags change same (notified raised k))) ks right names
 
     pub clears : ((n : ℕ) → after n ≡ grown n (anew ks true n)) → Each (λ k. flagged after k ≡ k) (map (at speaker (λ p. fresh)) (map (notified raised) ks))
     clears is =
         each_unchanged (at speaker (λ p. fresh)) true ks is (same_number (λ p. fresh))
-        (λ k e. told_now (told raised k) (k.number == speaker) (flag k.number) k.pending e ∙ cleared (notified raised k)) ks right names
+        (λ k e. told_now (told raised k) (k.number == speaker) (raised k.number) (flag k.number) k.pending e ∙ cleared (notified raised k)) ks right names
 
     each_insert : (P : Client → Type 0) (xs : List Client) (i : ℕ) (x : Client) → Each P xs → P x → Each P (insert xs i x)
     each_insert P [] zero x e p = (p, tt)

@@ -1,7 +1,10 @@
 -- What an event raises is what differs between the worlds.
-use Rattle.std.proofs.Common.{◌≡◌, ◌≢◌, ◌↔◌, ◌+◌, if◌then◌else◌, ◌||◌, ℕ, Bool, true, false, not, nat_eq, List, Option, Some, None, refl, ap, sym, ◌∙◌}
+use Rattle.std.proofs.lemmas.Bool.Decides.{nat_tests}
+use Rattle.std.proofs.Common.{arith, ◌≡◌, ◌≢◌, ◌↔◌, ◌+◌, ◌==◌, if◌then◌else◌, ◌&&◌, ◌||◌, ℕ, Bool, true, false, not, nat_eq, List, [], ◌∷◌, length, Option, Some, None, refl, ap, sym, ◌∙◌}
 use Rattle.std.specs.Prelude.{slice_get}
-use Rattle.std.proofs.lemmas.Bool.{eq-eqb, eqb-true}
+use Rattle.std.specs.Str.{bytes_eq}
+use Rattle.std.proofs.lemmas.Bool.{and_parts, and_from, eq-eqb, eqb-true}
+use Rattle.std.proofs.lemmas.Slice.Eq.{bytes_eq-Decides}
 use Rattle.idle_notes.specs.declared.subsystem.Subsystem.{Subsystem}
 use Rattle.idle_notes.specs.declared.subsystem.Subsystem.TheVariants.{Database, Update, StoredPlaylist, Playlist, Player, Mixer, Output, Options, Sticker, Subscription, Message}
 use Rattle.idle_notes.specs.Sets.{has}
@@ -16,13 +19,17 @@ use Rattle.player_core.specs.Laws.{Next, Previous, Play, PlayEntry, Seek, Stop, 
 use Rattle.player_core.specs.Player.{PlayerState}
 use Rattle.player_core.proofs.Rising.{numbers_rise}
 use Rattle.song_queue.proofs.Ids.{present-after_event}
-use Rattle.song_queue.proofs.Same.{same_queue-refl, same_queue-true}
+use Rattle.song_queue.proofs.Same.{pointwise-refl, pointwise-true, same_queue-refl, same_queue-true}
+use Rattle.idle_notes.specs.Channels.{messages_of, pairs}
+use Rattle.idle_notes.specs.declared.channels.Message.{Message as Waiting}
 use Rattle.partition.specs.declared.scan.ScanMove.{ScanMove}
 use Rattle.partition.specs.declared.scan.ScanMove.TheVariants.{Stay, Begin, End}
 use Rattle.partition.specs.declared.state.Library.{Library}
 use Rattle.partition.specs.declared.doing.Doing.{Doing}
-use Rattle.partition.specs.declared.doing.Doing.TheVariants.{Rests, Edits, Shuffles, SetsVolume, SetsRepeat, SetsRandom, SetsSingle, SetsConsume, ClearsError, Plays, PlaysPlace, Pauses, TogglesPause, Stops, GoesOn, GoesBack, Seeks, Switches, Wants, Accepts, Fails, Settles}
+use Rattle.partition.specs.declared.doing.Doing.TheVariants.{Rests, Edits, Shuffles, SetsVolume, SetsRepeat, SetsRandom, SetsSingle, SetsConsume, SetsCrossfade, ClearsError, Plays, PlaysPlace, Pauses, TogglesPause, Stops, GoesOn, GoesBack, Seeks, Switches, Wants, Accepts, Fails, Settles, Subscribes, Unsubscribes, Sends, ReadsMessages, Leaves}
 use Rattle.partition.specs.declared.event.Event.{Event}
+use Rattle.partition.specs.declared.event.Notice.{Notice}
+use Rattle.partition.specs.declared.report.Report.{Report}
 use Rattle.partition.specs.declared.state.Part.{Part}
 use Rattle.partition.specs.Outputs.{OutputsData, any_enabled, broken}
 use Rattle.partition.specs.Doings.{Change, ByEdit, ByStep, change_of, entries, outputs_after, played_entry, player_after, player_edited, sought_entry}
@@ -30,8 +37,8 @@ use Rattle.partition.specs.Image.{Image, Turn, library_after}
 use Rattle.partition.specs.Scans.{is_last}
 use Rattle.partition.proofs.Songs.{same_songs-refl, same_songs-true}
 use Rattle.partition.proofs.Alike.{same_enabled-refl, same_enabled-true, same_options-refl, same_options-true, same_playing-refl, same_playing-true}
-use Rattle.partition.specs.Clients.{options, playing, raised, same_enabled, same_options, same_playing, same_songs}
-use Rattle.partition.specs.World.{World, PartDiffers, past_after, parts_in, world_after_turn}
+use Rattle.partition.specs.Clients.{options, playing, same_enabled, same_pair, same_pairs, same_options, same_playing, same_songs}
+use Rattle.partition.specs.World.{World, Moment, Differs, past_after, raised_at, world_after_turn}
 use Rattle.partition.specs.Notices.{AgreeButForUnspoken}
 
 -- a test that answers true only of two that are one, and of each with itself
@@ -75,25 +82,53 @@ differs-tells true false = (λ e same. cc, λ ne. refl)
 differs-tells false true = (λ e same. cc, λ ne. refl)
 differs-tells false false = (λ e. cc, λ ne. absurd (ne refl))
 
-never : (false ≡ true) ↔ ⊥
-never = (λ e. cc, λ n. absurd n)
-
 modes_of : (a b : Bool) → ((a ≢ b) → ⊥) → a ≡ b
 modes_of a b n = decides alike alike-one alike-own a b n
 
--- by the parts of two worlds
-pub raised_differ : (before after : World) (x : Subsystem) → (has (raised (parts_in before) (parts_in after)) x ≡ true) ↔ PartDiffers x before after
-raised_differ before after Database = tells same_songs same_songs-refl same_songs-true before.library.songs after.library.songs
-raised_differ before after Update = differs-tells before.library.scan.runs after.library.scan.runs
-raised_differ before after StoredPlaylist = never
-raised_differ before after Playlist = tells same_queue same_queue-refl same_queue-true (present before.past) (present after.past)
-raised_differ before after Player = tells same_playing same_playing-refl same_playing-true (playing before.player) (playing after.player)
-raised_differ before after Mixer = tells nat_eq (λ a. eq-eqb a a refl) eqb-true before.volume after.volume
-raised_differ before after Output = tells same_enabled same_enabled-refl same_enabled-true before.outputs.enabled after.outputs.enabled
-raised_differ before after Options = tells same_options same_options-refl same_options-true (options before.player) (options after.player)
-raised_differ before after Sticker = never
-raised_differ before after Subscription = never
-raised_differ before after Message = never
+same_pair-true : (p q : ℕ × List ℕ) → same_pair p q ≡ true → p ≡ q
+same_pair-true p q e =
+    let both = and_parts (nat_eq p.0 q.0) (bytes_eq p.1 q.1) e in
+    λ i. (eqb-true p.0 q.0 both.0 i, (bytes_eq-Decides p.1 q.1).0 both.1 i)
+
+same_pair-refl : (p : ℕ × List ℕ) → same_pair p p ≡ true
+same_pair-refl p = and_from (nat_eq p.0 p.0) (bytes_eq p.1 p.1) (eq-eqb p.0 p.0 refl) ((bytes_eq-Decides p.1 p.1).1 refl)
+
+pub same_pairs-true : (a b : List (ℕ × List ℕ)) → same_pairs a b ≡ true → a ≡ b
+unfolding same_pairs
+same_pairs-true a b e = pointwise-true same_pair same_pair-true a b e
+
+pub same_pairs-refl : (a : List (ℕ × List ℕ)) → same_pairs a a ≡ true
+unfolding same_pairs
+same_pairs-refl a = pointwise-refl same_pair same_pair-refl a
+
+pub more_than_none : (n : ℕ) → (1 + n == 0) ≡ false
+more_than_none n = grind (arith, nat_tests)
+
+some_more : (m : Waiting) (ms : List Waiting) → (length (m ∷ ms) == 0) ≡ false
+some_more m ms = ap (λ n. n == 0) (let is : length (m ∷ ms) ≡ 1 + length ms = omega arith in is) ∙ more_than_none (length ms)
+
+begins-tells : (before after : List Waiting) → ((not (not (length before == 0)) && not (length after == 0)) ≡ true) ↔ ((before ≡ []) × (after ≢ []))
+begins-tells [] [] = (λ e. cc, λ p. absurd (p.1 refl))
+begins-tells [] (m ∷ ms) = (λ e. (refl, λ n. (let clash : m ∷ ms ≡ [] = n in cc)), λ p. ap not (some_more m ms))
+begins-tells (m ∷ ms) [] = (λ e. (let f : false ≡ true = sym (ap (λ b. not (not b) && false) (some_more m ms)) ∙ e in cc), λ p. absurd (p.1 refl))
+begins-tells (m ∷ ms) (n ∷ ns) = (
+  λ e. (let f : false ≡ true = sym (ap (λ b. not (not b) && not (length (n ∷ ns) == 0)) (some_more m ms)) ∙ e in cc),
+  λ p. (let clash : m ∷ ms ≡ [] = p.0 in cc),
+)
+
+-- by the parts of the worlds before and after a moment
+pub raised_differ : (number : ℕ) (m : Moment) (x : Subsystem) → (has (raised_at number m) x ≡ true) ↔ Differs number x m
+raised_differ number m Database = tells same_songs same_songs-refl same_songs-true m.before.library.songs m.after.library.songs
+raised_differ number m Update = differs-tells m.before.library.scan.runs m.after.library.scan.runs
+raised_differ number m StoredPlaylist = (λ e. e, λ e. e)
+raised_differ number m Playlist = tells same_queue same_queue-refl same_queue-true (present m.before.past) (present m.after.past)
+raised_differ number m Player = tells same_playing same_playing-refl same_playing-true (playing m.before.player) (playing m.after.player)
+raised_differ number m Mixer = tells nat_eq (λ a. eq-eqb a a refl) eqb-true m.before.volume m.after.volume
+raised_differ number m Output = tells same_enabled same_enabled-refl same_enabled-true m.before.outputs.enabled m.after.outputs.enabled
+raised_differ number m Options = tells same_options same_options-refl same_options-true (options m.before.player) (options m.after.player)
+raised_differ number m Sticker = (λ e. e, λ e. e)
+raised_differ number m Subscription = tells same_pairs same_pairs-refl same_pairs-true (pairs m.before.channels) (pairs m.after.channels)
+raised_differ number m Message = begins-tells (messages_of number m.before.channels) (messages_of number m.after.channels)
 
 same_left : (past : List (List Entry)) (left : List Entry) → present past ≡ present (after_event past left) → after_event past left ≡ past
 same_left past left e =
@@ -156,6 +191,7 @@ same_limit rate part (SetsRepeat on) = refl
 same_limit rate part (SetsRandom on) = (numbers_rise part.player (SetRandom (entries part) on)).3
 same_limit rate part (SetsSingle single) = refl
 same_limit rate part (SetsConsume consume) = refl
+same_limit rate part (SetsCrossfade seconds) = refl
 same_limit rate part ClearsError = refl
 same_limit rate part Plays = (numbers_rise part.player (Play (entries part))).3
 same_limit rate part (PlaysPlace place) = play_keeps part.player (slice_get (entries part) place)
@@ -170,48 +206,58 @@ same_limit rate part (Wants owes) = (numbers_rise part.player (Want rate (entrie
 same_limit rate part (Accepts number frames) = (numbers_rise part.player (Have (entries part) number frames)).3
 same_limit rate part (Fails number partner) = (numbers_rise part.player (Failed (entries part) number partner)).3
 same_limit rate part (Settles output written discarded failed) = refl
+same_limit rate part (Subscribes client channel) = refl
+same_limit rate part (Unsubscribes client channel) = refl
+same_limit rate part (Sends channel text) = refl
+same_limit rate part (ReadsMessages client) = refl
+same_limit rate part (Leaves client) = refl
 
 -- where no part differs nothing differs but what no subsystem speaks of
-pub agree : (before : World) (i : Image) (event : Event) (t : Turn) → i.part.player ≡ before.player
-    → ((x : Subsystem) → PartDiffers x before (world_after_turn before i event t) → ⊥) → AgreeButForUnspoken before (world_after_turn before i event t)
-agree before i event t same_player none =
+pub agree : (before : World) (i : Image) (event : Event) (t : Turn) (notices : List Notice) (report : Report) → i.part.player ≡ before.player
+    → ((number : ℕ) (x : Subsystem) → Differs number x (record { before = before; event = event; turn = t; notices = notices; report = report; after = world_after_turn before i event t }) → ⊥)
+    → AgreeButForUnspoken before (world_after_turn before i event t)
+agree before i event t notices report same_player none =
     let after : World = world_after_turn before i event t in
     let change : Change = change_of before.library.rate i.part t.doing in
-    let songs : before.library.songs ≡ after.library.songs = decides same_songs same_songs-true same_songs-refl before.library.songs after.library.songs (none Database) in
-    let runs : before.library.scan.runs ≡ after.library.scan.runs = modes_of before.library.scan.runs after.library.scan.runs (none Update) in
+    let songs : before.library.songs ≡ after.library.songs = decides same_songs same_songs-true same_songs-refl before.library.songs after.library.songs (none 0 Database) in
+    let runs : before.library.scan.runs ≡ after.library.scan.runs = modes_of before.library.scan.runs after.library.scan.runs (none 0 Update) in
     let library : after.library ≡ before.library = same_library before.library t.scan songs runs in
-    let queue : present before.past ≡ present after.past = decides same_queue same_queue-true same_queue-refl (present before.past) (present after.past) (none Playlist) in
+    let queue : present before.past ≡ present after.past = decides same_queue same_queue-true same_queue-refl (present before.past) (present after.past) (none 0 Playlist) in
     let past : after.past ≡ before.past = same_past before.past change queue in
     let played : playing after.player ≡ playing before.player =
-    sym (decides same_playing same_playing-true same_playing-refl (playing before.player) (playing after.player) (none Player)) in
+    sym (decides same_playing same_playing-true same_playing-refl (playing before.player) (playing after.player) (none 0 Player)) in
     let set : options after.player ≡ options before.player =
-    sym (decides same_options same_options-true same_options-refl (options before.player) (options after.player) (none Options)) in
+    sym (decides same_options same_options-true same_options-refl (options before.player) (options after.player) (none 0 Options)) in
     let limit : after.player.max_cut ≡ before.player.max_cut = same_limit before.library.rate i.part t.doing ∙ ap (λ (p : PlayerState). p.max_cut) same_player in
-    let volume : after.volume ≡ before.volume = sym (decides nat_eq eqb-true (λ a. eq-eqb a a refl) before.volume after.volume (none Mixer)) in
+    let volume : after.volume ≡ before.volume = sym (decides nat_eq eqb-true (λ a. eq-eqb a a refl) before.volume after.volume (none 0 Mixer)) in
     let enabled : after.outputs.enabled ≡ before.outputs.enabled =
-    sym (decides same_enabled same_enabled-true same_enabled-refl before.outputs.enabled after.outputs.enabled (none Output)) in
+    sym (decides same_enabled same_enabled-true same_enabled-refl before.outputs.enabled after.outputs.enabled (none 0 Output)) in
     let names : after.outputs.names ≡ before.outputs.names = same_names before.outputs t.doing in
-    λ j. record {
-      past = past j;
-      limits = before.limits;
-      library = library j;
-      player = record {
-        modes = (set j).modes;
-        round = after.player.round;
-        crossfade = (set j).crossfade;
-        playback = (played j).playback;
-        current = (played j).current;
-        place = after.player.place;
-        starts = (played j).starts;
-        cuts = (played j).cuts;
-        error = (played j).error;
-        jobs = after.player.jobs;
-        job = after.player.job;
-        fade = after.player.fade;
-        gave_up = after.player.gave_up;
-        max_cut = limit j;
-      };
-      volume = volume j;
-      outputs = record { names = names j; enabled = enabled j; failed = after.outputs.failed };
-      clients = after.clients;
-    }
+    let listening : pairs before.channels ≡ pairs after.channels = decides same_pairs same_pairs-true same_pairs-refl (pairs before.channels) (pairs after.channels) (none 0 Subscription) in (
+      λ j. record {
+        past = past j;
+        limits = before.limits;
+        library = library j;
+        player = record {
+          modes = (set j).modes;
+          round = after.player.round;
+          crossfade = (set j).crossfade;
+          playback = (played j).playback;
+          current = (played j).current;
+          place = after.player.place;
+          starts = (played j).starts;
+          cuts = (played j).cuts;
+          error = (played j).error;
+          jobs = after.player.jobs;
+          job = after.player.job;
+          fade = after.player.fade;
+          gave_up = after.player.gave_up;
+          max_cut = limit j;
+        };
+        volume = volume j;
+        outputs = record { names = names j; enabled = enabled j; failed = after.outputs.failed };
+        channels = after.channels;
+        clients = after.clients;
+      },
+      listening,
+    )

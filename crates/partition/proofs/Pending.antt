@@ -47,11 +47,11 @@ stopped p m ms e = rw e refl
 
 -- where the set begins anew nothing is pending; else what was raised joins what was
 pub pending_more : (number : ℕ) (m : Moment) (ms : List Moment) (b : Bool) → begins_anew number m ≡ b
-    → pending_for number (m ∷ ms) ≡ (if b then none else union (pending_for number ms) (raised_at m))
+    → pending_for number (m ∷ ms) ≡ (if b then none else union (pending_for number ms) (raised_at number m))
 pending_more number m ms true e =
-    ap (λ (l : List Moment). union_all (map raised_at l)) (stopped (λ x. not (begins_anew number x)) m ms (ap not e))
+    ap (λ (l : List Moment). union_all (map (raised_at number) l)) (stopped (λ x. not (begins_anew number x)) m ms (ap not e))
 pending_more number m ms false e =
-    ap (λ (l : List Moment). union_all (map raised_at l)) (passed (λ x. not (begins_anew number x)) m ms (ap not e))
+    ap (λ (l : List Moment). union_all (map (raised_at number) l)) (passed (λ x. not (begins_anew number x)) m ms (ap not e))
 
 either : (a b : Bool) → (a || b) ≡ true → (b ≡ true) ⊎ (a ≡ true)
 either true b e = inr refl
@@ -67,8 +67,8 @@ or_left false b e = cc
 
 module _ (number : ℕ) (x : Subsystem) where
   joined : (m : Moment) (ms : List Moment) → begins_anew number m ≡ false
-      → has (pending_for number (m ∷ ms)) x ≡ (has (pending_for number ms) x || has (raised_at m) x)
-  joined m ms e = ap (λ s. has s x) (pending_more number m ms false e) ∙ has_union (pending_for number ms) (raised_at m) x
+      → has (pending_for number (m ∷ ms)) x ≡ (has (pending_for number ms) x || has (raised_at number m) x)
+  joined m ms e = ap (λ s. has s x) (pending_more number m ms false e) ∙ has_union (pending_for number ms) (raised_at number m) x
 
   longer : (m : Moment) (ms : List Moment) → begins_anew number m ≡ false → IsPending number x ms → IsPending number x (m ∷ ms)
   longer m ms e p = record {
@@ -87,13 +87,13 @@ module _ (number : ℕ) (x : Subsystem) where
       λ b. elim b as (λ b. begins_anew number m ≡ b → IsPending number x (m ∷ ms)) [
         | true ↦ λ e. (let clash : false ≡ true = sym (has_none x) ∙ sym (ap (λ s. has s x) (pending_more number m ms true e)) ∙ h in cc)
         | false ↦ λ e. elim (either _ _ (sym (joined m ms e) ∙ h)) [
-          | inl r ↦ record { later = []; moment = m; earlier = ms; order = refl; raised = (raised_differ m.before m.after x).0 r; since = (e, tt) }
+          | inl r ↦ record { later = []; moment = m; earlier = ms; order = refl; raised = (raised_differ number m x).0 r; since = (e, tt) }
           | inr r ↦ longer m ms e (there ms r)
         ]
       ] in
       cases (begins_anew number m) refl
 
-  back : (later : List Moment) (m : Moment) (earlier : List Moment) → has (raised_at m) x ≡ true → NeverAnew number (later ++ m ∷ [])
+  back : (later : List Moment) (m : Moment) (earlier : List Moment) → has (raised_at number m) x ≡ true → NeverAnew number (later ++ m ∷ [])
       → has (pending_for number (later ++ m ∷ earlier)) x ≡ true
   back [] m earlier r never = joined m earlier never.0 ∙ or_right _ _ r
   back (l ∷ ls) m earlier r never = joined l (ls ++ m ∷ earlier) never.0 ∙ or_left _ _ (back ls m earlier r never.1)
@@ -101,5 +101,5 @@ module _ (number : ℕ) (x : Subsystem) where
 pub reads_pending : ReadsPending
 reads_pending number x ms = (
   there number x ms,
-  λ p. ap (λ l. has (pending_for number l) x) p.order ∙ back number x p.later p.moment p.earlier ((raised_differ p.moment.before p.moment.after x).1 p.raised) p.since,
+  λ p. ap (λ l. has (pending_for number l) x) p.order ∙ back number x p.later p.moment p.earlier ((raised_differ number p.moment x).1 p.raised) p.since,
 )

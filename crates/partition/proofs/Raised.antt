@@ -1,5 +1,7 @@
 -- What the signs of a player tell of a turn.
-use Rattle.std.proofs.Common.{◌≡◌, Bool, true, false, not, List, Some, None, refl, ap, sym, ◌∙◌}
+use Rattle.std.proofs.Common.{◌≡◌, inl, inr, ℕ, ◌≤◌, Bool, true, false, not, ◌&&◌, List, Some, None, refl, ap, sym, ◌∙◌, arith}
+use Rattle.std.specs.Prelude.{count_by}
+use Rattle.idle_notes.specs.Channels.{MemberData, clients_with_messages}
 use Rattle.idle_notes.specs.declared.sets.Subsystems.{Subsystems}
 use Rattle.song_queue.specs.Entries.{same_queue}
 use Rattle.song_queue.specs.State.{QueueState, queue_of, differ}
@@ -11,12 +13,16 @@ use Rattle.partition.specs.declared.event.Notice.{Notice}
 use Rattle.partition.specs.declared.state.Client.{Client}
 use Rattle.partition.specs.Answers.{Said}
 use Rattle.partition.specs.declared.state.Library.{Library}
-use Rattle.partition.specs.Clients.{clients_after, notices_after, same_songs}
+use Rattle.partition.specs.Clients.{begins_to_have, clients_after, has_messages, notices_after, same_songs}
 use Rattle.partition.specs.Outputs.{FrameBooks, books_after}
-use Rattle.partition.specs.Doings.{Change, ByEdit, ByStep, change_of, part_after, queue_after}
+use Rattle.partition.specs.Doings.{Change, ByEdit, ByStep, change_of, channels_after, part_after, queue_after}
 use Rattle.partition.specs.Image.{Image, Turn, library_after, songs_after}
-use Rattle.partition.specs.Signs.{signs, told_by_signs}
-use Rattle.partition.specs.Step.{turn, mover, raised_by, report_of, after_turn, told_by}
+use Rattle.partition.specs.Signs.{SignsData, changes_subscriptions, is_among, signs, told_by_signs}
+use Rattle.partition.specs.declared.shelf_calls.ShelfWrite.{ShelfWrite}
+use Rattle.partition.specs.Rooms.{is_waiting}
+use Rattle.partition.specs.Settled.{HasRoom}
+use Rattle.partition.proofs.Listeners.{among_waiting, changes}
+use Rattle.partition.specs.Step.{mover, raised_by, report_of, after_turn, told_by}
 
 pub differ-self : (b : Bool) → differ b b ≡ false
 differ-self true = refl
@@ -27,39 +33,69 @@ by_change queue (ByEdit edit) = parity_tells_changes queue edit
 by_change queue (ByStep None) = ap not (same_queue-refl (queue_of queue)) ∙ sym (differ-self queue.parity)
 by_change queue (ByStep (Some left)) = edited_tells queue left
 
+-- the first message waits for a client, by the list of those for which messages waited
+begins : (number : ℕ) (before after : List MemberData)
+    → (not (is_among number (clients_with_messages before)) && has_messages number after) ≡ begins_to_have number before after
+begins number before after = ap (λ (b : Bool). not b && has_messages number after) (among_waiting number before)
+
 -- what the signs before and after a turn tell is what it raises
 pub by_signs : (part : Part) (library : Library) (after : Part) (found : Library) (t : Turn)
     → after ≡ part_after library.rate part t.doing → found ≡ library_after library t.scan
-    → told_by_signs (not (same_songs library.songs (songs_after library t.scan))) (signs part library) (signs after found) ≡ raised_by part library t
+    → told_by_signs (not (same_songs library.songs (songs_after library t.scan))) (changes_subscriptions part.channels t.doing) t.written (signs part library) after found ≡ raised_by part library t
 by_signs part library after found t e f =
     let database : Bool = not (same_songs library.songs (songs_after library t.scan)) in
     let next : Part = part_after library.rate part t.doing in
     let next_library : Library = library_after library t.scan in
-    ap (λ (p : Part). told_by_signs database (signs part library) (signs p found)) e
-    ∙ ap (λ (l : Library). told_by_signs database (signs part library) (signs next l)) f
-    ∙ ap (λ (b : Bool). record (told_by_signs database (signs part library) (signs next next_library)) { playlist = b }) (sym (by_change part.queue (change_of library.rate part t.doing)))
+    ap (λ (p : Part). told_by_signs database (changes_subscriptions part.channels t.doing) t.written (signs part library) p found) e
+    ∙ ap (λ (l : Library). told_by_signs database (changes_subscriptions part.channels t.doing) t.written (signs part library) next l) f
+    ∙ (λ j number. record (told_by_signs database (changes_subscriptions part.channels t.doing) t.written (signs part library) next next_library number) {
+      playlist = sym (by_change part.queue (change_of library.rate part t.doing)) j;
+      subscription = sym (changes part.channels t.doing) j;
+      message = begins number part.channels (channels_after part.channels t.doing) j;
+    })
 
--- the image after a turn, from what was made of each of its fields
-pub stepped : (i : Image) (event : Event) (part : Part) (library : Library) (books : FrameBooks) (clients : List Client) (raised : Subsystems) (said : Said)
-    → part ≡ part_after i.shared.library.rate i.part (turn i event).doing → library ≡ library_after i.shared.library (turn i event).scan
-    → books ≡ books_after i.shared.books i.part.outputs (turn i event).doing (report_of i.part i.shared.library (turn i event)) → said ≡ (turn i event).said
-    → raised ≡ told_by_signs (not (same_songs i.shared.library.songs (songs_after i.shared.library (turn i event).scan))) (signs i.part i.shared.library) (signs part library)
-    → clients ≡ clients_after (mover event) raised said i.clients
-    → record { part = part; shared = record i.shared { library = library; books = books }; clients = clients } ≡ after_turn i event (turn i event)
-stepped i event part library books clients raised said part_is library_is books_are said_is raised_is clients_are =
-    let t : Turn = turn i event in
-    let all : raised ≡ raised_by i.part i.shared.library t = raised_is ∙ by_signs i.part i.shared.library part library t part_is library_is in
-    let told : clients ≡ clients_after (mover event) (raised_by i.part i.shared.library t) t.said i.clients =
-    clients_are ∙ ap (λ r. clients_after (mover event) r said i.clients) all ∙ ap (λ s. clients_after (mover event) (raised_by i.part i.shared.library t) s i.clients) said_is in
-    λ j. record { part = part_is j; shared = record i.shared { library = library_is j; books = books_are j }; clients = told j }
+-- what is told by readings that are alike
+pub told_alike : (database database' subscription subscription' : Bool) (written written' : ShelfWrite) (before before' : SignsData) (part : Part) (library : Library)
+    → database ≡ database' → subscription ≡ subscription' → written ≡ written' → before ≡ before'
+    → told_by_signs database subscription written before part library ≡ told_by_signs database' subscription' written' before' part library
+told_alike database database' subscription subscription' written written' before before' part library d s w b = λ i. told_by_signs (d i) (s i) (w i) (b i) part library
 
--- the notices of a turn, from what was made of it
-pub noticed : (i : Image) (event : Event) (part : Part) (library : Library) (notices : List Notice) (raised : Subsystems) (said : Said)
-    → part ≡ part_after i.shared.library.rate i.part (turn i event).doing → library ≡ library_after i.shared.library (turn i event).scan → said ≡ (turn i event).said
-    → raised ≡ told_by_signs (not (same_songs i.shared.library.songs (songs_after i.shared.library (turn i event).scan))) (signs i.part i.shared.library) (signs part library)
-    → notices ≡ notices_after (mover event) raised said i.clients
-    → notices ≡ (told_by i event (turn i event)).notices
-noticed i event part library notices raised said part_is library_is said_is raised_is notices_are =
-    let t : Turn = turn i event in
-    let all : raised ≡ raised_by i.part i.shared.library t = raised_is ∙ by_signs i.part i.shared.library part library t part_is library_is in
-    notices_are ∙ ap (λ r. notices_after (mover event) r said i.clients) all ∙ ap (λ s. notices_after (mover event) (raised_by i.part i.shared.library t) s i.clients) said_is
+module _ (i : Image) (event : Event) (t : Turn) (part : Part) (library : Library) (raised : ℕ → Subsystems) (said : Said) where
+  -- what was told by signs is what the turn raised
+  abbrev pub Shown : Type 0
+  Shown = raised ≡ told_by_signs (not (same_songs i.shared.library.songs (songs_after i.shared.library t.scan))) (changes_subscriptions i.part.channels t.doing) t.written (signs i.part i.shared.library) part library
+
+  abbrev pub PartIs : Type 0
+  PartIs = part ≡ part_after i.shared.library.rate i.part t.doing
+
+  abbrev pub LibraryIs : Type 0
+  LibraryIs = library ≡ library_after i.shared.library t.scan
+
+  pub is_raised : PartIs → LibraryIs → Shown → raised ≡ raised_by i.part i.shared.library t
+  is_raised part_is library_is raised_is = raised_is ∙ by_signs i.part i.shared.library part library t part_is library_is
+
+  -- the image after a turn, from what was made of each of its fields
+  pub stepped : (books : FrameBooks) (clients : List Client) → PartIs → LibraryIs
+      → books ≡ books_after i.shared.books i.part.outputs t.doing (report_of i.part i.shared.library t) → said ≡ t.said → Shown
+      → clients ≡ clients_after (mover event) raised said i.clients
+      → record { part = part; shared = record i.shared { library = library; books = books }; clients = clients } ≡ after_turn i event t
+  stepped books clients part_is library_is books_are said_is raised_is clients_are =
+      let all : raised ≡ raised_by i.part i.shared.library t = is_raised part_is library_is raised_is in
+      let told : clients ≡ clients_after (mover event) (raised_by i.part i.shared.library t) t.said i.clients =
+      clients_are ∙ ap (λ r. clients_after (mover event) r said i.clients) all ∙ ap (λ s. clients_after (mover event) (raised_by i.part i.shared.library t) s i.clients) said_is in
+      λ j. record { part = part_is j; shared = record i.shared { library = library_is j; books = books_are j }; clients = told j }
+
+  -- the notices of a turn, from what was made of it
+  pub noticed : (notices : List Notice) → PartIs → LibraryIs → said ≡ t.said → Shown
+      → notices ≡ notices_after (mover event) raised said i.clients → notices ≡ (told_by i event t).notices
+  noticed notices part_is library_is said_is raised_is notices_are =
+      let all : raised ≡ raised_by i.part i.shared.library t = is_raised part_is library_is raised_is in
+      notices_are ∙ ap (λ r. notices_after (mover event) r said i.clients) all ∙ ap (λ s. notices_after (mover event) (raised_by i.part i.shared.library t) s i.clients) said_is
+
+  -- there is room for the notices of what was raised
+  pub roomy : (clients : List Client) (room most : ℕ) → PartIs → LibraryIs → Shown → clients ≡ i.clients
+      → HasRoom (raised_by i.part i.shared.library t) i.clients most → most ≤ room → HasRoom raised clients room
+  roomy clients room most part_is library_is raised_is clients_are (inl none) fits = inl (is_raised part_is library_is raised_is ∙ none)
+  roomy clients room most part_is library_is raised_is clients_are (inr few) fits =
+      let same = ap (count_by is_waiting) clients_are in
+      inr (omega (arith, few, fits, same))

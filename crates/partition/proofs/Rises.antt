@@ -105,7 +105,7 @@ pub rising_staying : (n : ℕ) (said : Said) (ks : List Client) → Rising ks �
 rising_staying n said ks r =
     elim (closes said.answer.next) as (λ b. Rising (if b then filter (is_other n) ks else ks)) [ true ↦ rising_filter (is_other n) ks r | false ↦ r ]
 
-pub rising_after : (n : ℕ) (raised : Subsystems) (said : Said) (ks : List Client) → Rising ks → Rising (clients_after n raised said ks)
+pub rising_after : (n : ℕ) (raised : ℕ → Subsystems) (said : Said) (ks : List Client) → Rising ks → Rising (clients_after n raised said ks)
 rising_after n raised said ks r =
     rising_moved n (move_of said) (map (notified raised) (staying n said ks))
     (rising_map (notified raised) (λ k. refl) (staying n said ks) (rising_staying n said ks r))

@@ -4,7 +4,7 @@ use Rattle.std.specs.Prelude.{slice_index_or}
 use Rattle.partition.specs.declared.event.Event.{Event}
 use Rattle.partition.specs.declared.partition.PartitionFault.TheVariants.{AtLimit}
 use Rattle.partition.specs.Image.{Image}
-use Rattle.partition.specs.Lists.{MayRefuse}
+use Rattle.partition.specs.Refusals.{MayRefuse}
 use Rattle.partition.specs.Step.{limit_of}
 
 pub own_limit : (seat : ℕ) (i : Image) (event : Event) → nat_le 9223372036854775807 (slice_index_or i.shared.made seat 0) ≡ true → MayRefuse (limit_of seat i event) AtLimit

@@ -24,11 +24,15 @@ use Rattle.partition.specs.declared.event.Move.TheVariants.{Stay, Wait, Learn, R
 use Rattle.partition.specs.declared.event.Notice.{Notice}
 use Rattle.partition.specs.declared.state.Client.{Client}
 use Rattle.partition.specs.declared.state.Part.{Part}
-use Rattle.partition.specs.Answers.{Said, shut, stays}
+use Rattle.partition.specs.Answers.{Said, refused_by_shelf, shut, stays}
 use Rattle.partition.specs.Commands.Status.{Wish, ToWait, ToGoOn, wish_of}
 use Rattle.partition.specs.Clients.{notified, is_other, at, moved, notice_to, notice_for, notices_after, clients_after, staying, move_of, closes, AllAbove, Rising}
-use Rattle.partition.specs.Image.{client_of}
-use Rattle.partition.specs.Step.{acts, deed_of, ends_by, quiet, turn_of, turn_line, turn_wished, speaker, mover, unspoken}
+use Rattle.partition.specs.Image.{Turn, client_of}
+use Rattle.partition.specs.Step.{acts, deed_of, departs, ends_by, name_of, once_written, quiet, turn_of, turn_line, turn_wished, written_turn, speaker, mover, unspoken}
+use Rattle.partition.specs.Shelves.{is_written}
+use Rattle.partition.specs.declared.shelf_calls.Read.{Read}
+use Rattle.shelf.specs.declared.faults.ShelfFault.{ShelfFault}
+use Rattle.shelf.specs.declared.faults.ShelfFault.TheVariants.{NoSuchList, Exists, BadName, NoSticker, StoreFault, NoMemory}
 use Rattle.partition.specs.Notices.{IsIn, AllBeyond, NoticesRise}
 use Rattle.partition.proofs.Members.{in_filter, of_filter, in_insert, in_map, of_map, in_flat_map, of_flat_map}
 use Rattle.partition.proofs.Rises.{at_keeps}
@@ -49,22 +53,40 @@ found k (c ∷ cs) r (inr e) =
     let other : (c.number == k.number) ≡ false = grind (arith, nat_tests) in
     rw other (found k cs r.1 e)
 
-module _ (part : Part) (library : Library) (k : Client) (named names : Subsystems) where
+-- what the shelf refuses makes no client wait
+refusal_moves : (stand : Stand) (name : Option Name) (fault : ShelfFault) (names : Subsystems) → move_of (stays (refused_by_shelf stand name fault)) ≡ Wait names → ⊥
+refusal_moves stand name NoSuchList names h = cc
+refusal_moves stand name Exists names h = cc
+refusal_moves stand name BadName names h = cc
+refusal_moves stand name NoSticker names h = cc
+refusal_moves stand name StoreFault names h = cc
+refusal_moves stand name NoMemory names h = cc
+
+module _ (part : Part) (library : Library) (read : Read) (k : Client) (named names : Subsystems) where
   abbrev Moves : Asked → Command → Option Wish → Type 0
   Moves asked command wish =
-      move_of (if is_some k.pending.waiting && not (ends_by asked.stand wish) then quiet (stays shut) else turn_wished asked k (deed_of asked part library command) wish).said
+      move_of (if is_some k.pending.waiting && not (ends_by asked.stand wish) then departs k.number else turn_wished asked k (deed_of asked part library read command) wish).said
       ≡ Wait names
 
   wish_moves : (name : Name) (stand : Stand) (command : Command) (wish : Option Wish) → k.pending.waiting ≡ Some named
-      → Moves (record { name = name; stand = stand }) command wish → ⊥
+      → Moves (record { client = k.number; name = name; stand = stand }) command wish → ⊥
   wish_moves name Alone command None w m = (let n = rw w at m in cc)
   wish_moves name Alone command (Some (ToWait more)) w m = (let n = rw w at m in cc)
   wish_moves name Alone command (Some ToGoOn) w m = (let n = rw w at m in cc)
   wish_moves name (InList form place) command wish w m = (let n = rw w at m in cc)
 
-  line_moves : (stand : Stand) (request : Request) → k.pending.waiting ≡ Some named → move_of (turn_line part library (Some k) stand request).said ≡ Wait names → ⊥
+  line_moves : (stand : Stand) (request : Request) → k.pending.waiting ≡ Some named → move_of (turn_line part library (Some k) stand request read).said ≡ Wait names → ⊥
   line_moves stand (Run name command) w m = wish_moves name stand command (wish_of command) w m
   line_moves stand (Refused ack) w m = (let n = rw w at m in cc)
+
+-- a turn that writes to the shelf makes no client wait but as it would else
+written_moves : (stand : Stand) (request : Request) (refused : Option ShelfFault) (t : Turn) (names : Subsystems) → (move_of t.said ≡ Wait names → ⊥)
+    → move_of (written_turn stand request refused t).said ≡ Wait names → ⊥
+written_moves stand request refused t names free =
+    elim (is_written t.written) as (λ b. move_of (if b then once_written stand request refused t else t).said ≡ Wait names → ⊥) [
+      | true ↦ elim refused as (λ r. move_of (once_written stand request r t).said ≡ Wait names → ⊥) [ None ↦ free | Some fault ↦ λ h. refusal_moves stand (name_of request) fault names h ]
+      | false ↦ free
+    ]
 
 -- a client that waits does not begin to wait
 pub waiter_moves : (part : Part) (library : Library) (ks : List Client) (event : Event) (k : Client) (named names : Subsystems)
@@ -79,14 +101,16 @@ waiter_moves part library ks (Failed number partner) k named names e w m = cc
 waiter_moves part library ks (OutputTurn output written discarded failed) k named names e w m =
     elim (is_output part.outputs output) as (λ b. move_of (if b then acts (Settles output written discarded failed) else quiet unspoken).said ≡ Wait names → ⊥)
     [ true ↦ λ h. cc | false ↦ λ h. cc ] m
-waiter_moves part library ks (Line number stand request) k named names e w m = line_moves part library k named names stand request w (rw e at m)
+waiter_moves part library ks (Line number stand request heard) k named names e w m =
+    written_moves stand request heard.refused (turn_line part library (client_of number ks) stand request heard.read) names
+    (λ h. line_moves part library heard.read k named names stand request w (rw e at h)) m
 
 -- an event of another speaker is of another client, or of no client: then nothing is said
 pub is_other_speaker : (part : Part) (library : Library) (ks : List Client) (event : Event) (number : ℕ) → speaker event ≢ Some number
     → ((number == mover event) ≡ false) ⊎ ((turn_of part library ks event).said ≡ unspoken)
 is_other_speaker part library ks (Connect c) number ne = inl (ne_eqb number c (λ e. ne (ap Some (sym e))))
 is_other_speaker part library ks (Disconnect c) number ne = inl (ne_eqb number c (λ e. ne (ap Some (sym e))))
-is_other_speaker part library ks (Line c stand request) number ne = inl (ne_eqb number c (λ e. ne (ap Some (sym e))))
+is_other_speaker part library ks (Line c stand request heard) number ne = inl (ne_eqb number c (λ e. ne (ap Some (sym e))))
 is_other_speaker part library ks ScanQuestion number ne = inr refl
 is_other_speaker part library ks (ScanResult songs) number ne = inr refl
 is_other_speaker part library ks (Want owes) number ne = inr refl
@@ -95,10 +119,10 @@ is_other_speaker part library ks (Failed job partner) number ne = inr refl
 is_other_speaker part library ks (OutputTurn output written discarded failed) number ne =
     inr (elim (is_output part.outputs output) as (λ b. (if b then acts (Settles output written discarded failed) else quiet unspoken).said ≡ unspoken) [ true ↦ refl | false ↦ refl ])
 
-module _ (n : ℕ) (r : Subsystems) where
+module _ (n : ℕ) (r : ℕ → Subsystems) where
   -- what of a client's named set changed
   abbrev pub news : Client → Subsystems
-  news k = due (noted r k.pending)
+  news k = due (noted (r k.number) k.pending)
 
   one_notice : (k : Client) (number : ℕ) (names : Subsystems) → IsIn (record { client = number; names = names }) (notice_for r k)
       → (is_nonempty (news k) ≡ true) × (k.number ≡ number) × (news k ≡ names)
@@ -180,7 +204,7 @@ module _ (n : ℕ) (r : Subsystems) where
 
   -- a client that does not wait goes on so as it hears, and one that is told waits no more
   pub notified_none : (k : Client) → k.pending.waiting ≡ None → (notified r k).pending.waiting ≡ None
-  notified_none k w = elim (is_nonempty (news k)) as (λ b. (if b then fresh else noted r k.pending).waiting ≡ None) [ true ↦ refl | false ↦ w ]
+  notified_none k w = elim (is_nonempty (news k)) as (λ b. (if b then fresh else noted (r k.number) k.pending).waiting ≡ None) [ true ↦ refl | false ↦ w ]
 
   pub told_none : (k : Client) → is_nonempty (news k) ≡ true → (notified r k).pending.waiting ≡ None
   told_none k e = rw e refl

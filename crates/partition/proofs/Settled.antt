@@ -20,7 +20,7 @@ use Rattle.partition.specs.declared.event.Move.TheVariants.{Stay, Wait, Learn, R
 use Rattle.partition.specs.declared.state.Client.{Client}
 use Rattle.partition.specs.declared.state.Part.{Part}
 use Rattle.partition.specs.Answers.{Said, shut, stays}
-use Rattle.partition.specs.Clients.{notified, notice_for, notice_to, is_other, at, joined, moved, staying, move_of, clients_after, options, playing, Rising}
+use Rattle.partition.specs.Clients.{has_messages, notified, notice_for, notice_to, is_other, at, joined, moved, staying, move_of, clients_after, options, playing, Rising}
 use Rattle.partition.specs.Commands.Status.{Wish, idles}
 use Rattle.partition.specs.History.{replay}
 use Rattle.partition.specs.declared.doing.Doing.{Doing}
@@ -33,8 +33,13 @@ use Rattle.partition.proofs.Songs.{same_songs-refl}
 use Rattle.partition.specs.Image.{Image, Turn, client_of}
 use Rattle.partition.specs.Notices.{IsIn}
 use Rattle.partition.specs.Rooms.{is_waiting}
-use Rattle.partition.specs.Settled.{IsSettled, AllSettled, most_notices}
-use Rattle.partition.specs.Step.{turn, turn_of, turn_line, turn_wished, deed_of, ends_by, quiet, mover, raised_by, next_image}
+use Rattle.partition.specs.Settled.{IsSettled, AllSettled, HasRoom, nothing}
+use Rattle.partition.specs.Shelves.{is_written}
+use Rattle.partition.specs.declared.shelf_calls.ShelfWrite.{ShelfWrite}
+use Rattle.partition.specs.declared.shelf_calls.ShelfWrite.TheVariants.{Nothing as Unwritten, Put, Create, Rename, Remove, SetSticker, DeleteSticker, DeleteStickers}
+use Rattle.idle_notes.specs.Channels.{pairs}
+use Rattle.partition.proofs.Parts.{same_pairs-refl}
+use Rattle.partition.specs.Step.{turn, turn_of, turn_line, turn_wished, deed_of, departs, ends_by, quiet, mover, raised_by, next_image, written_turn}
 use Rattle.partition.proofs.Alike.{same_enabled-refl, same_options-refl, same_playing-refl}
 use Rattle.partition.proofs.Asking.{quiet_unwaiting, IsAsking, kind_of, turn_idle}
 use Rattle.partition.proofs.Raised.{differ-self}
@@ -61,8 +66,13 @@ union_none s = λ i. record {
   message = or_false s.message i;
 }
 
-rest_raises : (part : Part) (library : Library) (said : Said) (report : Report) → raised_by part library (record { doing = Rests; scan = StayScan; said = said; report = report }) ≡ none
-rest_raises part library said report = λ i. record none {
+begins-own : (h : Bool) → (not h && h) ≡ false
+begins-own true = refl
+begins-own false = refl
+
+rest_raises : (part : Part) (library : Library) (said : Said) (report : Report)
+    → raised_by part library (record { doing = Rests; scan = StayScan; written = Unwritten; said = said; report = report }) ≡ nothing
+rest_raises part library said report = λ i number. record none {
   database = not (same_songs-refl library.songs i);
   update = differ-self library.scan.runs i;
   playlist = not (same_queue-refl (queue_of part.queue) i);
@@ -70,27 +80,40 @@ rest_raises part library said report = λ i. record none {
   mixer = not (eq-eqb part.volume part.volume refl i);
   output = not (same_enabled-refl part.outputs.enabled i);
   options = not (same_options-refl (options part.player) i);
+  subscription = not (same_pairs-refl (pairs part.channels) i);
+  message = begins-own (has_messages number part.channels) i;
 }
 
+pub unwritten : (w : ShelfWrite) → is_written w ≡ false → w ≡ Unwritten
+unwritten Unwritten e = refl
+unwritten (Put name uris changes) e = cc
+unwritten (Create name uris) e = cc
+unwritten (Rename name new) e = cc
+unwritten (Remove name) e = cc
+unwritten (SetSticker uri name value changes) e = cc
+unwritten (DeleteSticker uri name) e = cc
+unwritten (DeleteStickers uri) e = cc
+
 -- what leaves the part and the scans as they are raises nothing
-pub same_raises : (part : Part) (library : Library) (t : Turn) → t.scan ≡ StayScan → t.doing ≡ Rests → raised_by part library t ≡ none
-same_raises part library t scan doing =
+pub same_raises : (part : Part) (library : Library) (t : Turn) → t.scan ≡ StayScan → t.doing ≡ Rests → is_written t.written ≡ false → raised_by part library t ≡ nothing
+same_raises part library t scan doing written =
     ap (λ (d : Doing). raised_by part library (record t { doing = d })) doing
     ∙ ap (λ (m : ScanMove). raised_by part library (record t { doing = Rests; scan = m })) scan
+    ∙ ap (λ (w : ShelfWrite). raised_by part library (record t { doing = Rests; scan = StayScan; written = w })) (unwritten t.written written)
     ∙ rest_raises part library t.said t.report
 
-pub quiet_raises : (part : Part) (library : Library) (said : Said) → raised_by part library (quiet said) ≡ none
+pub quiet_raises : (part : Part) (library : Library) (said : Said) → raised_by part library (quiet said) ≡ nothing
 quiet_raises part library said = rest_raises part library said Nothing
 
 -- a client that heard is settled
-notified_settled : (r : Subsystems) (k : Client) → IsSettled (notified r k)
+notified_settled : (r : ℕ → Subsystems) (k : Client) → IsSettled (notified r k)
 notified_settled r k =
-    let p : Pending = noted r k.pending in
+    let p : Pending = noted (r k.number) k.pending in
     let cases : (b : Bool) → is_nonempty (due p) ≡ b → is_nonempty (due (if b then fresh else p)) ≡ false =
     λ b. elim b as (λ b. is_nonempty (due p) ≡ b → is_nonempty (due (if b then fresh else p)) ≡ false) [ true ↦ λ e. refl | false ↦ λ e. e ] in
     cases (is_nonempty (due p)) refl
 
-all_notified : (r : Subsystems) (ks : List Client) → AllSettled (map (notified r) ks)
+all_notified : (r : ℕ → Subsystems) (ks : List Client) → AllSettled (map (notified r) ks)
 all_notified r [] = tt
 all_notified r (k ∷ ks) = (notified_settled r k, all_notified r ks)
 
@@ -135,16 +158,16 @@ nothing_due p named e =
     [ true ↦ refl | false ↦ ap (λ (s : Subsystems). is_nonempty (meet s named)) (union_none p.changed) ∙ e ]
 
 one_waits : (n : ℕ) (named : Subsystems) (client : Client) (ks : List Client) → Rising ks → client_of n ks ≡ Some client
-    → is_nonempty (meet client.pending.changed named) ≡ false → (k : Client) → IsIn k ks → IsSettled (at n (waits named) (notified none k))
-one_waits n named client ks rising is nothing k among =
-    let heard : Client = notified none k in
+    → is_nonempty (meet client.pending.changed named) ≡ false → (k : Client) → IsIn k ks → IsSettled (at n (waits named) (notified nothing k))
+one_waits n named client ks rising is unchanged k among =
+    let heard : Client = notified nothing k in
     let cases : (b : Bool) → (k.number == n) ≡ b → is_nonempty (due (if b then record heard { pending = waits named heard.pending } else heard).pending) ≡ false =
     λ b. elim b as (λ b. (k.number == n) ≡ b → is_nonempty (due (if b then record heard { pending = waits named heard.pending } else heard).pending) ≡ false) [
       | true ↦ λ e.
           let both : Some k ≡ Some client = sym (found k ks rising among) ∙ ap (λ (x : ℕ). client_of x ks) (eqb-true k.number n e) ∙ is in
           let same : k ≡ client = cc in
-          nothing_due k.pending named (ap (λ (c : Client). is_nonempty (meet c.pending.changed named)) same ∙ nothing)
-      | false ↦ λ e. notified_settled none k
+          nothing_due k.pending named (ap (λ (c : Client). is_nonempty (meet c.pending.changed named)) same ∙ unchanged)
+      | false ↦ λ e. notified_settled nothing k
     ] in
     cases (k.number == n) refl
 
@@ -161,14 +184,15 @@ module _ (part : Part) (library : Library) (ks : List Client) (event : Event) (r
   Waiting n names u = AllSettled (map (at n (waits names)) (map (notified (raised_by part library u)) (staying n u.said ks)))
 
   abbrev asked_by : IsAsking ks event → Asked
-  asked_by a = record { name = a.name; stand = Alone }
+  asked_by a = record { client = a.client.number; name = a.name; stand = Alone }
 
   idle_is : (a : IsAsking ks event) → t ≡ turn_idle a.client a.named
   idle_is a =
+      let once : Turn → Turn = λ u. written_turn Alone (Run a.name a.command) a.heard.refused u in
       ap (turn_of part library ks) a.is
-      ∙ ap (λ (o : Option Client). turn_line part library o Alone (Run a.name a.command)) a.found
-      ∙ ap (λ (o : Option Wish). if is_some a.client.pending.waiting && not (ends_by Alone o) then quiet (stays shut) else turn_wished (asked_by a) a.client (deed_of (asked_by a) part library a.command) o) a.wish
-      ∙ ap (λ (w : Option Subsystems). if is_some w && true then quiet (stays shut) else turn_idle a.client a.named) a.free
+      ∙ ap (λ (o : Option Client). once (turn_line part library o Alone (Run a.name a.command) a.heard.read)) a.found
+      ∙ ap (λ (o : Option Wish). once (if is_some a.client.pending.waiting && not (ends_by Alone o) then departs a.client.number else turn_wished (asked_by a) a.client (deed_of (asked_by a) part library a.heard.read a.command) o)) a.wish
+      ∙ ap (λ (w : Option Subsystems). once (if is_some w && true then departs a.client.number else turn_idle a.client a.named)) a.free
 
   -- a client waits only where nothing of what it names is pending for it
   asked : (a : IsAsking ks event) (names : Subsystems) → move_of t.said ≡ Wait names → Waiting (mover event) names t
@@ -182,10 +206,10 @@ module _ (part : Part) (library : Library) (ks : List Client) (event : Event) (r
             let named : Wait a.named ≡ Wait names = sym (ap (λ (u : Turn). move_of u.said) is) ∙ moves in
             let same : a.named ≡ names = cc in
             let number : a.number ≡ mover event = sym (ap mover a.is) in
-            let each : AllSettled (map (at a.number (waits a.named)) (map (notified none) ks)) =
-            all_in (at a.number (waits a.named)) (notified none) ks (one_waits a.number a.named a.client ks rising a.found e) in
+            let each : AllSettled (map (at a.number (waits a.named)) (map (notified nothing) ks)) =
+            all_in (at a.number (waits a.named)) (notified nothing) ks (one_waits a.number a.named a.client ks rising a.found e) in
             let heard : Waiting a.number a.named (answers false) =
-            subst (λ (r : Subsystems). AllSettled (map (at a.number (waits a.named)) (map (notified r) ks))) (sym (quiet_raises part library (idles a.named None))) each in
+            subst (λ (r : ℕ → Subsystems). AllSettled (map (at a.number (waits a.named)) (map (notified r) ks))) (sym (quiet_raises part library (idles a.named None))) each in
             subst (Waiting (mover event) names) (sym is)
             (subst (λ (x : ℕ). Waiting x names (answers false)) number (subst (λ (s : Subsystems). Waiting a.number s (answers false)) same heard))
       ] in
@@ -213,25 +237,25 @@ replay_settled (h ∷ hs) i rising all =
 noted_none : (p : Pending) → noted none p ≡ p
 noted_none p = ap (λ (s : Subsystems). record p { changed = s }) (union_none p.changed)
 
-same_one : (k : Client) → IsSettled k → notified none k ≡ k
+same_one : (k : Client) → IsSettled k → notified nothing k ≡ k
 same_one k one =
     ap (λ (p : Pending). record k { pending = settled p }) (noted_none k.pending)
     ∙ ap (λ (b : Bool). record k { pending = if b then fresh else k.pending }) one
 
 -- where nothing is raised, settled clients are as they were
-pub same_clients : (ks : List Client) → AllSettled ks → map (notified none) ks ≡ ks
+pub same_clients : (ks : List Client) → AllSettled ks → map (notified nothing) ks ≡ ks
 same_clients [] all = refl
 same_clients (k ∷ ks) all = λ i. same_one k all.0 i ∷ same_clients ks all.1 i
 
-unheard_one : (k : Client) → IsSettled k → notice_for none k ≡ []
+unheard_one : (k : Client) → IsSettled k → notice_for nothing k ≡ []
 unheard_one k one =
     ap (λ (p : Pending). notice_to k.number (notice_of p)) (noted_none k.pending)
     ∙ ap (λ (b : Bool). notice_to k.number (if b then Some (due k.pending) else None)) one
 
 -- and none of them is told
-pub no_notices : (ks : List Client) → AllSettled ks → flat_map (notice_for none) ks ≡ []
+pub no_notices : (ks : List Client) → AllSettled ks → flat_map (notice_for nothing) ks ≡ []
 no_notices [] all = refl
-no_notices (k ∷ ks) all = ap (λ l. l ++ flat_map (notice_for none) ks) (unheard_one k all.0) ∙ no_notices ks all.1
+no_notices (k ∷ ks) all = ap (λ l. l ++ flat_map (notice_for nothing) ks) (unheard_one k all.0) ∙ no_notices ks all.1
 
 or_parts : (a b : Bool) → (a || b) ≡ false → (a ≡ false) × (b ≡ false)
 or_parts true b e = cc
@@ -265,17 +289,8 @@ is_none s e =
     }
 
 -- where fewer wait there are no more notices
-pub fewer_wanted : (raised : Subsystems) (number : ℕ) (ks : List Client) → most_notices raised (filter (is_other number) ks) ≤ most_notices raised ks
-fewer_wanted raised number ks =
+pub fewer_wanted : (raised : ℕ → Subsystems) (number : ℕ) (ks : List Client) (room : ℕ) → HasRoom raised ks room → HasRoom raised (filter (is_other number) ks) room
+fewer_wanted raised number ks room (inl e) = inl e
+fewer_wanted raised number ks room (inr e) =
     let less : count_by is_waiting (filter (is_other number) ks) ≤ count_by is_waiting ks = fewer_wait number ks in
-    elim (is_nonempty raised) as (λ b. (if b then count_by is_waiting (filter (is_other number) ks) else 0) ≤ (if b then count_by is_waiting ks else 0))
-    [ true ↦ less | false ↦ omega arith ]
-
--- no more notices than clients that wait
-pub few_notices : (raised : Subsystems) (ks : List Client) → most_notices raised ks ≤ count_by is_waiting ks
-few_notices raised ks =
-    elim (is_nonempty raised) as (λ b. (if b then count_by is_waiting ks else 0) ≤ count_by is_waiting ks) [ true ↦ omega arith | false ↦ omega arith ]
-
--- and none where nothing is raised
-pub none_noticed : (raised : Subsystems) (ks : List Client) → raised ≡ none → most_notices raised ks ≤ 0
-none_noticed raised ks e = subst (λ (r : Subsystems). most_notices r ks ≤ 0) (sym e) (omega arith)
+    inr (omega (arith, less, e))

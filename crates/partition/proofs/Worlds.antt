@@ -15,13 +15,14 @@ use Rattle.song_queue.proofs.Runs.{length-after_event, after_edit, edited-at_end
 use Rattle.partition.specs.declared.event.Event.{Event}
 use Rattle.partition.specs.declared.event.Happened.{Happened}
 use Rattle.partition.specs.declared.state.Client.{Client}
+use Rattle.partition.specs.declared.shelf_calls.ShelfWrite.{ShelfWrite}
 use Rattle.partition.specs.declared.state.Part.{Part}
 use Rattle.partition.specs.declared.state.Setup.{Setup}
 use Rattle.partition.specs.declared.state.Limits.{Limits}
 use Rattle.partition.specs.Clients.{Parts, raised, notified, closes, Rising}
 use Rattle.partition.specs.History.{made_of, replay}
 use Rattle.partition.specs.Outputs.{FrameBooks, books_after, decoded_by, discarded_by, grown, written_by}
-use Rattle.partition.specs.Doings.{Change, ByEdit, ByStep, change_of, outputs_after, part_after, player_after, queue_after, volume_after}
+use Rattle.partition.specs.Doings.{Change, ByEdit, ByStep, change_of, channels_after, outputs_after, part_after, player_after, queue_after, volume_after}
 use Rattle.partition.specs.Image.{Image, Turn, client_of, library_after, opening}
 use Rattle.partition.specs.Legal.{ReplaysWorlds}
 use Rattle.partition.specs.Step.{turn, mover, raised_by, report_of, after_turn, told_by, next_image}
@@ -53,13 +54,13 @@ follows limits past (ByStep (Some left)) above some kept =
     sym (edited-at_end limits.max_queue limits.max_version limits.max_id (omega arith) past left some (omega (arith, kept, same, low)))
 
 -- what an event raised by the worlds is what its turn raises
-pub same_raised : (limits : Limits) (past : List (List Entry)) (change : Change) (before after : Parts) → 1 ≤ limits.max_version → 0 < length past
+pub same_raised : (written : ShelfWrite) (limits : Limits) (past : List (List Entry)) (change : Change) (before after : Parts) → 1 ≤ limits.max_version → 0 < length past
     → Keeps (queue_of (state_at limits past)) change
-    → raised (record before { queue = present past }) (record after { queue = present (past_after past change) })
-    ≡ raised (record before { queue = queue_of (state_at limits past) }) (record after { queue = queue_of (queue_after (state_at limits past) change) })
-same_raised limits past change before after above some kept =
-    ap (λ (q : List Entry). raised (record before { queue = q }) (record after { queue = present (past_after past change) })) (shows limits past)
-    ∙ ap (λ (q : List Entry). raised (record before { queue = queue_of (state_at limits past) }) (record after { queue = q }))
+    → raised written (record before { queue = present past }) (record after { queue = present (past_after past change) })
+    ≡ raised written (record before { queue = queue_of (state_at limits past) }) (record after { queue = queue_of (queue_after (state_at limits past) change) })
+same_raised written limits past change before after above some kept =
+    ap (λ (q : List Entry). raised written (record before { queue = q }) (record after { queue = present (past_after past change) })) (shows limits past)
+    ∙ ap (λ (q : List Entry). raised written (record before { queue = queue_of (state_at limits past) }) (record after { queue = q }))
     (shows limits (past_after past change) ∙ ap queue_of (follows limits past change above some kept))
 
 same_first : (n : ℕ) → (n == n) ≡ true
@@ -87,7 +88,7 @@ module _ (moments : List Moment) where
   with_flags there [] e = tt
   with_flags there (l ∷ ls) e = ((e.0, refl), with_flags there ls e.1)
 
-  absent : (r : Subsystems) (n : ℕ) (ls : List Listener) → client_of n (map (notified r) (map (client_in moments) ls)) ≡ None → among n ls ≡ false
+  absent : (r : ℕ → Subsystems) (n : ℕ) (ls : List Listener) → client_of n (map (notified r) (map (client_in moments) ls)) ≡ None → among n ls ≡ false
   absent r n [] e = refl
   absent r n (l ∷ ls) e =
       let rest : Option Client = client_of n (map (notified r) (map (client_in moments) ls)) in
@@ -113,7 +114,7 @@ module _ (life : Life) (done : List Happened) (event : Event) (above : 1 ≤ lif
   abbrev t : Turn
   t = turn i event
 
-  abbrev r : Subsystems
+  abbrev r : ℕ → Subsystems
   r = raised_by i.part i.shared.library t
 
   abbrev m : Moment
@@ -125,13 +126,13 @@ module _ (life : Life) (done : List Happened) (event : Event) (above : 1 ≤ lif
   abbrev change : Change
   change = change_of rate i.part t.doing
 
-  is_raised : raised_at m ≡ r
-  is_raised = same_raised life.world.limits life.world.past change (parts_in m.before) (parts_in m.after) above some (keeps rate i.part t.doing)
+  is_raised : (λ (n : ℕ). raised_at n m) ≡ r
+  is_raised = same_raised t.written life.world.limits life.world.past change (parts_in m.before) (parts_in m.after) above some (keeps rate i.part t.doing)
 
-  grows : (n : ℕ) → pending_for n (m ∷ life.moments) ≡ (if begins_anew n m then none else union (pending_for n life.moments) r)
+  grows : (n : ℕ) → pending_for n (m ∷ life.moments) ≡ (if begins_anew n m then none else union (pending_for n life.moments) (r n))
   grows n =
       pending_more n m life.moments (begins_anew n m) refl
-      ∙ ap (λ (s : Subsystems). if begins_anew n m then none else union (pending_for n life.moments) s) is_raised
+      ∙ ap (λ (s : ℕ → Subsystems). if begins_anew n m then none else union (pending_for n life.moments) (s n)) is_raised
 
   -- the flags of the clients after an event are what is pending with one more moment
   clients_stand : map (client_in (m ∷ life.moments)) (map listener_of (after_turn i event t).clients) ≡ (after_turn i event t).clients
@@ -150,6 +151,7 @@ module _ (life : Life) (done : List Happened) (event : Event) (above : 1 ≤ lif
           player = player_after rate i.part t.doing;
           volume = volume_after life.world.volume t.doing;
           outputs = outputs_after life.world.outputs t.doing;
+          channels = channels_after life.world.channels t.doing;
         };
         shared = record { library = library_after life.world.library t.scan; made = made; books = books_of (m ∷ life.moments) };
         clients = k;

@@ -3,6 +3,7 @@ use Rattle.std.specs.Prelude.{ℕ, Bool, false, true, List, ◌++◌, codes, Opt
 use Rattle.command_lists.specs.declared.word.ListForm.TheVariants.{Plain, ListOk}
 use Rattle.mpd_text.specs.Answers.Answer.{ack_line, number_of}
 use Rattle.mpd_text.specs.declared.answers.answer.ErrorNumber.{ErrorNumber}
+use Rattle.mpd_text.specs.declared.answers.answer.ErrorNumber.TheVariants.{Exist, NoExist, System}
 use Rattle.mpd_command.specs.declared.name.Name.{Name}
 use Rattle.mpd_command.specs.Requests.{text_of_name}
 use Rattle.partition.specs.declared.event.Move.{Move}
@@ -13,6 +14,8 @@ use Rattle.partition.specs.declared.event.Notice.{Notice}
 use Rattle.partition.specs.declared.report.Report.{Report}
 use Rattle.partition.specs.declared.event.Stand.{Stand}
 use Rattle.partition.specs.declared.event.Stand.TheVariants.{Alone, InList}
+use Rattle.shelf.specs.declared.faults.ShelfFault.{ShelfFault}
+use Rattle.shelf.specs.declared.faults.ShelfFault.TheVariants.{NoSuchList, Exists, BadName, NoSticker, StoreFault, NoMemory}
 
 -- what one client is told, what becomes of it, and whether it was a refusal
 pub record Answer : Type 0 where
@@ -54,6 +57,16 @@ succeeds stand lines = tells (lines ++ ending stand)
 -- a refusal of a command, or of a line that names none
 abbrev pub refuses : Stand → Option Name → ErrorNumber → List ℕ → Answer
 refuses stand name number text = record { text = ack_line (number_of number) (place_of stand) (text_of_name name) text; next = Goes; refused = true }
+
+-- what a client is told where the shelf refuses what its command asks for. A command looks at names before it asks, so that a shelf
+-- which refuses a name is not a shelf as it should be
+abbrev pub refused_by_shelf : Stand → Option Name → ShelfFault → Answer
+refused_by_shelf stand name NoSuchList = refuses stand name NoExist (codes "no such playlist")
+refused_by_shelf stand name Exists = refuses stand name Exist (codes "playlist exists")
+refused_by_shelf stand name BadName = refuses stand name System (codes "store fault")
+refused_by_shelf stand name NoSticker = refuses stand name NoExist (codes "no such sticker")
+refused_by_shelf stand name StoreFault = refuses stand name System (codes "store fault")
+refused_by_shelf stand name NoMemory = refuses stand name System (codes "store fault")
 
 -- closed, without bytes
 abbrev pub shut : Answer

@@ -1,5 +1,5 @@
 -- Who is told of what changed, and what becomes of the clients (MPD protocol reference, Querying MPD's status, `idle`).
-use Rattle.std.specs.Prelude.{ℕ, ◌+◌, ◌<◌, ◌==◌, nat_eq, nat_lt, Bool, true, false, not, ◌&&◌, List, [], ◌∷◌, Option, Some, None, is_some, map, filter, insert, if◌then◌else◌}
+use Rattle.std.specs.Prelude.{ℕ, ◌+◌, ◌<◌, ◌==◌, nat_eq, nat_lt, Bool, true, false, not, ◌&&◌, List, [], ◌∷◌, Option, Some, None, is_some, map, filter, insert, length, if◌then◌else◌}
 use Rattle.std.specs.Bool.{beq}
 use Rattle.std.specs.List.{flat_map, position_or_len}
 use Rattle.std.specs.Str.{bytes_eq}
@@ -8,6 +8,7 @@ use Rattle.mpd_text.specs.Songs.Song.{SongData}
 use Rattle.idle_notes.specs.declared.pending.Pending.{Pending}
 use Rattle.idle_notes.specs.declared.sets.Subsystems.{Subsystems}
 use Rattle.idle_notes.specs.Sets.{none}
+use Rattle.idle_notes.specs.Channels.{MemberData, messages_of, pairs}
 use Rattle.idle_notes.specs.Notes.{fresh, noted, waits, cancelled, notice_of, settled}
 use Rattle.song_queue.specs.declared.entry.Entry.{Entry}
 use Rattle.song_queue.specs.Entries.{same_queue, same_song}
@@ -31,6 +32,8 @@ use Rattle.partition.specs.Answers.{Said}
 use Rattle.partition.specs.declared.signs.Options.{Options}
 use Rattle.partition.specs.Image.{client_of}
 use Rattle.partition.specs.Outputs.{OutputsData}
+use Rattle.partition.specs.Shelves.{changes_lists, changes_stickers}
+use Rattle.partition.specs.declared.shelf_calls.ShelfWrite.{ShelfWrite}
 
 -- the parts of a player that its subsystems speak of
 pub record Parts : Type 0 where
@@ -39,9 +42,10 @@ pub record Parts : Type 0 where
   pub player : PlayerState
   pub volume : ℕ
   pub outputs : OutputsData
+  pub channels : List MemberData
 
 abbrev pub parts_of : Part → Library → Parts
-parts_of part library = record { library = library; queue = queue_of part.queue; player = part.player; volume = part.volume; outputs = part.outputs }
+parts_of part library = record { library = library; queue = queue_of part.queue; player = part.player; volume = part.volume; outputs = part.outputs; channels = part.channels }
 
 -- numbers by which states and modes are compared
 abbrev pub playback_number : Playback → ℕ
@@ -103,32 +107,51 @@ same_enabled = pointwise beq
 unfoldable pub same_songs : List SongData → List SongData → Bool
 same_songs = pointwise same_song
 
--- the subsystems whose parts differ before and after an event: the songs, whether a scan runs, the queue, what is played, the
--- volume, which outputs are enabled, the modes and the seconds of a fade
-abbrev pub raised : Parts → Parts → Subsystems
-raised before after = record none {
+abbrev pub same_pair : ℕ × List ℕ → ℕ × List ℕ → Bool
+same_pair p q = nat_eq p.0 q.0 && bytes_eq p.1 q.1
+
+-- whether the same clients listen to the same channels
+unfoldable pub same_pairs : List (ℕ × List ℕ) → List (ℕ × List ℕ) → Bool
+same_pairs = pointwise same_pair
+
+abbrev pub has_messages : ℕ → List MemberData → Bool
+has_messages number channels = not (length (messages_of number channels) == 0)
+
+-- the first message waits for a client
+abbrev pub begins_to_have : ℕ → List MemberData → List MemberData → Bool
+begins_to_have number before after = not (has_messages number before) && has_messages number after
+
+-- the subsystems whose parts differ before and after an event, for a client: the songs, whether a scan runs, the stored playlists,
+-- the queue, what is played, the volume, which outputs are enabled, the modes and the seconds of a fade, the stickers, who listens
+-- to which channel. A client hears of messages where it had none waiting and has some
+abbrev pub raised : ShelfWrite → Parts → Parts → ℕ → Subsystems
+raised written before after number = record none {
   database = not (same_songs before.library.songs after.library.songs);
   update = differ before.library.scan.runs after.library.scan.runs;
+  stored_playlist = changes_lists written;
   playlist = not (same_queue before.queue after.queue);
   player = not (same_playing (playing before.player) (playing after.player));
   mixer = not (nat_eq before.volume after.volume);
   output = not (same_enabled before.outputs.enabled after.outputs.enabled);
   options = not (same_options (options before.player) (options after.player));
+  sticker = changes_stickers written;
+  subscription = not (same_pairs (pairs before.channels) (pairs after.channels));
+  message = begins_to_have number before.channels after.channels;
 }
 
 abbrev pub is_other : ℕ → Client → Bool
 is_other number client = not (client.number == number)
 
 -- what is pending for a client grows by what was raised; it is told what it waits for, and has then nothing pending
-abbrev pub notified : Subsystems → Client → Client
-notified raised client = record client { pending = settled (noted raised client.pending) }
+abbrev pub notified : (ℕ → Subsystems) → Client → Client
+notified raised client = record client { pending = settled (noted (raised client.number) client.pending) }
 
 abbrev pub notice_to : ℕ → Option Subsystems → List Notice
 notice_to number None = []
 notice_to number (Some names) = record { client = number; names = names } ∷ []
 
-abbrev pub notice_for : Subsystems → Client → List Notice
-notice_for raised client = notice_to client.number (notice_of (noted raised client.pending))
+abbrev pub notice_for : (ℕ → Subsystems) → Client → List Notice
+notice_for raised client = notice_to client.number (notice_of (noted (raised client.number) client.pending))
 
 -- what one client does to what is pending for it
 abbrev pub at : ℕ → (Pending → Pending) → Client → Client
@@ -159,13 +182,13 @@ staying number said clients = if closes said.answer.next then filter (is_other n
 abbrev pub move_of : Said → Move
 move_of said = if closes said.answer.next then Stay else said.move
 
--- the clients after an event that comes from a client and raises these: those that stay hear of it, and then the client does
+-- the clients after an event that comes from a client and raises these for each: those that stay hear of it, and then the client does
 -- what it does
-abbrev pub clients_after : ℕ → Subsystems → Said → List Client → List Client
+abbrev pub clients_after : ℕ → (ℕ → Subsystems) → Said → List Client → List Client
 clients_after number raised said clients = moved number (move_of said) (map (notified raised) (staying number said clients))
 
 -- the notices of an event, by rising client
-abbrev pub notices_after : ℕ → Subsystems → Said → List Client → List Notice
+abbrev pub notices_after : ℕ → (ℕ → Subsystems) → Said → List Client → List Notice
 notices_after number raised said clients = flat_map (notice_for raised) (staying number said clients)
 
 -- every client's number is above this

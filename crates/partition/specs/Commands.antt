@@ -5,5 +5,7 @@ pub mod Options
 pub mod Playback
 pub mod Devices
 pub mod Queue
+pub mod Messages
+pub mod Shelf
 pub mod Library
 pub mod Status

@@ -1,6 +1,7 @@
 -- What an event does to what one player owns (MPD protocol reference, Controlling playback; The queue; Playback options; Audio output
--- devices; the decoder's and the outputs' steps are this profile's).
+-- devices; Client to client; the decoder's and the outputs' steps are this profile's).
 use Rattle.std.specs.Prelude.{ℕ, Bool, false, true, ◌&&◌, not, nat_le, List, Option, Some, None, option_map, slice_get, if◌then◌else◌}
+use Rattle.idle_notes.specs.Channels.{MemberData, subscribed, unsubscribed, sent, emptied, left}
 use Rattle.song_queue.specs.declared.entry.Entry.{Entry}
 use Rattle.song_queue.specs.declared.edit.Edit.{Edit}
 use Rattle.song_queue.specs.declared.edit.Edit.TheVariants.{Insert, Remove, Move, Prioritize, Swap, Shuffle}
@@ -11,7 +12,7 @@ use Rattle.player_core.specs.Player.{PlayerState}
 use Rattle.player_core.specs.Steps as steps
 use Rattle.player_core.specs.Decoding as decoding
 use Rattle.partition.specs.declared.doing.Doing.{Doing}
-use Rattle.partition.specs.declared.doing.Doing.TheVariants.{Rests, Edits, Shuffles, SetsVolume, SetsRepeat, SetsRandom, SetsSingle, SetsConsume, ClearsError, Plays, PlaysPlace, Pauses, TogglesPause, Stops, GoesOn, GoesBack, Seeks, Switches, Wants, Accepts, Fails, Settles}
+use Rattle.partition.specs.declared.doing.Doing.TheVariants.{Rests, Edits, Shuffles, SetsVolume, SetsRepeat, SetsRandom, SetsSingle, SetsConsume, SetsCrossfade, ClearsError, Plays, PlaysPlace, Pauses, TogglesPause, Stops, GoesOn, GoesBack, Seeks, Switches, Wants, Accepts, Fails, Settles, Subscribes, Unsubscribes, Sends, ReadsMessages, Leaves}
 use Rattle.partition.specs.declared.report.Feed.{Feed}
 use Rattle.partition.specs.declared.report.Report.{Report}
 use Rattle.partition.specs.declared.report.Report.TheVariants.{Nothing, ToDecode, ToFeed, ToPlay}
@@ -58,6 +59,7 @@ player_after rate part (SetsRepeat on) = steps.set_repeat part.player on
 player_after rate part (SetsRandom on) = steps.random part.player (entries part) on
 player_after rate part (SetsSingle single) = steps.set_single part.player single
 player_after rate part (SetsConsume consume) = steps.set_consume part.player consume
+player_after rate part (SetsCrossfade seconds) = steps.set_crossfade part.player seconds
 player_after rate part ClearsError = steps.clear_error part.player
 player_after rate part Plays = steps.play part.player (entries part)
 player_after rate part (PlaysPlace place) = played_entry part.player (slice_get (entries part) place)
@@ -72,6 +74,11 @@ player_after rate part (Wants owes) = (wanted rate part owes).stepped.player
 player_after rate part (Accepts number frames) = (had part number frames).stepped.player
 player_after rate part (Fails number partner) = decoding.failed part.player (entries part) number partner
 player_after rate part (Settles output written discarded failed) = part.player
+player_after rate part (Subscribes client channel) = part.player
+player_after rate part (Unsubscribes client channel) = part.player
+player_after rate part (Sends channel text) = part.player
+player_after rate part (ReadsMessages client) = part.player
+player_after rate part (Leaves client) = part.player
 
 -- what an event makes of the queue: an edit, or what a step of the player leaves of it
 pub data Change : Type 0 where
@@ -99,6 +106,15 @@ outputs_after outputs (Switches output on) = switched outputs output on
 outputs_after outputs (Settles output written discarded failed) = turned outputs output failed
 outputs_after outputs _ = outputs
 
+-- who listens to which channel, and the messages that wait for each
+abbrev pub channels_after : List MemberData → Doing → List MemberData
+channels_after channels (Subscribes client channel) = subscribed client channel channels
+channels_after channels (Unsubscribes client channel) = unsubscribed client channel channels
+channels_after channels (Sends channel text) = sent channel text channels
+channels_after channels (ReadsMessages client) = emptied client channels
+channels_after channels (Leaves client) = left client channels
+channels_after channels _ = channels
+
 -- what one player owns, after an event
 abbrev pub part_after : ℕ → Part → Doing → Part
 part_after rate part doing = record {
@@ -106,6 +122,7 @@ part_after rate part doing = record {
   player = player_after rate part doing;
   volume = volume_after part.volume doing;
   outputs = outputs_after part.outputs doing;
+  channels = channels_after part.channels doing;
 }
 
 abbrev pub feed_of : ℕ → Option ℕ → Option Feed

@@ -13,6 +13,7 @@ use Rattle.partition.specs.declared.doing.Doing.{Doing}
 use Rattle.partition.specs.declared.report.Report.{Report}
 use Rattle.partition.specs.declared.report.Report.TheVariants.{Nothing}
 use Rattle.partition.specs.declared.scan.ScanMove.{ScanMove}
+use Rattle.partition.specs.declared.shelf_calls.ShelfWrite.{ShelfWrite}
 use Rattle.partition.specs.declared.scan.ScanMove.TheVariants.{Stay, Begin, End}
 use Rattle.mpd_text.specs.Songs.Song.{SongData}
 use Rattle.partition.specs.Answers.{Answer, Said, stays}
@@ -31,11 +32,13 @@ pub record Image : Type 0 where
   pub shared : Shared
   pub clients : List Client
 
--- what an event makes of a player: what it does to what the player owns and to the scans, what is answered, what the client
--- that it comes from does, and what a part of the daemon is told that is no client, where it is no step of the player
+-- what an event makes of a player: what it does to what the player owns and to the scans, what it writes to the shelf, what is
+-- answered, what the client that it comes from does, and what a part of the daemon is told that is no client, where it is no step
+-- of the player
 pub record Turn : Type 0 where
   pub doing : Doing
   pub scan : ScanMove
+  pub written : ShelfWrite
   pub said : Said
   pub report : Report
 
@@ -43,10 +46,11 @@ pub record Turn : Type 0 where
 pub record Deed : Type 0 where
   pub doing : Doing
   pub scan : ScanMove
+  pub written : ShelfWrite
   pub answer : Answer
 
 abbrev pub turn_by : Deed → Turn
-turn_by deed = record { doing = deed.doing; scan = deed.scan; said = stays deed.answer; report = Nothing }
+turn_by deed = record { doing = deed.doing; scan = deed.scan; written = deed.written; said = stays deed.answer; report = Nothing }
 
 abbrev pub client_of : ℕ → List Client → Option Client
 client_of number [] = None
@@ -84,6 +88,7 @@ opening setup library = record {
     player = player.opened setup.limits.max_cut (pcg32_of_seed (pcg32_seed 16 setup.random_start));
     volume = 100;
     outputs = setup.outputs;
+    channels = [];
   };
   shared = record { library = library; made = no_events; books = empty_books };
   clients = [];

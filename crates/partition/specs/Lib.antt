@@ -2,6 +2,7 @@ pub mod Answers
 pub mod Scans
 pub mod Outputs
 pub mod Doings
+pub mod Shelves
 pub mod Books
 pub mod Image
 pub mod Plans
@@ -18,4 +19,5 @@ pub mod World
 pub mod Notices
 pub mod Legal
 pub mod Invariant
+pub mod Lent
 pub mod Lists

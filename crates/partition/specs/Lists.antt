@@ -16,6 +16,10 @@ use Rattle.player_core.specs.declared.fault.PlayerFault.{PlayerFault}
 use Rattle.player_core.specs.declared.fault.PlayerFault.TheVariants as player_fault
 use Rattle.partition.specs.Answers.{Told}
 use Rattle.partition.specs.Clients.{closes}
+use Rattle.partition.specs.Lent.{IsRefused, ServesAll}
+use Rattle.partition.specs.declared.shelf_calls.Heard.{Heard}
+use Rattle.shelf.specs.Calls.{Call}
+use Rattle.shelf.specs.Maps.{Standing}
 use Rattle.partition.specs.History.{Chronicle, replay, AreTold}
 use Rattle.partition.specs.Image.{Image}
 use Rattle.partition.specs.Step.{limit_of, next_image, told}
@@ -24,29 +28,33 @@ use Rattle.partition.specs.Step.{limit_of, next_image, told}
 abbrev pub ends_list : Told → Bool
 ends_list t = t.answer.refused || closes t.answer.next
 
+-- a request, and what the shelf answers to it
+abbrev pub Answered : Type 0
+Answered = Request × Heard
+
 -- the entries that a list's requests make, side by side, from this place on: up to and with the first that ends the list
-unfoldable pub entries_of : ℕ → Image → ℕ → ListForm → ℕ → List Request → List Happened
+unfoldable pub entries_of : ℕ → Image → ℕ → ListForm → ℕ → List Answered → List Happened
 entries_of seat i client form place [] = []
-entries_of seat i client form place (request ∷ requests) =
-    let event = Line client (InList form place) request in
+entries_of seat i client form place (a ∷ more) =
+    let event = Line client (InList form place) a.0 a.1 in
     record { seat = seat; event = event; told = told i event }
-    ∷ (if ends_list (told i event) then [] else entries_of seat (next_image seat i event) client form (place + 1) requests)
+    ∷ (if ends_list (told i event) then [] else entries_of seat (next_image seat i event) client form (place + 1) more)
 
 -- the events of requests, from a place of their list on
-abbrev pub events_of : ℕ → ListForm → ℕ → List Request → List Event
+abbrev pub events_of : ℕ → ListForm → ℕ → List Answered → List Event
 events_of client form place [] = []
-events_of client form place (request ∷ requests) = Line client (InList form place) request ∷ events_of client form (place + 1) requests
+events_of client form place (a ∷ more) = Line client (InList form place) a.0 a.1 ∷ events_of client form (place + 1) more
 
 -- What the entries of a list are, said of them as a whole: the events of its first requests, all of one seat; each told what
 -- the player tells at its place; nothing follows one that ends the list; and where none does, no request is left out.
-pub record AreEntries (seat : ℕ) (i : Image) (client : ℕ) (form : ListForm) (place : ℕ) (requests : List Request) (entries : List Happened) : Type 0 where
+pub record AreEntries (seat : ℕ) (i : Image) (client : ℕ) (form : ListForm) (place : ℕ) (requests : List Answered) (entries : List Happened) : Type 0 where
   pub events : map {B = ℕ × Event} (λ h. (h.seat, h.event)) entries ≡ take (length entries) (map {B = ℕ × Event} (λ event. (seat, event)) (events_of client form place requests))
   pub told : AreTold i entries
   pub last : (front : List Happened) (entry : Happened) (more : List Happened) → entries ≡ front ++ entry ∷ more → ends_list entry.told ≡ true → more ≡ []
   pub whole : (list_any (λ h. ends_list h.told) entries ≡ false) → length entries ≡ length requests
 
 abbrev pub EntriesAre : Type 0
-EntriesAre = (seat : ℕ) (i : Image) (client : ℕ) (form : ListForm) (place : ℕ) (requests : List Request)
+EntriesAre = (seat : ℕ) (i : Image) (client : ℕ) (form : ListForm) (place : ℕ) (requests : List Answered)
     → AreEntries seat i client form place requests (entries_of seat i client form place requests)
 
 -- answers side by side, and after them this end, unless one of them ended the list
@@ -78,11 +86,6 @@ pub record Stop : Type 0 where
 abbrev pub stop_text : Stop → List ℕ
 stop_text stop = flat_map (λ t. t.answer.text) stop.tolds ++ ack_line 52 stop.done stop.command (fault_text stop.cause)
 
--- why an event may be refused: for the limit that it would pass, or for want of memory, which may come first
-abbrev pub MayRefuse : Option PartitionFault → PartitionFault → Type 0
-MayRefuse None fault = fault ≡ NoMemory
-MayRefuse (Some limit) fault = (fault ≡ limit) ⊎ (fault ≡ NoMemory)
-
 -- none of these entries' events passed a limit at its place
 abbrev pub AllWithin : Image → List Happened → Type 0
 AllWithin i [] = Unit {0}
@@ -95,16 +98,24 @@ pub record Joins (before after : Chronicle) (entries : List Happened) : Type 0 w
   pub present : after.present ≡ replay before.present entries
   pub within : AllWithin before.present entries
 
--- a list ran: all its entries joined the history, and these are their answers
-pub record RunsList (before after : Chronicle) (entries : List Happened) (tolds : List Told) : Type 0 where
-  pub joins : Joins before after entries
-  pub told : tolds ≡ map (λ h. h.told) entries
+module _ {S : Type 0} (standing : S → Standing) (failed : S → S → Call → Type 0) where
+  -- a list ran: by what the lent shelf answered, all its entries joined the history, and these are their answers
+  pub record RunsList (before after : Chronicle) (old new : S) (seat client : ℕ) (form : ListForm) (requests : List Request) (tolds : List Told) : Type 0 where
+    pub answered : List Answered
+    pub asked : map (λ a. a.0) answered ≡ requests
+    pub joins : Joins before after (entries_of seat before.present client form 0 answered)
+    pub told : tolds ≡ map (λ h. h.told) (entries_of seat before.present client form 0 answered)
+    pub shelf : ServesAll standing failed old new before.present (entries_of seat before.present client form 0 answered)
 
--- a list stopped: exactly the first `done` of its entries joined the history, and the command after them was refused, for a limit
--- that its event would pass, or for want of memory
-pub record StopsList (before after : Chronicle) (entries : List Happened) (requests : List Request) (stop : Stop) : Type 0 where
-  pub joins : Joins before after (take stop.done entries)
-  pub told : stop.tolds ≡ map (λ h. h.told) (take stop.done entries)
-  pub more : stop.done < length entries
-  pub command : stop.command ≡ slice_index_or (map name_in requests) stop.done []
-  pub cause : ForSome (slice_get entries stop.done) (λ entry. MayRefuse (limit_of entry.seat after.present entry.event) stop.cause)
+  -- a list stopped: exactly the first `done` of its entries joined the history, and the command after them was refused, for a limit
+  -- that its event would pass, or for want of memory
+  pub record StopsList (before after : Chronicle) (old new : S) (seat client : ℕ) (form : ListForm) (requests : List Request) (stop : Stop) : Type 0 where
+    pub answered : List Answered
+    pub asked : map (λ a. a.0) answered ≡ requests
+    pub joins : Joins before after (take stop.done (entries_of seat before.present client form 0 answered))
+    pub told : stop.tolds ≡ map (λ h. h.told) (take stop.done (entries_of seat before.present client form 0 answered))
+    pub more : stop.done < length (entries_of seat before.present client form 0 answered)
+    pub command : stop.command ≡ slice_index_or (map name_in requests) stop.done []
+    pub between : S
+    pub shelf : ServesAll standing failed old between before.present (take stop.done (entries_of seat before.present client form 0 answered))
+    pub cause : ForSome (slice_get (entries_of seat before.present client form 0 answered) stop.done) (λ entry. IsRefused standing failed after.present between new entry.seat entry.event stop.cause)

@@ -3,6 +3,7 @@
 use Rattle.std.specs.Prelude.{◌≡◌, ◌≢◌, ◌↔◌, ◌⊎◌, ◌<◌, ℕ, true, false, List, [], ◌∷◌, ◌++◌, reverse, map, Option, Some, None, codes}
 use Rattle.idle_notes.specs.declared.sets.Subsystems.{Subsystems}
 use Rattle.idle_notes.specs.declared.subsystem.Subsystem.{Subsystem}
+use Rattle.idle_notes.specs.Channels.{pairs}
 use Rattle.idle_notes.specs.Names.{changed_lines}
 use Rattle.idle_notes.specs.Sets.{has}
 use Rattle.mpd_command.specs.declared.command.Command.TheVariants.{Idle}
@@ -16,23 +17,26 @@ use Rattle.partition.specs.declared.event.Notice.{Notice}
 use Rattle.partition.specs.declared.event.Stand.TheVariants.{Alone}
 use Rattle.player_core.specs.Player.{PlayerState}
 use Rattle.partition.specs.Answers.{Told}
+use Rattle.partition.specs.declared.shelf_calls.Heard.{Heard}
 use Rattle.partition.specs.Step.{speaker}
-use Rattle.partition.specs.World.{World, Moment, PartDiffers, IsPending, is_told, raised_at}
+use Rattle.partition.specs.World.{World, Moment, Differs, IsPending, is_told, raised_at}
 
 -- a player's order and its decoder's work, of which no subsystem speaks: the random round, the place in the song, the jobs and the fade
 abbrev pub with_order_of : PlayerState → PlayerState → PlayerState
 with_order_of p other = record p { round = other.round; place = other.place; jobs = other.jobs; job = other.job; fade = other.fade; gave_up = other.gave_up }
 
--- two worlds are one but for who is there and who waits, the order of play and the decoder's work, and which outputs have failed
+-- two worlds are one but for who is there and who waits, the order of play and the decoder's work, which outputs have failed, and
+-- the messages that wait
 abbrev pub AgreeButForUnspoken : World → World → Type 0
 AgreeButForUnspoken before after =
-    after ≡ record before { player = with_order_of before.player after.player; outputs = record before.outputs { failed = after.outputs.failed }; clients = after.clients }
+    (after ≡ record before { player = with_order_of before.player after.player; outputs = record before.outputs { failed = after.outputs.failed }; channels = after.channels; clients = after.clients })
+    × (pairs before.channels ≡ pairs after.channels)
 
--- A subsystem is raised exactly where its part differs. Where no part differs the worlds agree in all but what no subsystem speaks
+-- A subsystem is raised for a client exactly where its part differs. Where no part differs the worlds agree in all but what no subsystem speaks
 -- of, so that whatever else an event changes has a part that speaks of it.
 pub record Raises (moment : Moment) : Type 0 where
-  pub each : (subsystem : Subsystem) → (has (raised_at moment) subsystem ≡ true) ↔ PartDiffers subsystem moment.before moment.after
-  pub all : ((subsystem : Subsystem) → PartDiffers subsystem moment.before moment.after → ⊥) → AgreeButForUnspoken moment.before moment.after
+  pub each : (number : ℕ) (subsystem : Subsystem) → (has (raised_at number moment) subsystem ≡ true) ↔ Differs number subsystem moment
+  pub all : ((number : ℕ) (subsystem : Subsystem) → Differs number subsystem moment → ⊥) → AgreeButForUnspoken moment.before moment.after
 
 -- it is one of these
 abbrev pub IsIn : {A : Type 0} → A → List A → Type 0
@@ -52,7 +56,7 @@ IsThere number w = (waiting : Option Subsystems) × IsIn (record { number = numb
 
 -- by this moment a subsystem changed for a client: it was pending before, or its part differs now
 abbrev pub HasChanged : ℕ → Subsystem → Moment → List Moment → Type 0
-HasChanged number subsystem moment earlier = IsPending number subsystem earlier ⊎ PartDiffers subsystem moment.before moment.after
+HasChanged number subsystem moment earlier = IsPending number subsystem earlier ⊎ Differs number subsystem moment
 
 -- these are the subsystems of a named set that changed for a client, and there is one
 pub record Meets (number : ℕ) (named names : Subsystems) (moment : Moment) (earlier : List Moment) : Type 0 where
@@ -87,7 +91,8 @@ NoticesRise (notice ∷ notices) = AllBeyond notice.client notices × NoticesRis
 -- a client that did not wait asks what changed of these, on a line alone
 pub record Asks (number : ℕ) (named : Subsystems) (moment : Moment) : Type 0 where
   pub name : Name
-  pub event : moment.event ≡ Line number Alone (Run name (Idle named))
+  pub heard : Heard
+  pub event : moment.event ≡ Line number Alone (Run name (Idle named)) heard
   pub free : WaitsNot number moment.before
 
 -- a client was told what changed: by a notice, or as the answer to its `idle`

@@ -1,5 +1,5 @@
 -- Why an event may be refused.
-use Rattle.std.specs.Prelude.{◌≡◌, true, false}
+use Rattle.std.specs.Prelude.{◌≡◌, ◌⊎◌, true, false, Option, Some, None}
 use Rattle.partition.specs.declared.partition.PartitionFault.{PartitionFault}
 use Rattle.partition.specs.declared.partition.PartitionFault.TheVariants.{CutsAtLimit, AtLimit, NoMemory}
 use Rattle.partition.specs.Image.{Image, Turn}
@@ -10,3 +10,8 @@ abbrev pub RefusesTurn : Image → Turn → PartitionFault → Type 0
 RefusesTurn i t AtLimit = counts_frames i t ≡ false
 RefusesTurn i t CutsAtLimit = (counts_frames i t ≡ true) × (keeps_limits i t ≡ false)
 RefusesTurn i t NoMemory = Unit {0}
+
+-- why an event may be refused: for the limit that it would pass, or for want of memory, which may come first
+abbrev pub MayRefuse : Option PartitionFault → PartitionFault → Type 0
+MayRefuse None fault = fault ≡ NoMemory
+MayRefuse (Some limit) fault = (fault ≡ limit) ⊎ (fault ≡ NoMemory)

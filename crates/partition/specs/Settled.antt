@@ -1,8 +1,8 @@
 -- Clients that were told what they wait for, and how many notices an event can give.
-use Rattle.std.specs.Prelude.{◌≡◌, ℕ, false, List, [], ◌∷◌, count_by, if◌then◌else◌}
+use Rattle.std.specs.Prelude.{◌≡◌, ◌⊎◌, ◌≤◌, ℕ, false, List, [], ◌∷◌, count_by}
 use Rattle.idle_notes.specs.declared.sets.Subsystems.{Subsystems}
 use Rattle.idle_notes.specs.Notes.{due}
-use Rattle.idle_notes.specs.Sets.{is_nonempty}
+use Rattle.idle_notes.specs.Sets.{none, is_nonempty}
 use Rattle.partition.specs.declared.state.Client.{Client}
 use Rattle.partition.specs.Rooms.{is_waiting}
 
@@ -14,6 +14,10 @@ abbrev pub AllSettled : List Client → Type 0
 AllSettled [] = Unit {0}
 AllSettled (client ∷ clients) = IsSettled client × AllSettled clients
 
--- the most notices to these clients: one for each that waits, and none where nothing is raised
-abbrev pub most_notices : Subsystems → List Client → ℕ
-most_notices raised clients = if is_nonempty raised then count_by is_waiting clients else 0
+-- nothing is raised for any client
+abbrev pub nothing : ℕ → Subsystems
+nothing number = none
+
+-- there is room for the notices to these clients: one for each that waits, or none where nothing is raised
+abbrev pub HasRoom : (ℕ → Subsystems) → List Client → ℕ → Type 0
+HasRoom raised clients room = (raised ≡ nothing) ⊎ (count_by is_waiting clients ≤ room)

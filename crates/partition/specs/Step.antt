@@ -3,7 +3,8 @@ use Rattle.std.specs.Prelude.{ℕ, Bool, true, false, not, ◌&&◌, ◌||◌, L
 use Rattle.filters.specs.declared.matching.Case.TheVariants.{Heeded, Ignored}
 use Rattle.idle_notes.specs.declared.sets.Subsystems.{Subsystems}
 use Rattle.mpd_command.specs.declared.command.Command.{Command}
-use Rattle.mpd_command.specs.declared.command.Command.TheVariants.{Add, AddId, Clear, ClearError, Close, Consume, Count, CurrentSong, Delete, DeleteId, DisableOutput, EnableOutput, Find, FindAdd, GetVol, Idle, Kill, List as ListTag, ListAll, LsInfo, Move, MoveId, Next, NoIdle, Outputs, Pause, Ping, Play, PlayId, PlaylistId, PlaylistInfo, PlChanges, PlChangesPosId, Previous, Prio, PrioId, Random, Repeat, Rescan, Search, SearchAdd, Seek, SeekCur, SeekId, SetVol, Shuffle, Single, Status, Stop, Swap, SwapId, TagTypes, ToggleOutput, Update}
+use Rattle.mpd_command.specs.declared.command.Command.TheVariants.{Add, AddId, Channels, Clear, ClearError, Close, Commands, Consume, Count, Crossfade, CurrentSong, Delete, DeleteId, DisableOutput, EnableOutput, Find, FindAdd, GetVol, Idle, Kill, List as ListTag, ListAll, ListPlaylist, ListPlaylistInfo, ListPlaylists, Load, LsInfo, Move, MoveId, Next, NoIdle, NotCommands, Outputs, Pause, Ping, Play, PlayId, PlaylistAdd, PlaylistClear, PlaylistDelete, PlaylistId, PlaylistInfo, PlaylistMove, PlChanges, PlChangesPosId, Previous, Prio, PrioId, Random, ReadMessages, Rename, Repeat, Rescan, Rm, Save, Search, SearchAdd, Seek, SeekCur, SeekId, SendMessage, SetVol, Shuffle, Single, Status, Sticker, Stop, Subscribe, Swap, SwapId, TagTypes, ToggleOutput, Unsubscribe, Update}
+use Rattle.mpd_command.specs.declared.name.Name.{Name}
 use Rattle.mpd_command.specs.declared.request.Request.{Request}
 use Rattle.mpd_command.specs.declared.request.Request.TheVariants.{Run, Refused}
 use Rattle.partition.specs.declared.event.Asked.{Asked}
@@ -13,7 +14,7 @@ use Rattle.partition.specs.declared.event.Move.TheVariants.{Join}
 use Rattle.partition.specs.declared.event.Stand.{Stand}
 use Rattle.partition.specs.declared.event.Stand.TheVariants.{Alone, InList}
 use Rattle.partition.specs.declared.doing.Doing.{Doing}
-use Rattle.partition.specs.declared.doing.Doing.TheVariants.{Rests, Wants, Accepts, Fails, Settles}
+use Rattle.partition.specs.declared.doing.Doing.TheVariants.{Rests, Wants, Accepts, Fails, Settles, Leaves}
 use Rattle.partition.specs.declared.partition.PartitionFault.{PartitionFault}
 use Rattle.partition.specs.declared.partition.PartitionFault.TheVariants.{CutsAtLimit, AtLimit}
 use Rattle.partition.specs.declared.report.Report.{Report}
@@ -22,93 +23,120 @@ use Rattle.partition.specs.declared.scan.ScanMove.TheVariants.{Stay, End}
 use Rattle.partition.specs.declared.state.Client.{Client}
 use Rattle.partition.specs.declared.state.Library.{Library}
 use Rattle.partition.specs.declared.state.Part.{Part}
-use Rattle.partition.specs.Answers.{Told, Said, refuses, shut, stays, tells}
+use Rattle.partition.specs.Answers.{Told, Said, refused_by_shelf, refuses, shut, stays, tells}
 use Rattle.partition.specs.Clients.{parts_of, raised, clients_after, notices_after}
-use Rattle.partition.specs.Commands.Connection.{ping, tag_types}
-use Rattle.partition.specs.Commands.Deeds.{only}
+use Rattle.partition.specs.Commands.Connection.{commands, not_commands, ping, tag_types}
+use Rattle.partition.specs.Commands.Deeds.{closes_client, only}
 use Rattle.partition.specs.Commands.Library.{count_songs, find, find_add, list, list_all, list_info, update}
-use Rattle.partition.specs.Commands.Options.{consume, get_volume, random, repeat, set_volume, single}
+use Rattle.partition.specs.Commands.Options.{consume, crossfade, get_volume, random, repeat, set_volume, single}
 use Rattle.partition.specs.Commands.Playback.{clear_error, current_song, next, pause, play, play_id, previous, seek, seek_cur, seek_id, stop}
 use Rattle.partition.specs.Commands.Devices.{outputs, switch_output, toggle_output}
 use Rattle.partition.specs.Commands.Queue.{add, add_id, clear, delete, delete_id, move, move_id, swap, swap_id, prio, prio_id, playlist_info, playlist_id, changes, changed_places, shuffle}
+use Rattle.partition.specs.Commands.Messages.{channels, read_messages, send_message, subscribe, unsubscribe}
+use Rattle.partition.specs.Commands.Shelf.{list_playlist, list_playlist_info, list_playlists, load, playlist_add, playlist_clear, playlist_delete, playlist_move, question_by, remove, rename, save, sticker}
 use Rattle.partition.specs.Commands.Status.{Wish, ToGoOn, wish_of, wished, status}
 use Rattle.partition.specs.Scans.{running}
+use Rattle.partition.specs.Shelves.{Question, NoQuestion, is_written, nothing_heard}
+use Rattle.partition.specs.declared.shelf_calls.Heard.{Heard}
+use Rattle.partition.specs.declared.shelf_calls.Read.{Read}
+use Rattle.partition.specs.declared.shelf_calls.ShelfWrite.TheVariants.{Nothing as Unwritten}
+use Rattle.shelf.specs.declared.faults.ShelfFault.{ShelfFault}
 use Rattle.partition.specs.Outputs.{books_after, can_count_all, is_output}
 use Rattle.partition.specs.Doings.{keeps_numbers, part_after, report_after}
 use Rattle.partition.specs.Image.{Image, Turn, Deed, library_after, client_of, counted, turn_by}
 
 -- what a command makes of the player; the commands by which a client waits are wishes and make nothing of it
-abbrev pub deed_of : Asked → Part → Library → Command → Deed
-deed_of asked part library (Add uri) = add asked part library uri.0
-deed_of asked part library (AddId uri place) = add_id asked part library uri.0 place
-deed_of asked part library Clear = clear asked part
-deed_of asked part library ClearError = clear_error asked
-deed_of asked part library Close = only shut
-deed_of asked part library (Consume on) = consume asked on
-deed_of asked part library (Count wanted) = count_songs asked library wanted
-deed_of asked part library CurrentSong = current_song asked part library
-deed_of asked part library (Delete range) = delete asked part range
-deed_of asked part library (DeleteId id) = delete_id asked part id
-deed_of asked part library (DisableOutput output) = switch_output asked part output false
-deed_of asked part library (EnableOutput output) = switch_output asked part output true
-deed_of asked part library (Find wanted window) = find asked library Heeded wanted window
-deed_of asked part library (FindAdd wanted) = find_add asked part library Heeded wanted
-deed_of asked part library GetVol = get_volume asked part
-deed_of asked part library (Idle named) = only shut
-deed_of asked part library Kill = only shut
-deed_of asked part library (ListTag name wanted) = list asked library name wanted
-deed_of asked part library (ListAll uri) = list_all asked library uri
-deed_of asked part library (LsInfo uri) = list_info asked library uri
-deed_of asked part library (Move range to) = move asked part range to
-deed_of asked part library (MoveId id to) = move_id asked part id to
-deed_of asked part library Next = next asked part
-deed_of asked part library NoIdle = only shut
-deed_of asked part library Outputs = outputs asked part
-deed_of asked part library (Pause on) = pause asked on
-deed_of asked part library Ping = only (ping asked)
-deed_of asked part library (Play place) = play asked part place
-deed_of asked part library (PlayId id) = play_id asked part id
-deed_of asked part library (PlaylistId id) = playlist_id asked part library id
-deed_of asked part library (PlaylistInfo range) = playlist_info asked part library range
-deed_of asked part library (PlChanges version range) = changes asked part library version range
-deed_of asked part library (PlChangesPosId version range) = changed_places asked part version range
-deed_of asked part library Previous = previous asked part
-deed_of asked part library (Prio priority ranges) = prio asked part priority ranges
-deed_of asked part library (PrioId priority ids) = prio_id asked part priority ids
-deed_of asked part library (Random on) = random asked on
-deed_of asked part library (Repeat on) = repeat asked on
-deed_of asked part library (Rescan uri) = update asked library
-deed_of asked part library (Search wanted window) = find asked library Ignored wanted window
-deed_of asked part library (SearchAdd wanted) = find_add asked part library Ignored wanted
-deed_of asked part library (Seek place time) = seek asked part library place time.0
-deed_of asked part library (SeekCur seeking) = seek_cur asked part library seeking
-deed_of asked part library (SeekId id time) = seek_id asked part library id time.0
-deed_of asked part library (SetVol volume) = set_volume asked volume
-deed_of asked part library (Shuffle range) = shuffle asked part range
-deed_of asked part library (Single mode) = single asked mode
-deed_of asked part library Status = status asked part library
-deed_of asked part library Stop = stop asked
-deed_of asked part library (Swap first second) = swap asked part first second
-deed_of asked part library (SwapId first second) = swap_id asked part first second
-deed_of asked part library TagTypes = only (tag_types asked)
-deed_of asked part library (ToggleOutput output) = toggle_output asked part output
-deed_of asked part library (Update uri) = update asked library
+abbrev pub deed_of : Asked → Part → Library → Read → Command → Deed
+deed_of asked part library read (Add uri) = add asked part library uri.0
+deed_of asked part library read (AddId uri place) = add_id asked part library uri.0 place
+deed_of asked part library read Channels = channels asked part
+deed_of asked part library read Clear = clear asked part
+deed_of asked part library read ClearError = clear_error asked
+deed_of asked part library read Close = closes_client asked
+deed_of asked part library read (Commands allow_kill) = only (commands asked allow_kill)
+deed_of asked part library read (Consume on) = consume asked on
+deed_of asked part library read (Count wanted) = count_songs asked library wanted
+deed_of asked part library read (Crossfade seconds) = crossfade asked seconds
+deed_of asked part library read CurrentSong = current_song asked part library
+deed_of asked part library read (Delete range) = delete asked part range
+deed_of asked part library read (DeleteId id) = delete_id asked part id
+deed_of asked part library read (DisableOutput output) = switch_output asked part output false
+deed_of asked part library read (EnableOutput output) = switch_output asked part output true
+deed_of asked part library read (Find wanted window) = find asked library Heeded wanted window
+deed_of asked part library read (FindAdd wanted) = find_add asked part library Heeded wanted
+deed_of asked part library read GetVol = get_volume asked part
+deed_of asked part library read (Idle named) = only shut
+deed_of asked part library read Kill = closes_client asked
+deed_of asked part library read (ListTag name wanted) = list asked library name wanted
+deed_of asked part library read (ListAll uri) = list_all asked library uri
+deed_of asked part library read (ListPlaylist name) = list_playlist asked read name
+deed_of asked part library read (ListPlaylistInfo name) = list_playlist_info asked library read name
+deed_of asked part library read ListPlaylists = list_playlists asked read
+deed_of asked part library read (Load name range) = load asked part library read name range
+deed_of asked part library read (LsInfo uri) = list_info asked library uri
+deed_of asked part library read (Move range to) = move asked part range to
+deed_of asked part library read (MoveId id to) = move_id asked part id to
+deed_of asked part library read Next = next asked part
+deed_of asked part library read NoIdle = only shut
+deed_of asked part library read (NotCommands allow_kill) = only (not_commands asked allow_kill)
+deed_of asked part library read Outputs = outputs asked part
+deed_of asked part library read (Pause on) = pause asked on
+deed_of asked part library read Ping = only (ping asked)
+deed_of asked part library read (PlChanges version range) = changes asked part library version range
+deed_of asked part library read (PlChangesPosId version range) = changed_places asked part version range
+deed_of asked part library read (Play place) = play asked part place
+deed_of asked part library read (PlayId id) = play_id asked part id
+deed_of asked part library read (PlaylistAdd name uri) = playlist_add asked library read name uri.0
+deed_of asked part library read (PlaylistClear name) = playlist_clear asked read name
+deed_of asked part library read (PlaylistDelete name place) = playlist_delete asked read name place
+deed_of asked part library read (PlaylistId id) = playlist_id asked part library id
+deed_of asked part library read (PlaylistInfo range) = playlist_info asked part library range
+deed_of asked part library read (PlaylistMove name from to) = playlist_move asked read name from to
+deed_of asked part library read Previous = previous asked part
+deed_of asked part library read (Prio priority ranges) = prio asked part priority ranges
+deed_of asked part library read (PrioId priority ids) = prio_id asked part priority ids
+deed_of asked part library read (Random on) = random asked on
+deed_of asked part library read ReadMessages = read_messages asked part
+deed_of asked part library read (Rename name new) = rename asked name new
+deed_of asked part library read (Repeat on) = repeat asked on
+deed_of asked part library read (Rescan uri) = update asked library
+deed_of asked part library read (Rm name) = remove asked name
+deed_of asked part library read (Save name) = save asked part name
+deed_of asked part library read (Search wanted window) = find asked library Ignored wanted window
+deed_of asked part library read (SearchAdd wanted) = find_add asked part library Ignored wanted
+deed_of asked part library read (Seek place time) = seek asked part library place time.0
+deed_of asked part library read (SeekCur seeking) = seek_cur asked part library seeking
+deed_of asked part library read (SeekId id time) = seek_id asked part library id time.0
+deed_of asked part library read (SendMessage channel text) = send_message asked part channel text
+deed_of asked part library read (SetVol volume) = set_volume asked volume
+deed_of asked part library read (Shuffle range) = shuffle asked part range
+deed_of asked part library read (Single mode) = single asked mode
+deed_of asked part library read Status = status asked part library
+deed_of asked part library read (Sticker command) = sticker asked library read command
+deed_of asked part library read Stop = stop asked
+deed_of asked part library read (Subscribe channel) = subscribe asked part channel
+deed_of asked part library read (Swap first second) = swap asked part first second
+deed_of asked part library read (SwapId first second) = swap_id asked part first second
+deed_of asked part library read TagTypes = only (tag_types asked)
+deed_of asked part library read (ToggleOutput output) = toggle_output asked part output
+deed_of asked part library read (Unsubscribe channel) = unsubscribe asked part channel
+deed_of asked part library read (Update uri) = update asked library
 
 -- the player stays as it is
 abbrev pub quiet : Said → Turn
-quiet said = record { doing = Rests; scan = Stay; said = said; report = Nothing }
+quiet said = record { doing = Rests; scan = Stay; written = Unwritten; said = said; report = Nothing }
 
 -- a client's wish leaves the player as it is; another command does its deed
 abbrev pub turn_wished : Asked → Client → Deed → Option Wish → Turn
 turn_wished asked client deed (Some wish) = quiet (wished asked client wish)
 turn_wished asked client deed None = turn_by deed
 
-abbrev pub turn_command : Asked → Part → Library → Client → Command → Turn
-turn_command asked part library client command = turn_wished asked client (deed_of asked part library command) (wish_of command)
+abbrev pub turn_command : Asked → Part → Library → Read → Client → Command → Turn
+turn_command asked part library read client command = turn_wished asked client (deed_of asked part library read command) (wish_of command)
 
-abbrev pub turn_request : Part → Library → Client → Stand → Request → Turn
-turn_request part library client stand (Run name command) = turn_command (record { name = name; stand = stand }) part library client command
-turn_request part library client stand (Refused ack) = quiet (stays (refuses stand ack.command ack.number ack.text))
+abbrev pub turn_request : Part → Library → Client → Stand → Request → Read → Turn
+turn_request part library client stand (Run name command) read = turn_command (record { client = client.number; name = name; stand = stand }) part library read client command
+turn_request part library client stand (Refused ack) read = quiet (stays (refuses stand ack.command ack.number ack.text))
 
 abbrev pub greeting : Said
 greeting = record { answer = tells (codes "OK MPD 0.23.0\n"); move = Join }
@@ -132,11 +160,16 @@ abbrev pub ends_waiting : Stand → Request → Bool
 ends_waiting stand (Run name command) = ends_by stand (wish_of command)
 ends_waiting stand (Refused ack) = false
 
+-- a client goes, with its channels and its messages
+abbrev pub departs : ℕ → Turn
+departs number = record (quiet (stays shut)) { doing = Leaves number }
+
 -- a line of a client that is not there closes it; so does a line other than `noidle` while it waits, whatever the line says
-abbrev pub turn_line : Part → Library → Option Client → Stand → Request → Turn
-turn_line part library None stand request = quiet (stays shut)
-turn_line part library (Some client) stand request =
-    if is_some client.pending.waiting && not (ends_waiting stand request) then quiet (stays shut) else turn_request part library client stand request
+abbrev pub turn_line : Part → Library → Option Client → Stand → Request → Read → Turn
+turn_line part library None stand request read = quiet (stays shut)
+turn_line part library (Some client) stand request read =
+    if is_some client.pending.waiting && not (ends_waiting stand request) then departs client.number
+    else turn_request part library client stand request read
 
 -- an event that comes from no client is answered by its report alone
 abbrev pub unspoken : Said
@@ -144,13 +177,27 @@ unspoken = stays (tells (codes ""))
 
 -- a step of the decoder or of an output, which comes from no client
 abbrev pub acts : Doing → Turn
-acts doing = record { doing = doing; scan = Stay; said = unspoken; report = Nothing }
+acts doing = record { doing = doing; scan = Stay; written = Unwritten; said = unspoken; report = Nothing }
+
+-- the command that a request names, if it names one
+abbrev pub name_of : Request → Option Name
+name_of (Run name command) = Some name
+name_of (Refused ack) = ack.command
+
+-- a turn that writes to the shelf does nothing else; where the shelf refuses, it is answered so, and nothing happens
+abbrev pub once_written : Stand → Request → Option ShelfFault → Turn → Turn
+once_written stand request None t = record (quiet t.said) { written = t.written }
+once_written stand request (Some fault) t = quiet (stays (refused_by_shelf stand (name_of request) fault))
+
+abbrev pub written_turn : Stand → Request → Option ShelfFault → Turn → Turn
+written_turn stand request refused t = if is_written t.written then once_written stand request refused t else t
 
 -- what an event makes of a part, a library and some clients; the turn of an output that is not there does nothing
 abbrev pub turn_of : Part → Library → List Client → Event → Turn
 turn_of part library clients (Connect number) = quiet (said_to_new clients number)
-turn_of part library clients (Disconnect number) = quiet (stays shut)
-turn_of part library clients (Line number stand request) = turn_line part library (client_of number clients) stand request
+turn_of part library clients (Disconnect number) = departs number
+turn_of part library clients (Line number stand request heard) =
+    written_turn stand request heard.refused (turn_line part library (client_of number clients) stand request heard.read)
 turn_of part library clients ScanQuestion = record (quiet unspoken) { report = ToScan (running library.scan) }
 turn_of part library clients (ScanResult songs) = record (quiet unspoken) { scan = End songs; report = ScanEnded library.scan.runs }
 turn_of part library clients (Want owes) = acts (Wants owes)
@@ -159,6 +206,39 @@ turn_of part library clients (Failed number partner) = acts (Fails number partne
 turn_of part library clients (OutputTurn output written discarded failed) =
     if is_output part.outputs output then acts (Settles output written discarded failed) else quiet unspoken
 
+-- what an event asks the shelf: a line alone asks, and only one that is run
+abbrev pub question_in : Library → Request → Question
+question_in library (Run name command) = question_by library command
+question_in library (Refused ack) = NoQuestion
+
+abbrev pub question_line : Library → Option Client → Stand → Request → Question
+question_line library None stand request = NoQuestion
+question_line library (Some client) stand request =
+    if is_some client.pending.waiting && not (ends_waiting stand request) then NoQuestion else question_in library request
+
+abbrev pub question_of : Library → List Client → Event → Question
+question_of library clients (Line number stand request heard) = question_line library (client_of number clients) stand request
+question_of library clients _ = NoQuestion
+
+-- what a shelf answered to an event
+abbrev pub heard_at : Event → Heard
+heard_at (Line number stand request heard) = heard
+heard_at _ = nothing_heard
+
+-- how a line comes, and the command that it names, for what the shelf refuses
+abbrev pub stand_of : Event → Stand
+stand_of (Line number stand request heard) = stand
+stand_of _ = Alone
+
+abbrev pub name_at : Event → Option Name
+name_at (Line number stand request heard) = name_of request
+name_at _ = None
+
+-- the event, with what a shelf answered to it
+abbrev pub hearing : Event → Heard → Event
+hearing (Line number stand request before) heard = Line number stand request heard
+hearing event heard = event
+
 abbrev pub turn : Image → Event → Turn
 turn i event = turn_of i.part i.shared.library i.clients event
 
@@ -166,7 +246,7 @@ turn i event = turn_of i.part i.shared.library i.clients event
 abbrev pub speaker : Event → Option ℕ
 speaker (Connect number) = Some number
 speaker (Disconnect number) = Some number
-speaker (Line number stand request) = Some number
+speaker (Line number stand request heard) = Some number
 speaker ScanQuestion = None
 speaker (ScanResult songs) = None
 speaker (Want owes) = None
@@ -179,9 +259,9 @@ speaker (OutputTurn output written discarded failed) = None
 abbrev pub mover : Event → ℕ
 mover event = unwrap_or (speaker event) 0
 
--- what a turn raises: what differs between the parts before and after it
-abbrev pub raised_by : Part → Library → Turn → Subsystems
-raised_by part library t = raised (parts_of part library) (parts_of (part_after library.rate part t.doing) (library_after library t.scan))
+-- what a turn raises for each client: what differs between the parts before and after it
+abbrev pub raised_by : Part → Library → Turn → ℕ → Subsystems
+raised_by part library t = raised t.written (parts_of part library) (parts_of (part_after library.rate part t.doing) (library_after library t.scan))
 
 -- what a part of the daemon is told that is no client
 abbrev pub report_of : Part → Library → Turn → Report

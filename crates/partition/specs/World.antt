@@ -5,6 +5,7 @@ use Rattle.idle_notes.specs.declared.sets.Subsystems.{Subsystems}
 use Rattle.idle_notes.specs.declared.subsystem.Subsystem.{Subsystem}
 use Rattle.idle_notes.specs.declared.subsystem.Subsystem.TheVariants.{Database, Update, StoredPlaylist, Playlist, Player, Mixer, Output, Options, Sticker, Subscription, Message}
 use Rattle.idle_notes.specs.Sets.{none, union}
+use Rattle.idle_notes.specs.Channels.{MemberData, messages_of, pairs}
 use Rattle.song_queue.specs.declared.entry.Entry.{Entry}
 use Rattle.song_queue.specs.Past.{present, after_event, state_of}
 use Rattle.song_queue.specs.Laws as queues
@@ -21,8 +22,9 @@ use Rattle.partition.specs.declared.state.Limits.{Limits}
 use Rattle.partition.specs.Clients.{Parts, raised, move_of, options, playing}
 use Rattle.partition.specs.History.{made_of}
 use Rattle.partition.specs.Outputs.{FrameBooks, OutputsData, decoded_by, discarded_by, written_by}
-use Rattle.partition.specs.Doings.{Change, ByEdit, ByStep, change_of, outputs_after, player_after, volume_after}
+use Rattle.partition.specs.Doings.{Change, ByEdit, ByStep, change_of, channels_after, outputs_after, player_after, volume_after}
 use Rattle.partition.specs.Image.{Image, Turn, library_after}
+use Rattle.partition.specs.Shelves.{changes_lists, changes_stickers}
 use Rattle.partition.specs.Step.{turn, mover, after_turn, report_of, told_by}
 
 -- a client, and what it waits for, if it waits
@@ -30,7 +32,8 @@ pub record Listener : Type 0 where
   pub number : ℕ
   pub waiting : Option Subsystems
 
--- all queues that the player had, the newest first; its limits, its library, what is played, the volume, the outputs, the clients
+-- all queues that the player had, the newest first; its limits, its library, what is played, the volume, the outputs, who listens to
+-- which channel and the messages that wait, the clients
 pub record World : Type 0 where
   pub past : List (List Entry)
   pub limits : Limits
@@ -38,6 +41,7 @@ pub record World : Type 0 where
   pub player : PlayerState
   pub volume : ℕ
   pub outputs : OutputsData
+  pub channels : List MemberData
   pub clients : List Listener
 
 -- one event: the worlds before and after it, what it made of the player, the notices that went out, and what a part of the daemon
@@ -56,25 +60,30 @@ pub record Life : Type 0 where
   pub moments : List Moment
 
 abbrev pub parts_in : World → Parts
-parts_in w = record { library = w.library; queue = present w.past; player = w.player; volume = w.volume; outputs = w.outputs }
+parts_in w = record { library = w.library; queue = present w.past; player = w.player; volume = w.volume; outputs = w.outputs; channels = w.channels }
 
--- the part of a player that a subsystem speaks of differs between two worlds
-abbrev pub PartDiffers : Subsystem → World → World → Type 0
-PartDiffers Database before after = before.library.songs ≢ after.library.songs
-PartDiffers Update before after = before.library.scan.runs ≢ after.library.scan.runs
-PartDiffers StoredPlaylist before after = ⊥
-PartDiffers Playlist before after = present before.past ≢ present after.past
-PartDiffers Player before after = playing before.player ≢ playing after.player
-PartDiffers Mixer before after = before.volume ≢ after.volume
-PartDiffers Output before after = before.outputs.enabled ≢ after.outputs.enabled
-PartDiffers Options before after = options before.player ≢ options after.player
-PartDiffers Sticker before after = ⊥
-PartDiffers Subscription before after = ⊥
-PartDiffers Message before after = ⊥
+-- no message waited for a client, and one does
+abbrev pub BeginsToHave : ℕ → World → World → Type 0
+BeginsToHave number before after = (messages_of number before.channels ≡ []) × (messages_of number after.channels ≢ [])
 
--- what an event raised: the subsystems whose parts differ between the worlds before and after it
-abbrev pub raised_at : Moment → Subsystems
-raised_at m = raised (parts_in m.before) (parts_in m.after)
+-- The part that a subsystem speaks of for a client differs between the worlds before and after an event. Of the shelf, which stands
+-- beside the worlds, the event tells what was written.
+abbrev pub Differs : ℕ → Subsystem → Moment → Type 0
+Differs number Database m = m.before.library.songs ≢ m.after.library.songs
+Differs number Update m = m.before.library.scan.runs ≢ m.after.library.scan.runs
+Differs number StoredPlaylist m = changes_lists m.turn.written ≡ true
+Differs number Playlist m = present m.before.past ≢ present m.after.past
+Differs number Player m = playing m.before.player ≢ playing m.after.player
+Differs number Mixer m = m.before.volume ≢ m.after.volume
+Differs number Output m = m.before.outputs.enabled ≢ m.after.outputs.enabled
+Differs number Options m = options m.before.player ≢ options m.after.player
+Differs number Sticker m = changes_stickers m.turn.written ≡ true
+Differs number Subscription m = pairs m.before.channels ≢ pairs m.after.channels
+Differs number Message m = BeginsToHave number m.before m.after
+
+-- what an event raised for a client: the subsystems whose parts differ between the worlds before and after it
+abbrev pub raised_at : ℕ → Moment → Subsystems
+raised_at number m = raised m.turn.written (parts_in m.before) (parts_in m.after) number
 
 abbrev pub is_there : ℕ → World → Bool
 is_there number w = list_any (λ k. k.number == number) w.clients
@@ -104,7 +113,7 @@ union_all (set ∷ sets) = union (union_all sets) set
 
 -- what is pending for a client: everything that was raised since
 abbrev pub pending_for : ℕ → List Moment → Subsystems
-pending_for number moments = union_all (map raised_at (since number moments))
+pending_for number moments = union_all (map (raised_at number) (since number moments))
 
 -- at none of these moments a client's pending set begins anew
 abbrev pub NeverAnew : ℕ → List Moment → Type 0
@@ -118,7 +127,7 @@ pub record IsPending (number : ℕ) (subsystem : Subsystem) (moments : List Mome
   pub moment : Moment
   pub earlier : List Moment
   pub order : moments ≡ later ++ moment ∷ earlier
-  pub raised : PartDiffers subsystem moment.before moment.after
+  pub raised : Differs number subsystem moment
   pub since : NeverAnew number (later ++ moment ∷ [])
 
 -- what commands can read of a client
@@ -155,7 +164,7 @@ books_of moments = record {
 -- is pending for each client by the moments, the frames of each output by the moments, and what each seat made
 abbrev pub image_of : Life → List Happened → Image
 image_of life history = record {
-  part = record { queue = state_of life.world.limits.max_queue life.world.limits.max_version life.world.limits.max_id life.world.past; player = life.world.player; volume = life.world.volume; outputs = life.world.outputs };
+  part = record { queue = state_of life.world.limits.max_queue life.world.limits.max_version life.world.limits.max_id life.world.past; player = life.world.player; volume = life.world.volume; outputs = life.world.outputs; channels = life.world.channels };
   shared = record { library = life.world.library; made = made_of history; books = books_of life.moments };
   clients = map (client_in life.moments) life.world.clients;
 }
@@ -174,6 +183,7 @@ world_after_turn w i event t = record w {
   player = player_after w.library.rate i.part t.doing;
   volume = volume_after w.volume t.doing;
   outputs = outputs_after w.outputs t.doing;
+  channels = channels_after w.channels t.doing;
   clients = map listener_of (after_turn i event t).clients;
 }
 
@@ -209,6 +219,7 @@ opening_life base = record {
     player = base.part.player;
     volume = base.part.volume;
     outputs = base.part.outputs;
+    channels = base.part.channels;
     clients = [];
   };
   moments = [];

@@ -1,10 +1,12 @@
 //! The frames that outputs were given, wrote and discarded.
-ghost use Rattle.std.specs.Prelude.{◌≡◌, ◌+◌, ◌==◌, ℕ, if◌then◌else◌, length, map, slice_index_or};
+ghost use Rattle.partition.specs.declared.doing.Doing.TheVariants.{Rests};
+ghost use Rattle.partition.specs.declared.report.Report.TheVariants.{Nothing};
+ghost use Rattle.std.specs.Prelude.{◌≡◌, ◌+◌, ◌==◌, true, ℕ, if◌then◌else◌, length, map, slice_index_or};
 ghost use Rattle.std.specs.List.{range_with_len};
 ghost use Rattle.partition.specs.declared.report.Report.{Report};
 ghost use Rattle.partition.specs.Books.{IsBooked, IsCounted};
 ghost use Rattle.partition.specs.Doings.{report_after};
-ghost use Rattle.partition.specs.Outputs.{books_after as books_after_lem, discarded_by, empty_books, frames_fed as frames_fed_lem, is_enabled, total as total_lem, written_by};
+ghost use Rattle.partition.specs.Outputs.{OutputsData, can_count_all, books_after as books_after_lem, discarded_by, empty_books, frames_fed as frames_fed_lem, is_enabled, total as total_lem, written_by};
 
 use crate::doing::Doing;
 use crate::outputs::Outputs;
@@ -26,14 +28,15 @@ pub struct Books {
 }
 
 impl Model for Books {
-    ghost use Rattle.std.specs.Prelude.{◌≡◌, length};
-    ghost use Rattle.partition.specs.Outputs.{FrameBooks};
+    ghost use Rattle.std.specs.Prelude.{◌≡◌, length, true};
+    ghost use Rattle.partition.specs.Outputs.{FrameBooks, can_count};
 
     ghost Value = { FrameBooks };
 
     ghost view = { λ b. record { decoded = b.decoded; written = b.written; discarded = b.discarded } };
 
-    ghost invariant = { λ b. (length b.decoded ≡ 8) × (length b.written ≡ 8) × (length b.discarded ≡ 8) };
+    ghost invariant = { λ b. (length b.decoded ≡ 8) × (length b.written ≡ 8) × (length b.discarded ≡ 8)
+        × (can_count b.decoded ≡ true) × (can_count b.written ≡ true) × (can_count b.discarded ≡ true) };
 }
 
 impl Books {
@@ -45,6 +48,16 @@ impl Books {
             written: [0; 8],
             discarded: [0; 8],
         }
+    }
+
+    /// What is true of all books: their frames are counted together, and an event that feeds none, and by which no output has its
+    /// turn, leaves them as they are.
+    pub(crate) fn rest(&self)
+        ensures counted { can_count_all self.now ≡ true }
+        ensures same { (outputs : OutputsData) → books_after_lem self.now outputs Rests Nothing ≡ self.now }
+    {
+        // To read a field brings what the type keeps of it.
+        let _fed = self.decoded[0];
     }
 
     /// The frames that an output was given. A number of eight and above is none's.

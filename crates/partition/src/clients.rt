@@ -4,10 +4,12 @@ ghost use Rattle.std.specs.List.{flat_map, position_or_len};
 ghost use Rattle.idle_notes.specs.Notes.{fresh, waits, cancelled};
 ghost use Rattle.partition.specs.Clients.{at as at_lem, notified, is_other, joined, moved, notice_for};
 ghost use Rattle.partition.specs.Image.{client_of};
+ghost use Rattle.partition.specs.Signs.{raised_in};
 ghost use Rattle.partition.specs.Rooms.{is_waiting, listed, room_for, room_in};
 
 use crate::event::{Move, Notice};
 use crate::notices::Notices;
+use crate::signs::Raised;
 use crate::state::Client;
 use idle_notes::{Pending, Subsystems};
 
@@ -41,19 +43,19 @@ pub(crate) fn leave(clients: &mut Vec<Client>, number: u32)
 }
 
 /// Lets what was raised join what is pending for each client; those that are told wait no more.
-pub(crate) fn notify_all(clients: &mut [Client], raised: Subsystems)
-    ensures { clients.new ≡ map (notified raised) clients.old }
+pub(crate) fn notify_all(clients: &mut [Client], raised: &Raised)
+    ensures { clients.new ≡ map (notified (raised_in raised.now)) clients.old }
 {
     for client in clients.iter_mut() {
         *client = notify(*client, raised);
     }
 }
 
-fn notify(client: Client, raised: Subsystems) -> Client
-    ensures { result ≡ notified raised client }
+fn notify(client: Client, raised: &Raised) -> Client
+    ensures { result ≡ notified (raised_in raised.now) client }
 {
     let mut pending = client.pending;
-    pending.note(raised);
+    pending.note(raised.for_client(client.number));
     let _ = pending.notice();
     Client {
         number: client.number,
@@ -63,9 +65,9 @@ fn notify(client: Client, raised: Subsystems) -> Client
 
 /// Lists the notices that these clients are sent where this is raised.
 #[tactic(auto, using(crate::proofs::Tells::room_after))]
-pub(crate) fn list_notices(clients: &[Client], raised: Subsystems, notices: &mut Notices)
+pub(crate) fn list_notices(clients: &[Client], raised: &Raised, notices: &mut Notices)
     requires { length (listed notices.old) + count_by is_waiting clients.now ≤ room_in notices.old }
-    ensures list { listed notices.new ≡ listed notices.old ++ flat_map (notice_for raised) clients.now }
+    ensures list { listed notices.new ≡ listed notices.old ++ flat_map (notice_for (raised_in raised.now)) clients.now }
     ensures few { length (listed notices.new) ≤ length (listed notices.old) + count_by is_waiting clients.now }
 {
     for client in clients {
@@ -73,14 +75,14 @@ pub(crate) fn list_notices(clients: &[Client], raised: Subsystems, notices: &mut
     }
 }
 
-fn list_notice(client: Client, raised: Subsystems, notices: &mut Notices)
+fn list_notice(client: Client, raised: &Raised, notices: &mut Notices)
     requires { length (listed notices.old) + room_for client ≤ room_in notices.old }
-    ensures items { listed notices.new ≡ listed notices.old ++ notice_for raised client }
+    ensures items { listed notices.new ≡ listed notices.old ++ notice_for (raised_in raised.now) client }
     ensures room { room_in notices.old ≤ room_in notices.new }
     ensures len { length (listed notices.new) ≤ length (listed notices.old) + room_for client }
 {
     let mut pending = client.pending;
-    pending.note(raised);
+    pending.note(raised.for_client(client.number));
     if let Some(names) = pending.notice() {
         notices.push(Notice {
             client: client.number,

@@ -2,8 +2,10 @@
 pub(crate) mod connection;
 pub(crate) mod devices;
 pub(crate) mod library;
+pub(crate) mod messages;
 pub(crate) mod options;
 pub(crate) mod playback;
 pub(crate) mod queue_edits;
 pub(crate) mod queue_songs;
 pub(crate) mod status;
+pub(crate) mod stored;

@@ -1,5 +1,6 @@
 //! What an event does to what one player owns.
-ghost use Rattle.std.specs.Prelude.{◌≡◌, true, false, IfOk, OnOk, OnErr, IsErrOf, slice_get};
+ghost use Rattle.std.specs.Prelude.{◌≡◌, true, false, None, IfErr, IfOk, OnOk, OnErr, IsErrOf, slice_get};
+ghost use Rattle.idle_notes.specs.Channels.{sent, send_refusal, subscribed, subscribe_refusal, unsubscribed, unsubscribe_refusal};
 ghost use Rattle.song_queue.specs.Laws.{Takes, state_after_edit};
 ghost use Rattle.player_core.specs.Player as player;
 ghost use Rattle.player_core.specs.Decoding as decoding;
@@ -10,6 +11,7 @@ ghost use Rattle.partition.specs.Doings.{entries, feed_of as feed_of_lem, had, p
 use crate::report::{Feed, Report};
 use crate::state::Part;
 use mpd_command::Volume;
+use mpd_text::Text;
 use play_order::{Consume, Single};
 use player_core::PlayerFault;
 use song_db::Rate;
@@ -28,6 +30,8 @@ pub enum Doing {
     SetsRandom(bool),
     SetsSingle(Single),
     SetsConsume(Consume),
+    /// The seconds of fades that are fixed from now on.
+    SetsCrossfade(u32),
     ClearsError,
     /// What is paused plays, and what is stopped begins.
     Plays,
@@ -52,6 +56,16 @@ pub enum Doing {
     Fails(u64, bool),
     /// An output wrote and discarded so many frames, and whether it failed.
     Settles(usize, u64, u64, bool),
+    /// A client listens to a channel from now on.
+    Subscribes(u32, Text),
+    /// A client listens to a channel no more.
+    Unsubscribes(u32, Text),
+    /// A message, the second text, goes to a channel.
+    Sends(Text, Text),
+    /// The messages that wait for a client are read.
+    ReadsMessages(u32),
+    /// A client goes, with its channels and its messages.
+    Leaves(u32),
 }
 
 impl Doing {
@@ -66,7 +80,7 @@ impl Doing {
 /// client. Where it is refused, nothing changes.
 #[rattlefmt::skip]
 pub(crate) fn carry_out(part: &mut Part, rate: &Rate, doing: Doing, report: Report) -> Result<Report, PlayerFault>
-    requires { Fits part.old.queue doing }
+    requires { Fits part.old doing }
     ensures part { OnOk result (part.new ≡ part_after rate.now part.old doing) }
     ensures report { IfOk result (λ given. given ≡ report_after rate.now part.old doing report) }
     ensures within { OnOk result (player.is_within (player_after rate.now part.old doing) ≡ true) }
@@ -82,6 +96,7 @@ pub(crate) fn carry_out(part: &mut Part, rate: &Rate, doing: Doing, report: Repo
         Doing::SetsRandom(on) => { part.player.set_random(&part.queue, on)?; Ok(done(part)) }
         Doing::SetsSingle(single) => { part.player.set_single(single); Ok(done(part)) }
         Doing::SetsConsume(consume) => { part.player.set_consume(consume); Ok(done(part)) }
+        Doing::SetsCrossfade(seconds) => { part.player.set_crossfade(seconds); Ok(done(part)) }
         Doing::ClearsError => { part.player.clear_error(); Ok(done(part)) }
         Doing::Plays => { part.player.play(&part.queue)?; Ok(done(part)) }
         Doing::PlaysPlace(place) => play_place(part, place),
@@ -96,7 +111,44 @@ pub(crate) fn carry_out(part: &mut Part, rate: &Rate, doing: Doing, report: Repo
         Doing::Accepts(number, frames) => accept(part, number, frames),
         Doing::Fails(number, partner) => { part.player.failed(&part.queue, number, partner)?; Ok(done(part)) }
         Doing::Settles(output, _, _, failed) => Ok(settle(part, output, failed)),
+        Doing::Subscribes(client, channel) => { subscribe(part, client, channel.as_str())?; Ok(done(part)) }
+        Doing::Unsubscribes(client, channel) => { unsubscribe(part, client, channel.as_str()); Ok(done(part)) }
+        Doing::Sends(channel, text) => { send(part, channel.as_str(), text.as_str())?; Ok(done(part)) }
+        Doing::ReadsMessages(client) => { let _ = part.channels.read(client); Ok(done(part)) }
+        Doing::Leaves(client) => { part.channels.leave(client); Ok(done(part)) }
     }
+}
+
+fn subscribe(part: &mut Part, client: u32, channel: &str) -> Result<(), PlayerFault>
+    requires { subscribe_refusal client channel.now part.old.channels ≡ None }
+    ensures part { OnOk result (part.new ≡ record part.old { channels = subscribed client channel.now part.old.channels }) }
+    ensures memory { IfErr result (λ fault. fault ≡ PlayerFault.NoMemory) }
+    ensures err { OnErr result (part.new ≡ part.old) }
+{
+    part.channels
+        .subscribe(client, channel)
+        .map_err(|_| PlayerFault::NoMemory)
+}
+
+fn unsubscribe(part: &mut Part, client: u32, channel: &str)
+    requires { unsubscribe_refusal client channel.now part.old.channels ≡ None }
+    ensures { part.new ≡ record part.old { channels = unsubscribed client channel.now part.old.channels } }
+{
+    match part.channels.unsubscribe(client, channel) {
+        Ok(()) => {}
+        Err(_) => unreachable!(),
+    }
+}
+
+fn send(part: &mut Part, channel: &str, text: &str) -> Result<(), PlayerFault>
+    requires { send_refusal channel.now part.old.channels ≡ None }
+    ensures part { OnOk result (part.new ≡ record part.old { channels = sent channel.now text.now part.old.channels }) }
+    ensures memory { IfErr result (λ fault. fault ≡ PlayerFault.NoMemory) }
+    ensures err { OnErr result (part.new ≡ part.old) }
+{
+    part.channels
+        .send(channel, text)
+        .map_err(|_| PlayerFault::NoMemory)
 }
 
 fn settle(part: &mut Part, output: usize, failed: bool) -> Report
@@ -110,7 +162,7 @@ fn settle(part: &mut Part, output: usize, failed: bool) -> Report
 }
 
 /// What is answered to a step that nobody has to be told of. Numbers are within their limit.
-fn done(part: &Part) -> Report
+pub(crate) fn done(part: &Part) -> Report
     ensures report { result ≡ Report.Nothing }
     ensures within { player.is_within part.now.player ≡ true }
 {

@@ -1,13 +1,18 @@
 //! Events, and what they make clients hear.
-ghost use Rattle.std.specs.Prelude.{◌≡◌};
+ghost use Rattle.std.specs.Prelude.{◌≡◌, Some};
 ghost use Rattle.partition.specs.Answers.{Answer, Told, place_of};
+ghost use Rattle.partition.specs.Shelves.{nothing_heard};
+ghost use Rattle.partition.specs.Step.{hearing, heard_at};
+ghost use Rattle.partition.specs.declared.event.Event.{Event};
 
 use crate::notices::Notices;
 use crate::report::Report;
+use crate::shelf_calls::Heard;
 use command_lists::ListForm;
 use idle_notes::Subsystems;
 use mpd_command::{Name, Request};
 use mpd_text::SharedText;
+use shelf::ShelfFault;
 use song_db::SharedDb;
 use std::marker::Model;
 
@@ -18,8 +23,9 @@ pub enum Event {
     Connect(u32),
     /// A client goes.
     Disconnect(u32),
-    /// A line of a client, and how it comes.
-    Line(u32, Stand, Request),
+    /// A line of a client, how it comes, and what the lent shelf answered to it. That is put in as the event is applied, in place of
+    /// whatever was there.
+    Line(u32, Stand, Request, Heard),
     /// Whether a scan is to be made.
     ScanQuestion,
     /// The library that a scan found; one that failed found none.
@@ -33,6 +39,40 @@ pub enum Event {
     /// An output has its turn: its number, how many frames it wrote and discarded since its last one, and whether it failed.
     OutputTurn(usize, u64, u64, bool),
 }
+
+impl Event {
+    /// A line of a client, before a shelf heard of it.
+    pub fn line(client: u32, stand: Stand, request: Request) -> Event
+        ensures { result ≡ Event.Line client stand request nothing_heard }
+    {
+        Event::Line(client, stand, request, Heard::nothing())
+    }
+
+    /// Puts in what the shelf answered.
+    pub(crate) fn hear(&mut self, heard: Heard)
+        ensures { self.new ≡ hearing self.old heard }
+    {
+        match self {
+            Event::Line(_, _, _, before) => *before = heard,
+            _ => discard_heard(heard),
+        }
+    }
+}
+
+impl Event {
+    /// Puts in why the shelf refused what was to be written.
+    pub(crate) fn refuse(&mut self, fault: ShelfFault)
+        ensures { self.new ≡ hearing self.old (record (heard_at self.old) { refused = Some fault }) }
+    {
+        match self {
+            Event::Line(_, _, _, heard) => heard.refused = Some(fault),
+            _ => {}
+        }
+    }
+}
+
+/// Drops what a shelf answered. It is a function of its own, as [`discard`] is.
+fn discard_heard(_heard: Heard) {}
 
 /// Drops an event. It is a function of its own so that the proofs of what holds one do not go through every kind of event.
 pub(crate) fn discard(_event: Event) {}
@@ -57,9 +97,10 @@ impl Stand {
     }
 }
 
-/// What an answer is made for: a command, and how its line comes.
+/// What an answer is made for: a command of a client, and how its line comes.
 #[derive(Clone, Copy)]
 pub(crate) struct Asked {
+    pub(crate) client: u32,
     pub(crate) name: Name,
     pub(crate) stand: Stand,
 }

@@ -1,26 +1,35 @@
 //! One event after the other, each kept with what it made clients hear.
-ghost use Rattle.std.specs.Prelude.{◌≡◌, ◌<◌, ◌≤◌, ◌+◌, ◌++◌, ◌∷◌, [], None, length, map, vec_len, vec_capacity, IfErr, IfOk, OnErr, OnOk, not, true, false, nat_le, slice_index_or};
+ghost use Rattle.std.specs.Prelude.{◌≡◌, ◌⊎◌, ◌<◌, ◌≤◌, ◌+◌, ◌++◌, ◌∷◌, [], None, count_by, length, map, vec_len, vec_capacity, IfErr, IfOk, OnErr, OnOk, not, true, false, nat_le, slice_index_or};
 ghost use Rattle.std.specs.List.{flat_map};
+ghost use Rattle.shelf.specs.Maps.{Trusted, Turns};
+ghost use Rattle.partition.specs.declared.partition.PartitionFault.{PartitionFault};
 ghost use Rattle.partition.specs.Clients.{same_songs as same_songs_lem, clients_after, closes as closes_lem, notice_for, notices_after, notified};
 ghost use Rattle.partition.specs.Image.{image_of_state, songs_after};
-ghost use Rattle.partition.specs.Rooms.{listed, room_in};
-ghost use Rattle.partition.specs.Settled.{AllSettled, most_notices};
-ghost use Rattle.partition.specs.Lists.{MayRefuse};
+ghost use Rattle.partition.specs.Lent.{IsRefused, Records, question, writing};
+ghost use Rattle.partition.specs.Plans.{Fits};
+ghost use Rattle.partition.specs.Signs.{raised_in, signs};
+ghost use Rattle.partition.specs.Rooms.{is_waiting, listed, room_in};
+ghost use Rattle.partition.specs.Settled.{AllSettled, HasRoom, nothing};
 ghost use Rattle.partition.specs.Refusals.{RefusesTurn};
-ghost use Rattle.partition.specs.Step.{after_turn, counts_frames, keeps_limits, limit_of, next_image, raised_by, mover as mover_lem, told, told_by, turn};
+ghost use Rattle.partition.specs.Shelves.{IsAnswered, Serves, Spares, answered, is_ok_write, is_wanting, is_written, maps_after};
+ghost use Rattle.partition.specs.Step.{after_turn, counts_frames, heard_at, hearing, keeps_limits, quiet, raised_by, mover as mover_lem, name_at, stand_of, told_by, turn, turn_of};
 
 use crate::clients::{leave, list_notices, make_move, notify_all, waiting};
+use crate::doing::done;
 use crate::event::{Event, Happened, Next, Outcome, discard};
+use crate::lent::write;
 use crate::notices::Notices;
 use crate::partition::PartitionFault;
 use crate::plan::{Plan, Telling, carry_out, discard as discard_plan};
+use crate::refusals::Refusals;
 use crate::same::same_songs;
 use crate::scan::ScanMove;
-use crate::signs::Signs;
+use crate::shelf_calls::{Heard, ShelfWrite};
+use crate::signs::{Raised, Signs, changes_subscriptions};
 use crate::spoken::Spoken;
 use crate::state::{Client, Library, Part, State};
-use crate::turns::plan_turn;
-use idle_notes::Subsystems;
+use crate::turns::{ask_shelf, plan_turn};
+use shelf::{Shelf, ShelfFault};
 use std::alloc::{AllocError, Global};
 
 /// What an event made clients hear; the notices twice, to hand out and to keep.
@@ -59,31 +68,31 @@ impl Applied {
     }
 }
 
-/// Runs one event and keeps it. Where it is refused, nothing changes.
+/// Runs one event and keeps it, with what the lent shelf answered to it. Where it is refused, nothing changes, and the shelf was asked at
+/// most.
 #[tactic(auto, unfolding(crate::specs::Step::next_image, crate::specs::Step::told, crate::specs::Step::limit_of))]
-pub(crate) fn record_event(
+pub(crate) fn record_event<S: Shelf>(
     alloc: Global,
     state: &mut State,
     history: &mut Vec<Happened>,
+    shelf: &mut S,
     seat: u8,
     event: Event,
 ) -> Result<Outcome, PartitionFault>
     requires seat { seat < 16 }
     requires count { nat_le 9223372036854775807 (slice_index_or state.old.made seat 0) ≡ false }
     requires settled { AllSettled state.old.clients.items }
-    ensures image { OnOk result (image_of_state state.new ≡ next_image seat (image_of_state state.old) event) }
-    ensures told { IfOk result (λ outcome. outcome ≡ told (image_of_state state.old) event) }
-    ensures history { IfOk result (λ outcome. history.new.items ≡ history.old.items ++ record { seat = seat; event = event; told = outcome } ∷ []) }
-    ensures within { OnOk result (limit_of seat (image_of_state state.old) event ≡ None) }
-    ensures refused { IfErr result (λ fault. MayRefuse (limit_of seat (image_of_state state.old) event) fault) }
+    ensures ok { IfOk result (λ outcome. Records S.standing S.failed (image_of_state state.old) (image_of_state state.new) history.old.items history.new.items shelf.old shelf.new seat event outcome) }
+    ensures refused { IfErr result (λ fault. IsRefused S.standing S.failed (image_of_state state.old) shelf.old shelf.new seat event fault) }
     ensures unchanged { OnErr result (image_of_state state.new ≡ image_of_state state.old) }
     ensures unkept { OnErr result (history.new.items ≡ history.old.items) }
 {
+    let mut event = event;
     if history.reserve(1).is_err() {
         discard(event);
         return Err(PartitionFault::NoMemory);
     }
-    match apply_event(alloc, state, &event) {
+    match apply_event(alloc, state, shelf, &mut event) {
         Ok(applied) => {
             state.made[usize::from(seat)] += 1;
             let (given, told) = applied.into_outcomes();
@@ -97,20 +106,62 @@ pub(crate) fn record_event(
     }
 }
 
-/// Applies an event, all but the count of its seat. Where it is refused, nothing changes.
-fn apply_event(alloc: Global, state: &mut State, event: &Event) -> Result<Applied, PartitionFault>
+/// Applies an event, all but the count of its seat, and puts in what the shelf answered. Where it is refused, nothing changes, and the
+/// shelf was asked at most.
+fn apply_event<S: Shelf>(
+    alloc: Global,
+    state: &mut State,
+    shelf: &mut S,
+    event: &mut Event,
+) -> Result<Applied, PartitionFault>
     requires settled { AllSettled state.old.clients.items }
-    ensures image { OnOk result (image_of_state state.new ≡ after_turn (image_of_state state.old) event.now (turn (image_of_state state.old) event.now)) }
-    ensures answer { IfOk result (λ applied. applied.telling.spoken.answer ≡ (turn (image_of_state state.old) event.now).said.answer) }
-    ensures report { IfOk result (λ applied. applied.telling.report ≡ (told_by (image_of_state state.old) event.now (turn (image_of_state state.old) event.now)).report) }
-    ensures given { IfOk result (λ applied. listed applied.given ≡ (told_by (image_of_state state.old) event.now (turn (image_of_state state.old) event.now)).notices) }
-    ensures kept { IfOk result (λ applied. listed applied.kept ≡ (told_by (image_of_state state.old) event.now (turn (image_of_state state.old) event.now)).notices) }
-    ensures within { OnOk result ((counts_frames (image_of_state state.old) (turn (image_of_state state.old) event.now) ≡ true) × (keeps_limits (image_of_state state.old) (turn (image_of_state state.old) event.now) ≡ true)) }
-    ensures refused { IfErr result (λ fault. RefusesTurn (image_of_state state.old) (turn (image_of_state state.old) event.now) fault) }
+    ensures event { event.new ≡ hearing event.old (heard_at event.new) }
+    ensures image { OnOk result (image_of_state state.new ≡ after_turn (image_of_state state.old) event.new (turn (image_of_state state.old) event.new)) }
+    ensures answer { IfOk result (λ applied. applied.telling.spoken.answer ≡ (turn (image_of_state state.old) event.new).said.answer) }
+    ensures report { IfOk result (λ applied. applied.telling.report ≡ (told_by (image_of_state state.old) event.new (turn (image_of_state state.old) event.new)).report) }
+    ensures given { IfOk result (λ applied. listed applied.given ≡ (told_by (image_of_state state.old) event.new (turn (image_of_state state.old) event.new)).notices) }
+    ensures kept { IfOk result (λ applied. listed applied.kept ≡ (told_by (image_of_state state.old) event.new (turn (image_of_state state.old) event.new)).notices) }
+    ensures within { OnOk result ((counts_frames (image_of_state state.old) (turn (image_of_state state.old) event.new) ≡ true) × (keeps_limits (image_of_state state.old) (turn (image_of_state state.old) event.new) ≡ true)) }
+    ensures shelf { OnOk result (Serves S.standing S.failed shelf.old shelf.new (question (image_of_state state.old) event.old) (writing (image_of_state state.old) event.old (heard_at event.new)) (heard_at event.new)) }
+    ensures refused { IfErr result (λ fault. RefusesTurn (image_of_state state.old) (turn (image_of_state state.old) event.new) fault) }
+    ensures cause { IfErr result (λ fault. (fault ≡ PartitionFault.NoMemory) ⊎ Serves S.standing S.failed shelf.old shelf.new (question (image_of_state state.old) event.old) (writing (image_of_state state.old) event.old (heard_at event.new)) (heard_at event.new)) }
+    ensures spared { OnErr result (Spares S.standing S.failed shelf.old shelf.new) }
+    ensures err { OnErr result (image_of_state state.new ≡ image_of_state state.old) }
+{
+    let asked = ask_shelf(&state.library, &state.clients, shelf, event);
+    event.hear(Heard::nothing());
+    let read = asked?;
+    event.hear(Heard {
+        read,
+        refused: None,
+    });
+    let plan = plan_turn(alloc, &state.part, &state.library, &state.clients, event)?;
+    if plan.written.is_written() {
+        return write_plan(alloc, state, shelf, event, plan);
+    }
+    apply_plan(alloc, state, event, plan)
+}
+
+/// Applies what an event asks for that writes nothing to the shelf. Where it is refused, nothing changes.
+fn apply_plan(
+    alloc: Global,
+    state: &mut State,
+    event: &Event,
+    plan: Plan,
+) -> Result<Applied, PartitionFault>
+    requires settled { AllSettled state.old.clients.items }
+    requires fits { Fits state.old.part plan.doing }
+    requires unwritten { is_written plan.written ≡ false }
+    ensures image { OnOk result (image_of_state state.new ≡ after_turn (image_of_state state.old) event.now plan) }
+    ensures answer { IfOk result (λ applied. applied.telling.spoken.answer ≡ plan.said.answer) }
+    ensures report { IfOk result (λ applied. applied.telling.report ≡ (told_by (image_of_state state.old) event.now plan).report) }
+    ensures given { IfOk result (λ applied. listed applied.given ≡ (told_by (image_of_state state.old) event.now plan).notices) }
+    ensures kept { IfOk result (λ applied. listed applied.kept ≡ (told_by (image_of_state state.old) event.now plan).notices) }
+    ensures within { OnOk result ((counts_frames (image_of_state state.old) plan ≡ true) × (keeps_limits (image_of_state state.old) plan ≡ true)) }
+    ensures refused { IfErr result (λ fault. RefusesTurn (image_of_state state.old) plan fault) }
     ensures err { OnErr result (image_of_state state.new ≡ image_of_state state.old) }
 {
     state.clients.reserve(1)?;
-    let plan = plan_turn(alloc, &state.part, &state.library, &state.clients, event)?;
     let Some(books) = state.books.after(&state.part, &plan.doing) else {
         discard_plan(plan);
         return Err(PartitionFault::AtLimit);
@@ -119,38 +170,166 @@ fn apply_event(alloc: Global, state: &mut State, event: &Event) -> Result<Applie
     let (given, kept) = rooms(alloc, room)?;
     let before = Signs::of(alloc, &state.part, &state.library)?;
     let database = changes_songs(&plan, &state.library);
+    let subscription = changes_subscriptions(&state.part.channels, &plan.doing);
     let telling = carry_out(&mut state.part, &mut state.library, plan)?;
     state.books = books;
-    let raised = before.changed(database, &state.part, &state.library);
+    let unwritten = ShelfWrite::Nothing;
+    let raised = before.changed(
+        database,
+        subscription,
+        &unwritten,
+        &state.part,
+        &state.library,
+    );
     Ok(tell(
         &mut state.clients,
         mover(event),
-        raised,
+        &raised,
         telling,
         given,
         kept,
     ))
 }
 
+/// Writes what an event asks for to the shelf, once there is room for all that follows: nothing can fail behind it. Where it finds no
+/// memory, nothing changes and nothing is written.
+fn write_plan<S: Shelf>(
+    alloc: Global,
+    state: &mut State,
+    shelf: &mut S,
+    event: &mut Event,
+    plan: Plan,
+) -> Result<Applied, PartitionFault>
+    requires settled { AllSettled state.old.clients.items }
+    requires plan { plan ≡ turn (image_of_state state.old) event.old }
+    requires alone { plan ≡ record (quiet plan.said) { written = plan.written } }
+    requires written { is_written plan.written ≡ true }
+    requires unrefused { (heard_at event.old).refused ≡ None }
+    ensures event { event.new ≡ hearing event.old (record (heard_at event.old) { refused = (heard_at event.new).refused }) }
+    ensures image { OnOk result (image_of_state state.new ≡ after_turn (image_of_state state.old) event.new (turn (image_of_state state.old) event.new)) }
+    ensures answer { IfOk result (λ applied. applied.telling.spoken.answer ≡ (turn (image_of_state state.old) event.new).said.answer) }
+    ensures report { IfOk result (λ applied. applied.telling.report ≡ (told_by (image_of_state state.old) event.new (turn (image_of_state state.old) event.new)).report) }
+    ensures given { IfOk result (λ applied. listed applied.given ≡ (told_by (image_of_state state.old) event.new (turn (image_of_state state.old) event.new)).notices) }
+    ensures kept { IfOk result (λ applied. listed applied.kept ≡ (told_by (image_of_state state.old) event.new (turn (image_of_state state.old) event.new)).notices) }
+    ensures within { OnOk result ((counts_frames (image_of_state state.old) (turn (image_of_state state.old) event.new) ≡ true) × (keeps_limits (image_of_state state.old) (turn (image_of_state state.old) event.new) ≡ true)) }
+    ensures turns { OnOk result (Turns (S.standing shelf.old) (S.standing shelf.new) (is_ok_write plan.written (answered (heard_at event.new).refused)) (maps_after plan.written (S.standing shelf.old).maps)) }
+    ensures answers { OnOk result (Trusted (S.standing shelf.old) (S.standing shelf.new) → IsAnswered (S.failed shelf.old shelf.new) (S.standing shelf.old).maps plan.written (answered (heard_at event.new).refused)) }
+    ensures ample { OnOk result (is_wanting (heard_at event.new).refused ≡ false) }
+    ensures memory { IfErr result (λ fault. fault ≡ PartitionFault.NoMemory) }
+    ensures spared { OnErr result (Turns (S.standing shelf.old) (S.standing shelf.new) false (maps_after plan.written (S.standing shelf.old).maps)) }
+    ensures err { OnErr result (image_of_state state.new ≡ image_of_state state.old) }
+{
+    state.clients.reserve(1)?;
+    let (given, kept) = rooms(alloc, waiting(&state.clients))?;
+    let before = Signs::of(alloc, &state.part, &state.library)?;
+    let refusals = Refusals::of(alloc, event)?;
+    let plan = write_out(
+        &state.part,
+        &state.library,
+        &state.clients,
+        shelf,
+        event,
+        plan,
+        refusals,
+    )?;
+    Ok(tell_written(state, event, plan, &before, given, kept))
+}
+
+/// Tells of what was written to the shelf, or why it was not: the plan does nothing else.
+fn tell_written(
+    state: &mut State,
+    event: &Event,
+    plan: Plan,
+    before: &Signs,
+    given: Notices,
+    kept: Notices,
+) -> Applied
+    requires room { vec_len state.old.clients < vec_capacity state.old.clients }
+    requires settled { AllSettled state.old.clients.items }
+    requires alone { plan ≡ record (quiet plan.said) { written = plan.written } }
+    requires before { before.now ≡ signs state.old.part state.old.library }
+    requires given { count_by is_waiting state.old.clients.items ≤ room_in given }
+    requires kept { count_by is_waiting state.old.clients.items ≤ room_in kept }
+    requires none_given { listed given ≡ [] }
+    requires none_kept { listed kept ≡ [] }
+    ensures image { image_of_state state.new ≡ after_turn (image_of_state state.old) event.now plan }
+    ensures answer { result.telling.spoken.answer ≡ plan.said.answer }
+    ensures report { result.telling.report ≡ (told_by (image_of_state state.old) event.now plan).report }
+    ensures given { listed result.given ≡ (told_by (image_of_state state.old) event.now plan).notices }
+    ensures kept { listed result.kept ≡ (told_by (image_of_state state.old) event.now plan).notices }
+    ensures counts { counts_frames (image_of_state state.old) plan ≡ true }
+    ensures limits { keeps_limits (image_of_state state.old) plan ≡ true }
+{
+    state.books.rest();
+    let _ = done(&state.part);
+    let raised = before.changed(false, false, &plan.written, &state.part, &state.library);
+    let telling = plan.into_telling();
+    tell(
+        &mut state.clients,
+        mover(event),
+        &raised,
+        telling,
+        given,
+        kept,
+    )
+}
+
+/// Asks the shelf to write what a plan says, and gives the plan for what it answers. Where there is no memory, nothing is written.
+fn write_out<S: Shelf>(
+    part: &Part,
+    library: &Library,
+    clients: &[Client],
+    shelf: &mut S,
+    event: &mut Event,
+    plan: Plan,
+    refusals: Refusals,
+) -> Result<Plan, AllocError>
+    requires plan { plan ≡ turn_of part.now library.now clients.now event.old }
+    requires alone { plan ≡ record (quiet plan.said) { written = plan.written } }
+    requires written { is_written plan.written ≡ true }
+    requires unrefused { (heard_at event.old).refused ≡ None }
+    requires refusals { refusals ≡ (stand_of event.old, name_at event.old) }
+    ensures event { event.new ≡ hearing event.old (record (heard_at event.old) { refused = (heard_at event.new).refused }) }
+    ensures plan { IfOk result (λ after. after ≡ turn_of part.now library.now clients.now event.new) }
+    ensures alone { IfOk result (λ after. after ≡ record (quiet after.said) { written = after.written }) }
+    ensures turns { OnOk result (Turns (S.standing shelf.old) (S.standing shelf.new) (is_ok_write plan.written (answered (heard_at event.new).refused)) (maps_after plan.written (S.standing shelf.old).maps)) }
+    ensures answers { OnOk result (Trusted (S.standing shelf.old) (S.standing shelf.new) → IsAnswered (S.failed shelf.old shelf.new) (S.standing shelf.old).maps plan.written (answered (heard_at event.new).refused)) }
+    ensures ample { OnOk result (is_wanting (heard_at event.new).refused ≡ false) }
+    ensures spared { OnErr result (Turns (S.standing shelf.old) (S.standing shelf.new) false (maps_after plan.written (S.standing shelf.old).maps)) }
+{
+    match write(shelf, &plan.written) {
+        Ok(()) => Ok(plan),
+        Err(ShelfFault::NoMemory) => {
+            discard_plan(plan);
+            Err(AllocError)
+        }
+        Err(fault) => {
+            discard_plan(plan);
+            event.refuse(fault);
+            Ok(Plan::only(refusals.into_spoken(fault)))
+        }
+    }
+}
+
 /// Tells the clients what was raised, and lets the one that the event comes from do what it does.
 fn tell(
     clients: &mut Vec<Client>,
     number: u32,
-    raised: Subsystems,
+    raised: &Raised,
     telling: Telling,
     mut given: Notices,
     mut kept: Notices,
 ) -> Applied
     requires room { vec_len clients.old < vec_capacity clients.old }
     requires settled { AllSettled clients.old.items }
-    requires given { most_notices raised clients.old.items ≤ room_in given }
-    requires kept { most_notices raised clients.old.items ≤ room_in kept }
+    requires given { HasRoom (raised_in raised.now) clients.old.items (room_in given) }
+    requires kept { HasRoom (raised_in raised.now) clients.old.items (room_in kept) }
     requires none_given { listed given ≡ [] }
     requires none_kept { listed kept ≡ [] }
-    ensures clients { clients.new.items ≡ clients_after number raised telling.spoken clients.old.items }
+    ensures clients { clients.new.items ≡ clients_after number (raised_in raised.now) telling.spoken clients.old.items }
     ensures telling { result.telling ≡ telling }
-    ensures given { listed result.given ≡ notices_after number raised telling.spoken clients.old.items }
-    ensures kept { listed result.kept ≡ notices_after number raised telling.spoken clients.old.items }
+    ensures given { listed result.given ≡ notices_after number (raised_in raised.now) telling.spoken clients.old.items }
+    ensures kept { listed result.kept ≡ notices_after number (raised_in raised.now) telling.spoken clients.old.items }
 {
     tell_clients(clients, number, raised, &telling.spoken, &mut given);
     kept.push_all(given.as_slice());
@@ -186,9 +365,9 @@ fn changes_songs(plan: &Plan, library: &Library) -> bool
 }
 
 /// How many notices a plan can give at most. For one that changes nothing no client is looked at.
-#[tactic(auto, using(crate::proofs::Settled::few_notices, crate::proofs::Settled::none_noticed))]
 fn room_wanted(plan: &Plan, part: &Part, library: &Library, clients: &[Client]) -> usize
-    ensures { most_notices (raised_by part.now library.now plan.now) clients.now ≤ result }
+    requires { is_written plan.now.written ≡ false }
+    ensures { HasRoom (raised_by part.now library.now plan.now) clients.now result }
 {
     if plan.changes(part, library) {
         waiting(clients)
@@ -202,16 +381,18 @@ fn room_wanted(plan: &Plan, part: &Part, library: &Library, clients: &[Client]) 
 fn tell_clients(
     clients: &mut Vec<Client>,
     number: u32,
-    raised: Subsystems,
+    raised: &Raised,
     spoken: &Spoken,
     notices: &mut Notices,
 )
     requires room { vec_len clients.old < vec_capacity clients.old }
     requires settled { AllSettled clients.old.items }
-    requires notices { length (listed notices.old) + most_notices raised clients.old.items ≤ room_in notices.old }
-    ensures clients { clients.new.items ≡ clients_after number raised spoken.now clients.old.items }
-    ensures notices { listed notices.new ≡ listed notices.old ++ notices_after number raised spoken.now clients.old.items }
-    ensures few { length (listed notices.new) ≤ length (listed notices.old) + most_notices raised clients.old.items }
+    requires empty { listed notices.old ≡ [] }
+    requires notices { HasRoom (raised_in raised.now) clients.old.items (room_in notices.old) }
+    ensures clients { clients.new.items ≡ clients_after number (raised_in raised.now) spoken.now clients.old.items }
+    ensures notices { listed notices.new ≡ listed notices.old ++ notices_after number (raised_in raised.now) spoken.now clients.old.items }
+    ensures few { length (listed notices.new) ≤ count_by is_waiting clients.old.items }
+    ensures none { raised_in raised.now ≡ nothing → listed notices.new ≡ [] }
 {
     let closing = closes(spoken.next());
     if closing {
@@ -224,15 +405,17 @@ fn tell_clients(
 }
 
 /// Tells the clients what was raised. Where nothing was, none is looked at: each was told already what it waits for.
-#[tactic(auto, using(crate::proofs::Settled::is_none, crate::proofs::Settled::same_clients, crate::proofs::Settled::no_notices))]
-fn tell_all(clients: &mut [Client], raised: Subsystems, notices: &mut Notices)
+#[tactic(auto, using(crate::proofs::Settled::same_clients, crate::proofs::Settled::no_notices))]
+fn tell_all(clients: &mut [Client], raised: &Raised, notices: &mut Notices)
     requires settled { AllSettled clients.old }
-    requires notices { length (listed notices.old) + most_notices raised clients.old ≤ room_in notices.old }
-    ensures clients { clients.new ≡ map (notified raised) clients.old }
-    ensures notices { listed notices.new ≡ listed notices.old ++ flat_map (notice_for raised) clients.old }
-    ensures few { length (listed notices.new) ≤ length (listed notices.old) + most_notices raised clients.old }
+    requires empty { listed notices.old ≡ [] }
+    requires notices { HasRoom (raised_in raised.now) clients.old (room_in notices.old) }
+    ensures clients { clients.new ≡ map (notified (raised_in raised.now)) clients.old }
+    ensures notices { listed notices.new ≡ listed notices.old ++ flat_map (notice_for (raised_in raised.now)) clients.old }
+    ensures few { length (listed notices.new) ≤ count_by is_waiting clients.old }
+    ensures none { raised_in raised.now ≡ nothing → listed notices.new ≡ [] }
 {
-    if raised.is_empty() {
+    if raised.is_nothing() {
         return;
     }
     list_notices(clients, raised, notices);
@@ -253,7 +436,8 @@ fn mover(event: &Event) -> u32
     ensures { result ≡ mover_lem event.now }
 {
     match event {
-        Event::Connect(number) | Event::Disconnect(number) | Event::Line(number, _, _) => *number,
+        Event::Connect(number) | Event::Disconnect(number) | Event::Line(number, _, _, _) =>
+            *number,
         Event::ScanQuestion
         | Event::ScanResult(_)
         | Event::Want(_)

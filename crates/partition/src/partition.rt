@@ -5,11 +5,12 @@ ghost use Rattle.mpd_command.specs.Requests.{name_in};
 ghost use Rattle.partition.specs.declared.event.Happened.{Happened};
 ghost use Rattle.partition.specs.History.{replay, AreTold, own as own_of};
 ghost use Rattle.partition.specs.Image.{Image, image_of_state, opening, client_of};
-ghost use Rattle.partition.specs.Lists.{MayRefuse, RunsList, StopsList, entries_of};
+ghost use Rattle.partition.specs.Lent.{IsRefused, Records};
+ghost use Rattle.partition.specs.Lists.{RunsList, StopsList};
 ghost use Rattle.partition.specs.Legal.{HasPending, IsPast, life_of};
 ghost use Rattle.partition.specs.Notices.{AreHeard, EachMoment, Raises, Tells};
 ghost use Rattle.partition.specs.Settled.{AllSettled};
-ghost use Rattle.partition.specs.Step.{limit_of, next_image, told};
+ghost use Rattle.partition.specs.Step.{next_image};
 ghost use Rattle.partition.specs.World.{books_of};
 
 use crate::books::Books;
@@ -21,8 +22,10 @@ use crate::lists::{ListFault, ListOutcome};
 use crate::outputs::Outputs;
 use crate::state::{Client, Library, MAX_OWN, Part, Setup, State};
 use command_lists::ListForm;
+use idle_notes::Channels;
 use mpd_command::{Request, Volume};
 use player_core::{Player, PlayerFault};
+use shelf::Shelf;
 use song_queue::Queue;
 use std::alloc::{AllocError, Global};
 use std::marker::Model;
@@ -129,6 +132,7 @@ impl Partition {
                     player: Player::new(alloc, setup.random_start, limits.max_cut),
                     volume: Volume::full(),
                     outputs,
+                    channels: Channels::new(alloc),
                 },
                 library,
                 made: [0; 16],
@@ -141,25 +145,30 @@ impl Partition {
         })
     }
 
-    /// Applies an event of a seat, and keeps it with what it made clients hear.
+    /// Applies an event of a seat, and keeps it with what the lent shelf answered to it and with what it made clients hear.
+    ///
+    /// A line asks the shelf at most one question, and then writes at most one thing, once there is room for all that follows: nothing
+    /// can fail behind it.
     ///
     /// # Errors
     ///
     /// `CutsAtLimit` where the event would raise a number above the greatest, `AtLimit` where it could not be counted or its
-    /// frames could not; want of memory may come in their place, but not in that of a seat which made 2^63-1 events.
-    pub fn apply(&mut self, seat: u8, event: Event) -> Result<Outcome, PartitionFault>
+    /// frames could not; want of memory may come in their place, but not in that of a seat which made 2^63-1 events. The shelf keeps
+    /// its maps.
+    pub fn apply<S: Shelf>(
+        &mut self,
+        seat: u8,
+        shelf: &mut S,
+        event: Event,
+    ) -> Result<Outcome, PartitionFault>
         requires { seat < 16 }
-
-        // The event and its reply join the history, and the reply is the one of the player of one thread.
         ensures base { self.new.base ≡ self.old.base }
-        ensures window { IfOk result (λ outcome. self.new.window ≡ self.old.window ++ record { seat = seat; event = event; told = outcome } ∷ []) }
-        ensures told { IfOk result (λ outcome. outcome ≡ told self.old.present event) }
-        // The new state is that player's next one.
-        ensures present { OnOk result (self.new.present ≡ next_image seat self.old.present event) }
+        // The event and its reply join the history; the reply is the one of the player of one thread, and the new state is that
+        // player's next one. The shelf answered and changed as that says.
+        ensures ok { IfOk result (λ outcome. Records S.standing S.failed self.old.present self.new.present self.old.window self.new.window shelf.old shelf.new seat event outcome) }
         ensures err { OnErr result (self.new ≡ self.old) }
-        // It is refused for the limit that it would pass, or for want of memory.
-        ensures within { OnOk result (limit_of seat self.old.present event ≡ None) }
-        ensures refused { IfErr result (λ fault. MayRefuse (limit_of seat self.old.present event) fault) }
+        // It is refused for the limit that it would pass, or for want of memory; nothing was written to the shelf.
+        ensures refused { IfErr result (λ fault. IsRefused S.standing S.failed self.old.present shelf.old shelf.new seat event fault) }
         ensures own { 2 ^ 63 - 1 ≤ slice_index_or self.old.present.shared.made seat 0 → IsErrOf result PartitionFault.AtLimit }
         ensures legal { IsPast self.old }
     {
@@ -168,26 +177,28 @@ impl Partition {
             discard(event);
             return Err(PartitionFault::AtLimit);
         }
-        let outcome = record_event(self.alloc, &mut self.state, &mut self.history, seat, event)?;
+        let history = &mut self.history;
+        let outcome = record_event(self.alloc, &mut self.state, history, shelf, seat, event)?;
         Ok(outcome)
     }
 
     /// Runs the requests of a client's command list, each as an event of its own, side by side in the history, up to the first
-    /// that ends the list: one that is refused, or that closes the client.
+    /// that ends the list: one that is refused, or that closes the client. Each is lent the shelf.
     ///
     /// # Errors
     ///
     /// Where the player refuses an event, those before it stand.
-    pub fn run_list(
+    pub fn run_list<S: Shelf>(
         &mut self,
         seat: u8,
+        shelf: &mut S,
         client: u32,
         form: ListForm,
         requests: Vec<Request>,
     ) -> Result<ListOutcome, ListFault>
         requires { seat < 16 }
-        ensures ok { IfOk result (λ tolds. RunsList self.old self.new (entries_of seat self.old.present client form 0 requests.items) tolds) }
-        ensures err { IfErr result (λ stop. StopsList self.old self.new (entries_of seat self.old.present client form 0 requests.items) requests.items stop) }
+        ensures ok { IfOk result (λ tolds. RunsList S.standing S.failed self.old self.new shelf.old shelf.new seat client form requests.items tolds) }
+        ensures err { IfErr result (λ stop. StopsList S.standing S.failed self.old self.new shelf.old shelf.new seat client form requests.items stop) }
         ensures legal { IsPast self.old }
     {
         self.legal();
@@ -203,13 +214,14 @@ impl Partition {
                 cause: PartitionFault::NoMemory,
             });
         }
-        self.run_requests(seat, client, form, requests, outcomes)
+        self.run_requests(seat, shelf, client, form, requests, outcomes)
     }
 
     /// Runs requests side by side, and puts their outcomes where there is room for all.
-    fn run_requests(
+    fn run_requests<S: Shelf>(
         &mut self,
         seat: u8,
+        shelf: &mut S,
         client: u32,
         form: ListForm,
         requests: Vec<Request>,
@@ -218,15 +230,15 @@ impl Partition {
         requires seat { seat < 16 }
         requires empty { outcomes.items ≡ [] }
         requires room { length requests.items ≤ vec_capacity outcomes }
-        ensures ok { IfOk result (λ tolds. RunsList self.old self.new (entries_of seat self.old.present client form 0 requests.items) tolds) }
-        ensures err { IfErr result (λ stop. StopsList self.old self.new (entries_of seat self.old.present client form 0 requests.items) requests.items stop) }
+        ensures ok { IfOk result (λ tolds. RunsList S.standing S.failed self.old self.new shelf.old shelf.new seat client form requests.items tolds) }
+        ensures err { IfErr result (λ stop. StopsList S.standing S.failed self.old self.new shelf.old shelf.new seat client form requests.items stop) }
     {
         self.legal();
         for request in requests {
             let done = outcomes.len();
             let command = request.name();
-            let event = Event::Line(client, Stand::InList(form, done), request);
-            match self.apply(seat, event) {
+            let event = Event::line(client, Stand::InList(form, done), request);
+            match self.apply(seat, shelf, event) {
                 Ok(outcome) => {
                     let ends = outcome.ends_list();
                     outcomes.push_reserved(outcome);

@@ -1,17 +1,20 @@
 //! What an event is to do, found out before anything changes.
-ghost use Rattle.std.specs.Prelude.{◌≡◌, true, false, IfOk, IsErrOf, OnOk, OnErr};
-ghost use Rattle.idle_notes.specs.Sets.{none};
-ghost use Rattle.partition.specs.Commands.Deeds.{begins_scan as begins_scan_lem, bad_index as bad_index_lem, does as does_lem, edits, no_such_song as no_such_song_lem, not_playing as not_playing_lem, refusal, shows as shows_lem};
+ghost use Rattle.std.specs.Prelude.{◌≡◌, if◌then◌else◌, true, false, IfOk, IsErrOf, OnOk, OnErr};
+ghost use Rattle.partition.specs.Commands.Deeds.{begins_scan as begins_scan_lem, bad_index as bad_index_lem, bad_name as bad_name_lem, closes_client as closes_client_lem, does as does_lem, edits, no_such_song as no_such_song_lem, not_playing as not_playing_lem, refusal, shows as shows_lem, writes as writes_lem};
 ghost use Rattle.partition.specs.Doings.{keeps_numbers, part_after};
 ghost use Rattle.partition.specs.Image.{library_after, turn_by};
 ghost use Rattle.partition.specs.Plans.{Fits};
-ghost use Rattle.partition.specs.Step.{acts as acts_lem, quiet, raised_by, report_of, unspoken};
+ghost use Rattle.partition.specs.Shelves.{is_written};
+ghost use Rattle.partition.specs.Settled.{nothing};
+ghost use Rattle.partition.specs.declared.report.Report.{Report};
+ghost use Rattle.partition.specs.Step.{acts as acts_lem, departs as departs_lem, quiet, raised_by, report_of, unspoken};
 
 use crate::doing::{Doing, carry_out as carry_out_doing};
 use crate::event::{Asked, Move};
 use crate::report::Report;
 use crate::scan::ScanMove;
-use crate::spoken::{Spoken, refuses, shows, succeeds, tells};
+use crate::shelf_calls::ShelfWrite;
+use crate::spoken::{Spoken, refuses, shows, shut, succeeds, tells};
 use crate::state::{Library, Part};
 use mpd_text::{Answer, ErrorNumber};
 use player_core::PlayerFault;
@@ -24,9 +27,16 @@ use std::marker::Model;
 pub(crate) struct Plan {
     pub(crate) doing: Doing,
     pub(crate) scan: ScanMove,
+    pub(crate) written: ShelfWrite,
     pub(crate) spoken: Spoken,
     pub(crate) report: Report,
 }
+
+/// Drops what is to be done. It is a function of its own, as [`discard`] is.
+fn discard_doing(_doing: Doing, _scan: ScanMove) {}
+
+/// Drops what is to be written. It is a function of its own, as [`discard`] is.
+fn discard_write(_written: ShelfWrite) {}
 
 /// Drops a plan. It is a function of its own so that the proofs of what holds one do not go through every kind of doing.
 pub(crate) fn discard(_plan: Plan) {}
@@ -36,7 +46,7 @@ impl Model for Plan {
 
     ghost Value = { Turn };
 
-    ghost view = { λ p. record { doing = p.doing; scan = p.scan; said = p.spoken; report = p.report } };
+    ghost view = { λ p. record { doing = p.doing; scan = p.scan; written = p.written; said = p.spoken; report = p.report } };
 }
 
 impl Plan {
@@ -47,6 +57,7 @@ impl Plan {
         Plan {
             doing: Doing::Rests,
             scan: ScanMove::Stay,
+            written: ShelfWrite::Nothing,
             spoken,
             report: Report::Nothing,
         }
@@ -59,6 +70,7 @@ impl Plan {
         Ok(Plan {
             doing,
             scan: ScanMove::Stay,
+            written: ShelfWrite::Nothing,
             spoken: tells(String::new(alloc), Move::Stay)?,
             report: Report::Nothing,
         })
@@ -71,6 +83,7 @@ impl Plan {
         Ok(Plan {
             doing: Doing::Edits(edit),
             scan: ScanMove::Stay,
+            written: ShelfWrite::Nothing,
             spoken: shows(asked, lines)?,
             report: Report::Nothing,
         })
@@ -83,9 +96,83 @@ impl Plan {
         Ok(Plan {
             doing,
             scan: ScanMove::Stay,
+            written: ShelfWrite::Nothing,
             spoken: succeeds(alloc, asked)?,
             report: Report::Nothing,
         })
+    }
+
+    /// This is written to the shelf, and no lines are shown.
+    pub(crate) fn writes(
+        alloc: Global,
+        asked: Asked,
+        written: ShelfWrite,
+    ) -> Result<Plan, AllocError>
+        ensures { IfOk result (λ plan. plan ≡ turn_by (writes_lem asked written)) }
+    {
+        Ok(Plan {
+            doing: Doing::Rests,
+            scan: ScanMove::Stay,
+            written,
+            spoken: succeeds(alloc, asked)?,
+            report: Report::Nothing,
+        })
+    }
+
+    /// The player does this, and these lines are shown.
+    pub(crate) fn does_and_shows(
+        asked: Asked,
+        doing: Doing,
+        lines: Answer,
+    ) -> Result<Plan, AllocError>
+        ensures { IfOk result (λ plan. plan ≡ turn_by (record (shows_lem asked lines) { doing = doing })) }
+    {
+        Ok(Plan {
+            doing,
+            scan: ScanMove::Stay,
+            written: ShelfWrite::Nothing,
+            spoken: shows(asked, lines)?,
+            report: Report::Nothing,
+        })
+    }
+
+    /// The client is gone, without an answer.
+    pub(crate) fn departs(alloc: Global, client: u32) -> Result<Plan, AllocError>
+        ensures { IfOk result (λ plan. plan ≡ departs_lem client) }
+    {
+        Ok(Plan {
+            doing: Doing::Leaves(client),
+            ..Plan::only(shut(alloc)?)
+        })
+    }
+
+    /// The client that asks is gone, without an answer.
+    pub(crate) fn closes_client(alloc: Global, asked: Asked) -> Result<Plan, AllocError>
+        ensures { IfOk result (λ plan. plan ≡ turn_by (closes_client_lem asked)) }
+    {
+        Plan::departs(alloc, asked.client)
+    }
+
+    /// What writes to the shelf does nothing else.
+    pub(crate) fn once_written(self) -> Plan
+        ensures plan { result ≡ (if is_written self.written then record (quiet self.said) { written = self.written } else self) }
+        ensures alone { is_written result.written ≡ true → result ≡ record (quiet result.said) { written = result.written } }
+    {
+        if !self.written.is_written() {
+            return self;
+        }
+        let Plan {
+            doing,
+            scan,
+            written,
+            spoken,
+            report: _,
+        } = self;
+        discard_doing(doing, scan);
+        Plan {
+            written,
+            ..Plan::only(spoken)
+        }
     }
 
     /// A scan begins, and these lines are shown.
@@ -95,6 +182,7 @@ impl Plan {
         Ok(Plan {
             doing: Doing::Rests,
             scan: ScanMove::Begin,
+            written: ShelfWrite::Nothing,
             spoken: shows(asked, lines)?,
             report: Report::Nothing,
         })
@@ -107,6 +195,7 @@ impl Plan {
         Ok(Plan {
             doing: Doing::Rests,
             scan,
+            written: ShelfWrite::Nothing,
             spoken: tells(String::new(alloc), Move::Stay)?,
             report,
         })
@@ -136,6 +225,15 @@ impl Plan {
         Plan::refuses(alloc, asked, ErrorNumber::Argument, "bad song index")
     }
 
+    pub(crate) fn bad_name(alloc: Global, asked: Asked, name: &str) -> Result<Plan, AllocError>
+        ensures { IfOk result (λ plan. plan ≡ turn_by (bad_name_lem asked name.now)) }
+    {
+        let mut text = String::from_str(alloc, "bad name \"")?;
+        text.push_str(name)?;
+        text.push('"')?;
+        Plan::refuses(alloc, asked, ErrorNumber::Argument, text.as_str())
+    }
+
     pub(crate) fn no_such_song(alloc: Global, asked: Asked) -> Result<Plan, AllocError>
         ensures { IfOk result (λ plan. plan ≡ turn_by (no_such_song_lem asked)) }
     {
@@ -148,12 +246,33 @@ impl Plan {
         Plan::refuses(alloc, asked, ErrorNumber::PlayerSync, "not playing")
     }
 
-    /// Whether it may change what clients are told of.
-    #[tactic(auto, using(crate::proofs::Settled::same_raises))]
-    pub(crate) fn changes(&self, part: &Part, library: &Library) -> bool
-        ensures { result ≡ false → raised_by part.now library.now self.now ≡ none }
+    /// What is told once it is written to the shelf, which is all that it does.
+    pub(crate) fn into_telling(self) -> Telling
+        ensures spoken { result.spoken ≡ self.said }
+        ensures report { result.report ≡ Report.Nothing }
     {
-        !matches!(self.scan, ScanMove::Stay) || !self.doing.rests()
+        let Plan {
+            doing,
+            scan,
+            written,
+            spoken,
+            report: _,
+        } = self;
+        discard_doing(doing, scan);
+        discard_write(written);
+        Telling {
+            spoken,
+            report: Report::Nothing,
+        }
+    }
+
+    /// Whether it may change what clients are told of.
+    pub(crate) fn changes(&self, part: &Part, library: &Library) -> bool
+        requires { is_written self.now.written ≡ false }
+        ensures { result ≡ false → raised_by part.now library.now self.now ≡ nothing }
+    {
+        let still = self.scan.stays() & self.doing.rests();
+        !still
     }
 }
 
@@ -170,7 +289,7 @@ pub(crate) fn carry_out(
     library: &mut Library,
     plan: Plan,
 ) -> Result<Telling, PlayerFault>
-    requires { Fits part.old.queue plan.doing }
+    requires { Fits part.old plan.doing }
     ensures part { OnOk result (part.new ≡ part_after library.old.rate part.old plan.doing) }
     ensures library { OnOk result (library.new ≡ library_after library.old plan.scan) }
     ensures said { IfOk result (λ telling. telling.spoken ≡ plan.said) }
@@ -190,9 +309,11 @@ pub(crate) fn carry_out(
     let Plan {
         doing,
         scan,
+        written,
         spoken,
         report,
     } = plan;
+    discard_write(written);
     let report = carry_out_doing(part, &library.rate, doing, report)?;
     move_scan(library, scan);
     Ok(Telling { spoken, report })

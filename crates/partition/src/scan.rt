@@ -1,8 +1,8 @@
 //! The scans that look for what can be played.
-ghost use Rattle.std.specs.Prelude.{◌≡◌, ◌+◌};
+ghost use Rattle.std.specs.Prelude.{◌≡◌, ◌+◌, true};
 ghost use Rattle.partition.specs.Doings.{begins_beyond as begins_beyond_lem};
 ghost use Rattle.partition.specs.Scans.{never_scanned, running, scan_after};
-ghost use Rattle.partition.specs.declared.scan.ScanMove.TheVariants.{Begin};
+ghost use Rattle.partition.specs.declared.scan.ScanMove.TheVariants.{Begin, Stay};
 
 use song_db::SharedDb;
 use std::marker::Model;
@@ -109,4 +109,12 @@ pub enum ScanMove {
     Begin,
     /// The scan that runs ends, with the library that it found. One that failed found none, and the songs stay.
     End(Option<SharedDb>),
+}
+
+impl ScanMove {
+    pub(crate) fn stays(&self) -> bool
+        ensures { result ≡ true → self.now ≡ Stay }
+    {
+        matches!(self, ScanMove::Stay)
+    }
 }

@@ -1,11 +1,15 @@
 //! What tells, before an event and after it, whether a part of the player changed.
-ghost use Rattle.std.specs.Prelude.{◌≡◌, IfOk, option_map, string_bytes};
+ghost use Rattle.idle_notes.specs.Sets.{is_nonempty};
+ghost use Rattle.std.specs.Prelude.{◌≡◌, ◌↔◌, ◌&&◌, not, false, IfOk, IsTrue, option_map, string_bytes};
 ghost use Rattle.std.specs.Option.{option_copied};
 ghost use Rattle.partition.specs.Clients.{consume_number as consume_number_lem, id_number as id_number_lem, options as options_lem, playback_number as playback_number_lem, playing as playing_lem, same_enabled as same_enabled_lem, same_error as same_error_lem, same_playing as same_playing_lem, same_options as same_options_lem, single_number as single_number_lem};
-ghost use Rattle.partition.specs.Signs.{signs, told_by_signs};
+ghost use Rattle.partition.specs.Settled.{nothing};
+ghost use Rattle.partition.specs.Signs.{changes_subscriptions as changes_subscriptions_lem, common_by_signs, is_among as is_among_lem, raised_in, signs, told_by_signs};
 
+use crate::doing::Doing;
+use crate::shelf_calls::ShelfWrite;
 use crate::state::{Library, Part};
-use idle_notes::Subsystems;
+use idle_notes::{Channels, Subsystems};
 use play_order::{Consume, Modes, Single};
 use player_core::{Playback, Player};
 use std::alloc::{AllocError, Global};
@@ -20,6 +24,8 @@ pub(crate) struct Signs {
     volume: u8,
     enabled: [bool; 8],
     options: Options,
+    /// The clients for which messages wait.
+    having: Vec<u32>,
 }
 
 impl Model for Signs {
@@ -27,7 +33,7 @@ impl Model for Signs {
 
     ghost Value = { SignsData };
 
-    ghost view = { λ s. record { scans = s.scans; parity = s.parity; playing = s.playing; volume = s.volume; enabled = s.enabled; options = s.options } };
+    ghost view = { λ s. record { scans = s.scans; parity = s.parity; playing = s.playing; volume = s.volume; enabled = s.enabled; options = s.options; having = s.having.items } };
 }
 
 /// What tells whether what is played changed.
@@ -67,24 +73,117 @@ impl Signs {
             volume: part.volume.percent(),
             enabled: part.outputs.enabled(),
             options: options_of(&part.player),
+            having: part.channels.clients_with_messages(alloc)?,
         })
     }
 
-    /// The subsystems whose parts differ now, where the songs do or not.
-    pub(crate) fn changed(&self, database: bool, part: &Part, library: &Library) -> Subsystems
-        ensures { result ≡ told_by_signs database self.now (signs part.now library.now) }
+    /// The subsystems whose parts differ now, where the songs and the subscriptions do or not, and this is written to the shelf.
+    pub(crate) fn changed<'a>(
+        &'a self,
+        database: bool,
+        subscription: bool,
+        written: &ShelfWrite,
+        part: &'a Part,
+        library: &Library,
+    ) -> Raised<'a>
+        ensures { raised_in result ≡ told_by_signs database subscription written.now self.now part.now library.now }
+    {
+        Raised {
+            common: self.changed_for_all(database, subscription, written, part, library),
+            having: &self.having,
+            channels: &part.channels,
+        }
+    }
+
+    fn changed_for_all(
+        &self,
+        database: bool,
+        subscription: bool,
+        written: &ShelfWrite,
+        part: &Part,
+        library: &Library,
+    ) -> Subsystems
+        ensures { result ≡ common_by_signs database subscription written.now self.now (signs part.now library.now) }
     {
         Subsystems {
             database,
             update: self.scans != library.scan.running().is_some(),
+            stored_playlist: written.changes_lists(),
             playlist: self.parity != part.queue.parity(),
             player: !self.playing.are_of(&part.player),
             mixer: self.volume != part.volume.percent(),
             output: !same_enabled(&self.enabled, &part.outputs.enabled()),
             options: !same_options(self.options, options_of(&part.player)),
+            sticker: written.changes_stickers(),
+            subscription,
             ..Subsystems::none()
         }
     }
+}
+
+/// What an event raised: the same for all clients, but for messages.
+#[derive(Drop)]
+pub(crate) struct Raised<'a> {
+    common: Subsystems,
+    /// The clients for which messages waited before it.
+    having: &'a [u32],
+    channels: &'a Channels,
+}
+
+impl<'a> Model for Raised<'a> {
+    ghost use Rattle.partition.specs.Signs.{RaisedData};
+
+    ghost Value = { RaisedData };
+
+    ghost view = { λ r. record { common = r.common; having = r.having.now; channels = r.channels.now } };
+}
+
+impl<'a> Raised<'a> {
+    /// What it raised for a client.
+    pub(crate) fn for_client(&self, number: u32) -> Subsystems
+        ensures { result ≡ raised_in self.now number }
+    {
+        Subsystems {
+            message: !is_among(number, self.having) && self.channels.has_messages(number),
+            ..self.common
+        }
+    }
+
+    /// Whether it raised nothing for any client.
+    #[tactic(auto, using(crate::proofs::Quiet::is_quiet))]
+    pub(crate) fn is_nothing(&self) -> bool
+        ensures { IsTrue result ↔ (raised_in self.now ≡ nothing) }
+    {
+        let others = Subsystems {
+            message: false,
+            ..self.common
+        };
+        is_neither(others, self.channels.has_messages_beyond(self.having))
+    }
+}
+
+fn is_neither(others: Subsystems, messages: bool) -> bool
+    ensures { result ≡ (not (is_nonempty others) && not messages) }
+{
+    others.is_empty() && !messages
+}
+
+/// Whether an event makes other clients listen, or to other channels.
+pub(crate) fn changes_subscriptions(channels: &Channels, doing: &Doing) -> bool
+    ensures { result ≡ changes_subscriptions_lem channels.now doing.now }
+{
+    match doing {
+        Doing::Subscribes(_, _) => true,
+        Doing::Unsubscribes(client, channel) => channels.listens(*client, channel.as_str()),
+        Doing::Leaves(client) => channels.is_listening(*client),
+        _ => false,
+    }
+}
+
+fn is_among(number: u32, numbers: &[u32]) -> bool
+    ensures { result ≡ is_among_lem number numbers.now }
+{
+    numbers.iter().any(|other| *other == number)
 }
 
 impl PlayingSigns {

@@ -4,7 +4,7 @@ ghost use Rattle.std.specs.Prelude.{◌≡◌, IfOk};
 use crate::books::Books;
 use crate::outputs::Outputs;
 use crate::scan::Scan;
-use idle_notes::Pending;
+use idle_notes::{Channels, Pending};
 use mpd_command::Volume;
 use player_core::Player;
 use song_db::{Rate, SharedDb};
@@ -84,6 +84,7 @@ pub struct Part {
     pub player: Player,
     pub volume: Volume,
     pub outputs: Outputs,
+    pub channels: Channels,
 }
 
 /// The present state.

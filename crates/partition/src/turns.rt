@@ -1,16 +1,21 @@
 //! What each event is to do, and what it answers.
-ghost use Rattle.std.specs.Prelude.{◌≡◌, Some, None, IfOk, if◌then◌else◌};
+ghost use Rattle.std.specs.Prelude.{◌≡◌, true, Some, None, IfOk, if◌then◌else◌};
 ghost use Rattle.std.specs.Option.{option_copied};
 ghost use Rattle.partition.specs.Plans.{Fits};
-ghost use Rattle.partition.specs.Step.{acts, deed_of, ends_waiting as ends_waiting_lem, quiet, unspoken, said_to_new, turn_command, turn_line, turn_of, turn_request};
+ghost use Rattle.shelf.specs.Maps.{Trusted, Turns};
+ghost use Rattle.partition.specs.Shelves.{IsRead, is_ok_read, is_written};
+ghost use Rattle.partition.specs.Step.{acts, deed_of, ends_waiting as ends_waiting_lem, heard_at, question_of, quiet, unspoken, said_to_new, turn_command, turn_line, turn_of, turn_request};
 ghost use Rattle.partition.specs.Image.{turn_by};
 ghost use Rattle.partition.specs.Outputs.{is_output};
 
 use crate::clients::find_client;
-use crate::commands::connection::{ping, tag_types};
+use crate::commands::connection::{commands, not_commands, ping, tag_types};
 use crate::commands::devices::{outputs, switch_output, toggle_output};
 use crate::commands::library::{count, find, find_add, list, list_all, list_info, update};
-use crate::commands::options::{consume, get_volume, random, repeat, set_volume, single};
+use crate::commands::messages::{channels, read_messages, send_message, subscribe, unsubscribe};
+use crate::commands::options::{
+    consume, crossfade, get_volume, random, repeat, set_volume, single,
+};
 use crate::commands::playback::{
     clear_error, current_song, next, pause, play, play_id, previous, seek, seek_cur, seek_id, stop,
 };
@@ -20,15 +25,22 @@ use crate::commands::queue_edits::{
 };
 use crate::commands::queue_songs::{changed_places, changes, playlist_id, playlist_info};
 use crate::commands::status::{idle, no_idle, status};
+use crate::commands::stored::{
+    list_playlist, list_playlist_info, list_playlists, load, playlist_add, playlist_clear,
+    playlist_delete, playlist_move, remove, rename, save, sticker,
+};
 use crate::doing::Doing;
 use crate::event::{Asked, Event, Move, Stand};
+use crate::lent::ask;
 use crate::plan::Plan;
 use crate::report::Report;
 use crate::scan::ScanMove;
+use crate::shelf_calls::Read;
 use crate::spoken::{Spoken, refuses_line, shut, tells};
 use crate::state::{Client, Library, MAX_CLIENTS, Part};
 use filters::Case;
 use mpd_command::{Command, Request};
+use shelf::Shelf;
 use song_db::SharedDb;
 use std::alloc::{AllocError, Global};
 
@@ -40,16 +52,19 @@ pub(crate) fn plan_turn(
     clients: &[Client],
     event: &Event,
 ) -> Result<Plan, AllocError>
+    requires { (heard_at event.now).refused ≡ None }
     ensures plan { IfOk result (λ plan. plan ≡ turn_of part.now library.now clients.now event.now) }
-    ensures fits { IfOk result (λ plan. Fits part.now.queue plan.doing) }
+    ensures alone { IfOk result (λ plan. is_written plan.written ≡ true → plan ≡ record (quiet plan.said) { written = plan.written }) }
+    ensures fits { IfOk result (λ plan. Fits part.now plan.doing) }
 {
     match event {
         Event::Connect(number) => Ok(Plan::only(connect(alloc, clients, *number)?)),
-        Event::Disconnect(_) => Ok(Plan::only(shut(alloc)?)),
-        Event::Line(number, stand, request) => match find_client(clients, *number) {
-            Some(client) => answer_line(alloc, part, library, client, *stand, request),
-            None => Ok(Plan::only(shut(alloc)?)),
-        },
+        Event::Disconnect(number) => Plan::departs(alloc, *number),
+        Event::Line(number, stand, request, heard) => {
+            let client = find_client(clients, *number);
+            let plan = answer_line(alloc, part, library, client, *stand, request, &heard.read)?;
+            Ok(plan.once_written())
+        }
         Event::ScanQuestion => {
             let report = Report::ToScan(library.scan.running());
             Plan::reports(alloc, ScanMove::Stay, report)
@@ -100,22 +115,51 @@ fn connect(alloc: Global, clients: &[Client], number: u32) -> Result<Spoken, All
     tells(String::from_str(alloc, "OK MPD 0.23.0\n")?, Move::Join)
 }
 
-/// Answers a line of a client that is there. While it waits, any other line than `noidle` closes it.
+/// Answers a line of a client, if it is there. While it waits, any other line than `noidle` closes it.
 fn answer_line(
     alloc: Global,
     part: &Part,
     library: &Library,
-    client: Client,
+    client: Option<Client>,
     stand: Stand,
     request: &Request,
+    read: &Read,
 ) -> Result<Plan, AllocError>
-    ensures plan { IfOk result (λ plan. plan ≡ turn_line part.now library.now (Some client) stand request.now) }
-    ensures fits { IfOk result (λ plan. Fits part.now.queue plan.doing) }
+    ensures plan { IfOk result (λ plan. plan ≡ turn_line part.now library.now client stand request.now read.now) }
+    ensures fits { IfOk result (λ plan. Fits part.now plan.doing) }
 {
-    if client.pending.is_waiting() && !ends_waiting(stand, request) {
+    let Some(client) = client else {
         return Ok(Plan::only(shut(alloc)?));
+    };
+    if client.pending.is_waiting() && !ends_waiting(stand, request) {
+        return Plan::departs(alloc, client.number);
     }
-    answer_request(alloc, part, library, client, stand, request)
+    answer_request(alloc, part, library, client, stand, request, read)
+}
+
+/// What an event asks the shelf, and its answer.
+pub(crate) fn ask_shelf<S: Shelf>(
+    library: &Library,
+    clients: &[Client],
+    shelf: &mut S,
+    event: &Event,
+) -> Result<Read, AllocError>
+    ensures turns { Turns (S.standing shelf.old) (S.standing shelf.new) (is_ok_read result) (S.standing shelf.old).maps }
+    ensures read { Trusted (S.standing shelf.old) (S.standing shelf.new) → IfOk result (λ read. IsRead (S.failed shelf.old shelf.new) (S.standing shelf.old).maps (question_of library.now clients.now event.now) read) }
+{
+    let Event::Line(number, stand, request, _) = event else {
+        return Ok(Read::Nothing);
+    };
+    let Some(client) = find_client(clients, *number) else {
+        return Ok(Read::Nothing);
+    };
+    if client.pending.is_waiting() && !ends_waiting(*stand, request) {
+        return Ok(Read::Nothing);
+    }
+    match request {
+        Request::Run(_, command) => ask(library, shelf, command),
+        Request::Refused(_) => Ok(Read::Nothing),
+    }
 }
 
 fn ends_waiting(stand: Stand, request: &Request) -> bool
@@ -135,14 +179,19 @@ fn answer_request(
     client: Client,
     stand: Stand,
     request: &Request,
+    read: &Read,
 ) -> Result<Plan, AllocError>
-    ensures plan { IfOk result (λ plan. plan ≡ turn_request part.now library.now client stand request.now) }
-    ensures fits { IfOk result (λ plan. Fits part.now.queue plan.doing) }
+    ensures plan { IfOk result (λ plan. plan ≡ turn_request part.now library.now client stand request.now read.now) }
+    ensures fits { IfOk result (λ plan. Fits part.now plan.doing) }
 {
     match request {
         Request::Run(name, command) => {
-            let asked = Asked { name: *name, stand };
-            answer_command(alloc, asked, part, library, client, command)
+            let asked = Asked {
+                client: client.number,
+                name: *name,
+                stand,
+            };
+            answer_command(alloc, asked, part, library, read, client, command)
         }
         Request::Refused(ack) => {
             let spoken = refuses_line(alloc, stand, ack.command, ack.number, ack.text.as_str())?;
@@ -157,33 +206,37 @@ fn answer_command(
     asked: Asked,
     part: &Part,
     library: &Library,
+    read: &Read,
     client: Client,
     command: &Command,
 ) -> Result<Plan, AllocError>
-    ensures plan { IfOk result (λ plan. plan ≡ turn_command asked part.now library.now client command.now) }
-    ensures fits { IfOk result (λ plan. Fits part.now.queue plan.doing) }
+    ensures plan { IfOk result (λ plan. plan ≡ turn_command asked part.now library.now read.now client command.now) }
+    ensures fits { IfOk result (λ plan. Fits part.now plan.doing) }
 {
     match command {
         Command::Idle(named) => Ok(Plan::only(idle(alloc, asked, client, *named)?)),
         Command::NoIdle => Ok(Plan::only(no_idle(alloc, asked, client)?)),
-        _ => run(alloc, asked, part, library, command),
+        _ => run(alloc, asked, part, library, read, command),
     }
 }
 
 /// The table of deeds: what each command asks of the player, and what it reads of it.
 #[rattlefmt::skip]
-fn run(alloc: Global, asked: Asked, part: &Part, library: &Library, command: &Command) -> Result<Plan, AllocError>
-    ensures plan { IfOk result (λ plan. plan ≡ turn_by (deed_of asked part.now library.now command.now)) }
-    ensures fits { IfOk result (λ plan. Fits part.now.queue plan.doing) }
+fn run(alloc: Global, asked: Asked, part: &Part, library: &Library, read: &Read, command: &Command) -> Result<Plan, AllocError>
+    ensures plan { IfOk result (λ plan. plan ≡ turn_by (deed_of asked part.now library.now read.now command.now)) }
+    ensures fits { IfOk result (λ plan. Fits part.now plan.doing) }
 {
     match command {
         Command::Add(uri) => add(alloc, asked, part, library, uri),
         Command::AddId(uri, place) => add_id(alloc, asked, part, library, uri, *place),
+        Command::Channels => channels(alloc, asked, part),
         Command::Clear => clear(alloc, asked, part),
         Command::ClearError => clear_error(alloc, asked),
-        Command::Close => Ok(Plan::only(shut(alloc)?)),
+        Command::Close => Plan::closes_client(alloc, asked),
+        Command::Commands(allow_kill) => Ok(Plan::only(commands(alloc, asked, *allow_kill)?)),
         Command::Consume(on) => consume(alloc, asked, *on),
         Command::Count(wanted) => count(alloc, asked, library, wanted),
+        Command::Crossfade(seconds) => crossfade(alloc, asked, seconds),
         Command::CurrentSong => current_song(alloc, asked, part, library),
         Command::Delete(range) => delete(alloc, asked, part, *range),
         Command::DeleteId(id) => delete_id(alloc, asked, part, *id),
@@ -193,43 +246,60 @@ fn run(alloc: Global, asked: Asked, part: &Part, library: &Library, command: &Co
         Command::FindAdd(wanted) => find_add(alloc, asked, part, library, Case::Heeded, wanted),
         Command::GetVol => get_volume(alloc, asked, part),
         Command::Idle(_) => Ok(Plan::only(shut(alloc)?)),
-        Command::Kill => Ok(Plan::only(shut(alloc)?)),
+        Command::Kill => Plan::closes_client(alloc, asked),
         Command::List(name, wanted) => list(alloc, asked, library, *name, wanted.as_ref()),
         Command::ListAll(uri) => list_all(alloc, asked, library, uri.as_ref()),
+        Command::ListPlaylist(name) => list_playlist(alloc, asked, read, name),
+        Command::ListPlaylistInfo(name) => list_playlist_info(alloc, asked, library, read, name),
+        Command::ListPlaylists => list_playlists(alloc, asked, read),
+        Command::Load(name, range) => load(alloc, asked, part, library, read, name, *range),
         Command::LsInfo(uri) => list_info(alloc, asked, library, uri.as_ref()),
         Command::Move(range, to) => move_range(alloc, asked, part, *range, *to),
         Command::MoveId(id, to) => move_id(alloc, asked, part, *id, *to),
         Command::Next => next(alloc, asked, part),
         Command::NoIdle => Ok(Plan::only(shut(alloc)?)),
+        Command::NotCommands(allow_kill) => Ok(Plan::only(not_commands(alloc, asked, *allow_kill)?)),
         Command::Outputs => outputs(alloc, asked, part),
         Command::Pause(on) => pause(alloc, asked, *on),
         Command::Ping => Ok(Plan::only(ping(alloc, asked)?)),
-        Command::Play(place) => play(alloc, asked, part, *place),
-        Command::PlayId(id) => play_id(alloc, asked, part, *id),
-        Command::PlaylistId(id) => playlist_id(alloc, asked, part, library, *id),
-        Command::PlaylistInfo(range) => playlist_info(alloc, asked, part, library, *range),
         Command::PlChanges(version, range) => changes(alloc, asked, part, library, *version, *range),
         Command::PlChangesPosId(version, range) => changed_places(alloc, asked, part, library, *version, *range),
+        Command::Play(place) => play(alloc, asked, part, *place),
+        Command::PlayId(id) => play_id(alloc, asked, part, *id),
+        Command::PlaylistAdd(name, uri) => playlist_add(alloc, asked, library, read, name, uri),
+        Command::PlaylistClear(name) => playlist_clear(alloc, asked, read, name),
+        Command::PlaylistDelete(name, place) => playlist_delete(alloc, asked, read, name, *place),
+        Command::PlaylistId(id) => playlist_id(alloc, asked, part, library, *id),
+        Command::PlaylistInfo(range) => playlist_info(alloc, asked, part, library, *range),
+        Command::PlaylistMove(name, from, to) => playlist_move(alloc, asked, read, name, *from, *to),
         Command::Previous => previous(alloc, asked, part),
         Command::Prio(priority, ranges) => prio(alloc, asked, part, *priority, ranges.items()),
         Command::PrioId(priority, ids) => prio_id(alloc, asked, part, *priority, ids.items()),
         Command::Random(on) => random(alloc, asked, *on),
+        Command::ReadMessages => read_messages(alloc, asked, part),
+        Command::Rename(name, new) => rename(alloc, asked, name, new),
         Command::Repeat(on) => repeat(alloc, asked, *on),
         Command::Rescan(_) => update(alloc, asked, library),
+        Command::Rm(name) => remove(alloc, asked, name),
+        Command::Save(name) => save(alloc, asked, part, name),
         Command::Search(wanted, window) => find(alloc, asked, library, Case::Ignored, wanted, *window),
         Command::SearchAdd(wanted) => find_add(alloc, asked, part, library, Case::Ignored, wanted),
         Command::Seek(place, time) => seek(alloc, asked, part, library, *place, *time),
         Command::SeekCur(seeking) => seek_cur(alloc, asked, part, library, *seeking),
         Command::SeekId(id, time) => seek_id(alloc, asked, part, library, *id, *time),
+        Command::SendMessage(channel, text) => send_message(alloc, asked, part, channel, text),
         Command::SetVol(volume) => set_volume(alloc, asked, volume),
         Command::Shuffle(range) => shuffle(alloc, asked, part, *range),
         Command::Single(mode) => single(alloc, asked, *mode),
         Command::Status => status(alloc, asked, part, library),
+        Command::Sticker(command) => sticker(alloc, asked, library, read, command),
         Command::Stop => stop(alloc, asked),
+        Command::Subscribe(channel) => subscribe(alloc, asked, part, channel),
         Command::Swap(first, second) => swap(alloc, asked, part, *first, *second),
         Command::SwapId(first, second) => swap_id(alloc, asked, part, *first, *second),
         Command::TagTypes => Ok(Plan::only(tag_types(alloc, asked)?)),
         Command::ToggleOutput(output) => toggle_output(alloc, asked, part, *output as usize),
+        Command::Unsubscribe(channel) => unsubscribe(alloc, asked, part, channel),
         Command::Update(_) => update(alloc, asked, library),
     }
 }

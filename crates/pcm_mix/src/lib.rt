@@ -2,10 +2,12 @@
 //! All work in place on slices and take no memory; that the lengths agree is the caller's part.
 #![tactic(auto)]
 
+pub mod block;
 pub mod crossfade;
 pub mod layout;
 pub mod volume;
 
+pub use block::{Fading, mix};
 pub use crossfade::fade;
 pub use layout::{Channels, Depth, from_bytes, to_bytes};
 pub use volume::gain;

@@ -7,6 +7,8 @@
 #[cfg(test)]
 mod commands;
 #[cfg(test)]
+mod fades;
+#[cfg(test)]
 mod long_session;
 #[cfg(test)]
 mod player;
@@ -20,5 +22,9 @@ mod queues;
 mod runs;
 #[cfg(test)]
 mod script;
+#[cfg(test)]
+mod shelf_commands;
+#[cfg(test)]
+mod shelf_sizes;
 #[cfg(test)]
 mod tables;

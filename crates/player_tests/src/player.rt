@@ -9,17 +9,21 @@ use partition::{
     Event, Library, Limits, ListOutcome, Next, Notice, Outcome, Outputs, Partition, Report, Scan,
     Setup, Stand, reads_pending, replays_worlds,
 };
+use shelf::MemShelf;
 use song_db::{Db, Rate, SharedDb};
 use std::alloc::{AllocError, Global};
 
-fn songs(alloc: Global) -> Result<Vec<Song>, AllocError> {
+/// A song of one second for each line, without tags.
+fn songs(alloc: Global, uris: &str) -> Result<Vec<Song>, AllocError> {
     let mut songs = Vec::new(alloc);
-    songs.push(song(alloc)?)?;
+    for uri in uris.lines() {
+        songs.push(song(alloc, uri)?)?;
+    }
     Ok(songs)
 }
 
-fn library(alloc: Global) -> Result<Library, AllocError> {
-    let Ok(songs) = Db::of_songs(alloc, songs(alloc)?) else {
+fn library(alloc: Global, uris: &str) -> Result<Library, AllocError> {
+    let Ok(songs) = Db::of_songs(alloc, songs(alloc, uris)?) else {
         return Err(AllocError);
     };
     Ok(Library {
@@ -46,8 +50,21 @@ fn add_output(outputs: &mut Outputs, name: SharedText, enabled: bool) -> Result<
     outputs.add(name, enabled)
 }
 
-/// A player over one song.
-fn opened(alloc: Global) -> Result<Partition, AllocError> {
+/// A player, and the shelf that is lent to it.
+#[derive(Drop)]
+struct Lent {
+    player: Partition,
+    shelf: MemShelf,
+}
+
+/// A player over a song for each line, with an empty shelf.
+fn opened(alloc: Global, uris: &str) -> Result<Lent, AllocError> {
+    let player = player_over(alloc, library(alloc, uris)?)?;
+    let shelf = MemShelf::new(alloc);
+    Ok(Lent { player, shelf })
+}
+
+fn player_over(alloc: Global, library: Library) -> Result<Partition, AllocError> {
     let limits = Limits {
         max_queue: 16384,
         max_version: 2147483647,
@@ -59,7 +76,7 @@ fn opened(alloc: Global) -> Result<Partition, AllocError> {
         random_start: 0,
         outputs: outputs(alloc)?,
     };
-    Partition::open(alloc, setup, library(alloc)?)
+    Partition::open(alloc, setup, library)
 }
 
 fn after(next: Next) -> &'static str {
@@ -80,10 +97,16 @@ fn notice_told(alloc: Global, notice: &Notice) -> Result<String, AllocError> {
 fn report_told(alloc: Global, report: Report) -> Result<String, AllocError> {
     match report {
         Report::ToDecode(Some(job)) => {
-            format!(in alloc;
-                "job {} {} {} {}\n",
+            let mut told = format!(in alloc;
+                "job {} {} {} {}",
                 job.number, job.id, job.from, job.count
-            )
+            )?;
+            if let Some(fade) = job.fade {
+                let (partner, index, len) = (fade.partner, fade.index, fade.len);
+                told.push_str(format!(in alloc; " fade {partner} {index} {len}")?.as_str())?;
+            }
+            told.push_str("\n")?;
+            Ok(told)
         }
         Report::ToDecode(None) => String::from_str(alloc, "no job\n"),
         Report::ToFeed(Some(feed)) => format!(in alloc; "feed {} {}\n", feed.cut, feed.volume),
@@ -112,13 +135,13 @@ fn add_heard(all: &mut String, alloc: Global, outcome: &Outcome) -> Result<(), A
 
 /// Applies an event, and adds what clients hear of it, or that it was not applied.
 fn happens(
-    player: &mut Partition,
+    lent: &mut Lent,
     alloc: Global,
     seat: u8,
     event: Event,
     all: &mut String,
 ) -> Result<(), AllocError> {
-    match player.apply(seat % 16, event) {
+    match lent.player.apply(seat % 16, &mut lent.shelf, event) {
         Ok(outcome) => add_heard(all, alloc, &outcome),
         Err(_) => all.push_str("not applied\n"),
     }
@@ -194,7 +217,7 @@ fn shown(player: &Partition, alloc: Global, what: &str) -> Result<String, AllocE
 
 /// What is heard where a client says a line, at seat 3.
 fn says(
-    player: &mut Partition,
+    lent: &mut Lent,
     alloc: Global,
     client: u32,
     stand: Stand,
@@ -202,12 +225,23 @@ fn says(
     all: &mut String,
 ) -> Result<(), AllocError> {
     let request = Request::of_line(alloc, line, false)?;
-    happens(player, alloc, 3, Event::Line(client, stand, request), all)
+    happens(lent, alloc, 3, Event::line(client, stand, request), all)
+}
+
+/// The same of client 1, where `kill` is allowed.
+fn says_with_leave(
+    lent: &mut Lent,
+    alloc: Global,
+    line: &str,
+    all: &mut String,
+) -> Result<(), AllocError> {
+    let request = Request::of_line(alloc, line, true)?;
+    happens(lent, alloc, 3, Event::line(1, Stand::Alone, request), all)
 }
 
 /// The same of client 1 in a list, where the line comes after its place there.
 fn says_in_list(
-    player: &mut Partition,
+    lent: &mut Lent,
     alloc: Global,
     form: ListForm,
     rest: &str,
@@ -215,7 +249,7 @@ fn says_in_list(
 ) -> Result<(), AllocError> {
     let (place, line) = first_word(rest);
     let stand = Stand::InList(form, number_of(place) as usize);
-    says(player, alloc, 1, stand, line, all)
+    says(lent, alloc, 1, stand, line, all)
 }
 
 /// The requests of the lines of a list, with a semicolon between each two.
@@ -251,14 +285,14 @@ fn add_list(all: &mut String, alloc: Global, outcome: &ListOutcome) -> Result<()
 
 /// Runs a list of client 1 at seat 3, and adds what clients hear of it.
 fn runs_list(
-    player: &mut Partition,
+    lent: &mut Lent,
     alloc: Global,
     form: ListForm,
     lines: &str,
     all: &mut String,
 ) -> Result<(), AllocError> {
     let requests = requests(alloc, lines)?;
-    match player.run_list(3, 1, form, requests) {
+    match lent.player.run_list(3, &mut lent.shelf, 1, form, requests) {
         Ok(outcome) => add_list(all, alloc, &outcome),
         Err(_) => all.push_str("not run\n"),
     }
@@ -285,18 +319,13 @@ fn found(alloc: Global, word: &str) -> Result<Option<SharedDb>, AllocError> {
 }
 
 /// What a scanner asks or brings, at seat 5.
-fn scans(
-    player: &mut Partition,
-    alloc: Global,
-    word: &str,
-    all: &mut String,
-) -> Result<(), AllocError> {
+fn scans(lent: &mut Lent, alloc: Global, word: &str, all: &mut String) -> Result<(), AllocError> {
     let event = if word == "asks" {
         Event::ScanQuestion
     } else {
         Event::ScanResult(found(alloc, word)?)
     };
-    happens(player, alloc, 5, event, all)
+    happens(lent, alloc, 5, event, all)
 }
 
 /// The two numbers of a text.
@@ -306,79 +335,77 @@ fn two_numbers(text: &str) -> (u32, u32) {
 }
 
 /// What the decoder asks or brings, at seat 6.
-fn decodes(
-    player: &mut Partition,
-    alloc: Global,
-    rest: &str,
-    all: &mut String,
-) -> Result<(), AllocError> {
+fn decodes(lent: &mut Lent, alloc: Global, rest: &str, all: &mut String) -> Result<(), AllocError> {
     if rest == "wants" {
-        return happens(player, alloc, 6, Event::Want(false), all);
+        return happens(lent, alloc, 6, Event::Want(false), all);
+    }
+    if let Some(rest) = rest.strip_prefix("fails ") {
+        let (number, whose) = first_word(rest);
+        let event = Event::Failed(u64::from(number_of(number)), whose == "partner");
+        return happens(lent, alloc, 6, event, all);
     }
     let (number, frames) = two_numbers(rest);
     let event = Event::Have(u64::from(number), u64::from(frames));
-    happens(player, alloc, 6, event, all)
+    happens(lent, alloc, 6, event, all)
 }
 
 /// An output has its turn, at seat 7: its number, the frames that it wrote, and those that it discarded; one that discarded
 /// 4,294,967,295 has failed.
-fn turns(
-    player: &mut Partition,
-    alloc: Global,
-    rest: &str,
-    all: &mut String,
-) -> Result<(), AllocError> {
+fn turns(lent: &mut Lent, alloc: Global, rest: &str, all: &mut String) -> Result<(), AllocError> {
     let (output, rest) = first_word(rest);
     let (written, discarded) = two_numbers(rest);
     let failed = discarded == u32::MAX;
     let (written, discarded) = (u64::from(written), u64::from(discarded));
     let output = number_of(output) as usize;
     let event = Event::OutputTurn(output, written, discarded, failed);
-    happens(player, alloc, 7, event, all)
+    happens(lent, alloc, 7, event, all)
 }
 
-/// Adds what is told at a step, by its first word: a client comes or goes, at the last seat; client 1 says a line in a list; a scanner
-/// asks or brings something; so does the decoder; an output has its turn; something is shown; or a client says a line alone.
-fn step(
-    player: &mut Partition,
-    alloc: Global,
-    line: &str,
-    all: &mut String,
-) -> Result<(), AllocError> {
+/// Adds what is told at a step, by its first word: a client comes or goes, at the last seat; client 1 says a line in a list, or where
+/// `kill` is allowed; a scanner asks or brings something; so does the decoder; an output has its turn; something is shown; or a
+/// client says a line alone.
+fn step(lent: &mut Lent, alloc: Global, line: &str, all: &mut String) -> Result<(), AllocError> {
     let (word, rest) = first_word(line);
     if word == "comes" {
-        happens(player, alloc, 15, Event::Connect(number_of(rest)), all)
+        happens(lent, alloc, 15, Event::Connect(number_of(rest)), all)
     } else if word == "goes" {
-        happens(player, alloc, 15, Event::Disconnect(number_of(rest)), all)
+        happens(lent, alloc, 15, Event::Disconnect(number_of(rest)), all)
     } else if word == "plain_list" {
-        says_in_list(player, alloc, ListForm::Plain, rest, all)
+        says_in_list(lent, alloc, ListForm::Plain, rest, all)
     } else if word == "ok_list" {
-        says_in_list(player, alloc, ListForm::ListOk, rest, all)
+        says_in_list(lent, alloc, ListForm::ListOk, rest, all)
+    } else if word == "with_leave" {
+        says_with_leave(lent, alloc, rest, all)
     } else if word == "runs_plain" {
-        runs_list(player, alloc, ListForm::Plain, rest, all)
+        runs_list(lent, alloc, ListForm::Plain, rest, all)
     } else if word == "runs_ok" {
-        runs_list(player, alloc, ListForm::ListOk, rest, all)
+        runs_list(lent, alloc, ListForm::ListOk, rest, all)
     } else if word == "scan" {
-        scans(player, alloc, rest, all)
+        scans(lent, alloc, rest, all)
     } else if word == "decoder" {
-        decodes(player, alloc, rest, all)
+        decodes(lent, alloc, rest, all)
     } else if word == "turn" {
-        turns(player, alloc, rest, all)
+        turns(lent, alloc, rest, all)
     } else if word == "show" {
-        show(player, alloc, rest, all)
+        show(&lent.player, alloc, rest, all)
     } else {
-        says(player, alloc, number_of(word), Stand::Alone, rest, all)
+        says(lent, alloc, number_of(word), Stand::Alone, rest, all)
     }
 }
 
-/// What a session of these steps tells.
-fn session(alloc: Global, steps: &str) -> Result<String, AllocError> {
-    let mut player = opened(alloc)?;
+/// What a session of these steps tells, over a library with a song for each line of the URIs.
+pub(crate) fn session_over(alloc: Global, uris: &str, steps: &str) -> Result<String, AllocError> {
+    let mut lent = opened(alloc, uris)?;
     let mut all = String::new(alloc);
     for line in steps.lines() {
-        step(&mut player, alloc, line, &mut all)?;
+        step(&mut lent, alloc, line, &mut all)?;
     }
     Ok(all)
+}
+
+/// The same over one song.
+pub(crate) fn session(alloc: Global, steps: &str) -> Result<String, AllocError> {
+    session_over(alloc, "a.wav", steps)
 }
 
 const DELETION: &str = "comes 1
@@ -569,7 +596,12 @@ fn each_name_is_read_back(rt: HostRuntime) {
 }
 
 /// A line for each number from this one to 64, between two texts.
-fn numbered(alloc: Global, before: &str, first: u32, after: &str) -> Result<String, AllocError> {
+pub(crate) fn numbered(
+    alloc: Global,
+    before: &str,
+    first: u32,
+    after: &str,
+) -> Result<String, AllocError> {
     let mut all = String::new(alloc);
     for number in first..65 {
         let line = format!(in alloc; "{before}{number}{after}\n")?;

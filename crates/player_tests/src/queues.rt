@@ -10,7 +10,7 @@ use std::ops::Range;
 fn songs(alloc: Global, count: usize) -> Result<Vec<SharedSong>, AllocError> {
     let mut songs = Vec::new(alloc);
     for _ in 0..count {
-        songs.push(SharedSong::new(alloc, song(alloc)?)?)?;
+        songs.push(SharedSong::new(alloc, song(alloc, "a.wav")?)?)?;
     }
     Ok(songs)
 }

@@ -42,9 +42,9 @@ pub fn first_word(line: &str) -> (&str, &str) {
     }
 }
 
-/// The song `a.wav` of one second, without tags.
-pub fn song(alloc: Global) -> Result<Song, AllocError> {
-    let uri = String::from_str(alloc, "a.wav")?;
+/// The song of this URI, of one second and without tags.
+pub fn song(alloc: Global, uri: &str) -> Result<Song, AllocError> {
+    let uri = String::from_str(alloc, uri)?;
     match Song::new(uri, Vec::new(alloc), 8000) {
         Some(song) => Ok(song),
         None => Err(AllocError),

@@ -7,6 +7,7 @@ pub mod EditBlame
 pub mod FaultLemmas
 pub mod FindLemmas
 pub mod FoundLemmas
+pub mod HoldsLemmas
 pub mod LacksLemmas
 pub mod ListedLemmas
 pub mod MakingBlame

@@ -12,7 +12,7 @@ use Rattle.sqlite.specs.Held.{Held, state}
 use Rattle.sqlite.specs.State.{State, HasCleanDisk, Survives, FailsToQuery, CommitsShowing}
 use Rattle.shelf.specs.Maps.{Maps}
 use Rattle.shelf_database.specs.Settled.{same_maps}
-use Rattle.shelf_database.specs.Tables.{no_schema, shelf_schema, maps_in, profile_number, IsReady, Reads}
+use Rattle.shelf_database.specs.Tables.{no_schema, shelf_schema, maps_in, profile_number, IsReady, HoldsTexts, Reads}
 use Rattle.shelf_database.specs.Opens.{IsBlank, Holds, Leads, HasNothing, HasTables, IsLeft, Opens}
 use Rattle.shelf_database.proofs.Statements.{Reading}
 use Rattle.shelf_database.proofs.QueryLemmas.{ready_same, failed_before, leaves_same}
@@ -46,9 +46,23 @@ opens_read old new is_done some settles reads number = record {
       let held = ready_holds old maps some holds in
       let same = reads.same clean held.0 in
       let now : new.now ≡ old.now = same.0.now_is in (
-        record { is_open = same.0.is_open; ready = ready_same old new held.0 same; number = ap (λ (d : Database). profile_number d.trees) now ∙ number clean held.0 is },
+        same.0.is_open,
+        ready_same old new held.0 same,
+        ap (λ (d : Database). profile_number d.trees) now ∙ number clean held.0 is,
         same_maps _ _ (held.1 ∙ ap (λ (d : Database). maps_in d.trees) (sym now)),
       );
+  ours = λ clean may is. elim may [
+    | inl blank ↦ absurd (some blank.schema)
+    | inr own ↦
+        let same = reads.same clean own.0 in
+        let now : new.now ≡ old.now = same.0.now_is in
+        record {
+          is_open = same.0.is_open;
+          ready = ready_same old new own.0 same;
+          number = ap (λ (d : Database). profile_number d.trees) now ∙ number clean own.0 is;
+          texts = subst (λ (d : Database). HoldsTexts d.trees) (sym now) own.1;
+        }
+  ];
   kept = λ clean maps holds is opened. (reads.same clean (ready_holds old maps some holds).0).0.now_is;
   spared = λ clean ready opened. (reads.same clean ready).0.now_is;
   stop = λ clean maps holds m left. inl (left.0, reads.leaves clean (ready_holds old maps some holds).0 left.0 left.1, left.2);
@@ -62,6 +76,7 @@ opens_unread text query names reading params old new e some settles fails surviv
   counts = survives.counts;
   stays_open = survives.closes;
   done = λ clean maps holds is. absurd (cc);
+  ours = λ clean may is. absurd (cc);
   kept = λ clean maps holds is opened. spared clean (ready_holds old maps some holds).0 opened;
   spared = spared;
   stop = λ clean maps holds m left. inl (left.0, leaves clean (ready_holds old maps some holds).0 left.0 left.1, left.2);

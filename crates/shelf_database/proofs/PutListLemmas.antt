@@ -1,10 +1,11 @@
 -- What a put makes of the lists.
-use Rattle.std.proofs.Common.{◌≡◌, ℕ, ℤ, List, [], ◌∷◌, Bool, true, false, ◌&&◌, ◌||◌, cond, Some, None, Ok, refl, sym, ap, subst, ◌∙◌, IsTrue, arith}
+use Rattle.std.proofs.Common.{◌≡◌, ℕ, ℤ, List, [], ◌∷◌, Bool, true, false, not, ◌&&◌, ◌||◌, filter, cond, Some, None, Ok, refl, sym, ap, subst, ◌∙◌, IsTrue, arith}
 use Rattle.std.specs.Ordering.{is_eq}
+use Rattle.std.specs.Str.{IsUtf8}
 use Rattle.sqlite.specs.declared.types.Value.{Value}
 use Rattle.sqlite.specs.declared.types.Value.TheVariants.{Null, Int, Text}
 use Rattle.sqlite.specs.Order.{Row, column, value_cmp}
-use Rattle.sqlite.specs.Tree.{Trees, rowid}
+use Rattle.sqlite.specs.Tree.{Trees, rowid, put_row}
 use Rattle.sqlite.specs.Ops.{unary}
 use Rattle.sqlite.specs.Kind.TheVariants.{Integer}
 use Rattle.sqlite.specs.View.{is_int}
@@ -27,9 +28,10 @@ use Rattle.sqlite_rules.specs.Keys.{conflicts}
 use Rattle.sqlite_rules.proofs.PlaceLemmas.{next_is_free}
 use Rattle.shelf.specs.Lines.{lines_of}
 use Rattle.shelf.specs.Maps.{with_list}
-use Rattle.shelf_database.specs.Tables.{shelf_schema, placed_list, maps_in, has_text, AreRows, IsReady}
+use Rattle.shelf_database.specs.Tables.{shelf_schema, placed_list, maps_in, has_text, AreRows, IsText, HaveTexts, HoldsTexts, IsReady}
 use Rattle.shelf_database.proofs.Statements.{put_text}
 use Rattle.shelf_database.proofs.DeleteLemmas.{went, same_value}
+use Rattle.shelf_database.proofs.HoldsLemmas.{text_there, two_texts, put_texts, filtered_texts}
 use Rattle.shelf_database.proofs.TextLemmas.{equal_text, list_put}
 use Rattle.shelf_database.proofs.PutLemmas.{equal_id, task, tried}
 use Rattle.shelf_database.proofs.WriteLemmas.{DoesSo}
@@ -65,8 +67,16 @@ conflict_is id name text row keyed = rw (equal_id (rowid row) id keyed, equal_te
 abbrev pub list_values : List Term
 list_values = lit Null ∷ col 0 0 ∷ col 0 1 ∷ []
 
-pub puts_list : (s : State) (name text : List ℕ) → IsReady s → DoesSo s put_text (Text name ∷ Text text ∷ []) (InsertOr 1 Replace (Values list_values 3) []) (with_list (maps_in s.now.trees) name (Some (lines_of text)))
-puts_list s name text ready tally after h sound =
+-- the row with the key is replaced by one with these values
+pub more_lists : (id a b : Value) (p : Row → Bool) (old now : Trees) → now 1 ≡ put_row (id ∷ a ∷ b ∷ []) (filter p (old 1)) → now 3 ≡ old 3 → (HoldsTexts old → IsText a) → (HoldsTexts old → IsText b)
+    → HoldsTexts old → HoldsTexts now
+more_lists id a b p old now put others first second texts = record {
+  lists = subst (λ rows. HaveTexts (1 ∷ 2 ∷ []) rows) (sym put) (put_texts (1 ∷ 2 ∷ []) (id ∷ a ∷ b ∷ []) (filter p (old 1)) (two_texts id a b (first texts) (second texts)) (filtered_texts (1 ∷ 2 ∷ []) p (old 1) texts.lists));
+  stickers = subst (λ rows. HaveTexts (1 ∷ 2 ∷ 3 ∷ []) rows) (sym others) texts.stickers;
+}
+
+pub puts_list : (s : State) (name text : List ℕ) → IsUtf8 name → IsUtf8 text → IsReady s → DoesSo s put_text (Text name ∷ Text text ∷ []) (InsertOr 1 Replace (Values list_values 3) []) (with_list (maps_in s.now.trees) name (Some (lines_of text)))
+puts_list s name text name_utf8 text_utf8 ready tally after h sound =
     let params : Row = Text name ∷ Text text ∷ [] in
     let command : Command = InsertOr 1 Replace (Values list_values 3) [] in
     let text_run : List ℕ = statement_of put_text (understood shelf_schema put_text) in
@@ -90,4 +100,5 @@ puts_list s name text ready tally after h sound =
       record { schema = ap (λ (d : Database). d.schema) now; sound = sound; lists = subst AreRows (sym lists) put.are; stickers = subst AreRows (sym others) ready.shelf.stickers },
       list_put name text (Int id) db after.trees put.fresh (lists ∙ put.rows) others,
       ap (λ (t : Trees). t 0) trees ∙ put.others.0 (λ e. omega (arith, e)),
+      more_lists (Int id) (Text name) (Text text) (λ r. not (has_text 1 name r)) db after.trees (lists ∙ put.rows) others (λ _. text_there name name_utf8) (λ _. text_there text text_utf8),
     )

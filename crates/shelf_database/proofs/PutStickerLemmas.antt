@@ -1,9 +1,10 @@
 -- What setting a sticker makes of the stickers.
-use Rattle.std.proofs.Common.{◌≡◌, ℕ, ℤ, List, [], ◌∷◌, Bool, true, false, ◌&&◌, ◌||◌, Some, None, Ok, refl, sym, ap, subst, ◌∙◌, IsTrue, arith}
+use Rattle.std.proofs.Common.{◌≡◌, ℕ, ℤ, List, [], ◌∷◌, Bool, true, false, not, ◌&&◌, ◌||◌, filter, Some, None, Ok, refl, sym, ap, subst, ◌∙◌, IsTrue, arith}
 use Rattle.std.specs.Ordering.{is_eq}
+use Rattle.std.specs.Str.{IsUtf8}
 use Rattle.sqlite.specs.declared.types.Value.TheVariants.{Null, Int, Text}
 use Rattle.sqlite.specs.Order.{Row, column, value_cmp}
-use Rattle.sqlite.specs.Tree.{Trees, rowid}
+use Rattle.sqlite.specs.Tree.{Trees, rowid, put_row}
 use Rattle.sqlite.specs.View.{is_int}
 use Rattle.sqlite.specs.Cast.{cast_row}
 use Rattle.sqlite.specs.Term.{Term, lit, col}
@@ -23,9 +24,10 @@ use Rattle.sqlite_schema.specs.declared.command.Conflict.TheVariants.{Replace}
 use Rattle.sqlite_rules.specs.Keys.{conflicts}
 use Rattle.sqlite_rules.proofs.PlaceLemmas.{next_is_free}
 use Rattle.shelf.specs.Maps.{with_sticker}
-use Rattle.shelf_database.specs.Tables.{shelf_schema, placed_sticker, maps_in, has_text, AreRows, IsReady}
+use Rattle.shelf_database.specs.Tables.{shelf_schema, placed_sticker, maps_in, has_text, AreRows, HaveTexts, HoldsTexts, IsReady}
 use Rattle.shelf_database.proofs.Statements.{set_text}
 use Rattle.shelf_database.proofs.DeleteLemmas.{went, same_value}
+use Rattle.shelf_database.proofs.HoldsLemmas.{text_there, three_texts, put_texts, filtered_texts}
 use Rattle.shelf_database.proofs.TextLemmas.{equal_text, sticker_put}
 use Rattle.shelf_database.proofs.PutLemmas.{equal_id, task, tried}
 use Rattle.shelf_database.proofs.WriteLemmas.{DoesSo}
@@ -51,8 +53,17 @@ conflict_is id uri name text row keyed = rw (equal_id (rowid row) id keyed, equa
 abbrev pub sticker_values : List Term
 sticker_values = lit Null ∷ col 0 0 ∷ col 0 1 ∷ col 0 2 ∷ []
 
-pub puts_sticker : (s : State) (uri name text : List ℕ) → IsReady s → DoesSo s set_text (Text uri ∷ Text name ∷ Text text ∷ []) (InsertOr 2 Replace (Values sticker_values 4) []) (with_sticker (maps_in s.now.trees) uri name (Some text))
-puts_sticker s uri name text ready tally after h sound =
+-- the row with the key is replaced by one with these texts
+more_stickers : (id : ℤ) (uri name text : List ℕ) → IsUtf8 uri → IsUtf8 name → IsUtf8 text → (p : Row → Bool) (old now : Trees) → now 3 ≡ put_row (new_row id uri name text) (filter p (old 3)) → now 1 ≡ old 1
+    → HoldsTexts old → HoldsTexts now
+more_stickers id uri name text first second third p old now put others texts = record {
+  lists = subst (λ rows. HaveTexts (1 ∷ 2 ∷ []) rows) (sym others) texts.lists;
+  stickers = subst (λ rows. HaveTexts (1 ∷ 2 ∷ 3 ∷ []) rows) (sym put) (put_texts (1 ∷ 2 ∷ 3 ∷ []) (new_row id uri name text) (filter p (old 3))
+      (three_texts (Int id) (Text uri) (Text name) (Text text) (text_there uri first) (text_there name second) (text_there text third)) (filtered_texts (1 ∷ 2 ∷ 3 ∷ []) p (old 3) texts.stickers));
+}
+
+pub puts_sticker : (s : State) (uri name text : List ℕ) → IsUtf8 uri → IsUtf8 name → IsUtf8 text → IsReady s → DoesSo s set_text (Text uri ∷ Text name ∷ Text text ∷ []) (InsertOr 2 Replace (Values sticker_values 4) []) (with_sticker (maps_in s.now.trees) uri name (Some text))
+puts_sticker s uri name text uri_utf8 name_utf8 text_utf8 ready tally after h sound =
     let params : Row = Text uri ∷ Text name ∷ Text text ∷ [] in
     let command : Command = InsertOr 2 Replace (Values sticker_values 4) [] in
     let text_run : List ℕ = statement_of set_text (understood shelf_schema set_text) in
@@ -76,4 +87,5 @@ puts_sticker s uri name text ready tally after h sound =
       record { schema = ap (λ (d : Database). d.schema) now; sound = sound; lists = subst AreRows (sym others) ready.shelf.lists; stickers = subst AreRows (sym stickers) put.are },
       sticker_put uri name text (Int id) db after.trees put.fresh (stickers ∙ put.rows) others,
       ap (λ (t : Trees). t 0) trees ∙ put.others.0 (λ e. omega (arith, e)),
+      more_stickers id uri name text uri_utf8 name_utf8 text_utf8 (λ r. not (has_text 1 uri r && has_text 2 name r)) db after.trees (stickers ∙ put.rows) others,
     )

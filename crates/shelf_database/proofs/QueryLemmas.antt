@@ -12,7 +12,7 @@ use Rattle.sqlite.specs.Listing.{understood}
 use Rattle.sqlite.specs.State.{State, HasCleanDisk, Survives, Shown, FailsToQuery, CommitsShowing, IsUnchanged}
 use Rattle.sqlite.proofs.Callers.{IsPlain, reads_as, never_commits}
 use Rattle.shelf.specs.Maps.{Maps, Same, Turns, Trusted}
-use Rattle.shelf_database.specs.Tables.{shelf_schema, maps_in, profile_number, IsShelf, IsReady, IsOwn, Reads, database_standing}
+use Rattle.shelf_database.specs.Tables.{shelf_schema, maps_in, profile_number, IsShelf, IsReady, IsOwn, HoldsTexts, Reads, database_standing}
 use Rattle.shelf_database.specs.Settled.{same_maps}
 use Rattle.shelf_database.proofs.Statements.{Reading}
 use Rattle.shelf_database.proofs.WriteLemmas.{IsAsBefore, unchanged_is, not_run}
@@ -25,7 +25,7 @@ ready_same old new ready same = record {
 }
 
 pub own_same : (old new : State) → IsOwn old → IsUnchanged old new → IsOwn new
-own_same old new own same = record { is_open = same.0.is_open; ready = ready_same old new own.ready same; number = ap (λ (d : Database). profile_number d.trees) same.0.now_is ∙ own.number }
+own_same old new own same = record { is_open = same.0.is_open; ready = ready_same old new own.ready same; number = ap (λ (d : Database). profile_number d.trees) same.0.now_is ∙ own.number; texts = subst (λ (d : Database). HoldsTexts d.trees) (sym same.0.now_is) own.texts }
 
 module _ (text : List ℕ) (query : Query) (names : List (List ℕ)) (reading : Reading text query names) (params : Row) (old new : State) where
   pub answer_of : IsReady old → (rows : List Row) → Shown text params old new rows → IsAnswer query (overlay old.now.trees []) params rows
@@ -60,7 +60,7 @@ module _ (text : List ℕ) (query : Query) (names : List (List ℕ)) (reading : 
     clean = λ h. omega (arith, survives.clean);
     counts = survives.counts;
     stays_open = survives.closes;
-    ours = λ trusted opened. let was = same_now trusted opened in record { is_open = opened; ready = was.0; number = ap (λ (d : Database). profile_number d.trees) was.1 ∙ trusted.1.number };
+    ours = λ trusted opened. let was = same_now trusted opened in record { is_open = opened; ready = was.0; number = ap (λ (d : Database). profile_number d.trees) was.1 ∙ trusted.1.number; texts = subst (λ (d : Database). HoldsTexts d.trees) (sym was.1) trusted.1.texts };
     done = λ trusted is. absurd (cc);
     kept = λ trusted is opened. same_maps _ _ (ap (λ (d : Database). maps_in d.trees) (sym (same_now trusted opened).1));
     stop = λ trusted m left. inl (left.0, leaves_same survives trusted.0 trusted.1.ready left.0 left.1, left.2);

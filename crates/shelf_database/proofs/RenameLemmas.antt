@@ -1,6 +1,7 @@
 -- What a rename makes of the lists: the row with the old name has the new one, at its own place.
 use Rattle.std.proofs.Common.{◌≡◌, inl, inr, ℕ, List, [], ◌∷◌, map, filter, find, drop, true, false, not, ◌&&◌, Some, None, Option, option_map, is_some, bytes_eq, Ok, refl, sym, ap, subst, ◌∙◌, IsTrue, arith}
 use Rattle.std.specs.List.{list_all}
+use Rattle.std.specs.Str.{IsUtf8}
 use Rattle.std.proofs.Math.Bool.{and-true}
 use Rattle.std.proofs.lemmas.Bool.{cases_Bool, true≢false, not-true, and_parts, not_from_true, not_from_false}
 use Rattle.std.proofs.lemmas.Slice.Eq.{bytes_eq-Decides}
@@ -40,7 +41,8 @@ use Rattle.shelf_database.proofs.ReadLemmas.{IsRead, answer_is, shows}
 use Rattle.shelf_database.proofs.DeleteLemmas.{went, same_value, left_are}
 use Rattle.shelf_database.proofs.RemoveLemmas.{filtered_rows}
 use Rattle.shelf_database.proofs.OnceLemmas.{found_once, once_list}
-use Rattle.shelf_database.proofs.PutListLemmas.{cast_int}
+use Rattle.shelf_database.proofs.HoldsLemmas.{text_there}
+use Rattle.shelf_database.proofs.PutListLemmas.{cast_int, more_lists}
 use Rattle.shelf_database.proofs.FindLemmas.{find_past_put, find_put, find_kept, find_out}
 use Rattle.shelf_database.proofs.TextLemmas.{equal_text, same_bytes, other_text, apart_back, same_true}
 use Rattle.shelf_database.proofs.WriteLemmas.{DoesSo}
@@ -176,8 +178,8 @@ module _ (s : State) (name new : List ℕ) (row : Row) (ready : IsReady s) (foun
         number = applies.tables.0 (λ e. omega (arith, e));
       }
 
-  pub renames_row : find (has_text 1 new) (db 1) ≡ None → DoesSo s rename_text params renaming (with_renamed (maps_in db) name new)
-  renames_row free tally after h sound =
+  pub renames_row : IsUtf8 new → find (has_text 1 new) (db 1) ≡ None → DoesSo s rename_text params renaming (with_renamed (maps_in db) name new)
+  renames_row utf8 free tally after h sound =
       let run : List ℕ = statement_of rename_text (understood shelf_schema rename_text) in
       let done = went (subst (λ schema. Does s.step_limit (mode_of s) params (record s.now { schema = schema }) run None renaming (Ok (tally, after))) ready.shelf.schema h) in
       let now = ap (λ (p : Tally × Database). p.1) (same_value (went (went done.2).2).2) in
@@ -192,6 +194,8 @@ module _ (s : State) (name new : List ℕ) (row : Row) (ready : IsReady s) (foun
         record { schema = ap (λ (d : Database). d.schema) now; sound = sound; lists = subst AreRows (sym lists) made.are; stickers = subst AreRows (sym others) ready.shelf.stickers },
         list_renamed name new db after.trees row found free made.fresh (lists ∙ made.rows) others,
         ap (λ (t : Trees). t 0) trees ∙ made.number,
+        more_lists (rowid row) (Text new) (column row 2) (λ r. not (has_text 1 name r)) db after.trees (lists ∙ made.rows) others (λ _. text_there new utf8)
+            (λ texts. texts.lists row (has_found (has_text 1 name) (db 1) row found).0 2 (inr (inl refl))),
       )
 
 pub row_there : (o : Option Row) → is_some (option_map lines_of (option_map (λ r. bytes (column r 2)) o)) ≡ true → (row : Row) × (o ≡ Some row)
@@ -202,8 +206,8 @@ pub row_missing : (o : Option Row) → is_some (option_map lines_of (option_map 
 row_missing None is = refl
 row_missing (Some row) is = absurd (true≢false is)
 
-pub renames_list : (s : State) (name new : List ℕ) → is_some ((maps_in s.now.trees).lists name) ≡ true → is_some ((maps_in s.now.trees).lists new) ≡ false → IsReady s
+pub renames_list : (s : State) (name new : List ℕ) → is_some ((maps_in s.now.trees).lists name) ≡ true → is_some ((maps_in s.now.trees).lists new) ≡ false → IsUtf8 new → IsReady s
     → DoesSo s rename_text (Text name ∷ Text new ∷ []) renaming (with_renamed (maps_in s.now.trees) name new)
-renames_list s name new there free ready =
+renames_list s name new there free utf8 ready =
     let found = row_there (find (has_text 1 name) (s.now.trees 1)) there in
-    renames_row s name new found.0 ready found.1 (row_missing (find (has_text 1 new) (s.now.trees 1)) free)
+    renames_row s name new found.0 ready found.1 utf8 (row_missing (find (has_text 1 new) (s.now.trees 1)) free)

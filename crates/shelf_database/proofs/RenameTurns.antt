@@ -1,5 +1,6 @@
 -- The turn of a rename: two queries, which say that the old name is there and the new one is not, and the statement.
 use Rattle.std.proofs.Common.{◌≡◌, ◌≤◌, ◌⊎◌, IsTrue, ℕ, List, [], ◌∷◌, Bool, true, false, Result, is_ok, is_some, sym, subst, ◌∙◌, arith}
+use Rattle.std.specs.Str.{IsUtf8}
 use Rattle.shelf.specs.declared.faults.ShelfFault.{ShelfFault}
 use Rattle.sqlite.specs.declared.types.Value.TheVariants.{Text}
 use Rattle.sqlite.specs.Effect.{Database}
@@ -25,7 +26,7 @@ turns_given old new is_done after clean counts stays_open given = record {
   stop = λ trusted. (given trusted).stop trusted;
 }
 
-module _ (old mid late new : State) (name other : List ℕ) (first : Reads old mid) (second : Reads mid late)
+module _ (old mid late new : State) (name other : List ℕ) (utf8 : IsUtf8 other) (first : Reads old mid) (second : Reads mid late)
     (there : HasCleanDisk mid → IsReady old → is_some ((maps_in old.now.trees).lists name) ≡ true)
     (free : HasCleanDisk late → IsReady mid → is_some ((maps_in mid.now.trees).lists other) ≡ false) where
   pub rename_turns : (r : Result (Unit {0}) ShelfFault) → (HasCleanDisk new → Ran rename_text (Text name ∷ Text other ∷ []) late new r) → Survives late new (CommitsBy rename_text (Text name ∷ Text other ∷ []) late)
@@ -45,4 +46,4 @@ module _ (old mid late new : State) (name other : List ℕ) (first : Reads old m
       let has = subst (λ (d : Database). is_some ((maps_in d.trees).lists name) ≡ true) (sym (again.0.now_is ∙ same.0.now_is)) (there (second.clean clean) ready) in
       let lacks = subst (λ (d : Database). is_some ((maps_in d.trees).lists other) ≡ false) (sym again.0.now_is) (free clean then_ready) in
       read_then_by old mid new (is_ok r) made first (read_then_by mid late new (is_ok r) made second
-      (change_turns rename_text (Text name ∷ Text other ∷ []) renaming rename_is tt late new r ran (made (maps_in late.now.trees)) (renames_list late name other has lacks) survives)))
+      (change_turns rename_text (Text name ∷ Text other ∷ []) renaming rename_is tt late new r ran (made (maps_in late.now.trees)) (renames_list late name other has lacks utf8) survives)))

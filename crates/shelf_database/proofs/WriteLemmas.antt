@@ -12,7 +12,7 @@ use Rattle.sqlite.specs.State.{State, HasCleanDisk, Survives, Executes, Executes
 use Rattle.sqlite.specs.Does.{Tally, Does}
 use Rattle.sqlite.proofs.Callers.{IsPlain, command_of, statement_of, runs_as}
 use Rattle.shelf.specs.Maps.{Maps, Same, Turns}
-use Rattle.shelf_database.specs.Tables.{shelf_schema, maps_in, number_of, profile_number, IsShelf, IsReady, database_standing}
+use Rattle.shelf_database.specs.Tables.{shelf_schema, maps_in, number_of, profile_number, IsShelf, IsReady, HoldsTexts, database_standing}
 use Rattle.shelf_database.specs.Settled.{same_maps}
 use Rattle.shelf_database.proofs.Statements.{Writing}
 
@@ -42,10 +42,11 @@ refused_is old new sql params e (inr h) = elim (cases_Bool (shows_rows false h.0
   | inr runs ↦ elim (rw runs at h.2) [ inl refused ↦ unchanged_is old new refused.1 | inr failed ↦ failed_is old new _ e failed ]
 ]
 
--- what the statement does of the database of a shelf: it stays one with its number, and its maps are `after`
+-- what the statement does of the database of a shelf: it stays one with its number, its maps are `after`, and rows that hold texts still do
 abbrev pub DoesSo : State → List ℕ → Row → Command → Maps → Type 0
 DoesSo s text params command after = (tally : Tally) (db : Database)
     → Does s.step_limit (mode_of s) params s.now (statement_of text (understood shelf_schema text)) None command (Ok (tally, db)) → IsDatabase db → IsShelf db × Same after (maps_in db.trees) × (db.trees 0 ≡ s.now.trees 0)
+    × (HoldsTexts s.now.trees → HoldsTexts db.trees)
 
 -- a statement that changes rows
 abbrev pub IsChange : Command → Type 0
@@ -73,12 +74,12 @@ module _ (old new : State) (text : List ℕ) (params : Row) (command : Command) 
   wrote : (count : ℕ) → IsReady old → Executes text params old new (Ok count) → Writes old new None command (statement_of text (understood shelf_schema text)) params count
   wrote count ready h = is_write old new command (statement_of text (understood shelf_schema text)) params count change (runs_as text params old new shelf_schema ready.shelf.schema command writing.0 writing.1 count h)
 
-  ready_after : (count : ℕ) → IsReady old → Executes text params old new (Ok count) → IsReady new × IsTrue new.is_open × Same after (maps_in new.now.trees) × (new.now.trees 0 ≡ old.now.trees 0)
+  ready_after : (count : ℕ) → IsReady old → Executes text params old new (Ok count) → IsReady new × IsTrue new.is_open × Same after (maps_in new.now.trees) × (new.now.trees 0 ≡ old.now.trees 0) × (HoldsTexts old.now.trees → HoldsTexts new.now.trees)
   ready_after count ready h =
       let w = wrote count ready h in
       let done = does ready w.tally new.now w.changed w.sound in
       let settled : new.now ≡ new.committed = sym (w.shown.committed_is ∙ rw ready.autocommit refl) in
-      (record { shelf = done.0; settled = settled; autocommit = w.shown.mode ∙ ready.autocommit }, w.shown.is_open, done.1, done.2)
+      (record { shelf = done.0; settled = settled; autocommit = w.shown.mode ∙ ready.autocommit }, w.shown.is_open, done.1, done.2, done.3)
 
   ready_before : (e : Error) → IsReady old → Executes text params old new (Err e) → IsTrue new.is_open → IsReady new × (new.now ≡ old.now)
   ready_before e ready h opened =
@@ -100,9 +101,9 @@ module _ (old new : State) (text : List ℕ) (params : Row) (command : Command) 
       subst (λ trees. Same after (maps_in trees)) (sym write.5) done.1
 
   -- done or refused
-  ready_since : (r : Result ℕ Error) → IsReady old → Executes text params old new r → IsTrue new.is_open → IsReady new × (profile_number new.now.trees ≡ profile_number old.now.trees)
-  ready_since (Ok count) ready h opened = let it = ready_after count ready h in (it.0, ap (number_of 2) it.3)
-  ready_since (Err e) ready h opened = let it = ready_before e ready h opened in (it.0, ap (λ (d : Database). profile_number d.trees) it.1)
+  ready_since : (r : Result ℕ Error) → IsReady old → Executes text params old new r → IsTrue new.is_open → IsReady new × (profile_number new.now.trees ≡ profile_number old.now.trees) × (HoldsTexts old.now.trees → HoldsTexts new.now.trees)
+  ready_since (Ok count) ready h opened = let it = ready_after count ready h in (it.0, ap (number_of 2) it.3, it.4)
+  ready_since (Err e) ready h opened = let it = ready_before e ready h opened in (it.0, ap (λ (d : Database). profile_number d.trees) it.1, subst (λ (d : Database). HoldsTexts d.trees) (sym it.1))
 
   when_done : (r : Result ℕ Error) → IsTrue (is_ok r) → IsReady old → Executes text params old new r → IsTrue new.is_open × Same after (maps_in new.now.trees)
   when_done (Ok count) is ready h = let it = ready_after count ready h in (it.1, it.2)
@@ -118,7 +119,7 @@ module _ (old new : State) (text : List ℕ) (params : Row) (command : Command) 
     clean = λ clean. omega (arith, survives.clean);
     counts = survives.counts;
     stays_open = survives.closes;
-    ours = λ trusted opened. let h = ran trusted.0 in let it = ready_since h.0 trusted.1.ready h.2 opened in record { is_open = opened; ready = it.0; number = it.1 ∙ trusted.1.number };
+    ours = λ trusted opened. let h = ran trusted.0 in let it = ready_since h.0 trusted.1.ready h.2 opened in record { is_open = opened; ready = it.0; number = it.1 ∙ trusted.1.number; texts = it.2 trusted.1.texts };
     done = λ trusted is. let h = ran trusted.0 in when_done h.0 (h.1 ∙ is) trusted.1.ready h.2;
     kept = λ trusted is opened. let h = ran trusted.0 in when_refused h.0 (h.1 ∙ is) trusted.1.ready h.2 opened;
     stop = λ trusted m left. elim (survives.crash trusted.0 left.0 left.1) [

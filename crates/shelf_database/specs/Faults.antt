@@ -1,5 +1,5 @@
 -- Why a shelf over a database answers `StoreFault`.
-use Rattle.std.specs.Prelude.{◌≡◌, ◌⊎◌, ℕ, ◌+◌, ◌^◌, ◌<◌, Bool, true, false, ◌&&◌, List, [], ◌∷◌, find, length, sum_by, Some, IsSome, IsTrue}
+use Rattle.std.specs.Prelude.{◌≡◌, ◌⊎◌, ℕ, ◌+◌, ◌^◌, ◌<◌, Bool, false, List, [], ◌∷◌, find, length, sum_by, Some, IsSome, IsTrue}
 use Rattle.std.specs.Str.{IsUtf8}
 use Rattle.sqlite.specs.declared.types.Value.{Value}
 use Rattle.sqlite.specs.declared.types.Value.TheVariants.{Int, Text}
@@ -11,7 +11,7 @@ use Rattle.sqlite.specs.Disk.{MoreFaults}
 use Rattle.sqlite.specs.State.{State}
 use Rattle.sqlite_rules.specs.Lists.{Has}
 use Rattle.shelf.specs.Lines.{text_of}
-use Rattle.shelf.specs.Calls.{Call, Lists, ListOf, Put, Create, Rename, Remove, StickerOf, SetSticker, DeleteSticker, DeleteStickers, StickersOf, FindStickers}
+use Rattle.shelf.specs.Calls.{Call, Put, Create, Rename, SetSticker}
 use Rattle.shelf_database.specs.Tables.{has_text}
 
 -- the disk failed or refused, or the store was shut, or the steps of a statement are bounded
@@ -26,24 +26,17 @@ IsUnstorable row = (fits_i64 (id_in (rowid row)) ≡ false) ⊎ (10 ^ 9 < sum_by
 abbrev pub IsNoText : Value → Type 0
 IsNoText v = (text : List ℕ) → v ≡ Text text → IsUtf8 text → ⊥
 
--- a row that is asked for has no text in one of these columns
+-- A row that is asked for has no text in one of these columns. A shelf's own store has no such row.
 abbrev pub LacksText : List ℕ → (Row → Bool) → List Row → Type 0
 LacksText columns is_asked rows = (row : Row) × Has rows row × IsTrue (is_asked row) × (at : ℕ) × Has columns at × IsNoText (column row at)
 
--- The row that a call would write is not stored, or a row that it asks for has no text.
+-- The row that a call would write is not stored. A call that writes no row can always be done.
 abbrev pub CannotDo : Trees → Call → Type 0
-CannotDo trees Lists = LacksText (1 ∷ []) (λ _. true) (trees 1)
-CannotDo trees (ListOf name) = LacksText (2 ∷ []) (has_text 1 name) (trees 1)
 CannotDo trees (Put name uris) = IsUnstorable (Int (next_rowid (trees 1)) ∷ Text name ∷ Text (text_of uris) ∷ [])
 CannotDo trees (Create name uris) = IsUnstorable (Int (next_rowid (trees 1)) ∷ Text name ∷ Text (text_of uris) ∷ [])
 CannotDo trees (Rename name new) = (row : Row) × (find (has_text 1 name) (trees 1) ≡ Some row) × IsUnstorable (rowid row ∷ Text new ∷ column row 2 ∷ [])
-CannotDo trees (Remove name) = ⊥
-CannotDo trees (StickerOf uri name) = LacksText (3 ∷ []) (λ row. has_text 1 uri row && has_text 2 name row) (trees 3)
 CannotDo trees (SetSticker uri name value) = IsUnstorable (Int (next_rowid (trees 3)) ∷ Text uri ∷ Text name ∷ Text value ∷ [])
-CannotDo trees (DeleteSticker uri name) = ⊥
-CannotDo trees (DeleteStickers uri) = LacksText (2 ∷ []) (has_text 1 uri) (trees 3)
-CannotDo trees (StickersOf uri) = LacksText (2 ∷ 3 ∷ []) (has_text 1 uri) (trees 3)
-CannotDo trees (FindStickers name) = LacksText (1 ∷ 3 ∷ []) (has_text 2 name) (trees 3)
+CannotDo trees _ = ⊥
 
 -- the store failed during the call, or it cannot do what the call asks
 abbrev pub StoreFailed : State → State → Call → Type 0

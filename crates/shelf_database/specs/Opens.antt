@@ -14,7 +14,7 @@ use Rattle.shelf.specs.declared.faults.ShelfFault.{ShelfFault}
 use Rattle.shelf.specs.declared.faults.ShelfFault.TheVariants.{StoreFault}
 use Rattle.shelf.specs.Maps.{Maps, Same, no_maps}
 use Rattle.shelf_database.specs.Faults.{HasFailed}
-use Rattle.shelf_database.specs.Tables.{no_schema, shelf_schema, profile_table, list_table, maps_in, number_of, profile_number, has_tables, IsReady, database_standing}
+use Rattle.shelf_database.specs.Tables.{no_schema, shelf_schema, profile_table, list_table, maps_in, number_of, profile_number, has_tables, IsReady, HoldsTexts, database_standing}
 
 -- a connection outside a transaction, over a database without tables
 pub record IsBlank (s : State) : Type 0 where
@@ -26,6 +26,10 @@ pub record IsBlank (s : State) : Type 0 where
 -- what a shelf finds there: nothing, or the maps of its tables
 abbrev pub Holds : State → Maps → Type 0
 Holds s maps = (IsBlank s × (maps ≡ no_maps)) ⊎ (IsReady s × (maps ≡ maps_in s.now.trees))
+
+-- a store that an open makes a shelf's own: without tables, or with tables whose rows hold texts
+abbrev pub MayBeOwn : State → Type 0
+MayBeOwn s = IsBlank s ⊎ (IsReady s × HoldsTexts s.now.trees)
 
 -- the tables of a shelf, with no list and no sticker
 pub record HasTables (db : Database) : Type 0 where
@@ -39,12 +43,13 @@ pub record HasTables (db : Database) : Type 0 where
 abbrev pub IsLeft : State → Trees → Type 0
 IsLeft old trees = (trees ≡ old.now.trees) ⊎ (IsBlank old × HasTables (record { schema = shelf_schema; trees = trees }))
 
--- The open shows the maps that were there, or changes nothing while the store is open; a stop during it leaves them too. Tables that are there are only read. Only a failure of the disk shuts the store.
+-- The open shows the maps that were there, or changes nothing while the store is open; a stop during it leaves them too. Tables that are there are only read, so that the store is a shelf's own only where their rows hold texts. Only a failure of the disk shuts the store.
 pub record Opens (old new : State) (is_done : Bool) : Type 0 where
   pub clean : HasCleanDisk new → HasCleanDisk old
   pub counts : old.faults ≤ new.faults
   pub stays_open : HasCleanDisk new → IsTrue old.is_open → IsTrue new.is_open ⊎ MoreFaults old.faults new.faults
-  pub done : HasCleanDisk new → (maps : Maps) → Holds old maps → IsTrue is_done → (database_standing new).IsOurs × Same maps (maps_in new.now.trees)
+  pub done : HasCleanDisk new → (maps : Maps) → Holds old maps → IsTrue is_done → IsTrue new.is_open × IsReady new × (profile_number new.now.trees ≡ Some (pos 1)) × Same maps (maps_in new.now.trees)
+  pub ours : HasCleanDisk new → MayBeOwn old → IsTrue is_done → (database_standing new).IsOurs
   pub kept : HasCleanDisk new → (maps : Maps) → Holds old maps → is_done ≡ false → IsTrue new.is_open → new.now ≡ old.now
   pub spared : HasCleanDisk new → IsReady old → IsTrue new.is_open → new.now ≡ old.now
   pub stop : HasCleanDisk new → (maps : Maps) → Holds old maps → (m : Maps) → (database_standing new).MayLeave m → (database_standing old).MayLeave m ⊎ Same maps m

@@ -2,6 +2,7 @@
 use Rattle.std.specs.Prelude.{true, false, Bool, ◌&&◌, [], ◌∷◌, Some, None, Option, option_map, unwrap_or, slice_get, bytes_eq, find, codes, List, ℕ, ℤ, pos, IsTrue, ◌≡◌, ◌≤◌, ◌⊎◌}
 use Rattle.std.specs.List.{AllByRecursion, list_any}
 use Rattle.std.specs.Ordering.{is_eq}
+use Rattle.std.specs.Str.{IsUtf8}
 use Rattle.sqlite.specs.Collation.TheVariants.{Binary}
 use Rattle.sqlite.specs.declared.types.Value.{Value}
 use Rattle.sqlite.specs.declared.types.Value.TheVariants.{Null, Int, Text as Words}
@@ -19,6 +20,7 @@ use Rattle.sqlite.specs.Effect.{Database, IsDatabase}
 use Rattle.sqlite.specs.Kind.TheVariants.{Integer, Text}
 use Rattle.sqlite.specs.Disk.{MoreFaults}
 use Rattle.sqlite.specs.State.{State, HasCleanDisk, IsUnchanged}
+use Rattle.sqlite_rules.specs.Lists.{Has}
 use Rattle.shelf.specs.Lines.{lines_of}
 use Rattle.shelf.specs.Maps.{Maps, Standing}
 
@@ -156,11 +158,25 @@ number_of at (row ∷ other ∷ more) = None
 abbrev pub profile_number : Trees → Option ℤ
 profile_number trees = number_of 2 (trees 0)
 
--- a shelf's own store: open, with its tables, and the number 1
+-- a text of UTF-8
+abbrev pub IsText : Value → Type 0
+IsText v = (text : List ℕ) × (v ≡ Words text) × IsUtf8 text
+
+-- each row has a text in each of these columns
+abbrev pub HaveTexts : List ℕ → List Row → Type 0
+HaveTexts columns rows = (row : Row) → Has rows row → (at : ℕ) → Has columns at → IsText (column row at)
+
+-- the rows of both tables have a text in every column but that of their number
+pub record HoldsTexts (trees : Trees) : Type 0 where
+  pub lists : HaveTexts (1 ∷ 2 ∷ []) (trees 1)
+  pub stickers : HaveTexts (1 ∷ 2 ∷ 3 ∷ []) (trees 3)
+
+-- a shelf's own store: open, with its tables, the number 1, and rows that hold texts
 pub record IsOwn (s : State) : Type 0 where
   pub is_open : IsTrue s.is_open
   pub ready : IsReady s
   pub number : profile_number s.now.trees ≡ Some (pos 1)
+  pub texts : HoldsTexts s.now.trees
 
 -- a query that showed its rows
 pub record Reads (old new : State) : Type 0 where

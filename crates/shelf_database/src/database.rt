@@ -1,16 +1,15 @@
 //! A shelf over a database.
 
-ghost use Rattle.std.specs.Prelude.{◌≡◌, ◌⊎◌, List, ℕ, None, OnOk, OnErr, IfOk, IfErr, IsSome, IsTrue, is_some, true, false};
+ghost use Rattle.std.specs.Prelude.{◌≡◌, ◌⊎◌, List, [], ◌∷◌, ℕ, None, OnOk, OnErr, IfOk, IfErr, IsSome, IsTrue, is_some, true, false};
 ghost use Rattle.sqlite.specs.State.{HasCleanDisk};
 ghost use Rattle.shelf.specs.Maps.{Maps, Turns};
-ghost use Rattle.shelf.specs.Calls.{DeleteStickers};
 ghost use Rattle.sqlite.specs.Held.{state};
 ghost use Rattle.shelf.specs.declared.faults.ShelfFault.{ShelfFault};
-ghost use Rattle.shelf_database.specs.Tables.{no_schema, has_tables, database_standing, maps_in, IsReady, Reads};
+ghost use Rattle.shelf_database.specs.Tables.{no_schema, has_tables, has_text, database_standing, maps_in, IsReady, Reads};
 ghost use Rattle.shelf_database.specs.Opens.{Opens, IsBlamed};
 ghost use Rattle.shelf_database.specs.Settled.{settled_maps};
 ghost use Rattle.shelf_database.specs.Asks.{Refuses};
-ghost use Rattle.shelf_database.specs.Faults.{HasFailed, StoreFailed};
+ghost use Rattle.shelf_database.specs.Faults.{HasFailed, LacksText, StoreFailed};
 
 use crate::asks::{ask, change, first_text};
 use crate::profile::make_ready;
@@ -39,6 +38,7 @@ pub(crate) fn fault(error: Error) -> ShelfFault
 impl<S: Alter + Drop> SqlShelf<S> {
     /// A shelf over the database of a connection outside a transaction. A database without tables gets those of the profile.
     /// One with some is taken where it has those of the profile, with the number 1; it may have more, in any order.
+    /// Its lists and stickers are not read: where others wrote one that is no text, a call that asks for it answers `StoreFault`.
     /// The connection comes back with `StoreFault` where it lacks one of them, where making them or reading the number is
     /// refused, or where it is another number.
     pub fn over(
@@ -101,7 +101,7 @@ fn has_stickers<S: Alter>(connection: &mut Connection<S>, uri: &str) -> Result<b
     ensures reads { OnOk result (Reads (state S.Store connection.old) (state S.Store connection.new)) }
     ensures found { HasCleanDisk (state S.Store connection.new) → IsReady (state S.Store connection.old) → IfOk result (λ is_there. is_there ≡ true → (name : List ℕ) × IsSome ((maps_in (state S.Store connection.old).now.trees).stickers uri.now name)) }
     ensures missing { HasCleanDisk (state S.Store connection.new) → IsReady (state S.Store connection.old) → IfOk result (λ is_there. is_there ≡ false → (name : List ℕ) → (maps_in (state S.Store connection.old).now.trees).stickers uri.now name ≡ None) }
-    ensures refused { IfErr result (Refuses (state S.Store connection.old) (state S.Store connection.new) (StoreFailed (state S.Store connection.old) (state S.Store connection.new) (DeleteStickers uri.now))) }
+    ensures refused { IfErr result (Refuses (state S.Store connection.old) (state S.Store connection.new) (HasFailed (state S.Store connection.old) (state S.Store connection.new) ⊎ LacksText (2 ∷ []) (has_text 1 uri.now) ((state S.Store connection.old).now.trees 3))) }
 {
     let find = "SELECT name FROM sticker WHERE uri = ?1 ORDER BY name";
     let name = first_text(connection, find, params![uri])?;

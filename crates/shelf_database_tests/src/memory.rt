@@ -15,7 +15,7 @@ fn over(alloc: Global, connection: Connection<MemStore>) -> Result<SqlShelf<MemS
     }
 }
 
-fn opened(alloc: Global) -> Result<SqlShelf<MemStore>, Fail> {
+pub(crate) fn opened(alloc: Global) -> Result<SqlShelf<MemStore>, Fail> {
     Ok(over(alloc, Connection::open_in_memory(alloc)?)?)
 }
 

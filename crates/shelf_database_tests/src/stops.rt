@@ -15,7 +15,7 @@ use std::process::Abort;
 use std::test::Fail;
 
 /// The log and the database, each with the count of calls after which it fails.
-type Half = Files<Fuse<Memory>>;
+pub(crate) type Half = Files<Fuse<Memory>>;
 
 /// The call of a run.
 #[derive(Clone, Copy, PartialEq, Eq)]
@@ -29,14 +29,14 @@ enum Call {
 
 /// The file that stops.
 #[derive(Clone, Copy, PartialEq, Eq)]
-enum Side {
+pub(crate) enum Side {
     Log,
     Database,
 }
 
 /// The step of a run that was stopped.
 #[derive(Clone, Copy)]
-enum Step {
+pub(crate) enum Step {
     Open,
     Over,
     Call,
@@ -154,7 +154,7 @@ fn run_visit<S: Shelf>(
 }
 
 /// The shelf over a connection, or else the step that was stopped, and the store.
-fn over<S: Alter + Drop>(
+pub(crate) fn over<S: Alter + Drop>(
     alloc: Global,
     connection: Connection<S>,
 ) -> Result<SqlShelf<S>, (Step, S)> {
@@ -192,7 +192,7 @@ fn run_over<S: Alter + Drop>(
     }
 }
 
-fn opened<D: Disk + Drop>(
+pub(crate) fn opened<D: Disk + Drop>(
     alloc: Global,
     files: Files<D>,
 ) -> Result<Connection<FileStore<D>>, Files<D>> {
@@ -205,7 +205,9 @@ fn opened<D: Disk + Drop>(
     }
 }
 
-fn closed<D: Disk + Drop>(connection: Connection<FileStore<D>>) -> (Option<Step>, Files<D>) {
+pub(crate) fn closed<D: Disk + Drop>(
+    connection: Connection<FileStore<D>>,
+) -> (Option<Step>, Files<D>) {
     match connection.close_files() {
         Ok(files) => (None, files),
         Err((_, store)) => (Some(Step::Close), store.close()),
@@ -239,7 +241,7 @@ fn fused(alloc: Global, bytes: &[u8], calls: u64) -> Result<Fuse<Memory>, Fail> 
 }
 
 /// Copies of the files, one of which fails after so many calls.
-fn copied(alloc: Global, files: &Half, side: Side, calls: u64) -> Result<Half, Fail> {
+pub(crate) fn copied(alloc: Global, files: &Half, side: Side, calls: u64) -> Result<Half, Fail> {
     let (log, db) = match side {
         Side::Log => (calls, u64::MAX),
         Side::Database => (u64::MAX, calls),
@@ -250,7 +252,7 @@ fn copied(alloc: Global, files: &Half, side: Side, calls: u64) -> Result<Half, F
     })
 }
 
-fn empty(alloc: Global) -> Half {
+pub(crate) fn empty(alloc: Global) -> Half {
     Files {
         log: Fuse::new(Memory::new(alloc), u64::MAX),
         db: Fuse::new(Memory::new(alloc), u64::MAX),
@@ -258,7 +260,7 @@ fn empty(alloc: Global) -> Half {
 }
 
 /// Files with one list and one sticker, closed.
-fn filled(alloc: Global) -> Result<Half, Fail> {
+pub(crate) fn filled(alloc: Global) -> Result<Half, Fail> {
     let uris = uri_list(alloc, &["s.wav"])?;
     let mut shown = String::new(alloc);
     match run(alloc, empty(alloc), Visit::Fill, &uris, &mut shown) {
@@ -278,12 +280,12 @@ fn text_of(alloc: Global, files: Half) -> Result<String, Fail> {
 }
 
 /// What the shelf shows with all that was written.
-fn written(alloc: Global, files: &Half) -> Result<String, Fail> {
+pub(crate) fn written(alloc: Global, files: &Half) -> Result<String, Fail> {
     text_of(alloc, copied(alloc, files, Side::Log, u64::MAX)?)
 }
 
 /// What the shelf shows with what was synced alone.
-fn synced(alloc: Global, files: Half) -> Result<String, Fail> {
+pub(crate) fn synced(alloc: Global, files: Half) -> Result<String, Fail> {
     let Files { mut log, mut db } = files;
     log.crash();
     db.crash();

@@ -1,7 +1,7 @@
 //! Worked values of the sample kernels, and blocks of the greatest size.
 ghost use Rattle.std.specs.Prelude.{◌≡◌, length};
 
-use pcm_mix::{Channels, Depth, fade, from_bytes, gain, to_bytes};
+use pcm_mix::{Channels, Depth, Fading, fade, from_bytes, gain, mix, to_bytes};
 use std::test::Fail;
 
 const FULL: [i16; 2] = [-32768, 32767];
@@ -150,4 +150,34 @@ fn the_ends_of_the_greatest_fade(rt: HostRuntime) {
     fade(&mut first, &[[32_767, -32_768]; 1_024], 0, 691_200_000);
     assert_eq!(rt; first[0], FULL);
     assert_eq!(rt; first[1_023], [-32_767i16, 32_766]);
+}
+
+// 7 fades into -5 by 7, 4, 1, -2, which at volume 50 are 3, 2, 0, -1. At volume 50 first, 3 would fade into -2 by 3, 1, 0, 0.
+#[test]
+fn blocks(rt: HostRuntime) {
+    let mut plain = [[301, -3]; 2];
+    mix(&mut plain, None, 50);
+    assert_eq!(rt; plain, [[150, -1]; 2]);
+
+    let mut faded = [[7, 5]; 4];
+    let fading = Fading {
+        others: &[[-5, 99]; 4],
+        place: 0,
+        len: 4,
+    };
+    mix(&mut faded, Some(fading), 50);
+    assert_eq!(rt; faded, [[3, 2], [2, 14], [0, 26], [-1, 37]]);
+}
+
+// The last block of the greatest fade is the other song but for what is rounded off.
+#[test]
+fn the_last_block_of_the_greatest_fade(rt: HostRuntime) {
+    let mut block = [[0i16; 2]; 1_024];
+    let fading = Fading {
+        others: &[[32_767, -32_768]; 1_024],
+        place: 691_198_976,
+        len: 691_200_000,
+    };
+    mix(&mut block, Some(fading), 50);
+    assert_eq!(rt; block, [[16_383i16, -16_383]; 1_024]);
 }

@@ -8,7 +8,7 @@ use Rattle.play_order.specs.declared.modes.Single.TheVariants as single_mode
 use Rattle.play_order.specs.declared.modes.Consume.{Consume}
 use Rattle.play_order.specs.declared.modes.Consume.TheVariants as consume_mode
 use Rattle.partition.specs.Commands.Deeds.{does, shows}
-use Rattle.partition.specs.declared.doing.Doing.TheVariants.{SetsVolume, SetsRepeat, SetsRandom, SetsSingle, SetsConsume}
+use Rattle.partition.specs.declared.doing.Doing.TheVariants.{SetsVolume, SetsRepeat, SetsRandom, SetsSingle, SetsConsume, SetsCrossfade}
 use Rattle.partition.specs.declared.event.Asked.{Asked}
 use Rattle.partition.specs.declared.state.Part.{Part}
 use Rattle.partition.specs.Image.{Deed}
@@ -33,6 +33,9 @@ consume_of false = consume_mode.Off
 
 abbrev pub consume : Asked → Bool → Deed
 consume asked on = does asked (SetsConsume (consume_of on))
+
+abbrev pub crossfade : Asked → ℕ → Deed
+crossfade asked seconds = does asked (SetsCrossfade seconds)
 
 abbrev pub set_volume : Asked → ℕ → Deed
 set_volume asked volume = does asked (SetsVolume volume)

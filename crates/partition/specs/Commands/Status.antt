@@ -1,5 +1,5 @@
 -- The commands that ask how the player is, and what changed (MPD protocol reference, Querying MPD's status).
-use Rattle.std.specs.Prelude.{ℕ, Bool, true, false, List, [], ◌++◌, Option, Some, None, is_some, length, if◌then◌else◌, codes, decimal}
+use Rattle.std.specs.Prelude.{ℕ, Bool, true, false, ◌==◌, List, [], ◌++◌, Option, Some, None, is_some, length, if◌then◌else◌, codes, decimal}
 use Rattle.idle_notes.specs.declared.sets.Subsystems.{Subsystems}
 use Rattle.idle_notes.specs.Names.{changed_lines}
 use Rattle.idle_notes.specs.Notes.{waits, notice_of}
@@ -151,6 +151,10 @@ abbrev pub error_line : Option (List ℕ) → List ℕ
 error_line None = []
 error_line (Some text) = pair_line (codes "error") text
 
+-- the seconds of a fade, where there are any
+abbrev pub fade_line : ℕ → List ℕ
+fade_line seconds = if seconds == 0 then [] else pair_line (codes "xfade") (decimal seconds)
+
 -- the number of the scan that runs is shown while one does
 abbrev pub scan_line : Option ℕ → List ℕ
 scan_line None = []
@@ -160,4 +164,5 @@ abbrev pub status : Asked → Part → Library → Deed
 status asked part library =
     shows asked (mode_lines part.volume part.player.modes ++ (queue_lines part.queue.version (length (queue_of part.queue)) part.player.playback
     ++ (current_lines part.queue part.player.current ++ (next_lines part.queue (peek part.player (queue_of part.queue))
-    ++ (progress_lines library.rate part ++ (scan_line (running library.scan) ++ error_line part.player.error))))))
+    ++ (progress_lines library.rate part ++ (fade_line part.player.crossfade
+    ++ (scan_line (running library.scan) ++ error_line part.player.error)))))))

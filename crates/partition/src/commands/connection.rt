@@ -1,13 +1,14 @@
-//! The commands of the connection, which need nothing of the player (MPD protocol reference, Connection settings).
-ghost use Rattle.std.specs.Prelude.{◌≡◌, ◌++◌, IfOk, OnOk, codes};
+//! The commands of the connection, which need nothing of the player (MPD protocol reference, Connection settings; Reflection).
+ghost use Rattle.std.specs.Prelude.{◌≡◌, ◌++◌, true, false, IfOk, OnOk, codes};
 ghost use Rattle.std.specs.List.{flat_map};
 ghost use Rattle.mpd_text.specs.Answers.Answer.{pair_line};
 ghost use Rattle.mpd_text.specs.Songs.Tags.{tag_names, tag_text};
 ghost use Rattle.partition.specs.Answers.{stays};
-ghost use Rattle.partition.specs.Commands.Connection.{ping as ping_lem, tag_types as tag_types_lem};
+ghost use Rattle.partition.specs.Commands.Connection.{command_line, command_lines, commands as commands_lem, not_commands as not_commands_lem, ping as ping_lem, tag_types as tag_types_lem};
 
 use crate::event::Asked;
 use crate::spoken::{Spoken, shows, succeeds};
+use mpd_command::{NAMES, Name};
 use mpd_text::{Answer, TAG_NAMES};
 use std::alloc::{AllocError, Global};
 
@@ -30,6 +31,69 @@ fn push_types(answer: &mut Answer) -> Result<(), AllocError>
 {
     for name in TAG_NAMES {
         answer.pair("tagtype", name.text())?;
+    }
+    Ok(())
+}
+
+/// The commands that may be run.
+pub(crate) fn commands(alloc: Global, asked: Asked, allow_kill: bool) -> Result<Spoken, AllocError>
+    ensures { IfOk result (λ spoken. spoken ≡ stays (commands_lem asked allow_kill)) }
+{
+    let mut answer = Answer::new(alloc);
+    push_all_commands(&mut answer, allow_kill, false)?;
+    shows(asked, answer)
+}
+
+/// The commands that may not be run.
+pub(crate) fn not_commands(
+    alloc: Global,
+    asked: Asked,
+    allow_kill: bool,
+) -> Result<Spoken, AllocError>
+    ensures { IfOk result (λ spoken. spoken ≡ stays (not_commands_lem asked allow_kill)) }
+{
+    let mut answer = Answer::new(alloc);
+    push_all_commands(&mut answer, allow_kill, true)?;
+    shows(asked, answer)
+}
+
+/// Shows the commands that are forbidden, or those that are not.
+#[tactic(auto, unfolding(crate::specs::Commands::Connection::command_lines))]
+fn push_all_commands(
+    answer: &mut Answer,
+    allow_kill: bool,
+    forbidden: bool,
+) -> Result<(), AllocError>
+    ensures { OnOk result (answer.new ≡ answer.old ++ command_lines allow_kill forbidden) }
+{
+    push_commands(answer, &NAMES, allow_kill, forbidden)
+}
+
+/// Shows those of some commands that are forbidden, or those that are not.
+fn push_commands(
+    answer: &mut Answer,
+    names: &[Name],
+    allow_kill: bool,
+    forbidden: bool,
+) -> Result<(), AllocError>
+    ensures { OnOk result (answer.new ≡ answer.old ++ flat_map (command_line allow_kill forbidden) names.now) }
+{
+    for name in names {
+        push_command(answer, *name, allow_kill, forbidden)?;
+    }
+    Ok(())
+}
+
+fn push_command(
+    answer: &mut Answer,
+    name: Name,
+    allow_kill: bool,
+    forbidden: bool,
+) -> Result<(), AllocError>
+    ensures { OnOk result (answer.new ≡ answer.old ++ command_line allow_kill forbidden name) }
+{
+    if name.is_forbidden(allow_kill) == forbidden {
+        answer.pair("command", name.text())?;
     }
     Ok(())
 }

@@ -105,7 +105,7 @@ pub(crate) fn find_add(
     wanted: &Wanted,
 ) -> Result<Plan, AllocError>
     ensures plan { IfOk result (λ plan. plan ≡ turn_by (find_add_lem asked part.now library.now case wanted.now)) }
-    ensures fits { IfOk result (λ plan. Fits part.now.queue plan.doing) }
+    ensures fits { IfOk result (λ plan. Fits part.now plan.doing) }
 {
     match wanted {
         Wanted::Meeting(filter) => {

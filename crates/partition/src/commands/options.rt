@@ -1,13 +1,13 @@
 //! The commands that set the player (MPD protocol reference, Playback options).
 ghost use Rattle.std.specs.Prelude.{◌≡◌, IfOk};
-ghost use Rattle.partition.specs.Commands.Options.{consume as consume_lem, consume_of as consume_of_lem, get_volume as get_volume_lem, mode_of as mode_of_lem, random as random_lem, repeat as repeat_lem, set_volume as set_volume_lem, single as single_lem};
+ghost use Rattle.partition.specs.Commands.Options.{consume as consume_lem, consume_of as consume_of_lem, crossfade as crossfade_lem, get_volume as get_volume_lem, mode_of as mode_of_lem, random as random_lem, repeat as repeat_lem, set_volume as set_volume_lem, single as single_lem};
 ghost use Rattle.partition.specs.Image.{turn_by};
 
 use crate::doing::Doing;
 use crate::event::Asked;
 use crate::plan::Plan;
 use crate::state::Part;
-use mpd_command::{SingleMode, Volume};
+use mpd_command::{FadeSeconds, SingleMode, Volume};
 use mpd_text::Answer;
 use play_order::{Consume, Single};
 use std::alloc::{AllocError, Global};
@@ -50,6 +50,16 @@ fn consume_of(on: bool) -> Consume
     ensures { result ≡ consume_of_lem on }
 {
     if on { Consume::On } else { Consume::Off }
+}
+
+pub(crate) fn crossfade(
+    alloc: Global,
+    asked: Asked,
+    seconds: &FadeSeconds,
+) -> Result<Plan, AllocError>
+    ensures { IfOk result (λ plan. plan ≡ turn_by (crossfade_lem asked seconds.now)) }
+{
+    Plan::does(alloc, asked, Doing::SetsCrossfade(seconds.seconds()))
 }
 
 pub(crate) fn set_volume(alloc: Global, asked: Asked, volume: &Volume) -> Result<Plan, AllocError>

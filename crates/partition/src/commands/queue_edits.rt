@@ -29,7 +29,7 @@ pub(crate) fn add(
     uri: &Uri,
 ) -> Result<Plan, AllocError>
     ensures plan { IfOk result (λ plan. plan ≡ turn_by (add_lem asked part.now library.now uri.now.0)) }
-    ensures fits { IfOk result (λ plan. Fits part.now.queue plan.doing) }
+    ensures fits { IfOk result (λ plan. Fits part.now plan.doing) }
 {
     match library.songs.db().share(uri.0.as_str())? {
         Some(song) => {
@@ -49,7 +49,7 @@ fn add_folder(
     folder: &str,
 ) -> Result<Plan, AllocError>
     ensures plan { IfOk result (λ plan. plan ≡ turn_by (add_folder_lem asked part.now library.now folder.now)) }
-    ensures fits { IfOk result (λ plan. Fits part.now.queue plan.doing) }
+    ensures fits { IfOk result (λ plan. Fits part.now plan.doing) }
 {
     if !is_folder(library.songs.db(), folder) {
         return Plan::no_such_song(alloc, asked);
@@ -81,12 +81,29 @@ pub(crate) fn add_found(
     songs: &[&SharedSong],
 ) -> Result<Plan, AllocError>
     ensures plan { IfOk result (λ plan. plan ≡ turn_by (add_songs asked part.now (map (λ song. song.now) songs.now))) }
-    ensures fits { IfOk result (λ plan. Fits part.now.queue plan.doing) }
+    ensures fits { IfOk result (λ plan. Fits part.now plan.doing) }
 {
     if let Some(text) = lack(part, songs.len()) {
         return Plan::refuses(alloc, asked, ErrorNumber::PlaylistMax, text);
     }
     let edit = Edit::Insert(part.queue.len(), shares_of_found(alloc, songs)?);
+    Plan::edits(asked, edit, Answer::new(alloc))
+}
+
+/// Adds songs of a stored playlist.
+pub(crate) fn add_loaded(
+    alloc: Global,
+    asked: Asked,
+    part: &Part,
+    songs: Vec<SharedSong>,
+) -> Result<Plan, AllocError>
+    ensures plan { IfOk result (λ plan. plan ≡ turn_by (add_songs asked part.now songs.items)) }
+    ensures fits { IfOk result (λ plan. Fits part.now plan.doing) }
+{
+    if let Some(text) = lack(part, songs.len()) {
+        return Plan::refuses(alloc, asked, ErrorNumber::PlaylistMax, text);
+    }
+    let edit = Edit::Insert(part.queue.len(), shares(alloc, &songs)?);
     Plan::edits(asked, edit, Answer::new(alloc))
 }
 
@@ -126,7 +143,7 @@ fn insert_one(
 ) -> Result<Plan, AllocError>
     requires { place ≤ length (queue_of part.now.queue) }
     ensures plan { IfOk result (λ plan. plan ≡ turn_by (with_room asked part.now 1 (edits asked (Edit.Insert place (song ∷ [])) lines))) }
-    ensures fits { IfOk result (λ plan. Fits part.now.queue plan.doing) }
+    ensures fits { IfOk result (λ plan. Fits part.now plan.doing) }
 {
     if let Some(text) = lack(part, 1) {
         return Plan::refuses(alloc, asked, ErrorNumber::PlaylistMax, text);
@@ -145,7 +162,7 @@ pub(crate) fn add_id(
     place: Option<Place>,
 ) -> Result<Plan, AllocError>
     ensures plan { IfOk result (λ plan. plan ≡ turn_by (add_id_lem asked part.now library.now uri.now.0 place)) }
-    ensures fits { IfOk result (λ plan. Fits part.now.queue plan.doing) }
+    ensures fits { IfOk result (λ plan. Fits part.now plan.doing) }
 {
     match library.songs.db().share(uri.0.as_str())? {
         Some(song) => insert_song(alloc, asked, part, song, place),
@@ -161,7 +178,7 @@ fn insert_song(
     place: Option<Place>,
 ) -> Result<Plan, AllocError>
     ensures plan { IfOk result (λ plan. plan ≡ turn_by (insert_song_lem asked part.now song place)) }
-    ensures fits { IfOk result (λ plan. Fits part.now.queue plan.doing) }
+    ensures fits { IfOk result (λ plan. Fits part.now plan.doing) }
 {
     match place {
         None => insert_at(alloc, asked, part, song, part.queue.len()),
@@ -180,7 +197,7 @@ fn insert_after(
     steps: usize,
 ) -> Result<Plan, AllocError>
     ensures plan { IfOk result (λ plan. plan ≡ turn_by (insert_after_lem asked part.now song (current_place_lem part.now) steps)) }
-    ensures fits { IfOk result (λ plan. Fits part.now.queue plan.doing) }
+    ensures fits { IfOk result (λ plan. Fits part.now plan.doing) }
 {
     let Some(place) = current_place(part) else {
         return no_current_song(alloc, asked);
@@ -200,7 +217,7 @@ fn insert_before(
     steps: usize,
 ) -> Result<Plan, AllocError>
     ensures plan { IfOk result (λ plan. plan ≡ turn_by (insert_before_lem asked part.now song (current_place_lem part.now) steps)) }
-    ensures fits { IfOk result (λ plan. Fits part.now.queue plan.doing) }
+    ensures fits { IfOk result (λ plan. Fits part.now plan.doing) }
 {
     let Some(place) = current_place(part) else {
         return no_current_song(alloc, asked);
@@ -235,7 +252,7 @@ fn insert_at(
     place: usize,
 ) -> Result<Plan, AllocError>
     ensures plan { IfOk result (λ plan. plan ≡ turn_by (insert_at_lem asked part.now song place)) }
-    ensures fits { IfOk result (λ plan. Fits part.now.queue plan.doing) }
+    ensures fits { IfOk result (λ plan. Fits part.now plan.doing) }
 {
     if place > part.queue.len() {
         return Plan::bad_index(alloc, asked);
@@ -247,7 +264,7 @@ fn insert_at(
 
 pub(crate) fn clear(alloc: Global, asked: Asked, part: &Part) -> Result<Plan, AllocError>
     ensures plan { IfOk result (λ plan. plan ≡ turn_by (clear_lem asked part.now)) }
-    ensures fits { IfOk result (λ plan. Fits part.now.queue plan.doing) }
+    ensures fits { IfOk result (λ plan. Fits part.now plan.doing) }
 {
     let edit = Edit::Remove(0, part.queue.len());
     Plan::edits(asked, edit, Answer::new(alloc))
@@ -260,7 +277,7 @@ pub(crate) fn delete(
     range: Range,
 ) -> Result<Plan, AllocError>
     ensures plan { IfOk result (λ plan. plan ≡ turn_by (delete_lem asked part.now range)) }
-    ensures fits { IfOk result (λ plan. Fits part.now.queue plan.doing) }
+    ensures fits { IfOk result (λ plan. Fits part.now plan.doing) }
 {
     let Some(places) = range.within(part.queue.len()) else {
         return Plan::bad_index(alloc, asked);
@@ -276,7 +293,7 @@ pub(crate) fn delete_id(
     id: u32,
 ) -> Result<Plan, AllocError>
     ensures plan { IfOk result (λ plan. plan ≡ turn_by (delete_id_lem asked part.now id)) }
-    ensures fits { IfOk result (λ plan. Fits part.now.queue plan.doing) }
+    ensures fits { IfOk result (λ plan. Fits part.now plan.doing) }
 {
     let Some(place) = part.queue.position_of(id) else {
         return Plan::no_such_song(alloc, asked);
@@ -293,7 +310,7 @@ pub(crate) fn move_range(
     to: u32,
 ) -> Result<Plan, AllocError>
     ensures plan { IfOk result (λ plan. plan ≡ turn_by (move_lem asked part.now range to)) }
-    ensures fits { IfOk result (λ plan. Fits part.now.queue plan.doing) }
+    ensures fits { IfOk result (λ plan. Fits part.now plan.doing) }
 {
     let len = part.queue.len();
     let to = to as usize;
@@ -315,7 +332,7 @@ pub(crate) fn move_id(
     to: u32,
 ) -> Result<Plan, AllocError>
     ensures plan { IfOk result (λ plan. plan ≡ turn_by (move_id_lem asked part.now id to)) }
-    ensures fits { IfOk result (λ plan. Fits part.now.queue plan.doing) }
+    ensures fits { IfOk result (λ plan. Fits part.now plan.doing) }
 {
     let to = to as usize;
     if to >= part.queue.len() {
@@ -336,7 +353,7 @@ pub(crate) fn shuffle(
     range: Option<Range>,
 ) -> Result<Plan, AllocError>
     ensures plan { IfOk result (λ plan. plan ≡ turn_by (shuffle_lem asked part.now range)) }
-    ensures fits { IfOk result (λ plan. Fits part.now.queue plan.doing) }
+    ensures fits { IfOk result (λ plan. Fits part.now plan.doing) }
 {
     let len = part.queue.len();
     let Some(places) = places_of(range, len) else {
@@ -353,7 +370,7 @@ pub(crate) fn swap(
     second: u32,
 ) -> Result<Plan, AllocError>
     ensures plan { IfOk result (λ plan. plan ≡ turn_by (swap_lem asked part.now first second)) }
-    ensures fits { IfOk result (λ plan. Fits part.now.queue plan.doing) }
+    ensures fits { IfOk result (λ plan. Fits part.now plan.doing) }
 {
     let (first, second) = (first as usize, second as usize);
     let len = part.queue.len();
@@ -372,7 +389,7 @@ pub(crate) fn swap_id(
     second: u32,
 ) -> Result<Plan, AllocError>
     ensures plan { IfOk result (λ plan. plan ≡ turn_by (swap_id_lem asked part.now first second)) }
-    ensures fits { IfOk result (λ plan. Fits part.now.queue plan.doing) }
+    ensures fits { IfOk result (λ plan. Fits part.now plan.doing) }
 {
     let Some(first) = part.queue.position_of(first) else {
         return Plan::no_such_song(alloc, asked);
@@ -392,7 +409,7 @@ pub(crate) fn prio(
     ranges: &[Range],
 ) -> Result<Plan, AllocError>
     ensures plan { IfOk result (λ plan. plan ≡ turn_by (prio_lem asked part.now priority ranges.now)) }
-    ensures fits { IfOk result (λ plan. Fits part.now.queue plan.doing) }
+    ensures fits { IfOk result (λ plan. Fits part.now plan.doing) }
 {
     let Some(places) = places_of_ranges(alloc, ranges, part.queue.len())? else {
         return Plan::bad_index(alloc, asked);
@@ -428,7 +445,7 @@ pub(crate) fn prio_id(
     ids: &[u32],
 ) -> Result<Plan, AllocError>
     ensures plan { IfOk result (λ plan. plan ≡ turn_by (prio_id_lem asked part.now priority ids.now)) }
-    ensures fits { IfOk result (λ plan. Fits part.now.queue plan.doing) }
+    ensures fits { IfOk result (λ plan. Fits part.now plan.doing) }
 {
     let Some(places) = places_of_ids(alloc, &part.queue, ids)? else {
         return Plan::no_such_song(alloc, asked);

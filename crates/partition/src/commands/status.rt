@@ -4,10 +4,11 @@ ghost use Rattle.idle_notes.specs.Notes.{waits, notice_of};
 ghost use Rattle.std.specs.Option.{option_copied};
 ghost use Rattle.song_queue.specs.State.{queue_of};
 ghost use Rattle.player_core.specs.Steps.{current_entry, peek};
-ghost use Rattle.partition.specs.Commands.Status.{ToWait, ToGoOn, audio_line, consume_text as consume_text_lem, current_lines, digit as digit_lem, duration_line, duration_of, elapsed_line, error_line, idles, mode_lines, next_lines, next_place_lines, progress_lines, queue_lines, resumes, scan_line, single_text as single_text_lem, song_place_lines, state_text as state_text_lem, status as status_lem, wished};
+ghost use Rattle.partition.specs.Commands.Status.{ToWait, ToGoOn, audio_line, consume_text as consume_text_lem, current_lines, digit as digit_lem, duration_line, duration_of, elapsed_line, error_line, fade_line, idles, mode_lines, next_lines, next_place_lines, progress_lines, queue_lines, resumes, scan_line, single_text as single_text_lem, song_place_lines, state_text as state_text_lem, status as status_lem, wished};
 ghost use Rattle.mpd_text.specs.declared.answers.answer.ErrorNumber.TheVariants.{Argument};
 ghost use Rattle.partition.specs.Answers.{refuses as refuses_lem, stays};
 ghost use Rattle.partition.specs.Image.{turn_by};
+ghost use Rattle.partition.specs.Scans.{running};
 
 use crate::commands::playback::is_stopped;
 use crate::event::{Asked, Move, Next, Stand};
@@ -35,8 +36,7 @@ pub(crate) fn status(
     push_current(&mut lines, part)?;
     push_next(&mut lines, part)?;
     push_progress(alloc, &mut lines, part, library)?;
-    push_scan(&mut lines, library.scan.running())?;
-    push_error(&mut lines, part.player.error())?;
+    push_last(&mut lines, part, library)?;
     Plan::shows(asked, lines)
 }
 
@@ -200,6 +200,15 @@ fn push_audio(alloc: Global, lines: &mut Answer, rate: &Rate) -> Result<(), Allo
     lines.pair("audio", text.as_str())
 }
 
+/// The seconds of fades, the scan that runs, and why the player stopped, each where it is there.
+fn push_last(lines: &mut Answer, part: &Part, library: &Library) -> Result<(), AllocError>
+    ensures { OnOk result (lines.new ≡ lines.old ++ (fade_line part.now.player.crossfade ++ (scan_line (running library.now.scan) ++ error_line part.now.player.error))) }
+{
+    push_fade(lines, part.player.crossfade())?;
+    push_scan(lines, library.scan.running())?;
+    push_error(lines, part.player.error())
+}
+
 /// Why the player stopped, if that was an error.
 fn push_error(lines: &mut Answer, error: Option<&str>) -> Result<(), AllocError>
     ensures { OnOk result (lines.new ≡ lines.old ++ error_line (option_copied error.entry)) }
@@ -208,6 +217,16 @@ fn push_error(lines: &mut Answer, error: Option<&str>) -> Result<(), AllocError>
         Some(text) => lines.pair("error", text),
         None => Ok(()),
     }
+}
+
+/// Shows the seconds of fades, unless there are none.
+fn push_fade(lines: &mut Answer, seconds: u32) -> Result<(), AllocError>
+    ensures { OnOk result (lines.new ≡ lines.old ++ fade_line seconds) }
+{
+    if seconds == 0 {
+        return Ok(());
+    }
+    lines.pair("xfade", seconds)
 }
 
 /// Shows the number of the scan that runs.

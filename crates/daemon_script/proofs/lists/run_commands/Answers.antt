@@ -28,7 +28,7 @@ returns-clause-player c =
     sym (ap (λ r. r.player)
     (list_stopped c.args.player.now c.run_list.new.self c.args.number c.args.commands.now.form (map request_in c.args.commands.now.lines) c.read_all-requests.result.0.items c.read_all-requests.result.1 (length c.args.commands.now.lines) c.in-Err.fault
     read c.read_all-requests.ensures.runs c.in-Err.ensures.err))
-    ∙ ap (λ m. (commands_run images c.args.player.now.present c.args.number c.args.commands.now m).player) found
+    ∙ ap (λ m. (commands_run images c.args.player.now c.args.number c.args.commands.now m).player) found
 
 pub returns-clause-text : goal.returns-clause-text
 returns-clause-text c =
@@ -37,4 +37,4 @@ returns-clause-text c =
     let stopped = list_stopped c.args.player.now c.run_list.new.self c.args.number c.args.commands.now.form (map request_in c.args.commands.now.lines) c.read_all-requests.result.0.items c.read_all-requests.result.1 (length c.args.commands.now.lines) c.in-Err.fault
     read c.read_all-requests.ensures.runs c.in-Err.ensures.err in
     c.in_ok-push_list_fault-in-Err.ensures ∙ sym (ap (λ r. c.args.shown.now.items ++ (lines_for c.args.number (list_answer r) ++ notices_by_number r.tolds)) stopped)
-    ∙ ap (λ m. c.args.shown.now.items ++ (commands_run images c.args.player.now.present c.args.number c.args.commands.now m).text) found
+    ∙ ap (λ m. c.args.shown.now.items ++ (commands_run images c.args.player.now c.args.number c.args.commands.now m).text) found

@@ -1,61 +1,105 @@
-use Rattle.std.proofs.Common.{◌≡◌, ◌∙◌, ◌≤◌, not, ap, arith, rules}
-use Rattle.idle_notes.specs.declared.sets.Subsystems.{Subsystems}
-use Rattle.partition.specs.Clients.{same_songs}
-use Rattle.partition.specs.Doings.{part_after}
-use Rattle.partition.specs.Image.{Image, image_of_state, library_after, songs_after}
-use Rattle.partition.specs.Rooms.{listed, room_in}
-use Rattle.partition.specs.Settled.{most_notices}
-use Rattle.partition.specs.Signs.{signs, told_by_signs}
-use Rattle.partition.specs.Step.{turn, raised_by}
-use Rattle.partition.proofs.Raised.{stepped, noticed, by_signs}
+use Rattle.std.proofs.Common.{◌≡◌, ◌∙◌, inl, inr, false, Result, Ok, Err, None, ap, sym, subst, rules}
+use Rattle.std.specs.Prelude.{IfErr, IfOk, OnErr, OnOk}
+use Rattle.shelf.specs.Maps.{Trusted}
+use Rattle.partition.specs.declared.event.Event.{Event}
+use Rattle.partition.specs.Image.{Image, Turn, image_of_state}
+use Rattle.partition.specs.Rooms.{listed}
+use Rattle.partition.specs.Shelves.{IsRead, is_written}
+use Rattle.partition.specs.Step.{hearing, heard_at, question_of, told_by, turn, turn_of}
+use Rattle.partition.proofs.Lending.{uncalled}
+use Rattle.partition.proofs.Serving.{heard_read, heard_so, serves_unwritten, serves_written, spared}
+use Rattle.partition.proofs.Writing.{hears_last}
 use Rattle.partition.proofs.happen.apply_event.Goals as goal
 
-pub tell-requires-clause-given : goal.tell-requires-clause-given
-tell-requires-clause-given c =
-    let i : Image = image_of_state c.args.state.now in
-    let part_is : c.carry_out.new.part ≡ part_after i.shared.library.rate i.part (turn i c.args.event.now).doing = search rules in
-    let library_is : c.carry_out.new.library ≡ library_after i.shared.library (turn i c.args.event.now).scan = search rules in
-    let shown : c.changed-raised.result ≡ told_by_signs (not (same_songs i.shared.library.songs (songs_after i.shared.library (turn i c.args.event.now).scan))) (signs i.part i.shared.library) (signs c.carry_out.new.part c.carry_out.new.library) =
-    search rules in
-    let raised_is : c.changed-raised.result ≡ raised_by i.part i.shared.library (turn i c.args.event.now) =
-    shown ∙ by_signs i.part i.shared.library c.carry_out.new.part c.carry_out.new.library (turn i c.args.event.now) part_is library_is in
-    let told : c.reserve.new.self.items ≡ i.clients = search rules in
-    let may : most_notices (raised_by i.part i.shared.library (turn i c.args.event.now)) i.clients ≤ c.room_wanted-room.result = search rules in
-    let most : most_notices c.changed-raised.result c.reserve.new.self.items ≡ most_notices (raised_by i.part i.shared.library (turn i c.args.event.now)) i.clients =
-    ap (λ (r : Subsystems). most_notices r c.reserve.new.self.items) raised_is ∙ ap (most_notices (raised_by i.part i.shared.library (turn i c.args.event.now))) told in
-    let room : c.room_wanted-room.result ≤ room_in c.in_ok-given.given = c.in_ok-given.ensures.given.1 in
-    rw most (omega (arith, may, room))
+on_ok : {X E : Type 0} {Z : Type 0} (r : Result X E) → Z → OnOk r Z
+on_ok (Ok x) z = z
+on_ok (Err e) z = tt
 
-pub tell-requires-clause-kept : goal.tell-requires-clause-kept
-tell-requires-clause-kept c =
-    let i : Image = image_of_state c.args.state.now in
-    let part_is : c.carry_out.new.part ≡ part_after i.shared.library.rate i.part (turn i c.args.event.now).doing = search rules in
-    let library_is : c.carry_out.new.library ≡ library_after i.shared.library (turn i c.args.event.now).scan = search rules in
-    let shown : c.changed-raised.result ≡ told_by_signs (not (same_songs i.shared.library.songs (songs_after i.shared.library (turn i c.args.event.now).scan))) (signs i.part i.shared.library) (signs c.carry_out.new.part c.carry_out.new.library) =
-    search rules in
-    let raised_is : c.changed-raised.result ≡ raised_by i.part i.shared.library (turn i c.args.event.now) =
-    shown ∙ by_signs i.part i.shared.library c.carry_out.new.part c.carry_out.new.library (turn i c.args.event.now) part_is library_is in
-    let told : c.reserve.new.self.items ≡ i.clients = search rules in
-    let may : most_notices (raised_by i.part i.shared.library (turn i c.args.event.now)) i.clients ≤ c.room_wanted-room.result = search rules in
-    let most : most_notices c.changed-raised.result c.reserve.new.self.items ≡ most_notices (raised_by i.part i.shared.library (turn i c.args.event.now)) i.clients =
-    ap (λ (r : Subsystems). most_notices r c.reserve.new.self.items) raised_is ∙ ap (most_notices (raised_by i.part i.shared.library (turn i c.args.event.now))) told in
-    let room : c.room_wanted-room.result ≤ room_in c.in_ok-given.kept = c.in_ok-given.ensures.kept.1 in
-    rw most (omega (arith, may, room))
+on_err : {X E : Type 0} {Z : Type 0} (r : Result X E) → Z → OnErr r Z
+on_err (Ok x) z = tt
+on_err (Err e) z = z
 
-pub returns-clause-image : goal.returns-clause-image
-returns-clause-image c =
+if_err : {X E : Type 0} {Q : E → Type 0} (r : Result X E) → ((e : E) → Q e) → IfErr r Q
+if_err (Ok x) q = tt
+if_err (Err e) q = q e
+
+on_ok_from : {X E : Type 0} {P Q R Z : Type 0} (r : Result X E) → (P → Q → R → Z) → OnOk r P → OnOk r Q → OnOk r R → OnOk r Z
+on_ok_from (Ok x) more p q s = more p q s
+on_ok_from (Err e) more p q s = tt
+
+pub returns-in_err-plan-clause-spared : goal.returns-in_err-plan-clause-spared
+returns-in_err-plan-clause-spared g c =
+    on_err c.from_residual-in_err-plan.result (spared g.S.Shelf.standing g.S.Shelf.failed c.args.shelf.now c.ask_shelf-asked.new.shelf c.ask_shelf-asked.new.shelf _ _
+    c.ask_shelf-asked.ensures.turns (uncalled (g.S.Shelf.standing c.ask_shelf-asked.new.shelf) (g.S.Shelf.standing c.args.shelf.now).maps))
+
+pub returns-then-is_written-clause-event : goal.returns-then-is_written-clause-event
+returns-then-is_written-clause-event g c =
+    let second : c.hear-2.new.self ≡ hearing c.args.event.now (heard_read c.in_ok-read.read) =
+    c.hear-2.ensures ∙ ap (λ (e : Event). hearing e (heard_read c.in_ok-read.read)) c.hear.ensures ∙ hears_last c.args.event.now c.nothing.result (heard_read c.in_ok-read.read) in
+    heard_so c.args.event.now c.write_plan.new.event _
+    (c.write_plan.ensures.event ∙ ap (λ (e : Event). hearing e (record (heard_at c.hear-2.new.self) { refused = (heard_at c.write_plan.new.event).refused })) second
+    ∙ hears_last c.args.event.now (heard_read c.in_ok-read.read) (record (heard_at c.hear-2.new.self) { refused = (heard_at c.write_plan.new.event).refused }))
+
+pub returns-then-is_written-clause-shelf : goal.returns-then-is_written-clause-shelf
+returns-then-is_written-clause-shelf g c =
     let i : Image = image_of_state c.args.state.now in
-    stepped i c.args.event.now c.carry_out.new.part c.carry_out.new.library c.in-Some.books c.tell.new.clients.items c.changed-raised.result c.in_ok-telling.telling.spoken
-    (search rules) (search rules) (search rules) (search rules) (search rules) (search rules)
+    let second : c.hear-2.new.self ≡ hearing c.args.event.now (heard_read c.in_ok-read.read) =
+    c.hear-2.ensures ∙ ap (λ (e : Event). hearing e (heard_read c.in_ok-read.read)) c.hear.ensures ∙ hears_last c.args.event.now c.nothing.result (heard_read c.in_ok-read.read) in
+    on_ok_from c.write_plan.result
+    (λ turns answers ample.
+    serves_written g.S.Shelf.standing g.S.Shelf.failed i c.args.event.now c.write_plan.new.event c.in_ok-read.read (heard_at c.write_plan.new.event).refused c.in_ok-plan.plan.written
+    c.args.shelf.now c.ask_shelf-asked.new.shelf c.write_plan.new.shelf c.in_ok-read.ensures.turns
+    (subst (λ ks. Trusted (g.S.Shelf.standing c.args.shelf.now) (g.S.Shelf.standing c.ask_shelf-asked.new.shelf)
+    → IsRead (g.S.Shelf.failed c.args.shelf.now c.ask_shelf-asked.new.shelf) (g.S.Shelf.standing c.args.shelf.now).maps (question_of i.shared.library ks c.args.event.now) c.in_ok-read.read) c.deref.ensures.value c.in_ok-read.ensures.read)
+    (ap (λ (t : Turn). t.written) (c.in_ok-plan.ensures.plan ∙ ap (λ ks. turn_of i.part i.shared.library ks c.hear-2.new.self) c.deref-2.ensures.value ∙ ap (turn i) second))
+    (c.write_plan.ensures.event ∙ ap (λ (e : Event). hearing e (record (heard_at e) { refused = (heard_at c.write_plan.new.event).refused })) second)
+    turns answers ample)
+    c.write_plan.ensures.turns c.write_plan.ensures.answers c.write_plan.ensures.ample
+
+pub returns-clause-event : goal.returns-clause-event
+returns-clause-event g c =
+    heard_so c.args.event.now c.hear-2.new.self (heard_read c.in_ok-read.read)
+    (c.hear-2.ensures ∙ ap (λ (e : Event). hearing e (heard_read c.in_ok-read.read)) c.hear.ensures ∙ hears_last c.args.event.now c.nothing.result (heard_read c.in_ok-read.read))
 
 pub returns-clause-given : goal.returns-clause-given
-returns-clause-given c =
+returns-clause-given g c =
     let i : Image = image_of_state c.args.state.now in
-    noticed i c.args.event.now c.carry_out.new.part c.carry_out.new.library (listed c.tell.result.given) c.changed-raised.result c.in_ok-telling.telling.spoken
-    (search rules) (search rules) (search rules) (search rules) (search rules)
+    subst (λ (t : Turn). IfOk c.apply_plan.result (λ applied. listed applied.given ≡ (told_by i c.hear-2.new.self t).notices))
+    (c.in_ok-plan.ensures.plan ∙ ap (λ ks. turn_of i.part i.shared.library ks c.hear-2.new.self) c.deref-2.ensures.value) c.apply_plan.ensures.given
 
 pub returns-clause-kept : goal.returns-clause-kept
-returns-clause-kept c =
+returns-clause-kept g c =
     let i : Image = image_of_state c.args.state.now in
-    noticed i c.args.event.now c.carry_out.new.part c.carry_out.new.library (listed c.tell.result.kept) c.changed-raised.result c.in_ok-telling.telling.spoken
-    (search rules) (search rules) (search rules) (search rules) (search rules)
+    subst (λ (t : Turn). IfOk c.apply_plan.result (λ applied. listed applied.kept ≡ (told_by i c.hear-2.new.self t).notices))
+    (c.in_ok-plan.ensures.plan ∙ ap (λ ks. turn_of i.part i.shared.library ks c.hear-2.new.self) c.deref-2.ensures.value) c.apply_plan.ensures.kept
+
+pub returns-clause-shelf : goal.returns-clause-shelf
+returns-clause-shelf g c =
+    let i : Image = image_of_state c.args.state.now in
+    let second : c.hear-2.new.self ≡ hearing c.args.event.now (heard_read c.in_ok-read.read) =
+    c.hear-2.ensures ∙ ap (λ (e : Event). hearing e (heard_read c.in_ok-read.read)) c.hear.ensures ∙ hears_last c.args.event.now c.nothing.result (heard_read c.in_ok-read.read) in
+    let none : is_written c.in_ok-plan.plan.written ≡ false = search rules in
+    on_ok c.apply_plan.result
+    (serves_unwritten g.S.Shelf.standing g.S.Shelf.failed i c.args.event.now c.hear-2.new.self c.in_ok-read.read c.args.shelf.now c.ask_shelf-asked.new.shelf c.in_ok-read.ensures.turns
+    (subst (λ ks. Trusted (g.S.Shelf.standing c.args.shelf.now) (g.S.Shelf.standing c.ask_shelf-asked.new.shelf)
+    → IsRead (g.S.Shelf.failed c.args.shelf.now c.ask_shelf-asked.new.shelf) (g.S.Shelf.standing c.args.shelf.now).maps (question_of i.shared.library ks c.args.event.now) c.in_ok-read.read) c.deref.ensures.value c.in_ok-read.ensures.read)
+    (sym (ap (λ (t : Turn). is_written t.written) (c.in_ok-plan.ensures.plan ∙ ap (λ ks. turn_of i.part i.shared.library ks c.hear-2.new.self) c.deref-2.ensures.value ∙ ap (turn i) second)) ∙ none)
+    second)
+
+pub returns-clause-cause : goal.returns-clause-cause
+returns-clause-cause g c =
+    let i : Image = image_of_state c.args.state.now in
+    let second : c.hear-2.new.self ≡ hearing c.args.event.now (heard_read c.in_ok-read.read) =
+    c.hear-2.ensures ∙ ap (λ (e : Event). hearing e (heard_read c.in_ok-read.read)) c.hear.ensures ∙ hears_last c.args.event.now c.nothing.result (heard_read c.in_ok-read.read) in
+    let none : is_written c.in_ok-plan.plan.written ≡ false = search rules in
+    if_err c.apply_plan.result (λ fault. inr
+    (serves_unwritten g.S.Shelf.standing g.S.Shelf.failed i c.args.event.now c.hear-2.new.self c.in_ok-read.read c.args.shelf.now c.ask_shelf-asked.new.shelf c.in_ok-read.ensures.turns
+    (subst (λ ks. Trusted (g.S.Shelf.standing c.args.shelf.now) (g.S.Shelf.standing c.ask_shelf-asked.new.shelf)
+    → IsRead (g.S.Shelf.failed c.args.shelf.now c.ask_shelf-asked.new.shelf) (g.S.Shelf.standing c.args.shelf.now).maps (question_of i.shared.library ks c.args.event.now) c.in_ok-read.read) c.deref.ensures.value c.in_ok-read.ensures.read)
+    (sym (ap (λ (t : Turn). is_written t.written) (c.in_ok-plan.ensures.plan ∙ ap (λ ks. turn_of i.part i.shared.library ks c.hear-2.new.self) c.deref-2.ensures.value ∙ ap (turn i) second)) ∙ none)
+    second))
+
+pub returns-clause-spared : goal.returns-clause-spared
+returns-clause-spared g c =
+    on_err c.apply_plan.result (spared g.S.Shelf.standing g.S.Shelf.failed c.args.shelf.now c.ask_shelf-asked.new.shelf c.ask_shelf-asked.new.shelf _ _
+    c.ask_shelf-asked.ensures.turns (uncalled (g.S.Shelf.standing c.ask_shelf-asked.new.shelf) (g.S.Shelf.standing c.args.shelf.now).maps))

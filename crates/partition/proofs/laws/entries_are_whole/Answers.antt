@@ -1,4 +1,4 @@
-use Rattle.partition.proofs.Entries.{entries_are}
+use Rattle.partition.proofs.Whole.{entries_are}
 use Rattle.partition.proofs.laws.entries_are_whole.Goals as goal
 
 pub returns : goal.returns

@@ -1,7 +1,7 @@
-use Rattle.std.proofs.Common.{◌≡◌, true, false, is_some, option_map, string_bytes, rules, ◌∙◌}
+use Rattle.std.proofs.Common.{◌≡◌, [], ◌∷◌, true, false, is_some, option_map, string_bytes, rules, ◌∙◌}
 use Rattle.sqlite.specs.Held.{state}
-use Rattle.shelf.specs.Calls.{DeleteStickers}
-use Rattle.shelf_database.specs.Faults.{CannotDo}
+use Rattle.shelf_database.specs.Tables.{has_text}
+use Rattle.shelf_database.specs.Faults.{LacksText}
 use Rattle.shelf_database.proofs.AnyRowLemmas.{any_there, none_there}
 use Rattle.shelf_database.proofs.AskLemmas.{handed_on, text_reads, text_refuses, asked_answer}
 use Rattle.shelf_database.proofs.BlameLemmas.{names_of_uri_asked}
@@ -13,7 +13,7 @@ pub returns-in_err-name-clause-refused : goal.returns-in_err-name-clause-refused
 returns-in_err-name-clause-refused g c =
     let old = state g.S.Store c.args.connection.now in
     let new = state g.S.Store c.first_text.new.connection in
-    rw (handed_on c.from_residual.result _ c.from_residual.ensures.1) (text_refuses _ _ (names_of_uri_asked c.args.uri.now) old new (rw c.params-to_sql.ensures at c.first_text.ensures.survives) (CannotDo old.now.trees (DeleteStickers c.args.uri.now)) c.in_err-name.field-0.0
+    rw (handed_on c.from_residual.result _ c.from_residual.ensures.1) (text_refuses _ _ (names_of_uri_asked c.args.uri.now) old new (rw c.params-to_sql.ensures at c.first_text.ensures.survives) (LacksText (2 ∷ []) (has_text 1 c.args.uri.now) (old.now.trees 3)) c.in_err-name.field-0.0
     (λ rows answer lacks. names_of_uri_lack old.now.trees rows c.args.uri.now answer lacks) (rw c.params-to_sql.ensures at c.in_err-name.ensures.refused))
 
 pub returns-clause-reads : goal.returns-clause-reads

@@ -2,6 +2,7 @@ use Rattle.std.proofs.Common.{rules}
 use Rattle.std.proofs.lemmas.Result.{err_from_is_err_and, IfErr-weaker}
 use Rattle.sqlite.specs.Held.{state}
 use Rattle.shelf_database.specs.Opens.{HasTables}
+use Rattle.shelf_database.proofs.HoldsLemmas.{empty_texts}
 use Rattle.shelf_database.proofs.MakingBlame.{later, unfilled_failed, uncommitted_failed}
 use Rattle.shelf_database.proofs.OpensLemmas.{Settles, made_counts, made_stays_open, made_whole, made_tables}
 use Rattle.shelf_database.proofs.profile.make_tables.Goals as goal
@@ -20,7 +21,7 @@ returns-clause-opens g c = λ none.
     let settles : Settles (state g.S.Store held) = λ trees opened left. g.met.S.Store.settled held.store trees opened left in
     let whole = made_whole g.S.Store held begun begins filled new leads.survives _ made settles none
     (made_tables g.S.Store held begun begins filled new leads.survives _ made leads) in
-    search (rules, none, counts, stays_open, whole)
+    search (rules, none, counts, stays_open, whole, empty_texts)
 
 pub returns-in_err-fill-clause-blamed : goal.returns-in_err-fill-clause-blamed
 returns-in_err-fill-clause-blamed g c =

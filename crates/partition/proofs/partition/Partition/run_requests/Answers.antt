@@ -1,33 +1,39 @@
 use Rattle.std.proofs.Common.{◌≡◌, ◌∷◌, [], length, ap, sym, subst, ◌∙◌, arith}
 use Rattle.std.proofs.lemmas.List.{length-append}
 use Rattle.std.specs.Vec.Iter.{into_iter_items}
-use Rattle.partition.specs.Lists.{RunsList, StopsList, entries_of}
+use Rattle.partition.specs.declared.event.Event.TheVariants.{Line}
+use Rattle.partition.specs.declared.event.Stand.TheVariants.{InList}
+use Rattle.partition.specs.Lent.{IsRefused, Records}
+use Rattle.partition.specs.Shelves.{nothing_heard}
+use Rattle.partition.specs.Lists.{RunsList, StopsList}
 use Rattle.partition.proofs.ListRuns.{does_so, nothing_left, none_ran, ran_all, ran_last, ran_more, ran_stop}
 use Rattle.partition.proofs.partition.Partition.run_requests.Goals as goal
 
 pub loop-request-init : goal.loop-request-init
-loop-request-init c =
+loop-request-init g c =
     let given = c.into_iter-request-iterator.ensures.into_iter_gives in
     let all : into_iter_items c.into_iter-request-iterator.result ≡ c.args.requests.items = given.0 in
     let same = ap length all in
     let room = c.requires.room in
     record {
-      ran = none_ran c.args.seat c.args.client c.args.form c.args.self.now _ c.args.outcomes.items c.requires.empty;
+      ran = none_ran g.S.Shelf.standing g.S.Shelf.failed c.args.seat c.args.client c.args.form c.args.self.now c.args.shelf.now _ c.args.outcomes.items c.requires.empty;
       room = let none = ap length c.requires.empty in omega (arith, same, room, none);
       left = given.1 ∙ c.args.requests.ok.0 ∙ sym same;
     }
 
 pub returns-then-ends-clause-ok : goal.returns-then-ends-clause-ok
-returns-then-ends-clause-ok c =
+returns-then-ends-clause-ok g c =
     let all = c.into_iter-request-iterator.ensures.into_iter_gives.0 in
-    subst (λ rs. RunsList c.args.self.now c.apply.new.self (entries_of c.args.seat c.args.self.now.present c.args.client c.args.form 0 rs) c.push_reserved.new.self.items) all
-    (ran_last c.args.seat c.args.client c.args.form c.args.self.now c.loop-request.self c.apply.new.self _ _ _ c.in-Some.request c.loop-request.outcomes.items c.push_reserved.new.self.items c.in-Ok.outcome
-    c.loop-request.invariant.ran c.in-Some.ensures.steps.0
-    (does_so c.args.seat c.loop-request.self c.apply.new.self c.args.client c.args.form c.len-done.result _ c.in-Some.request c.in-Ok.outcome (c.len-done.ensures ∙ c.loop-request.outcomes.ok.0) c.in-Ok.ensures.base c.in-Ok.ensures.window c.in-Ok.ensures.told c.in-Ok.ensures.present c.in-Ok.ensures.within)
-    (sym c.ends_list-ends.ensures ∙ c.if-ends.true) c.push_reserved.ensures.items)
+    let at = c.loop-request in
+    subst (λ rs. RunsList g.S.Shelf.standing g.S.Shelf.failed c.args.self.now c.apply.new.self c.args.shelf.now c.apply.new.shelf c.args.seat c.args.client c.args.form rs c.push_reserved.new.self.items) all
+    (ran_last g.S.Shelf.standing g.S.Shelf.failed c.args.seat c.args.client c.args.form c.args.self.now at.self c.apply.new.self c.args.shelf.now at.shelf c.apply.new.shelf _ _ _ c.in-Some.request at.outcomes.items c.push_reserved.new.self.items c.in-Ok.outcome
+    at.invariant.ran c.in-Some.ensures.steps.0
+    (does_so g.S.Shelf.standing g.S.Shelf.failed c.args.seat c.args.client c.args.form at.self c.apply.new.self at.shelf c.apply.new.shelf c.len-done.result _ c.in-Some.request c.in-Ok.outcome (c.len-done.ensures ∙ at.outcomes.ok.0) c.in-Ok.ensures.base
+    (subst (λ e. Records g.S.Shelf.standing g.S.Shelf.failed at.self.present c.apply.new.self.present at.self.window c.apply.new.self.window at.shelf c.apply.new.shelf c.args.seat e c.in-Ok.outcome) c.line-event.ensures c.in-Ok.ensures.ok))
+    c.push_reserved.ensures.items (sym c.ends_list-ends.ensures ∙ c.if-ends.true))
 
 pub loop-request-preserved : goal.loop-request-preserved
-loop-request-preserved c =
+loop-request-preserved g c =
     let at = c.loop-request in
     let steps : into_iter_items at.request-iterator ≡ c.in-Some.request ∷ into_iter_items c.next.new.self = c.in-Some.ensures.steps.0 in
     let short = ap length steps in
@@ -37,28 +43,31 @@ loop-request-preserved c =
     let gone = c.in-Some.ensures.steps.1 in
     let kept = c.push_reserved.ensures.capacity in
     record {
-      ran = ran_more c.args.seat c.args.client c.args.form c.args.self.now at.self c.apply.new.self _ _ _ c.in-Some.request at.outcomes.items c.push_reserved.new.self.items c.in-Ok.outcome
+      ran = ran_more g.S.Shelf.standing g.S.Shelf.failed c.args.seat c.args.client c.args.form c.args.self.now at.self c.apply.new.self c.args.shelf.now at.shelf c.apply.new.shelf _ _ _ c.in-Some.request at.outcomes.items c.push_reserved.new.self.items c.in-Ok.outcome
           at.invariant.ran steps
-          (does_so c.args.seat at.self c.apply.new.self c.args.client c.args.form c.len-done.result _ c.in-Some.request c.in-Ok.outcome (c.len-done.ensures ∙ c.loop-request.outcomes.ok.0) c.in-Ok.ensures.base c.in-Ok.ensures.window c.in-Ok.ensures.told c.in-Ok.ensures.present c.in-Ok.ensures.within)
-          (sym c.ends_list-ends.ensures ∙ c.if-ends.false) c.push_reserved.ensures.items;
+          (does_so g.S.Shelf.standing g.S.Shelf.failed c.args.seat c.args.client c.args.form at.self c.apply.new.self at.shelf c.apply.new.shelf c.len-done.result _ c.in-Some.request c.in-Ok.outcome (c.len-done.ensures ∙ at.outcomes.ok.0) c.in-Ok.ensures.base
+          (subst (λ e. Records g.S.Shelf.standing g.S.Shelf.failed at.self.present c.apply.new.self.present at.self.window c.apply.new.self.window at.shelf c.apply.new.shelf c.args.seat e c.in-Ok.outcome) c.line-event.ensures c.in-Ok.ensures.ok))
+          c.push_reserved.ensures.items (sym c.ends_list-ends.ensures ∙ c.if-ends.false);
       room = rw c.push_reserved.ensures.capacity (let n = length-append at.outcomes.items (c.in-Ok.outcome ∷ []) in omega (arith, room, short, longer, n));
       left = omega (arith, left, gone, short);
     }
 
 pub returns-in-Err-clause-err : goal.returns-in-Err-clause-err
-returns-in-Err-clause-err c =
+returns-in-Err-clause-err g c =
     let all = c.into_iter-request-iterator.ensures.into_iter_gives.0 in
     let at = c.loop-request in
     rw (c.in-Err.ensures.err, c.len-done.ensures ∙ at.outcomes.ok.0)
-    (subst (λ rs. StopsList c.args.self.now at.self (entries_of c.args.seat c.args.self.now.present c.args.client c.args.form 0 rs) rs
+    (subst (λ rs. StopsList g.S.Shelf.standing g.S.Shelf.failed c.args.self.now at.self c.args.shelf.now c.apply.new.shelf c.args.seat c.args.client c.args.form rs
     (record { done = length at.outcomes.items; tolds = at.outcomes.items; command = c.name-command.result.now; cause = c.in-Err.cause })) all
-    (ran_stop c.args.seat c.args.client c.args.form c.args.self.now at.self _ _ _ c.in-Some.request at.outcomes.items c.name-command.result.now c.in-Err.cause
-    at.invariant.ran c.in-Some.ensures.steps.0 c.name-command.ensures (let refused = c.in-Err.ensures.refused in rw (← (c.len-done.ensures ∙ at.outcomes.ok.0)) refused)))
+    (ran_stop g.S.Shelf.standing g.S.Shelf.failed c.args.seat c.args.client c.args.form c.args.self.now at.self c.args.shelf.now at.shelf c.apply.new.shelf _ _ _ c.in-Some.request at.outcomes.items c.name-command.result.now c.in-Err.cause
+    at.invariant.ran c.in-Some.ensures.steps.0 c.name-command.ensures
+    (subst (λ e. IsRefused g.S.Shelf.standing g.S.Shelf.failed at.self.present at.shelf c.apply.new.shelf c.args.seat e c.in-Err.cause)
+    (c.line-event.ensures ∙ ap (λ n. Line c.args.client (InList c.args.form n) c.in-Some.request nothing_heard) (c.len-done.ensures ∙ at.outcomes.ok.0)) c.in-Err.ensures.refused)))
 
 pub returns-clause-ok : goal.returns-clause-ok
-returns-clause-ok c =
+returns-clause-ok g c =
     let at = c.loop-request in
     let all = c.into_iter-request-iterator.ensures.into_iter_gives.0 in
     let none = c.in-None.ensures.steps in
-    subst (λ rs. RunsList c.args.self.now at.self (entries_of c.args.seat c.args.self.now.present c.args.client c.args.form 0 rs) at.outcomes.items) all
-    (ran_all c.args.seat c.args.client c.args.form c.args.self.now at.self _ _ at.outcomes.items at.invariant.ran (nothing_left _ (sym at.invariant.left ∙ none.0)))
+    subst (λ rs. RunsList g.S.Shelf.standing g.S.Shelf.failed c.args.self.now at.self c.args.shelf.now at.shelf c.args.seat c.args.client c.args.form rs at.outcomes.items) all
+    (ran_all g.S.Shelf.standing g.S.Shelf.failed c.args.seat c.args.client c.args.form c.args.self.now at.self c.args.shelf.now at.shelf _ _ at.outcomes.items at.invariant.ran (nothing_left _ (sym at.invariant.left ∙ none.0)))

@@ -1,4 +1,4 @@
-use Rattle.std.proofs.Common.{List, [], ◌∷◌, is_ok, inl, arith, rules}
+use Rattle.std.proofs.Common.{◌⊎◌, List, [], ◌∷◌, is_ok, inl, inr, refl, arith, rules}
 use Rattle.sqlite.specs.declared.types.Value.{Value}
 use Rattle.sqlite.specs.declared.types.Value.TheVariants.{Text}
 use Rattle.sqlite.specs.Held.{state}
@@ -6,12 +6,13 @@ use Rattle.sqlite.specs.State.{HasCleanDisk}
 use Rattle.shelf.specs.Calls.{DeleteStickers}
 use Rattle.shelf.specs.Maps.{Maps, with_stickers, no_stickers}
 use Rattle.shelf_database.specs.Tables.{maps_in, has_text}
-use Rattle.shelf_database.specs.Faults.{StoreFailed}
-use Rattle.shelf_database.proofs.AskLemmas.{handed_on, change_turns, change_blames, answers_all_fault, answers_all_done}
+use Rattle.shelf_database.specs.Faults.{HasFailed, LacksText, CannotDo, StoreFailed}
+use Rattle.shelf_database.proofs.AskLemmas.{handed_on, for_this, change_turns, change_blames, answers_all_fault, answers_all_done}
 use Rattle.shelf_database.proofs.BlameLemmas.{failed_alone}
 use Rattle.shelf_database.proofs.DeleteBlame.{delete_all_whole, deletion_of_all_refused}
 use Rattle.shelf_database.proofs.DeleteLemmas.{deletion}
 use Rattle.shelf_database.proofs.FaultLemmas.{failed_after}
+use Rattle.shelf_database.proofs.HoldsLemmas.{one_never_lacks, failed_only}
 use Rattle.shelf_database.proofs.QueryLemmas.{ready_same, read_then_by}
 use Rattle.shelf_database.proofs.RemoveLemmas.{deletes_all}
 use Rattle.shelf_database.proofs.Statements.{delete_all_text, delete_all_is, equals}
@@ -25,7 +26,12 @@ pub returns-in_err-has_stickers-clause-answers : goal.returns-in_err-has_sticker
 returns-in_err-has_stickers-clause-answers g c = λ trusted.
     let old = state g.S.Store c.args.self.now.connection in
     let new = state g.S.Store c.has_stickers.new.connection in
-    rw (handed_on c.from_residual.result _ c.from_residual.ensures.1) (answers_all_fault (Unit {0}) (StoreFailed old new (DeleteStickers c.args.uri.now)) _ c.in_err-has_stickers.field-0.0 (c.in_err-has_stickers.ensures.refused.told trusted.0 trusted.1.ready))
+    let uri = c.args.uri.now in
+    let lacking : Type 0 = LacksText (2 ∷ []) (has_text 1 uri) (old.now.trees 3) in
+    let never : lacking → ⊥ = one_never_lacks (1 ∷ 2 ∷ 3 ∷ []) 2 (has_text 1 uri) (old.now.trees 3) trusted.1.texts.stickers (inr (inl refl)) in
+    let fault = c.in_err-has_stickers.field-0.0 in
+    let told = for_this (HasFailed old new ⊎ lacking) (StoreFailed old new (DeleteStickers uri)) fault (failed_only (HasFailed old new) lacking (CannotDo old.now.trees (DeleteStickers uri)) never) (c.in_err-has_stickers.ensures.refused.told trusted.0 trusted.1.ready) in
+    rw (handed_on c.from_residual.result _ c.from_residual.ensures.1) (answers_all_fault (Unit {0}) (StoreFailed old new (DeleteStickers uri)) _ fault told)
 
 pub returns-clause-turns : goal.returns-clause-turns
 returns-clause-turns g c =

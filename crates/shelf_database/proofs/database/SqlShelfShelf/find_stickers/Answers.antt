@@ -1,14 +1,16 @@
-use Rattle.std.proofs.Common.{[], ◌∷◌, map, sym, ◌∙◌, is_ok, inl, inr, true}
+use Rattle.std.proofs.Common.{[], ◌∷◌, map, sym, ◌∙◌, is_ok, inl, inr, refl, true}
 use Rattle.std.proofs.lemmas.Simd.{map-map}
 use Rattle.sqlite.specs.declared.types.Value.TheVariants.{Text}
 use Rattle.sqlite.specs.Held.{state}
 use Rattle.shelf.specs.Entries.{entry_texts}
 use Rattle.shelf.specs.Calls.{FindStickers}
 use Rattle.shelf.specs.Maps.{no_refusal}
+use Rattle.shelf_database.specs.Tables.{has_text}
 use Rattle.shelf_database.specs.Faults.{HasFailed, LacksText, StoreFailed}
 use Rattle.shelf_database.proofs.AskLemmas.{asked_reads, asked_answer, asked_refuses, refused_answers, handed_on}
 use Rattle.shelf_database.proofs.BlameLemmas.{of_name_asked}
 use Rattle.shelf_database.proofs.FaultLemmas.{answers_for}
+use Rattle.shelf_database.proofs.HoldsLemmas.{both_never_lack}
 use Rattle.shelf_database.proofs.LacksLemmas.{of_name_lack}
 use Rattle.shelf_database.proofs.QueryLemmas.{read_turns}
 use Rattle.shelf_database.proofs.ShownLemmas.{IfOk-both, of_name_shown}
@@ -46,4 +48,4 @@ returns-clause-answers g c = λ trusted.
     let new = state g.S.Store c.ask.new.connection in
     let rows = c.in_ok-rows.rows.items in
     let answer = asked_answer _ _ (of_name_asked c.args.name.now) old new (rw c.params-to_sql.ensures at c.ask.ensures.survives) rows trusted.1.ready (rw c.params-to_sql.ensures at (c.in_ok-rows.ensures.shown trusted.0)) in
-    answers_for (LacksText (0 ∷ 1 ∷ []) (λ _. true) rows) (StoreFailed old new (FindStickers c.args.name.now)) _ c.entries_of.result (λ lacks. inr (of_name_lack old.now.trees rows c.args.name.now answer lacks)) (rw c.deref.ensures.value at c.entries_of.ensures.answers)
+    answers_for (LacksText (0 ∷ 1 ∷ []) (λ _. true) rows) (StoreFailed old new (FindStickers c.args.name.now)) _ c.entries_of.result (λ lacks. absurd (both_never_lack (1 ∷ 2 ∷ 3 ∷ []) 1 3 (has_text 2 c.args.name.now) (old.now.trees 3) trusted.1.texts.stickers (inl refl) (inr (inr (inl refl))) (of_name_lack old.now.trees rows c.args.name.now answer lacks))) (rw c.deref.ensures.value at c.entries_of.ensures.answers)

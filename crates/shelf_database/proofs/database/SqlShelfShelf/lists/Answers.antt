@@ -1,4 +1,4 @@
-use Rattle.std.proofs.Common.{[], ◌∷◌, map, string_bytes, sym, ◌∙◌, is_ok, inl, inr, true}
+use Rattle.std.proofs.Common.{[], ◌∷◌, map, string_bytes, sym, ◌∙◌, is_ok, inl, refl, true}
 use Rattle.std.proofs.lemmas.Result.{IfOk-weaker}
 use Rattle.std.proofs.lemmas.Simd.{map-map}
 use Rattle.sqlite.specs.declared.types.Value.TheVariants.{Text}
@@ -9,6 +9,7 @@ use Rattle.shelf_database.specs.Faults.{HasFailed, LacksText, StoreFailed}
 use Rattle.shelf_database.proofs.AskLemmas.{asked_reads, asked_answer, asked_refuses, refused_answers, handed_on}
 use Rattle.shelf_database.proofs.BlameLemmas.{names_asked}
 use Rattle.shelf_database.proofs.FaultLemmas.{answers_for}
+use Rattle.shelf_database.proofs.HoldsLemmas.{one_never_lacks}
 use Rattle.shelf_database.proofs.LacksLemmas.{names_lack}
 use Rattle.shelf_database.proofs.QueryLemmas.{read_turns}
 use Rattle.shelf_database.proofs.ShownLemmas.{lists_shown}
@@ -45,4 +46,4 @@ returns-clause-answers g c = λ trusted.
     let new = state g.S.Store c.ask.new.connection in
     let rows = c.in_ok-rows.rows.items in
     let answer = asked_answer _ _ names_asked old new c.ask.ensures.survives rows trusted.1.ready (c.in_ok-rows.ensures.shown trusted.0) in
-    answers_for (LacksText (0 ∷ []) (λ _. true) rows) (StoreFailed old new Lists) _ c.texts_of.result (λ lacks. inr (names_lack old.now.trees rows answer lacks)) (rw c.deref.ensures.value at c.texts_of.ensures.answers)
+    answers_for (LacksText (0 ∷ []) (λ _. true) rows) (StoreFailed old new Lists) _ c.texts_of.result (λ lacks. absurd (one_never_lacks (1 ∷ 2 ∷ []) 1 (λ _. true) (old.now.trees 1) trusted.1.texts.lists (inl refl) (names_lack old.now.trees rows answer lacks))) (rw c.deref.ensures.value at c.texts_of.ensures.answers)

@@ -30,7 +30,7 @@ returns-clause-turns g c =
     let text = c.text.result.now in
     let params : List Value = Text c.args.name.now ∷ Text text ∷ [] in
     let does : IsReady old → DoesSo old put_text params command (with_list (maps_in old.now.trees) c.args.name.now (Some c.args.uris.now)) =
-    λ ready. subst (λ lines. DoesSo old put_text params command (with_list (maps_in old.now.trees) c.args.name.now (Some lines))) c.text.ensures.uris (puts_list old c.args.name.now text ready) in
+    λ ready. subst (λ lines. DoesSo old put_text params command (with_list (maps_in old.now.trees) c.args.name.now (Some lines))) c.text.ensures.uris (puts_list old c.args.name.now text c.utf8.name c.text.utf8 ready) in
     change_turns put_text params command put_is tt old (state g.S.Store c.change.new.connection) c.change.result (rw (c.params-to_sql.ensures, c.params-to_sql-2.ensures) at c.change.ensures.ran) _ does
     (rw (c.params-to_sql.ensures, c.params-to_sql-2.ensures) at c.change.ensures.survives)
 

@@ -52,7 +52,7 @@ returns-clause-turns g c =
     let late = state g.S.Store c.has_list-2.new.connection in
     let there : c.in_ok-has_list.field-0 ≡ true = search rules in
     let free : c.in_ok-has_list-2.field-0 ≡ false = search rules in
-    rename_turns old mid late (state g.S.Store c.change.new.connection) c.args.name.now c.args.new_name.now c.in_ok-has_list.ensures.reads c.in_ok-has_list-2.ensures.reads
+    rename_turns old mid late (state g.S.Store c.change.new.connection) c.args.name.now c.args.new_name.now c.utf8.new_name c.in_ok-has_list.ensures.reads c.in_ok-has_list-2.ensures.reads
     (λ clean ready. sym (c.in_ok-has_list.ensures.found clean ready) ∙ there) (λ clean ready. sym (c.in_ok-has_list-2.ensures.found clean ready) ∙ free) c.change.result
     (rw (c.params-to_sql.ensures, c.params-to_sql-2.ensures) at c.change.ensures.ran) (rw (c.params-to_sql.ensures, c.params-to_sql-2.ensures) at c.change.ensures.survives)
 

@@ -27,7 +27,7 @@ returns-clause-turns g c =
     let old = state g.S.Store c.args.self.now.connection in
     let params : List Value = Text c.args.uri.now ∷ Text c.args.name.now ∷ Text c.args.value.now ∷ [] in
     change_turns set_text params command set_is tt old (state g.S.Store c.change.new.connection) c.change.result (rw (c.params-to_sql.ensures, c.params-to_sql-2.ensures, c.params-to_sql-3.ensures) at c.change.ensures.ran)
-    (with_sticker (maps_in old.now.trees) c.args.uri.now c.args.name.now (Some c.args.value.now)) (puts_sticker old c.args.uri.now c.args.name.now c.args.value.now)
+    (with_sticker (maps_in old.now.trees) c.args.uri.now c.args.name.now (Some c.args.value.now)) (puts_sticker old c.args.uri.now c.args.name.now c.args.value.now c.utf8.uri c.utf8.name c.utf8.value)
     (rw (c.params-to_sql.ensures, c.params-to_sql-2.ensures, c.params-to_sql-3.ensures) at c.change.ensures.survives)
 
 set_whole : (uri name value : List ℕ) → IsWhole set_text (Text uri ∷ Text name ∷ Text value ∷ [])

@@ -1,13 +1,14 @@
-use Rattle.std.proofs.Common.{◌≡◌, ◌&&◌, Some, None, true, false, find, option_map, string_bytes, rules, refl, ap, ◌∙◌}
+use Rattle.std.proofs.Common.{◌≡◌, ◌⊎◌, inl, inr, [], ◌∷◌, ◌&&◌, Some, None, true, false, find, option_map, string_bytes, rules, refl, ap, ◌∙◌}
 use Rattle.sqlite.specs.Order.{column, bytes}
 use Rattle.sqlite.specs.Held.{state}
 use Rattle.shelf.specs.Calls.{StickerOf}
 use Rattle.shelf.specs.Maps.{refusal_of_sticker}
-use Rattle.shelf_database.specs.Faults.{CannotDo, StoreFailed}
+use Rattle.shelf_database.specs.Faults.{HasFailed, LacksText, CannotDo, StoreFailed}
 use Rattle.shelf_database.specs.Tables.{maps_in, has_text}
 use Rattle.shelf_database.proofs.AskLemmas.{handed_on, text_reads, text_refuses, asked_answer, refused_answers}
 use Rattle.shelf_database.proofs.BlameLemmas.{value_asked}
 use Rattle.shelf_database.proofs.FoundLemmas.{sticker_shown, first_is}
+use Rattle.shelf_database.proofs.HoldsLemmas.{one_never_lacks, failed_only}
 use Rattle.shelf_database.proofs.LacksLemmas.{value_lacks}
 use Rattle.shelf_database.proofs.QueryLemmas.{read_turns}
 use Rattle.shelf_database.proofs.database.SqlShelfShelf.sticker.Goals as goal
@@ -16,15 +17,17 @@ pub returns-in_err-value-clause-turns : goal.returns-in_err-value-clause-turns
 returns-in_err-value-clause-turns g c =
     let old = state g.S.Store c.args.self.now.connection in
     let new = state g.S.Store c.first_text.new.connection in
-    let refuses = text_refuses _ _ (value_asked c.args.uri.now c.args.name.now) old new (rw (c.params-to_sql.ensures, c.params-to_sql-2.ensures) at c.first_text.ensures.survives) (CannotDo old.now.trees (StickerOf c.args.uri.now c.args.name.now)) c.in_err-value.field-0.0 (λ rows answer lacks. value_lacks old.now.trees rows c.args.uri.now c.args.name.now answer lacks) (rw (c.params-to_sql.ensures, c.params-to_sql-2.ensures) at c.in_err-value.ensures.refused) in
+    let refuses = text_refuses _ _ (value_asked c.args.uri.now c.args.name.now) old new (rw (c.params-to_sql.ensures, c.params-to_sql-2.ensures) at c.first_text.ensures.survives) (LacksText (3 ∷ []) (λ row. has_text 1 c.args.uri.now row && has_text 2 c.args.name.now row) (old.now.trees 3)) c.in_err-value.field-0.0 (λ rows answer lacks. value_lacks old.now.trees rows c.args.uri.now c.args.name.now answer lacks) (rw (c.params-to_sql.ensures, c.params-to_sql-2.ensures) at c.in_err-value.ensures.refused) in
     rw (handed_on c.from_residual.result _ c.from_residual.ensures.1) (refuses.turns _)
 
 pub returns-in_err-value-clause-answers : goal.returns-in_err-value-clause-answers
 returns-in_err-value-clause-answers g c = λ trusted.
     let old = state g.S.Store c.args.self.now.connection in
     let new = state g.S.Store c.first_text.new.connection in
-    let refuses = text_refuses _ _ (value_asked c.args.uri.now c.args.name.now) old new (rw (c.params-to_sql.ensures, c.params-to_sql-2.ensures) at c.first_text.ensures.survives) (CannotDo old.now.trees (StickerOf c.args.uri.now c.args.name.now)) c.in_err-value.field-0.0 (λ rows answer lacks. value_lacks old.now.trees rows c.args.uri.now c.args.name.now answer lacks) (rw (c.params-to_sql.ensures, c.params-to_sql-2.ensures) at c.in_err-value.ensures.refused) in
-    rw (handed_on c.from_residual.result _ c.from_residual.ensures.1) (refused_answers (Unit {0}) old new (StoreFailed old new (StickerOf c.args.uri.now c.args.name.now)) (StoreFailed old new (StickerOf c.args.uri.now c.args.name.now)) (refusal_of_sticker (maps_in old.now.trees) c.args.uri.now c.args.name.now) c.in_err-value.field-0.0 (λ why. why) refuses trusted)
+    let lacking : Type 0 = LacksText (3 ∷ []) (λ row. has_text 1 c.args.uri.now row && has_text 2 c.args.name.now row) (old.now.trees 3) in
+    let never : lacking → ⊥ = one_never_lacks (1 ∷ 2 ∷ 3 ∷ []) 3 (λ row. has_text 1 c.args.uri.now row && has_text 2 c.args.name.now row) (old.now.trees 3) trusted.1.texts.stickers (inr (inr (inl refl))) in
+    let refuses = text_refuses _ _ (value_asked c.args.uri.now c.args.name.now) old new (rw (c.params-to_sql.ensures, c.params-to_sql-2.ensures) at c.first_text.ensures.survives) (LacksText (3 ∷ []) (λ row. has_text 1 c.args.uri.now row && has_text 2 c.args.name.now row) (old.now.trees 3)) c.in_err-value.field-0.0 (λ rows answer lacks. value_lacks old.now.trees rows c.args.uri.now c.args.name.now answer lacks) (rw (c.params-to_sql.ensures, c.params-to_sql-2.ensures) at c.in_err-value.ensures.refused) in
+    rw (handed_on c.from_residual.result _ c.from_residual.ensures.1) (refused_answers (Unit {0}) old new (HasFailed old new ⊎ lacking) (StoreFailed old new (StickerOf c.args.uri.now c.args.name.now)) (refusal_of_sticker (maps_in old.now.trees) c.args.uri.now c.args.name.now) c.in_err-value.field-0.0 (failed_only (HasFailed old new) lacking (CannotDo old.now.trees (StickerOf c.args.uri.now c.args.name.now)) never) refuses trusted)
 
 pub returns-in-Some-clause-turns : goal.returns-in-Some-clause-turns
 returns-in-Some-clause-turns g c =

@@ -2,14 +2,13 @@
 use Rattle.std.proofs.Common.{◌≡◌, ℕ, suc, ◌+◌, Bool, true, false, ◌||◌, List, [], ◌∷◌, ◌++◌, length, map, take, refl, ap, sym, subst, ◌∙◌, if◌then◌else◌}
 use Rattle.std.specs.List.{list_any}
 use Rattle.command_lists.specs.declared.word.ListForm.{ListForm}
-use Rattle.mpd_command.specs.declared.request.Request.{Request}
 use Rattle.partition.specs.declared.event.Event.{Event}
 use Rattle.partition.specs.declared.event.Event.TheVariants.{Line}
 use Rattle.partition.specs.declared.event.Happened.{Happened}
 use Rattle.partition.specs.declared.event.Stand.TheVariants.{InList}
 use Rattle.partition.specs.Answers.{Told}
 use Rattle.partition.specs.Image.{Image}
-use Rattle.partition.specs.Lists.{ends_list, entries_of, events_of, AreEntries, EntriesAre}
+use Rattle.partition.specs.Lists.{Answered, ends_list, entries_of, events_of, AreEntries, EntriesAre}
 use Rattle.partition.specs.Step.{next_image, told}
 
 rest_of : List Happened → List Happened
@@ -41,9 +40,9 @@ last_more h rest goes_on below [] entry more e end =
     cc
 last_more h rest goes_on below (f ∷ fs) entry more e end = below fs entry more (ap rest_of e) end
 
-module _ (seat : ℕ) (i : Image) (client : ℕ) (form : ListForm) (place : ℕ) (request : Request) (requests : List Request) where
+module _ (seat : ℕ) (i : Image) (client : ℕ) (form : ListForm) (place : ℕ) (request : Answered) (requests : List Answered) where
   abbrev event : Event
-  event = Line client (InList form place) request
+  event = Line client (InList form place) request.0 request.1
 
   abbrev first : Happened
   first = record { seat = seat; event = event; told = told i event }
@@ -71,7 +70,7 @@ unfolding entries_of
 entries_are seat i client form place [] =
     record { events = refl; told = tt; last = λ front entry more e end. absurd (nothing front entry more e); whole = λ none. refl }
 entries_are seat i client form place (request ∷ requests) =
-    let event : Event = Line client (InList form place) request in
+    let event : Event = Line client (InList form place) request.0 request.1 in
     let rest : List Happened = entries_of seat (next_image seat i event) client form (place + 1) requests in
     let cases : (b : Bool) → ends_list (told i event) ≡ b
     → AreEntries seat i client form place (request ∷ requests) (record { seat = seat; event = event; told = told i event } ∷ (if b then [] else rest)) =

@@ -1,0 +1,49 @@
+#!/bin/sh
+# Prints microseconds of commands over stored playlists and stickers, beside the call of a shelf in memory alone: a queue of
+# 16,384 entries is saved, loaded and its list emptied, and 10,000 stickers are looked through; then what parts of them take;
+# best of five.
+# Usage: bench.sh [ROOT]     (ROOT is the repository's top folder; two folders up from here if left out)
+# It builds on a copy in a temporary folder. What the crates have proved is copied along; the rest is proved there first.
+set -eu
+here=$(cd "$(dirname "$0")" && pwd)
+root=$(cd "${1:-$here/../..}" && pwd)
+work=$(mktemp -d)
+trap 'rm -rf "$work"' EXIT
+mkdir "$work/crates"
+crates='mpd_text command_lists song_db filters song_search song_queue play_order player_core idle_notes mpd_command shelf shelf_contents partition'
+for crate in $crates; do
+    cp -a "$root/crates/$crate" "$work/crates/$crate"
+done
+cp -r "$here/list_bench" "$work/crates/list_bench"
+mv "$work/crates/list_bench/src/main.rt.txt" "$work/crates/list_bench/src/main.rt"
+cp "$root/HANDLES" "$work/HANDLES"
+grep -E "^($(echo "$crates" | tr ' ' '|')):" "$root/crates.txt" > "$work/crates.txt"
+echo 'list_bench: partition shelf_contents shelf mpd_command song_db mpd_text' >> "$work/crates.txt"
+(cd "$work/crates/list_bench" && rt run > "$work/ours.log" 2>&1) || { cat "$work/ours.log"; exit 1; }
+grep -E '^lists [a-z_]+ [0-9]+ [0-9]+ (yes|NO)$' "$work/ours.log" | awk '
+    {
+        if (!($2 in best)) { rows[++count] = $2; best[$2] = $3; least[$2] = $4; right[$2] = "yes" }
+        if ($3 < best[$2]) best[$2] = $3
+        if ($4 < least[$2]) least[$2] = $4
+        if ($5 == "NO") right[$2] = "NO"
+    }
+    END {
+        printf "%-14s %15s %17s %8s  %s\n", "command", "us the command", "us the bare call", "times", "right"
+        for (i = 1; i <= count; i++) {
+            n = rows[i]
+            printf "%-14s %15.1f %17.1f %8.1f  %s\n", n, best[n] / 1000, least[n] / 1000, best[n] / (least[n] ? least[n] : 1), right[n]
+        }
+    }
+'
+grep -E '^parts [0-9]+ ' "$work/ours.log" | awk '
+    {
+        nanos = $2
+        sub(/^parts [0-9]+ /, "")
+        if (!($0 in best)) { rows[++count] = $0; best[$0] = nanos }
+        if (nanos < best[$0]) best[$0] = nanos
+    }
+    END {
+        printf "\n%-40s %10s\n", "part", "us"
+        for (i = 1; i <= count; i++) printf "%-40s %10.1f\n", rows[i], best[rows[i]] / 1000
+    }
+'

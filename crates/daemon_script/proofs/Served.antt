@@ -1,0 +1,210 @@
+-- What a shelf in memory does for an event is what its contents say.
+use Rattle.std.proofs.Common.{◌≡◌, ◌⊎◌, inl, inr, ℕ, Bool, true, false, List, Option, Some, None, is_some, IsSome, Result, Ok, Err, refl, sym, ap, subst, ◌∙◌, if◌then◌else◌}
+use Rattle.std.specs.FinMap as finite
+use Rattle.std.proofs.lemmas.Option.{same_Some}
+use Rattle.shelf.specs.Calls.{Call}
+use Rattle.shelf.specs.Maps.{Answers, AnswersAll, Maps, Same, Standing, Turns, refusal_of_create, refusal_of_list, refusal_of_put, refusal_of_rename, refusal_of_set, refusal_of_sticker}
+use Rattle.shelf.specs.Memory.{memory_standing}
+use Rattle.shelf.specs.declared.faults.ShelfFault.{ShelfFault}
+use Rattle.shelf.specs.declared.faults.ShelfFault.TheVariants.{NoSuchList, Exists, BadName, NoSticker, StoreFault, NoMemory}
+use Rattle.shelf.specs.declared.memory.MemShelf.{MemShelf}
+use Rattle.partition.specs.declared.event.Event.{Event}
+use Rattle.partition.specs.declared.shelf_calls.Heard.{Heard}
+use Rattle.partition.specs.declared.shelf_calls.Read.{Read}
+use Rattle.partition.specs.declared.shelf_calls.Read.TheVariants as read_variant
+use Rattle.partition.specs.declared.shelf_calls.ShelfWrite.{ShelfWrite}
+use Rattle.partition.specs.declared.shelf_calls.ShelfWrite.TheVariants.{Nothing, Put, Create, Rename, Remove, SetSticker, DeleteSticker, DeleteStickers}
+use Rattle.partition.specs.Image.{Image}
+use Rattle.partition.specs.Lent.{question, writing}
+use Rattle.partition.specs.Shelves.{IsAnswered, IsCause, IsRead, Question, NoQuestion, AskNames, AskList, AskSticker, AskStickers, AskFound, Serves, Spares, answered, is_ok_write, is_wanting, is_written, maps_after}
+use Rattle.daemon_script.specs.Contents.{Contents, contents_of, has_stickers, maps_in}
+use Rattle.daemon_script.specs.Shelf.{contents_after, contents_with, heard_by, list_read, read_in, refusal_in, shelf_after, sticker_read}
+use Rattle.daemon_script.proofs.Edited.{list_put, list_renamed, sticker_put, stickers_gone}
+use Rattle.daemon_script.proofs.Held.{held, shows_lists, shows_stickers}
+use Rattle.daemon_script.proofs.Listed.{keys_are, named_are, no_stickers_at, some_stickers, stickers_are}
+
+abbrev pub standing_of : MemShelf → Standing
+standing_of s = memory_standing s.lists s.stickers
+
+-- a shelf in memory never fails
+abbrev pub never_failed : MemShelf → MemShelf → Call → Type 0
+never_failed old new call = ⊥
+
+abbrev pub contents : MemShelf → Contents
+contents s = contents_of s.lists s.stickers
+
+-- a shelf shows its contents
+shows : (s : MemShelf) → maps_in (contents s) ≡ (standing_of s).maps
+shows s = λ i. record { lists = λ name. shows_lists s.lists s.stickers name i; stickers = λ uri name. shows_stickers s.lists s.stickers uri name i }
+
+-- a shelf whose maps are shown by contents has these contents
+pub holds : (s : MemShelf) (c : Contents) → Same (maps_in c) (standing_of s).maps → contents s ≡ c
+holds s c same = held s.lists s.stickers c same
+
+-- ---- what a question is answered
+
+never_none : {A : Type 0} (fault : ShelfFault) → None ≡ Some fault → A
+never_none fault e = (let clash : false ≡ true = ap is_some e in cc)
+
+-- memory that is wanting is no answer, and memory does not fail
+cause_is : (refusal : Option ShelfFault) (fault : ShelfFault) → IsCause ⊥ refusal fault → refusal ≡ Some fault
+cause_is refusal NoSuchList is = is
+cause_is refusal Exists is = is
+cause_is refusal BadName is = is
+cause_is refusal NoSticker is = is
+cause_is refusal StoreFault is = absurd is
+cause_is refusal NoMemory is = absurd is
+
+list_refused : (o : Option (List (List ℕ))) (fault : ShelfFault) → (if is_some o then None else Some NoSuchList) ≡ Some fault → read_variant.Refused fault ≡ list_read o
+list_refused None fault e = ap read_variant.Refused (sym (same_Some NoSuchList fault e))
+list_refused (Some uris) fault e = never_none fault e
+
+sticker_refused : (o : Option (List ℕ)) (fault : ShelfFault) → (if is_some o then None else Some NoSticker) ≡ Some fault → read_variant.Refused fault ≡ sticker_read o
+sticker_refused None fault e = ap read_variant.Refused (sym (same_Some NoSticker fault e))
+sticker_refused (Some value) fault e = never_none fault e
+
+abbrev Fails : Call → Type 0
+Fails call = ⊥
+
+reads : (c : Contents) (q : Question) (read : Read) → IsRead Fails (maps_in c) q read → read ≡ read_in c q
+reads c NoQuestion read is = is
+reads c AskNames read_variant.Nothing is = absurd is
+reads c AskNames (read_variant.Names names) is = ap read_variant.Names (keys_are c.lists (maps_in c).lists names (λ q. refl) is)
+reads c AskNames (read_variant.List uris) is = absurd is
+reads c AskNames (read_variant.Value value) is = absurd is
+reads c AskNames (read_variant.Entries es) is = absurd is
+reads c AskNames (read_variant.Refused fault) is = never_none fault (cause_is None fault is)
+reads c (AskList name) read_variant.Nothing is = absurd is
+reads c (AskList name) (read_variant.Names names) is = absurd is
+reads c (AskList name) (read_variant.List uris) is = ap list_read (sym is)
+reads c (AskList name) (read_variant.Value value) is = absurd is
+reads c (AskList name) (read_variant.Entries es) is = absurd is
+reads c (AskList name) (read_variant.Refused fault) is = list_refused (finite.get c.lists name) fault (cause_is (refusal_of_list (maps_in c) name) fault is)
+reads c (AskSticker uri name) read_variant.Nothing is = absurd is
+reads c (AskSticker uri name) (read_variant.Names names) is = absurd is
+reads c (AskSticker uri name) (read_variant.List uris) is = absurd is
+reads c (AskSticker uri name) (read_variant.Value value) is = ap sticker_read (sym is)
+reads c (AskSticker uri name) (read_variant.Entries es) is = absurd is
+reads c (AskSticker uri name) (read_variant.Refused fault) is = sticker_refused (finite.get c.stickers (uri, name)) fault (cause_is (refusal_of_sticker (maps_in c) uri name) fault is)
+reads c (AskStickers uri) read_variant.Nothing is = absurd is
+reads c (AskStickers uri) (read_variant.Names names) is = absurd is
+reads c (AskStickers uri) (read_variant.List uris) is = absurd is
+reads c (AskStickers uri) (read_variant.Value value) is = absurd is
+reads c (AskStickers uri) (read_variant.Entries es) is = ap read_variant.Entries (stickers_are c uri ((maps_in c).stickers uri) es (λ name. refl) is)
+reads c (AskStickers uri) (read_variant.Refused fault) is = never_none fault (cause_is None fault is)
+reads c (AskFound name) read_variant.Nothing is = absurd is
+reads c (AskFound name) (read_variant.Names names) is = absurd is
+reads c (AskFound name) (read_variant.List uris) is = absurd is
+reads c (AskFound name) (read_variant.Value value) is = absurd is
+reads c (AskFound name) (read_variant.Entries es) is = ap read_variant.Entries (named_are c name (λ uri. (maps_in c).stickers uri name) es (λ uri. refl) is)
+reads c (AskFound name) (read_variant.Refused fault) is = never_none fault (cause_is None fault is)
+
+-- ---- why what is to be written is refused
+
+answer_is : (refusal r : Option ShelfFault) → Answers ⊥ refusal (answered r) → is_wanting r ≡ false → r ≡ refusal
+answer_is refusal None is ample = sym is
+answer_is refusal (Some NoSuchList) is ample = sym is
+answer_is refusal (Some Exists) is ample = sym is
+answer_is refusal (Some BadName) is ample = sym is
+answer_is refusal (Some NoSticker) is ample = sym is
+answer_is refusal (Some StoreFault) is ample = absurd is
+answer_is refusal (Some NoMemory) is ample = cc
+
+all_answer_is : (c : Contents) (uri : List ℕ) (r : Option ShelfFault) → AnswersAll ⊥ ((maps_in c).stickers uri) (answered r) → is_wanting r ≡ false
+    → r ≡ (if has_stickers c uri then None else Some NoSticker)
+all_answer_is c uri None is ample = sym (ap (λ b. if b then None else Some NoSticker) (some_stickers c uri is.0 is.1))
+all_answer_is c uri (Some NoSuchList) is ample = absurd is
+all_answer_is c uri (Some Exists) is ample = absurd is
+all_answer_is c uri (Some BadName) is ample = absurd is
+all_answer_is c uri (Some NoSticker) is ample = sym (ap (λ b. if b then None else Some NoSticker) (no_stickers_at c uri is))
+all_answer_is c uri (Some StoreFault) is ample = absurd is
+all_answer_is c uri (Some NoMemory) is ample = cc
+
+not_refused : (r : Option ShelfFault) → answered r ≡ Ok tt → r ≡ None
+not_refused None e = refl
+not_refused (Some fault) e = cc
+
+refuses : (c : Contents) (w : ShelfWrite) (r : Option ShelfFault) → IsAnswered Fails (maps_in c) w (answered r) → is_wanting r ≡ false → r ≡ refusal_in c w
+refuses c Nothing r is ample = not_refused r is
+refuses c (Put name uris changes) r is ample = answer_is (refusal_of_put name) r is ample
+refuses c (Create name uris) r is ample = answer_is (refusal_of_create (maps_in c) name) r is ample
+refuses c (Rename name new) r is ample = answer_is (refusal_of_rename (maps_in c) name new) r is ample
+refuses c (Remove name) r is ample = answer_is (refusal_of_list (maps_in c) name) r is ample
+refuses c (SetSticker uri name value changes) r is ample = answer_is (refusal_of_set name) r is ample
+refuses c (DeleteSticker uri name) r is ample = answer_is (refusal_of_sticker (maps_in c) uri name) r is ample
+refuses c (DeleteStickers uri) r is ample = all_answer_is c uri r is ample
+
+-- ---- the contents after
+
+after_write : (c : Contents) (w : ShelfWrite) → is_written w ≡ true → Same (maps_after w (maps_in c)) (maps_in (contents_with w c))
+after_write c Nothing e = cc
+after_write c (Put name uris changes) e = list_put c name (Some uris)
+after_write c (Create name uris) e = list_put c name (Some uris)
+after_write c (Rename name new) e = list_renamed c name new
+after_write c (Remove name) e = list_put c name None
+after_write c (SetSticker uri name value changes) e = sticker_put c uri name (Some value)
+after_write c (DeleteSticker uri name) e = sticker_put c uri name None
+after_write c (DeleteStickers uri) e = stickers_gone c uri
+
+same_between : (a b c : Maps) → Same a b → Same a c → Same b c
+same_between a b c ab ac = record { lists = λ name. ac.lists name ∙ sym (ab.lists name); stickers = λ uri name. ac.stickers uri name ∙ sym (ab.stickers uri name) }
+
+trusted : Unit {0} × Unit {0}
+trusted = (record {}, record {})
+
+-- a call that changes nothing leaves the contents
+pub kept : (old new : MemShelf) (after : Maps) → Turns (standing_of old) (standing_of new) false after → contents new ≡ contents old
+kept old new after turns = holds new (contents old) (subst (λ m. Same m (standing_of new).maps) (sym (shows old)) (turns.kept trusted refl refl))
+
+pub asked : (old new : MemShelf) (b : Bool) → Turns (standing_of old) (standing_of new) b (standing_of old).maps → contents new ≡ contents old
+asked old new true turns = holds new (contents old) (subst (λ m. Same m (standing_of new).maps) (sym (shows old)) (turns.done trusted refl).1)
+asked old new false turns = kept old new (standing_of old).maps turns
+
+done : (old new : MemShelf) (w : ShelfWrite) → is_written w ≡ true → Turns (standing_of old) (standing_of new) true (maps_after w (standing_of old).maps) → contents new ≡ contents_with w (contents old)
+done old new w e turns =
+    holds new (contents_with w (contents old)) (same_between (maps_after w (maps_in (contents old))) (maps_in (contents_with w (contents old))) (standing_of new).maps
+    (after_write (contents old) w e) (subst (λ m. Same (maps_after w m) (standing_of new).maps) (sym (shows old)) (turns.done trusted refl).1))
+
+unwritten_same : (w : ShelfWrite) (c : Contents) → is_written w ≡ false → contents_with w c ≡ c
+unwritten_same Nothing c e = refl
+unwritten_same (Put name uris changes) c e = cc
+unwritten_same (Create name uris) c e = cc
+unwritten_same (Rename name new) c e = cc
+unwritten_same (Remove name) c e = cc
+unwritten_same (SetSticker uri name value changes) c e = cc
+unwritten_same (DeleteSticker uri name) c e = cc
+unwritten_same (DeleteStickers uri) c e = cc
+
+written : (old new : MemShelf) (w : ShelfWrite) (r : Option ShelfFault) → Turns (standing_of old) (standing_of new) (is_ok_write w (answered r)) (maps_after w (standing_of old).maps)
+    → contents new ≡ contents_after w r (contents old)
+written old new w None turns =
+    let cases : (b : Bool) → is_written w ≡ b → Turns (standing_of old) (standing_of new) b (maps_after w (standing_of old).maps) → contents new ≡ contents_with w (contents old) =
+    λ b. elim b as (λ b. is_written w ≡ b → Turns (standing_of old) (standing_of new) b (maps_after w (standing_of old).maps) → contents new ≡ contents_with w (contents old)) [
+      | true ↦ λ e t. done old new w e t
+      | false ↦ λ e t. kept old new (maps_after w (standing_of old).maps) t ∙ sym (unwritten_same w (contents old) e)
+    ] in
+    cases (is_written w) refl turns
+written old new w (Some fault) turns = kept old new (maps_after w (standing_of old).maps) turns
+
+-- ---- an event
+
+module _ (i : Image) (e : Event) (old new : MemShelf) where
+  abbrev c : Contents
+  c = contents old
+
+  -- what an event heard is what the contents answer, and the contents are those after it
+  pub served : (heard : Heard) → Serves standing_of never_failed old new (question i e) (writing i e heard) heard
+      → (heard ≡ heard_by c i e) × (contents new ≡ shelf_after c i e heard)
+  served heard serves =
+      let before : contents serves.between ≡ c = asked old serves.between _ serves.asked in
+      let read : heard.read ≡ read_in c (question i e) = reads c (question i e) heard.read (subst (λ m. IsRead Fails m (question i e) heard.read) (sym (shows old)) (serves.read trusted)) in
+      let answers : IsAnswered Fails (maps_in c) (writing i e heard) (answered heard.refused) =
+      subst (λ m. IsAnswered Fails m (writing i e heard) (answered heard.refused)) (sym (shows serves.between) ∙ ap maps_in before) (serves.answers trusted) in
+      let refused : heard.refused ≡ refusal_in c (writing i e heard) = refuses c (writing i e heard) heard.refused answers serves.ample in (
+        λ j. record { read = read j; refused = (refused ∙ ap (λ (r : Read). refusal_in c (writing i e (record { read = r; refused = None }))) read) j },
+        written serves.between new (writing i e heard) heard.refused serves.written ∙ ap (contents_after (writing i e heard) heard.refused) before,
+      )
+
+  -- an event that was refused leaves the contents
+  pub spared : Spares standing_of never_failed old new → contents new ≡ contents old
+  spared spares = kept spares.between new spares.after spares.written ∙ asked old spares.between spares.was_read spares.asked

@@ -1,0 +1,5 @@
+use Rattle.daemon_script.proofs.Applied.{empty_shelf}
+use Rattle.daemon_script.proofs.player.Player.open.Goals as goal
+
+pub returns : goal.returns
+returns c = λ i. record { player = (c.in_ok-open.ensures i).present; shelf = empty_shelf c.new.result c.new.ensures i }

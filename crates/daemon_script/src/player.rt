@@ -1,0 +1,88 @@
+//! A script's player: a partition, and the shelf in memory that it is lent at each event.
+ghost use Rattle.std.specs.Prelude.{◌≡◌, ◌≤◌, ◌<◌, None, Some, IfErr, IfOk, OnErr, OnOk, true};
+ghost use Rattle.partition.specs.Image.{opening};
+ghost use Rattle.daemon_script.specs.Contents.{no_contents};
+ghost use Rattle.daemon_script.specs.Kinds.{images};
+ghost use Rattle.daemon_script.specs.Pieces.{RunsWhole, StopsWhole, has_memory};
+ghost use Rattle.daemon_script.specs.Script.{fault_of};
+
+use command_lists::ListForm;
+use mpd_command::Request;
+use partition::{
+    Event, Library, ListFault, ListOutcome, Outcome, Partition, PartitionFault, Setup,
+};
+use shelf::MemShelf;
+use std::alloc::{AllocError, Global};
+use std::marker::Model;
+
+/// The one seat of a script's events.
+const SEAT: u8 = 0;
+
+/// A player, and its shelf. A clause sees what commands read of the player, and the contents of the shelf.
+#[derive(Drop)]
+pub(crate) struct Player {
+    partition: Partition,
+    shelf: MemShelf,
+}
+
+impl Model for Player {
+    ghost use Rattle.partition.specs.Image.{Image};
+    ghost use Rattle.daemon_script.specs.Contents.{contents_of};
+    ghost use Rattle.daemon_script.specs.Kinds.{Shelved};
+
+    ghost Value = { Shelved Image };
+
+    // A map has no code of its own, so its code is named.
+    ghost use Rattle.std.specs.Coded.{codes};
+    ghost use Rattle.std.specs.FinMap as finite;
+
+    ghost coded = { Prim.hlevel (codes, finite.code) };
+
+    ghost view = { λ p. record { player = p.partition.present; shelf = contents_of p.shelf.lists p.shelf.stickers } };
+}
+
+impl Player {
+    /// A player over a library, to which nothing happened, with an empty shelf.
+    pub(crate) fn open(alloc: Global, setup: Setup, library: Library) -> Result<Player, AllocError>
+        requires version { 1 ≤ setup.limits.max_version }
+        requires max_cut { setup.limits.max_cut < 9223372036854775808 }
+        ensures { IfOk result (λ player. player ≡ record { player = opening setup library; shelf = no_contents }) }
+    {
+        Ok(Player {
+            partition: Partition::open(alloc, setup, library)?,
+            shelf: MemShelf::new(alloc),
+        })
+    }
+
+    /// Whether a client is connected.
+    pub(crate) fn has_client(&self, number: u32) -> bool
+        ensures { result ≡ images.is_there number self.now }
+    {
+        self.partition.has_client(number)
+    }
+
+    /// Applies an event.
+    pub(crate) fn apply(&mut self, event: Event) -> Result<Outcome, PartitionFault>
+        ensures told { IfOk result (λ outcome. outcome ≡ images.told self.old event) }
+        ensures player { OnOk result (self.new ≡ images.after self.old event) }
+        ensures err { OnErr result (self.new ≡ self.old) }
+        ensures within { OnOk result (fault_of true (images.limit self.old event) ≡ None) }
+        ensures refused { IfErr result (λ fault. fault_of (has_memory fault) (images.limit self.old event) ≡ Some fault) }
+    {
+        self.partition.apply(SEAT, &mut self.shelf, event)
+    }
+
+    /// Runs the requests of a command list, up to the first that ends the list.
+    pub(crate) fn run_list(
+        &mut self,
+        client: u32,
+        form: ListForm,
+        requests: Vec<Request>,
+    ) -> Result<ListOutcome, ListFault>
+        ensures ok { IfOk result (λ tolds. RunsWhole self.old self.new client form requests.items tolds) }
+        ensures err { IfErr result (λ stop. StopsWhole self.old self.new client form requests.items stop) }
+    {
+        self.partition
+            .run_list(SEAT, &mut self.shelf, client, form, requests)
+    }
+}

@@ -1,0 +1,70 @@
+-- What the words after `sticker` ask for (MPD protocol reference, Stickers). The first says how many there have to be, which is
+-- looked at before any form; then the forms are looked at from the left (this order is this profile's).
+use Rattle.std.specs.Prelude.{ℕ, nat_le, ◌&&◌, List, [], ◌∷◌, length, Option, Some, None, Result, Err, if◌then◌else◌, codes}
+use Rattle.std.specs.Str.{bytes_eq}
+use Rattle.mpd_command.specs.Forms.{uri_of}
+use Rattle.mpd_command.specs.Readers.{map_ok, argument_of, both}
+use Rattle.mpd_command.specs.declared.forms.Uri.{Uri}
+use Rattle.mpd_command.specs.declared.readers.Misread.{Misread}
+use Rattle.mpd_command.specs.declared.readers.Misread.TheVariants.{WrongNumber, Bad}
+use Rattle.mpd_command.specs.declared.sticker.Comparison.{Comparison}
+use Rattle.mpd_command.specs.declared.sticker.Operator.{Operator}
+use Rattle.mpd_command.specs.declared.sticker.Operator.TheVariants.{Equals, Less, Greater}
+use Rattle.mpd_command.specs.declared.sticker.StickerCommand.{StickerCommand}
+use Rattle.mpd_command.specs.declared.sticker.StickerCommand.TheVariants.{Get, Set, Delete, List as ListStickers, Find}
+
+-- =, < or >
+abbrev pub operator_of : List ℕ → Option Operator
+operator_of word =
+    if bytes_eq word (codes "=") then Some Equals
+    else (if bytes_eq word (codes "<") then Some Less
+    else (if bytes_eq word (codes ">") then Some Greater else None))
+
+-- TYPE URI, where the type is song
+abbrev pub song_of : List ℕ → List ℕ → Result Uri Misread
+song_of kind uri = if bytes_eq kind (codes "song") then argument_of uri_of uri else Err (Bad kind)
+
+-- OP VALUE
+abbrev pub comparison_of : List ℕ → List ℕ → Result Comparison Misread
+comparison_of operator value = map_ok (λ o. record { operator = o; value = value }) (argument_of operator_of operator)
+
+-- TYPE URI NAME
+abbrev pub get_of : List (List ℕ) → Result StickerCommand Misread
+get_of (kind ∷ uri ∷ name ∷ []) = map_ok (λ song. Get song name) (song_of kind uri)
+get_of _ = Err WrongNumber
+
+-- TYPE URI NAME VALUE
+abbrev pub set_of : List (List ℕ) → Result StickerCommand Misread
+set_of (kind ∷ uri ∷ name ∷ value ∷ []) = map_ok (λ song. Set song name value) (song_of kind uri)
+set_of _ = Err WrongNumber
+
+-- TYPE URI [NAME]
+abbrev pub delete_of : List (List ℕ) → Result StickerCommand Misread
+delete_of (kind ∷ uri ∷ []) = map_ok (λ song. Delete song None) (song_of kind uri)
+delete_of (kind ∷ uri ∷ name ∷ []) = map_ok (λ song. Delete song (Some name)) (song_of kind uri)
+delete_of _ = Err WrongNumber
+
+-- TYPE URI
+abbrev pub list_of : List (List ℕ) → Result StickerCommand Misread
+list_of (kind ∷ uri ∷ []) = map_ok ListStickers (song_of kind uri)
+list_of _ = Err WrongNumber
+
+-- TYPE URI NAME [OP VALUE]
+abbrev pub find_of : List (List ℕ) → Result StickerCommand Misread
+find_of (kind ∷ uri ∷ name ∷ []) = map_ok (λ song. Find song name None) (song_of kind uri)
+find_of (kind ∷ uri ∷ name ∷ operator ∷ value ∷ []) = map_ok (λ p. Find p.0 name (Some p.1)) (both (song_of kind uri) (comparison_of operator value))
+find_of _ = Err WrongNumber
+
+-- another first word, where 2 to 5 words after it are as many as some first word takes
+abbrev pub other_of : List ℕ → List (List ℕ) → Result StickerCommand Misread
+other_of verb words = if nat_le 2 (length words) && nat_le (length words) 5 then Err (Bad verb) else Err WrongNumber
+
+-- the words after `sticker`
+abbrev pub sticker_of : List (List ℕ) → Result StickerCommand Misread
+sticker_of [] = Err WrongNumber
+sticker_of (verb ∷ words) =
+    if bytes_eq verb (codes "get") then get_of words
+    else (if bytes_eq verb (codes "set") then set_of words
+    else (if bytes_eq verb (codes "delete") then delete_of words
+    else (if bytes_eq verb (codes "list") then list_of words
+    else (if bytes_eq verb (codes "find") then find_of words else other_of verb words))))

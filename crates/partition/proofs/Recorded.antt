@@ -1,0 +1,68 @@
+-- Events that joined the history, or were refused.
+use Rattle.std.proofs.Common.{◌≡◌, ◌⊎◌, inl, inr, ℕ, Bool, true, false, not, ◌||◌, List, [], ◌∷◌, ◌++◌, Option, Some, None, refl, ap, sym, subst, ◌∙◌, if◌then◌else◌}
+use Rattle.std.specs.Prelude.{nat_le, slice_index_or}
+use Rattle.shelf.specs.Calls.{Call}
+use Rattle.shelf.specs.Maps.{Standing}
+use Rattle.partition.specs.declared.event.Event.{Event}
+use Rattle.partition.specs.declared.event.Happened.{Happened}
+use Rattle.partition.specs.declared.partition.PartitionFault.{PartitionFault}
+use Rattle.partition.specs.declared.partition.PartitionFault.TheVariants.{CutsAtLimit, AtLimit, NoMemory}
+use Rattle.partition.specs.Answers.{Told}
+use Rattle.partition.specs.Image.{Image, counted}
+use Rattle.partition.specs.Lent.{IsRefused, Records, question, writing}
+use Rattle.partition.specs.Refusals.{MayRefuse, RefusesTurn}
+use Rattle.partition.specs.Shelves.{Serves, Spares}
+use Rattle.partition.specs.Step.{after_turn, counts_frames, hearing, heard_at, keeps_limits, limit_of, next_image, told, told_by, turn}
+use Rattle.partition.proofs.Lending.{may_want}
+
+abbrev IsFree : ℕ → Image → Type 0
+IsFree seat i = nat_le 9223372036854775807 (slice_index_or i.shared.made seat 0) ≡ false
+
+-- what refuses a turn is the limit that its event would pass, or want of memory
+pub may_refuse : (seat : ℕ) (i : Image) (e : Event) (fault : PartitionFault) → IsFree seat i → RefusesTurn i (turn i e) fault → MayRefuse (limit_of seat i e) fault
+unfolding limit_of
+may_refuse seat i e AtLimit free refused = rw (free, refused) (inl refl)
+may_refuse seat i e CutsAtLimit free refused = rw (free, refused.0, refused.1) (inl refl)
+may_refuse seat i e NoMemory free refused = may_want (limit_of seat i e)
+
+-- an event that passes no limit
+pub is_within : (seat : ℕ) (i : Image) (e : Event) → IsFree seat i → counts_frames i (turn i e) ≡ true → keeps_limits i (turn i e) ≡ true → limit_of seat i e ≡ None
+unfolding limit_of
+is_within seat i e free counts keeps = rw (free, counts, keeps) refl
+
+pub is_told : (i : Image) (e : Event) (outcome : Told) → outcome ≡ told_by i e (turn i e) → outcome ≡ told i e
+unfolding told
+is_told i e outcome is = is
+
+pub is_next : (seat : ℕ) (i after : Image) (e : Event) → after ≡ counted seat (after_turn i e (turn i e)) → after ≡ next_image seat i e
+unfolding next_image
+is_next seat i after e is = is
+
+module _ {S : Type 0} (standing : S → Standing) (failed : S → S → Call → Type 0) where
+  -- an event joined the history as the one that heard what it heard
+  pub records : (before after : Image) (history later : List Happened) (old new : S) (seat : ℕ) (event heard : Event) (outcome : Told)
+      → heard ≡ hearing event (heard_at heard)
+      → later ≡ history ++ record { seat = seat; event = heard; told = outcome } ∷ []
+      → outcome ≡ told_by before heard (turn before heard) → after ≡ counted seat (after_turn before heard (turn before heard))
+      → IsFree seat before → counts_frames before (turn before heard) ≡ true → keeps_limits before (turn before heard) ≡ true
+      → Serves standing failed old new (question before event) (writing before event (heard_at heard)) (heard_at heard)
+      → Records standing failed before after history later old new seat event outcome
+  records before after history later old new seat event heard outcome heard_is window told_is after_is free counts keeps serves = record {
+    heard = heard_at heard;
+    window = window ∙ ap (λ (e : Event). history ++ record { seat = seat; event = e; told = outcome } ∷ []) heard_is;
+    told_is = is_told before heard outcome told_is ∙ ap (told before) heard_is;
+    present = is_next seat before after heard after_is ∙ ap (next_image seat before) heard_is;
+    within = ap (limit_of seat before) (sym heard_is) ∙ is_within seat before heard free counts keeps;
+    shelf = serves;
+  }
+
+  pub refuses : (i : Image) (old new : S) (seat : ℕ) (event heard : Event) (fault : PartitionFault)
+      → heard ≡ hearing event (heard_at heard) → IsFree seat i → RefusesTurn i (turn i heard) fault
+      → (fault ≡ NoMemory) ⊎ Serves standing failed old new (question i event) (writing i event (heard_at heard)) (heard_at heard)
+      → Spares standing failed old new → IsRefused standing failed i old new seat event fault
+  refuses i old new seat event heard fault heard_is free refused cause spared = record {
+    heard = heard_at heard;
+    refused = subst (λ (e : Event). MayRefuse (limit_of seat i e) fault) heard_is (may_refuse seat i heard fault free refused);
+    cause = elim cause [ inl none ↦ inl none | inr serves ↦ inr (inr serves) ];
+    spared = spared;
+  }

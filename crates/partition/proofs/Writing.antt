@@ -1,0 +1,108 @@
+-- Events that write to the shelf.
+use Rattle.std.proofs.Common.{◌≡◌, ℕ, Bool, true, false, List, Option, Some, None, refl, ap, sym, ◌∙◌, if◌then◌else◌}
+use Rattle.mpd_command.specs.declared.request.Request.{Request}
+use Rattle.shelf.specs.declared.faults.ShelfFault.{ShelfFault}
+use Rattle.partition.specs.declared.doing.Doing.TheVariants.{Settles}
+use Rattle.partition.specs.declared.event.Event.{Event}
+use Rattle.partition.specs.declared.event.Event.TheVariants.{Connect, Disconnect, Line, ScanQuestion, ScanResult, Want, Have, Failed, OutputTurn}
+use Rattle.partition.specs.declared.event.Stand.{Stand}
+use Rattle.partition.specs.declared.shelf_calls.Heard.{Heard}
+use Rattle.partition.specs.declared.state.Client.{Client}
+use Rattle.partition.specs.declared.state.Library.{Library}
+use Rattle.partition.specs.declared.state.Part.{Part}
+use Rattle.partition.specs.Answers.{refused_by_shelf, stays}
+use Rattle.partition.specs.Image.{Turn, client_of}
+use Rattle.partition.specs.Outputs.{is_output}
+use Rattle.partition.specs.Shelves.{is_written}
+use Rattle.partition.specs.Step.{acts, heard_at, hearing, name_at, name_of, once_written, quiet, stand_of, turn_line, turn_of, unspoken, written_turn}
+
+-- an event hears what it heard
+pub same_hearing : (event : Event) → event ≡ hearing event (heard_at event)
+same_hearing (Line number stand request heard) = refl
+same_hearing (Connect number) = refl
+same_hearing (Disconnect number) = refl
+same_hearing ScanQuestion = refl
+same_hearing (ScanResult songs) = refl
+same_hearing (Want owes) = refl
+same_hearing (Have number frames) = refl
+same_hearing (Failed number partner) = refl
+same_hearing (OutputTurn output written discarded failed) = refl
+
+pub hears_last : (event : Event) (first last : Heard) → hearing (hearing event first) last ≡ hearing event last
+hears_last (Line number stand request heard) first last = refl
+hears_last (Connect number) first last = refl
+hears_last (Disconnect number) first last = refl
+hears_last ScanQuestion first last = refl
+hears_last (ScanResult songs) first last = refl
+hears_last (Want owes) first last = refl
+hears_last (Have number frames) first last = refl
+hears_last (Failed number partner) first last = refl
+hears_last (OutputTurn output written discarded failed) first last = refl
+
+pub hears_so : (event : Event) (heard : Heard) → hearing event heard ≡ hearing event (heard_at (hearing event heard))
+hears_so (Line number stand request before) heard = refl
+hears_so (Connect number) heard = refl
+hears_so (Disconnect number) heard = refl
+hears_so ScanQuestion heard = refl
+hears_so (ScanResult songs) heard = refl
+hears_so (Want owes) heard = refl
+hears_so (Have number frames) heard = refl
+hears_so (Failed number partner) heard = refl
+hears_so (OutputTurn output written discarded failed) heard = refl
+
+abbrev Unwritten : Turn → Type 0
+Unwritten t = is_written t.written ≡ false
+
+no_settle : (b : Bool) (t u : Turn) → Unwritten t → Unwritten u → Unwritten (if b then t else u)
+no_settle true t u e f = e
+no_settle false t u e f = f
+
+module _ (part : Part) (library : Library) (ks : List Client) where
+  abbrev Writes : Event → Type 0
+  Writes event = is_written (turn_of part library ks event).written ≡ true
+
+  never : (t : Turn) → Unwritten t → is_written t.written ≡ true → ⊥
+  never t e w = (let clash : true ≡ false = sym w ∙ e in cc)
+
+  -- only a line writes, and it hears what it is told
+  pub hears : (event : Event) → Writes event → (heard : Heard) → heard_at (hearing event heard) ≡ heard
+  hears (Line number stand request before) w heard = refl
+  hears (Connect number) w heard = cc
+  hears (Disconnect number) w heard = cc
+  hears ScanQuestion w heard = cc
+  hears (ScanResult songs) w heard = cc
+  hears (Want owes) w heard = cc
+  hears (Have number frames) w heard = cc
+  hears (Failed number partner) w heard = cc
+  hears (OutputTurn output written discarded failed) w heard =
+      absurd (never (if is_output part.outputs output then acts (Settles output written discarded failed) else quiet unspoken)
+      (no_settle (is_output part.outputs output) (acts (Settles output written discarded failed)) (quiet unspoken) refl refl) w)
+
+  refused_line : (stand : Stand) (request : Request) (t : Turn) (fault : ShelfFault) → is_written (written_turn stand request None t).written ≡ true
+      → written_turn stand request (Some fault) t ≡ quiet (stays (refused_by_shelf stand (name_of request) fault))
+  refused_line stand request t fault w =
+      let cases : (b : Bool) → is_written t.written ≡ b → is_written (if b then once_written stand request None t else t).written ≡ true
+      → (if b then once_written stand request (Some fault) t else t) ≡ quiet (stays (refused_by_shelf stand (name_of request) fault)) =
+      λ b. elim b as (λ b. is_written t.written ≡ b → is_written (if b then once_written stand request None t else t).written ≡ true
+      → (if b then once_written stand request (Some fault) t else t) ≡ quiet (stays (refused_by_shelf stand (name_of request) fault))) [
+        | true ↦ λ e h. refl
+        | false ↦ λ e h. (let clash : true ≡ false = sym h ∙ e in cc)
+      ] in
+      cases (is_written t.written) refl w
+
+  -- an event whose write the shelf refuses is answered so, and does nothing
+  pub refused_turn : (event : Event) (fault : ShelfFault) → Writes event → (heard_at event).refused ≡ None
+      → turn_of part library ks (hearing event (record (heard_at event) { refused = Some fault })) ≡ quiet (stays (refused_by_shelf (stand_of event) (name_at event) fault))
+  refused_turn (Line number stand request heard) fault w none =
+      refused_line stand request (turn_line part library (client_of number ks) stand request heard.read) fault
+      (ap (λ (r : Option ShelfFault). is_written (written_turn stand request r (turn_line part library (client_of number ks) stand request heard.read)).written) (sym none) ∙ w)
+  refused_turn (Connect number) fault w none = cc
+  refused_turn (Disconnect number) fault w none = cc
+  refused_turn ScanQuestion fault w none = cc
+  refused_turn (ScanResult songs) fault w none = cc
+  refused_turn (Want owes) fault w none = cc
+  refused_turn (Have number frames) fault w none = cc
+  refused_turn (Failed number partner) fault w none = cc
+  refused_turn (OutputTurn output written discarded failed) fault w none =
+      absurd (never (if is_output part.outputs output then acts (Settles output written discarded failed) else quiet unspoken)
+      (no_settle (is_output part.outputs output) (acts (Settles output written discarded failed)) (quiet unspoken) refl refl) w)

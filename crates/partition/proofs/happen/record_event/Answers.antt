@@ -1,0 +1,21 @@
+use Rattle.std.proofs.Common.{◌≡◌, ◌∙◌, ap, sym, rules}
+use Rattle.partition.specs.Image.{Image, counted, image_of_state}
+use Rattle.partition.proofs.Lending.{wanting}
+use Rattle.partition.proofs.Recorded.{records, refuses}
+use Rattle.partition.proofs.happen.record_event.Goals as goal
+
+pub returns-then-is_err-clause-refused : goal.returns-then-is_err-clause-refused
+returns-then-is_err-clause-refused g c =
+    wanting g.S.Shelf.standing g.S.Shelf.failed c.args.seat (image_of_state c.args.state.now) c.args.shelf.now c.args.event
+
+pub returns-in-Ok-clause-ok : goal.returns-in-Ok-clause-ok
+returns-in-Ok-clause-ok g c =
+    let i : Image = image_of_state c.args.state.now in
+    records g.S.Shelf.standing g.S.Shelf.failed i _ c.args.history.now.items _ c.args.shelf.now c.apply_event.new.shelf c.args.seat c.args.event c.apply_event.new.event _
+    c.apply_event.ensures.event (search rules) (search rules) (search rules) (search rules) (search rules) (search rules) (search rules)
+
+pub returns-in-Err-clause-refused : goal.returns-in-Err-clause-refused
+returns-in-Err-clause-refused g c =
+    let i : Image = image_of_state c.args.state.now in
+    refuses g.S.Shelf.standing g.S.Shelf.failed i c.args.shelf.now c.apply_event.new.shelf c.args.seat c.args.event c.apply_event.new.event c.in-Err.fault
+    c.apply_event.ensures.event (search rules) (search rules) (search rules) (search rules)

@@ -1,0 +1,35 @@
+-- One step of a walk over a list.
+use Rattle.std.proofs.Common.{◌≡◌, ℕ, ◌-◌, ◌<◌, zero, suc, List, [], ◌∷◌, ◌++◌, ◌≤◌, length, take, drop, map, Option, Some, None, refl, sym, ap, ◌∙◌, arith, append_assoc, sub-one}
+use Rattle.std.specs.List.{slice_get, filter_map, cons_option}
+use Rattle.std.specs.Option.{option_to_list}
+
+take_first : {X : Type 0} (left : ℕ) (x : X) (more : List X) → 0 < left → take left (x ∷ more) ≡ x ∷ take (left - 1) more
+take_first zero x more some = absurd (omega (arith, some))
+take_first (suc left) x more some = rw sub-one refl
+
+pub first_more : {X : Type 0} (list lines more : List X) (x : X) (left : ℕ) → lines ≡ x ∷ more → 0 < left → (list ++ x ∷ []) ++ take (left - 1) more ≡ list ++ take left lines
+first_more list lines more x left is some = rw (is, take_first left x more some) (append_assoc list (x ∷ []) (take (left - 1) more))
+
+cons_is : {Y : Type 0} (o : Option Y) (ys : List Y) → cons_option o ys ≡ option_to_list o ++ ys
+cons_is None ys = refl
+cons_is (Some y) ys = refl
+
+pub song_more : {X Y : Type 0} (h : X → Option Y) (songs : List Y) (lines more : List X) (x : X) (left : ℕ) → lines ≡ x ∷ more → 0 < left
+    → (songs ++ option_to_list (h x)) ++ filter_map h (take (left - 1) more) ≡ songs ++ filter_map h (take left lines)
+song_more h songs lines more x left is some =
+    rw (is, take_first left x more some) (append_assoc songs (option_to_list (h x)) (filter_map h (take (left - 1) more)) ∙ ap (λ end. songs ++ end) (sym (cons_is (h x) (filter_map h (take (left - 1) more)))))
+
+pub mapped_more : {X Y : Type 0} (f : X → Y) (xs : List X) (place : ℕ) (x : X) → slice_get xs place ≡ Some x → map f (take (suc place) xs) ≡ map f (take place xs) ++ f x ∷ []
+mapped_more f [] place x known = absurd (cc)
+mapped_more f (y ∷ xs) zero x known = let same : y ≡ x = cc in ap (λ z. f z ∷ []) same
+mapped_more f (y ∷ xs) (suc place) x known = ap (λ more. f y ∷ more) (mapped_more f xs place x known)
+
+pub none_past : {X : Type 0} (xs : List X) (place : ℕ) → slice_get xs place ≡ None → length xs ≤ place
+none_past [] place none = omega arith
+none_past (x ∷ xs) zero none = absurd (cc)
+none_past (x ∷ xs) (suc place) none = omega (arith, none_past xs place none)
+
+pub one_more : {X : Type 0} (xs : List X) (place : ℕ) → drop 1 (drop place xs) ≡ drop (suc place) xs
+one_more xs zero = refl
+one_more [] (suc place) = refl
+one_more (x ∷ xs) (suc place) = one_more xs place

@@ -1,0 +1,38 @@
+-- The songs that have a sticker (MPD protocol reference, Stickers: `sticker find`; that values are compared by their bytes is this profile's).
+use Rattle.std.specs.Prelude.{ℕ, Bool, true, ◌&&◌, List, ◌++◌, flat_map, filter, Option, Some, None, is_some, bytes_eq, if◌then◌else◌}
+use Rattle.std.specs.Cmp.Lexicographic.{slice_cmp}
+use Rattle.std.specs.Ordering.{nat_cmp, is_eq, is_lt, is_gt}
+use Rattle.mpd_text.specs.Songs.Song.{SongData}
+use Rattle.mpd_command.specs.declared.sticker.Comparison.{Comparison}
+use Rattle.mpd_command.specs.declared.sticker.Operator.{Operator}
+use Rattle.mpd_command.specs.declared.sticker.Operator.TheVariants.{Equals, Less, Greater}
+use Rattle.song_db.specs.Library.{song_of}
+use Rattle.song_search.specs.Truth.{is_under}
+use Rattle.shelf_contents.specs.Shown.{uri_line, sticker_of}
+
+-- whether a value is equal to another, less or greater
+abbrev pub compares : Operator → List ℕ → List ℕ → Bool
+compares Equals value other = is_eq (slice_cmp nat_cmp value other)
+compares Less value other = is_lt (slice_cmp nat_cmp value other)
+compares Greater value other = is_gt (slice_cmp nat_cmp value other)
+
+-- whether a value meets a test; without one each does
+abbrev pub meets : Option Comparison → List ℕ → Bool
+meets None value = true
+meets (Some test) value = compares test.operator value test.value
+
+-- whether a URI is asked for: a song by its own, and a folder by those of the songs under it. A name that is a song's is taken as the
+-- song. Each lies under the empty one
+abbrev pub is_asked : Bool → List ℕ → List ℕ → Bool
+is_asked is_song asked uri = if is_song then bytes_eq uri asked else is_under asked uri
+
+-- whether a sticker is asked for, has a value that meets the test, and is that of a song of the library
+abbrev pub is_found : List SongData → List ℕ → Option Comparison → List ℕ × List ℕ → Bool
+is_found songs asked test e = is_asked (is_some (song_of songs asked)) asked e.0 && meets test e.1 && is_some (song_of songs e.0)
+
+-- a URI and its sticker
+abbrev pub found_line : List ℕ → List ℕ × List ℕ → List ℕ
+found_line name e = uri_line e.0 ++ sticker_of name e.1
+
+abbrev pub found_lines : List SongData → List ℕ → List ℕ → Option Comparison → List (List ℕ × List ℕ) → List ℕ
+found_lines songs asked name test entries = flat_map (found_line name) (filter (is_found songs asked test) entries)

@@ -1,0 +1,3 @@
+pub mod Edits
+pub mod Found
+pub mod Shown

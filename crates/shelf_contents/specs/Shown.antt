@@ -1,0 +1,35 @@
+-- The lines that show stored playlists and stickers (MPD protocol reference, Stored playlists: `listplaylist`, `listplaylistinfo`,
+-- `listplaylists`; Stickers: `sticker get`, `sticker list`).
+use Rattle.std.specs.Prelude.{ℕ, List, ◌++◌, codes, flat_map, Option, Some, None}
+use Rattle.mpd_text.specs.Answers.Answer.{pair_line}
+use Rattle.mpd_text.specs.Songs.Song.{SongData}
+use Rattle.song_db.specs.Library.{song_of}
+use Rattle.song_db.specs.Lines.{song_lines}
+
+abbrev pub uri_line : List ℕ → List ℕ
+uri_line uri = pair_line (codes "file") uri
+
+-- the URIs of a list
+abbrev pub uri_lines : List (List ℕ) → List ℕ
+uri_lines uris = flat_map uri_line uris
+
+-- all lines of the song that the library has at a URI, or the URI alone where it has none
+abbrev pub info : ℕ → List ℕ → Option SongData → List ℕ
+info rate uri (Some song) = song_lines rate song
+info rate uri None = uri_line uri
+
+-- the songs of a list
+abbrev pub info_lines : ℕ → List SongData → List (List ℕ) → List ℕ
+info_lines rate songs uris = flat_map (λ uri. info rate uri (song_of songs uri)) uris
+
+-- the names of lists
+abbrev pub playlist_lines : List (List ℕ) → List ℕ
+playlist_lines names = flat_map (λ name. pair_line (codes "playlist") name) names
+
+-- a sticker's name and its text
+abbrev pub sticker_of : List ℕ → List ℕ → List ℕ
+sticker_of name value = pair_line (codes "sticker") (name ++ codes "=" ++ value)
+
+-- the stickers of a URI
+abbrev pub stickers_of : List (List ℕ × List ℕ) → List ℕ
+stickers_of entries = flat_map (λ e. sticker_of e.0 e.1) entries

@@ -1,0 +1,85 @@
+//! A player that is lent a shelf over a database.
+use mpd_command::Request;
+use mpd_text::Song;
+use partition::{Event, Library, Limits, Outputs, Partition, Scan, Setup, Stand};
+use shelf_database::SqlShelf;
+use song_db::{Db, Rate, SharedDb};
+use sqlite::Alter;
+use std::alloc::{AllocError, Global};
+
+/// A song without tags.
+fn song(alloc: Global, uri: &str, frames: u64) -> Result<Song, AllocError> {
+    let uri = String::from_str(alloc, uri)?;
+    match Song::new(uri, Vec::new(alloc), frames) {
+        Some(song) => Ok(song),
+        None => Err(AllocError),
+    }
+}
+
+/// A song of one second, and one of four frames.
+fn songs(alloc: Global) -> Result<Vec<Song>, AllocError> {
+    let mut songs = Vec::new(alloc);
+    songs.push(song(alloc, "a.wav", 8000)?)?;
+    songs.push(song(alloc, "s.wav", 4)?)?;
+    Ok(songs)
+}
+
+fn library(alloc: Global) -> Result<Library, AllocError> {
+    let Ok(songs) = Db::of_songs(alloc, songs(alloc)?) else {
+        return Err(AllocError);
+    };
+    Ok(Library {
+        songs: SharedDb::new(alloc, songs)?,
+        rate: Rate::lowest(),
+        scan: Scan::never(),
+    })
+}
+
+/// A player without outputs.
+fn opened(alloc: Global) -> Result<Partition, AllocError> {
+    let limits = Limits {
+        max_queue: 16384,
+        max_version: 2147483647,
+        max_id: 2147483647,
+        max_cut: 9223372036854775807,
+    };
+    let setup = Setup {
+        limits,
+        random_start: 0,
+        outputs: Outputs::none(alloc),
+    };
+    Partition::open(alloc, setup, library(alloc)?)
+}
+
+/// Applies an event, and adds what the client hears of it. Here alone it is proved that a player can be lent this shelf.
+fn happens<S: Alter + Drop>(
+    player: &mut Partition,
+    shelf: &mut SqlShelf<S>,
+    event: Event,
+    all: &mut String,
+) -> Result<(), AllocError> {
+    match player.apply(3, shelf, event) {
+        Ok(outcome) => all.push_str(outcome.reply().text()),
+        Err(_) => all.push_str("not applied\n"),
+    }
+}
+
+fn line_of(alloc: Global, line: &str) -> Result<Event, AllocError> {
+    let request = Request::of_line(alloc, line, false)?;
+    Ok(Event::line(1, Stand::Alone, request))
+}
+
+/// What a client hears that comes to a new player and says these lines.
+pub fn session<S: Alter + Drop>(
+    alloc: Global,
+    shelf: &mut SqlShelf<S>,
+    lines: &str,
+) -> Result<String, AllocError> {
+    let mut player = opened(alloc)?;
+    let mut all = String::new(alloc);
+    happens(&mut player, shelf, Event::Connect(1), &mut all)?;
+    for line in lines.lines() {
+        happens(&mut player, shelf, line_of(alloc, line)?, &mut all)?;
+    }
+    Ok(all)
+}
