@@ -1,5 +1,5 @@
 //! Whole runs of a script.
-ghost use Rattle.std.specs.Prelude.{◌≡◌, ◌⊎◌, ◌≤◌, ◌+◌, ◌^◌, OnOk, OnErr, IfErr, IfSome, IsErrOf, IsSome};
+ghost use Rattle.std.specs.Prelude.{◌≡◌, ◌⊎◌, ◌≤◌, ◌+◌, ◌^◌, OnOk, OnErr, IfErr, IfSome, IsErrOf, IsSome, Some, []};
 ghost use Rattle.std.specs.Io.KnownBytes.{Appends};
 ghost use Rattle.mpd_text.specs.Lines.Cut.{split_from};
 ghost use Rattle.mpd_text.specs.Devices.Tally.{HasFailed, NoFewer};
@@ -7,6 +7,7 @@ ghost use Rattle.mpd_text.specs.Lines.Split.{views};
 ghost use Rattle.daemon_script.specs.Kinds.{images, lives};
 ghost use Rattle.daemon_script.specs.Output.{WritesOutput, WritesAll, WritesFront, AppendsFront, CalledTooOften};
 ghost use Rattle.daemon_script.specs.Pieces.{ShowsLines, ShowsPiece};
+ghost use Rattle.daemon_script.specs.Script.{opening_script};
 
 use crate::laws::runs_are_lived;
 use crate::script::Script;
@@ -64,15 +65,27 @@ pub fn run_script<R: Source, W: Sink>(
     ensures write_fault { IsErrOf result ScriptFault.WriteFault → HasFailed (W.tally writer.old) (W.tally writer.new) }
 {
     runs_are_lived();
-    run_pieces(alloc, reader, writer)
+    let mut splitter = Splitter::new(alloc);
+    let mut script = Script::new(alloc);
+    let ran = run_pieces(alloc, reader, writer, &mut splitter, &mut script);
+    discard(script);
+    ran
 }
+
+/// Drops a script. It is a function of its own, and the run is lent the script, so that the proof of each way out does not go through
+/// all that a player owns.
+fn discard(_script: Script) {}
 
 /// Reads a script to its end, piece by piece. What is written is told by what commands read of the player.
 fn run_pieces<R: Source, W: Sink>(
     alloc: Global,
     reader: &mut R,
     writer: &mut W,
+    splitter: &mut Splitter,
+    script: &mut Script,
 ) -> Result<(), ScriptFault>
+    requires splitter { splitter.old ≡ Some [] }
+    requires script { script.old ≡ opening_script }
     ensures ok { OnOk result (IfSome (R.remaining reader.old) (WritesOutput images (W.contents writer.old) (W.contents writer.new))) }
     ensures read { IsErrOf result ScriptFault.ReadFault → WritesAll images (R.remaining reader.old) (R.remaining reader.new) (W.contents writer.old) (W.contents writer.new) }
     ensures front { OnErr result (WritesFront images (R.remaining reader.old) (R.remaining reader.new) (W.contents writer.old) (W.contents writer.new)) }
@@ -81,8 +94,6 @@ fn run_pieces<R: Source, W: Sink>(
     ensures write_fault { IsErrOf result ScriptFault.WriteFault → HasFailed (W.tally writer.old) (W.tally writer.new) }
 {
     any_cut();
-    let mut splitter = Splitter::new(alloc);
-    let mut script = Script::new(alloc);
     let mut shown = Vec::new(alloc);
     let mut piece = [0u8; PIECE];
     for _ in 0..MAX_READS {
@@ -94,7 +105,7 @@ fn run_pieces<R: Source, W: Sink>(
             return Ok(());
         }
         shown.clear();
-        show_piece(&mut splitter, &mut script, &piece[..count], &mut shown)?;
+        show_piece(splitter, script, &piece[..count], &mut shown)?;
         write_whole(writer, shown.as_slice())?;
         if splitter.is_closed() {
             return Ok(());

@@ -5,7 +5,7 @@ use Rattle.daemon_script.proofs.Ran.{start_ran, all_here, front_of_all, keeps_sa
 use Rattle.daemon_script.proofs.run.run_pieces.Goals as goal
 
 pub loop-init : goal.loop-init
-loop-init g c = start_ran _ _ _ _ _ _ c.new-splitter.ensures c.new-script.ensures
+loop-init g c = start_ran _ _ _ _ _ _ c.requires.splitter c.requires.script
 
 pub returns-in-Err-clause-read : goal.returns-in-Err-clause-read
 returns-in-Err-clause-read g c = λ _. all_here _ _ _ _ _ _ _ _ _ _ _ _ c.loop.invariant c.in-Err.ensures.bytes
