@@ -99,6 +99,14 @@ impl Channels {
         }
     }
 
+    /// Who listens to what, and what waits, a second time: what becomes of either leaves the other as it is. No message is copied.
+    pub fn image(&self) -> Result<Channels, AllocError>
+        ensures { IfOk result (λ image. image ≡ self.now) }
+    {
+        let members = copies(*self.members.allocator(), &self.members)?;
+        Ok(Channels { members })
+    }
+
     /// A client listens to a channel from now on (MPD protocol reference, `subscribe`). Where it is refused, nothing changes; want
     /// of memory is the last cause. That a client listens to at most [`MAX_SUBSCRIPTIONS`] channels is this profile's.
     pub fn subscribe(&mut self, client: u32, name: &str) -> Result<(), ChannelFault>
@@ -559,4 +567,45 @@ fn sort_once(names: &mut Vec<&str>)
 {
     names.sort_unstable();
     names.dedup();
+}
+
+/// What is known of the same clients, a second time.
+fn copies(alloc: Global, members: &[Member]) -> Result<Vec<Member>, AllocError>
+    ensures { IfOk result (λ copies. map data_of copies.items ≡ map data_of members.now) }
+{
+    let mut copies = Vec::with_capacity(alloc, members.len())?;
+    for member in members {
+        copies.push(copy_of(alloc, member)?)?;
+    }
+    Ok(copies)
+}
+
+fn copy_of(alloc: Global, member: &Member) -> Result<Member, AllocError>
+    ensures { IfOk result (λ copy. data_of copy ≡ data_of member.now) }
+{
+    Ok(Member {
+        client: member.client,
+        names: same_names(alloc, &member.names)?,
+        messages: same_messages(alloc, &member.messages)?,
+    })
+}
+
+fn same_names(alloc: Global, names: &[Text]) -> Result<Vec<Text>, AllocError>
+    ensures { IfOk result (λ copies. copies.items ≡ names.now) }
+{
+    let mut copies = Vec::with_capacity(alloc, names.len())?;
+    for name in names {
+        copies.push(Text::new(alloc, name.as_str())?)?;
+    }
+    Ok(copies)
+}
+
+fn same_messages(alloc: Global, messages: &[Message]) -> Result<Vec<Message>, AllocError>
+    ensures { IfOk result (λ copies. copies.items ≡ messages.now) }
+{
+    let mut copies = Vec::with_capacity(alloc, messages.len())?;
+    for message in messages {
+        copies.push(message.shared()?)?;
+    }
+    Ok(copies)
 }

@@ -26,6 +26,10 @@ fn library<R: Abort>(rt: &R, alloc: Global, songs: Vec<Song>) -> Db {
     Db::of_songs(alloc, songs).expect(rt, "no library")
 }
 
+fn image<R: Abort>(rt: &R, db: &Db) -> Db {
+    db.image().expect(rt, "no memory")
+}
+
 /// Why these songs are no library.
 fn fault(alloc: Global, songs: Vec<Song>) -> Option<DbFault> {
     match Db::of_songs(alloc, songs) {
@@ -85,6 +89,27 @@ fn songs_in_byte_order(rt: HostRuntime) {
     holds(&rt, frames_of(&db, "a.wa").is_none(), "a.wa");
     holds(&rt, frames_shared(&rt, &db, "b.wav") == Some(8000), "b.wav");
     holds(&rt, frames_shared(&rt, &db, "c.wav").is_none(), "c.wav");
+}
+
+#[test]
+fn an_image_stays(rt: HostRuntime) {
+    let mut db = four_songs(&rt, rt.alloc());
+    let image = image(&rt, &db);
+    db = library(&rt, rt.alloc(), songs(&rt, rt.alloc(), &[(9, "a.wav")]));
+    holds(&rt, frames_of(&db, "a.wav") == Some(9), "a.wav now");
+    let told = uris(&rt, rt.alloc(), image.songs());
+    wants(
+        &rt,
+        "its songs",
+        told.as_str(),
+        "B.wav a.wav a/z.wav b.wav ",
+    );
+    holds(&rt, frames_of(&image, "a.wav") == Some(24000), "a.wav");
+    holds(
+        &rt,
+        frames_shared(&rt, &image, "b.wav") == Some(8000),
+        "b.wav",
+    );
 }
 
 #[test]
@@ -165,6 +190,23 @@ fn the_greatest_library(rt: HostRuntime) {
     holds(&rt, frames_of(&db, "000001") == Some(1), "the first");
     holds(&rt, frames_of(&db, "100000") == Some(100_000), "the last");
     holds(&rt, frames_of(&db, "100001").is_none(), "none");
+}
+
+/// The image of the greatest library, which is gone.
+fn image_of_the_greatest<R: Abort>(rt: &R, alloc: Global) -> Db {
+    image(rt, &library(rt, alloc, numbered(rt, alloc, 100_000)))
+}
+
+#[test]
+fn the_greatest_image(rt: HostRuntime) {
+    let image = image_of_the_greatest(&rt, rt.alloc());
+    holds(&rt, image.len() == 100_000, "the length");
+    holds(&rt, are_counted(image.songs()), "the order");
+    holds(
+        &rt,
+        frames_of(&image, "100000") == Some(100_000),
+        "the last",
+    );
 }
 
 #[test]

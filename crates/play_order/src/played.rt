@@ -1,5 +1,5 @@
 //! Played songs, of which one is found at once.
-ghost use Rattle.std.specs.Prelude.{◌≡◌, ℕ, [], not, nat_eq, ◌==◌, ◌≤◌, ◌+◌, if◌then◌else◌, filter, false, OnOk, OnErr, vec_capacity, vec_len};
+ghost use Rattle.std.specs.Prelude.{◌≡◌, ℕ, [], not, nat_eq, ◌==◌, ◌≤◌, ◌+◌, if◌then◌else◌, filter, false, IfOk, OnOk, OnErr, vec_capacity, vec_len};
 ghost use Rattle.std.specs.HashSet.{contains};
 ghost use Rattle.play_order.specs.Draws.{is_among, moved_last, others};
 ghost use Rattle.play_order.specs.Ends.{last_of};
@@ -34,6 +34,16 @@ impl Played {
             order: Vec::new(alloc),
             found: HashSet::new(alloc),
         }
+    }
+
+    /// The same ids in a list of its own.
+    pub(crate) fn image(&self) -> Result<Played, AllocError>
+        ensures { IfOk result (λ image. image ≡ self.now) }
+    {
+        Ok(Played {
+            order: self.order.clone()?,
+            found: self.found.clone()?,
+        })
     }
 
     pub(crate) fn has(&self, id: u32) -> bool

@@ -1,5 +1,5 @@
 //! Ranks, of which that of an id is found at once.
-ghost use Rattle.std.specs.Prelude.{◌≡◌, ℕ, ◌+◌, ◌<◌, ◌≤◌, ◌++◌, [], not, nat_eq, ◌==◌, if◌then◌else◌, length, filter, is_some, Some, None, OnOk, OnErr, vec_capacity, vec_len};
+ghost use Rattle.std.specs.Prelude.{◌≡◌, ℕ, ◌+◌, ◌<◌, ◌≤◌, ◌++◌, [], not, nat_eq, ◌==◌, if◌then◌else◌, length, filter, is_some, Some, None, IfOk, OnOk, OnErr, vec_capacity, vec_len};
 ghost use Rattle.std.specs.HashMap.{get, spare};
 ghost use Rattle.std.specs.Option.{option_or};
 ghost use Rattle.song_queue.specs.declared.edit.Edit.TheVariants.{Insert};
@@ -52,6 +52,16 @@ impl Ranks {
 
     pub(crate) fn allocator(&self) -> Global {
         *self.drawn.allocator()
+    }
+
+    /// The same ranks in a list of its own.
+    pub(crate) fn image(&self) -> Result<Ranks, AllocError>
+        ensures { IfOk result (λ image. image ≡ self.now) }
+    {
+        Ok(Ranks {
+            drawn: self.drawn.clone()?,
+            by_id: self.by_id.clone()?,
+        })
     }
 
     /// The rank of an id; 0, if it has none.

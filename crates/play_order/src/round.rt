@@ -54,6 +54,17 @@ impl Round {
         }
     }
 
+    /// What is remembered, a second time: what becomes of either leaves the other as it is.
+    pub fn image(&self) -> Result<Round, AllocError>
+        ensures { IfOk result (λ image. image ≡ self.now) }
+    {
+        Ok(Round {
+            ranks: self.ranks.image()?,
+            played: self.played.image()?,
+            generator: self.generator.clone()?,
+        })
+    }
+
     /// Entries with these ids joined the queue: each draws a rank, also while the order is not random.
     pub fn added(&mut self, ids: &[u32]) -> Result<(), AllocError>
         ensures ok { OnOk result (self.new ≡ added_lem self.old ids.now) }

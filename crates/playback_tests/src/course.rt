@@ -7,6 +7,7 @@ use play_order::{Consume, Ending, Modes, Round, Single};
 use song_db::SharedSong;
 use song_queue::{Entry, Queue};
 use std::alloc::{AllocError, Global};
+use std::mem;
 
 #[derive(Drop)]
 pub struct Course {
@@ -27,6 +28,15 @@ fn opened(alloc: Global) -> Course {
             consume: Consume::Off,
         },
     }
+}
+
+/// The image of a round, and a copy of its queue.
+fn image(course: &Course) -> Result<Course, AllocError> {
+    Ok(Course {
+        round: course.round.image()?,
+        queue: course.queue.try_clone()?,
+        modes: course.modes,
+    })
 }
 
 fn songs(alloc: Global, count: usize) -> Result<Sequence<SharedSong>, AllocError> {
@@ -211,6 +221,24 @@ fn ids(course: &Course, alloc: Global) -> Result<String, AllocError> {
     Ok(all)
 }
 
+/// Version and parity of the queue, the places that changed since a version, and the ids.
+fn queue_text(course: &Course, alloc: Global, version: u32) -> Result<String, AllocError> {
+    let now = course.queue.version();
+    let parity = course.queue.parity();
+    let changed = changed_since(course, alloc, version)?;
+    let ids = ids(course, alloc)?;
+    format!(in alloc; "version {now}, parity {parity}, changed{changed}, ids{ids}")
+}
+
+/// The places that changed since a version, with a space before each.
+fn changed_since(course: &Course, alloc: Global, version: u32) -> Result<String, AllocError> {
+    let mut all = String::new(alloc);
+    for place in &course.queue.changed_since(version)? {
+        all.push_str(format!(in alloc; " {place}")?.as_str())?;
+    }
+    Ok(all)
+}
+
 /// What changes the order and starts nothing.
 fn change(
     course: &mut Course,
@@ -266,6 +294,8 @@ fn step(course: &mut Course, alloc: Global, line: &str) -> Result<String, AllocE
     let id = number_of(given);
     if word == "ids" {
         ids(course, alloc)
+    } else if word == "queue" {
+        queue_text(course, alloc, id)
     } else if word == "open" {
         id_text(alloc, opening(course)?)
     } else if word == "peek" {
@@ -285,12 +315,28 @@ fn step(course: &mut Course, alloc: Global, line: &str) -> Result<String, AllocE
     }
 }
 
+/// What a step tells, which may be `keep`, that takes an image, or `back`, at which a course and its image change places.
+fn step_of_two(
+    course: &mut Course,
+    kept: &mut Course,
+    alloc: Global,
+    line: &str,
+) -> Result<String, AllocError> {
+    match line {
+        "keep" => *kept = image(course)?,
+        "back" => mem::swap(course, kept),
+        _ => return step(course, alloc, line),
+    }
+    String::from_str(alloc, "ok")
+}
+
 /// What the steps tell, with a line for each that tells more than `ok`.
 pub fn told(alloc: Global, steps: &str) -> Result<String, AllocError> {
     let mut course = opened(alloc);
+    let mut kept = opened(alloc);
     let mut all = String::new(alloc);
     for line in steps.lines() {
-        let text = step(&mut course, alloc, line)?;
+        let text = step_of_two(&mut course, &mut kept, alloc, line)?;
         if text.as_str() != "ok" {
             push_line(&mut all, line)?;
             push_line(&mut all, text.as_str())?;

@@ -251,6 +251,117 @@ fn a_shuffle_of_a_range(rt: HostRuntime) {
     );
 }
 
+const COPY: &str = "add 3
+prio 5 1
+keep
+queue 2
+add 2
+queue 2
+back
+queue 2
+add 1
+queue 2
+back
+queue 2";
+
+const COPY_TELLS: &str = "queue 2
+version 3, parity false, changed 1, ids 1 2 3
+queue 2
+version 4, parity true, changed 1 3 4, ids 1 2 3 4 5
+queue 2
+version 3, parity false, changed 1, ids 1 2 3
+queue 2
+version 4, parity true, changed 1 3, ids 1 2 3 4
+queue 2
+version 4, parity true, changed 1 3 4, ids 1 2 3 4 5
+";
+
+#[test]
+fn a_copy_of_a_queue(rt: HostRuntime) {
+    wants(&rt, told(rt.alloc(), COPY), COPY_TELLS);
+}
+
+/// The order of `RANDOM`, whose second half is asked of an image when its source has lost all songs.
+const IMAGE: &str = "add 5
+random
+open
+next 4
+next 2
+keep
+shuffle 0 5
+next 1
+in-order
+delete 0 5
+peek 1
+back
+shuffle 0 5
+ids
+peek 1
+previous 1
+next 2
+next 1
+next 5
+next 3";
+
+const IMAGE_TELLS: &str = "open
+4
+next 4
+2, current none, single off, consume off, 5 left
+next 2
+1, current none, single off, consume off, 5 left
+next 1
+5, current none, single off, consume off, 5 left
+peek 1
+none
+ids
+ 2 4 5 1 3
+peek 1
+5
+previous 1
+2
+next 2
+1, current none, single off, consume off, 5 left
+next 1
+5, current none, single off, consume off, 5 left
+next 5
+3, current none, single off, consume off, 5 left
+next 3
+none, current none, single off, consume off, 5 left
+";
+
+#[test]
+fn an_image_of_a_round_stays(rt: HostRuntime) {
+    wants(&rt, told(rt.alloc(), IMAGE), IMAGE_TELLS);
+}
+
+const FULL_IMAGE: &str = "add 16384
+random
+open
+next 1149
+keep
+delete 0 16384
+open
+back
+next 15850
+add 1";
+
+const FULL_IMAGE_TELLS: &str = "open
+1149
+next 1149
+15850, current none, single off, consume off, 16384 left
+open
+none
+next 15850
+15448, current none, single off, consume off, 16384 left
+add 1
+full
+";
+
+#[test]
+fn an_image_of_a_full_round(rt: HostRuntime) {
+    wants(&rt, told(rt.alloc(), FULL_IMAGE), FULL_IMAGE_TELLS);
+}
+
 /// So many as the queue takes are tried by the benchmark, since each `next` there goes over them all.
 #[test]
 fn each_of_a_thousand_once(rt: HostRuntime) {

@@ -215,3 +215,69 @@ stop 0 at 0, 4 starts, 5 cuts, next 0, 1 entries, no error
 fn consume_once_and_in_each_order(rt: HostRuntime) {
     wants(&rt, told(rt.alloc(), MANY, ORDERS), ORDERS_TELL);
 }
+
+const FAILED_IMAGE: &str = "add a
+add b
+play 1
+want
+failed 1 0
+show
+keep
+clearerror
+play 0
+want
+delete 0 2
+show
+back
+show
+play 0
+want
+have 2 1024
+show";
+
+const FAILED_IMAGE_TELLS: &str = "job 1 2 0 1024
+stop 2 at 0, 1 starts, 2 cuts, next 0, 2 entries, Failed to decode b.wav
+job 2 1 0 1024
+stop 0 at 0, 2 starts, 4 cuts, next 0, 0 entries, no error
+stop 2 at 0, 1 starts, 2 cuts, next 0, 2 entries, Failed to decode b.wav
+job 2 1 0 1024
+feed 3
+play 1 at 1024, 2 starts, 3 cuts, next 2, 2 entries, no error
+";
+
+const FADING_IMAGE: &str = "crossfade 1
+add c
+add a
+play 0
+seek 0 15200
+want
+have 1 800
+want
+keep
+stop
+have 2 1024
+back
+have 2 1024
+want";
+
+const FADING_IMAGE_TELLS: &str = "job 1 1 15200 800
+feed 2
+job 2 1 16000 1024 fade 2 0 8000
+stale
+feed 2
+job 3 1 17024 1024 fade 2 1024 8000
+";
+
+#[test]
+fn an_image_of_a_player_stays(rt: HostRuntime) {
+    wants(
+        &rt,
+        told(rt.alloc(), MANY, FAILED_IMAGE),
+        FAILED_IMAGE_TELLS,
+    );
+    wants(
+        &rt,
+        told(rt.alloc(), MANY, FADING_IMAGE),
+        FADING_IMAGE_TELLS,
+    );
+}

@@ -8,6 +8,7 @@ use player_core::{Job, Playback, Player, PlayerFault};
 use song_db::SharedSong;
 use song_queue::Queue;
 use std::alloc::{AllocError, Global};
+use std::mem;
 
 /// Frames a second.
 const RATE: u32 = 8000;
@@ -16,6 +17,14 @@ const RATE: u32 = 8000;
 struct Seat {
     player: Player,
     queue: Queue,
+}
+
+/// The image of a player, and a copy of its queue.
+fn image(seat: &Seat) -> Result<Seat, AllocError> {
+    Ok(Seat {
+        player: seat.player.image()?,
+        queue: seat.queue.try_clone()?,
+    })
 }
 
 /// The song of a letter: `a`, `b` and `c` are of one, two and three seconds, others of four frames.
@@ -247,15 +256,31 @@ fn step(seat: &mut Seat, alloc: Global, line: &str) -> Result<String, AllocError
     }
 }
 
+/// What a step tells, which may be `keep`, that takes an image, or `back`, at which a seat and its image change places.
+fn step_of_two(
+    seat: &mut Seat,
+    kept: &mut Seat,
+    alloc: Global,
+    line: &str,
+) -> Result<String, AllocError> {
+    match line {
+        "keep" => *kept = image(seat)?,
+        "back" => mem::swap(seat, kept),
+        _ => return step(seat, alloc, line),
+    }
+    String::from_str(alloc, "ok")
+}
+
 /// What the steps tell, with a line for each that tells more than `ok`. The player's numbers go up to a greatest one.
 pub fn told(alloc: Global, max_cut: u32, steps: &str) -> Result<String, AllocError> {
     let mut seat = Seat {
         player: Player::new(alloc, 0, u64::from(max_cut)),
         queue: Queue::new(alloc, 16384, 2147483647, 2147483647),
     };
+    let mut kept = image(&seat)?;
     let mut all = String::new(alloc);
     for line in steps.lines() {
-        let text = step(&mut seat, alloc, line)?;
+        let text = step_of_two(&mut seat, &mut kept, alloc, line)?;
         if text.as_str() != "ok" {
             push_line(&mut all, text.as_str())?;
         }

@@ -1,5 +1,5 @@
 //! The player, what can be read of it, and its plain settings.
-ghost use Rattle.std.specs.Prelude.{◌≡◌, ◌<◌, true};
+ghost use Rattle.std.specs.Prelude.{◌≡◌, ◌<◌, IfOk, true};
 ghost use Rattle.std.specs.Option.{option_copied};
 ghost use Rattle.song_queue.specs.State.{queue_of};
 ghost use Rattle.rand_core.specs.Pcg32Seed.{pcg32_seed};
@@ -18,7 +18,7 @@ mod transport;
 use crate::state::{Fade, Job, Playback};
 use play_order::{Consume, Modes, Round, Single};
 use song_queue::{Entry, Queue};
-use std::alloc::Global;
+use std::alloc::{AllocError, Global};
 use std::marker::Model;
 
 /// A player beside the queue that it plays. A clause sees a record: modes, round, playback, current song, place, numbers
@@ -82,6 +82,33 @@ impl Player {
             gave_up: false,
             max_cut,
         }
+    }
+
+    /// The player a second time: what becomes of either leaves the other as it is.
+    pub fn image(&self) -> Result<Player, AllocError>
+        ensures { IfOk result (λ image. image ≡ self.now) }
+    {
+        let error = match &self.error {
+            Some(error) => Some(error.clone()?),
+            None => None,
+        };
+        Ok(Player {
+            alloc: self.alloc,
+            modes: self.modes,
+            round: self.round.image()?,
+            crossfade: self.crossfade,
+            playback: self.playback,
+            current: self.current,
+            place: self.place,
+            starts: self.starts,
+            cuts: self.cuts,
+            error,
+            jobs: self.jobs,
+            job: self.job,
+            fade: self.fade,
+            gave_up: self.gave_up,
+            max_cut: self.max_cut,
+        })
     }
 
     /// How the player goes through the queue.

@@ -105,6 +105,25 @@ impl Db {
     {
         self.songs.as_slice()
     }
+
+    /// A library of the same songs, over handles of its own. No song is copied.
+    pub fn image(&self) -> Result<Db, AllocError>
+        ensures { IfOk result (λ image. image ≡ self.now) }
+    {
+        let songs = copies(*self.songs.allocator(), &self.songs)?;
+        Ok(Db { songs })
+    }
+}
+
+/// More handles of the same songs.
+fn copies(alloc: Global, songs: &[SharedSong]) -> Result<Vec<SharedSong>, AllocError>
+    ensures { IfOk result (λ copies. copies.items ≡ songs.now) }
+{
+    let mut copies = Vec::with_capacity(alloc, songs.len())?;
+    for song in songs {
+        copies.push(song.clone()?)?;
+    }
+    Ok(copies)
 }
 
 /// The place of the song with a URI.

@@ -7,8 +7,8 @@ ghost use Rattle.song_queue.specs.Laws.{PatchesEarlier};
 
 use crate::entry::{Entry, Slot};
 use crate::slots::{
-    changed_places, exchange, have_ids, have_priority, ids_of, move_part, new_slots, prioritize,
-    put_in, shuffle_part, stamp_others, take_out, version_after,
+    changed_places, copies, exchange, have_ids, have_priority, ids_of, move_part, new_slots,
+    prioritize, put_in, shuffle_part, stamp_others, take_out, version_after,
 };
 use song_db::SharedSong;
 use std::alloc::{AllocError, Global};
@@ -79,6 +79,22 @@ impl Queue {
             max_id,
             parity: false,
         }
+    }
+
+    /// A queue that answers as this one. An edit of either leaves the other as it is. No song is copied.
+    pub fn try_clone(&self) -> Result<Queue, AllocError>
+        ensures { IfOk result (λ copy. copy ≡ self.now) }
+    {
+        let slots = copies(*self.slots.allocator(), &self.slots)?;
+        Ok(Queue {
+            slots,
+            version: self.version,
+            greatest_id: self.greatest_id,
+            max_len: self.max_len,
+            max_version: self.max_version,
+            max_id: self.max_id,
+            parity: self.parity,
+        })
     }
 
     /// How many entries there are.

@@ -40,6 +40,31 @@ pub fn changed_places(
         .collect(alloc)
 }
 
+/// The same slots in a list of its own, over the same songs.
+pub fn copies(alloc: Global, slots: &[Slot]) -> Result<Vec<Slot>, AllocError>
+    ensures { IfOk result (λ copies. copies.items ≡ slots.now) }
+{
+    let mut copies = Vec::with_capacity(alloc, slots.len())?;
+    for slot in slots {
+        copies.push(copy_of(slot)?)?;
+    }
+    Ok(copies)
+}
+
+fn copy_of(slot: &Slot) -> Result<Slot, AllocError>
+    ensures { IfOk result (λ copy. copy ≡ slot.now) }
+{
+    Ok(Slot {
+        entry: Entry {
+            song: slot.entry.song.clone()?,
+            id: slot.entry.id,
+            priority: slot.entry.priority,
+        },
+        stamp: slot.stamp,
+        marked: slot.marked,
+    })
+}
+
 /// Slots for songs, whose ids come after one.
 pub fn new_slots(
     alloc: Global,

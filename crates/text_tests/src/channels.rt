@@ -350,6 +350,92 @@ news=for two
     );
 }
 
+/// What an image of channels answers to the last steps, where the first were done before it was taken, and the second to its
+/// source.
+fn answers_of_image(
+    alloc: Global,
+    before: &[Step],
+    after: &[Step],
+    asked: &[Step],
+) -> Result<String, AllocError> {
+    let mut channels = Channels::new(alloc);
+    let _ = answers(alloc, &mut channels, before)?;
+    let mut image = channels.image()?;
+    let _ = answers(alloc, &mut channels, after)?;
+    answers(alloc, &mut image, asked)
+}
+
+#[test]
+fn an_image_of_channels_stays(rt: HostRuntime) {
+    let told = answers_of_image(
+        rt.alloc(),
+        &[
+            Step::Subscribe(1, "news"),
+            Step::Subscribe(1, "Zebra"),
+            Step::Subscribe(2, "news"),
+            Step::Send("news", "one"),
+        ],
+        &[
+            Step::Subscribe(3, "alarm"),
+            Step::Unsubscribe(1, "Zebra"),
+            Step::Send("news", "two"),
+            Step::Read(1),
+            Step::Leave(2),
+        ],
+        &[
+            Step::Channels,
+            Step::Ask(1, "Zebra"),
+            Step::Messages(1),
+            Step::Ask(3, "alarm"),
+            Step::Send("news", "three"),
+            Step::Read(2),
+        ],
+    );
+    wants(
+        &rt,
+        told,
+        "Zebra news 
+listens true, names 2, waits true, heard true, room true
+news=one 
+listens false, names 0, waits false, heard false, room false
+ok
+news=one news=three 
+",
+    );
+}
+
+/// What waits in an image for a client with as many channels and messages as it may have, when its source was left.
+fn full_image(alloc: Global) -> Result<String, AllocError> {
+    let mut channels = Channels::new(alloc);
+    if !is_subscribed_to_all(&mut channels, 1) || !are_sent(&mut channels, "p", 64) {
+        return String::from_str(alloc, "refused");
+    }
+    let mut image = channels.image()?;
+    channels.leave(1);
+    let mut all = last_message(alloc, &image, 1)?;
+    all.push('\n')?;
+    let asked = [
+        Step::Subscribe(1, "q"),
+        Step::Send("a", "lost"),
+        Step::Channels,
+    ];
+    all.push_str(answers(alloc, &mut image, &asked)?.as_str())?;
+    Ok(all)
+}
+
+#[test]
+fn an_image_of_sixty_four_messages(rt: HostRuntime) {
+    wants(
+        &rt,
+        full_image(rt.alloc()),
+        "64: again
+TooMany
+NoRoom
+a b c d e f g h i j k l m n o p 
+",
+    );
+}
+
 /// Those of these texts that are names of channels.
 fn proper(alloc: Global, texts: &[&str]) -> Result<String, AllocError> {
     let mut all = String::new(alloc);
