@@ -6,7 +6,7 @@ use Rattle.shelf.specs.Maps.{Standing}
 use Rattle.partition.specs.declared.event.Event.{Event}
 use Rattle.partition.specs.declared.event.Happened.{Happened}
 use Rattle.partition.specs.declared.partition.PartitionFault.{PartitionFault}
-use Rattle.partition.specs.declared.partition.PartitionFault.TheVariants.{HistoryFull, CutsAtLimit, AtLimit, NoMemory}
+use Rattle.partition.specs.declared.partition.PartitionFault.TheVariants.{CutsAtLimit, AtLimit, NoMemory}
 use Rattle.partition.specs.Answers.{Told}
 use Rattle.partition.specs.Image.{Image, counted}
 use Rattle.partition.specs.Lent.{IsRefused, Records, question, writing}
@@ -24,7 +24,6 @@ unfolding limit_of
 may_refuse seat i e AtLimit free refused = rw (free, refused) (inl refl)
 may_refuse seat i e CutsAtLimit free refused = rw (free, refused.0, refused.1) (inl refl)
 may_refuse seat i e NoMemory free refused = may_want (limit_of seat i e)
-may_refuse seat i e HistoryFull free refused = absurd refused
 
 -- an event that passes no limit
 pub is_within : (seat : ℕ) (i : Image) (e : Event) → IsFree seat i → counts_frames i (turn i e) ≡ true → keeps_limits i (turn i e) ≡ true → limit_of seat i e ≡ None

@@ -50,16 +50,6 @@ impl Books {
         }
     }
 
-    pub(crate) fn copied(&self) -> Books
-        ensures { result ≡ self.now }
-    {
-        Books {
-            decoded: self.decoded,
-            written: self.written,
-            discarded: self.discarded,
-        }
-    }
-
     /// What is true of all books: their frames are counted together, and an event that feeds none, and by which no output has its
     /// turn, leaves them as they are.
     pub(crate) fn rest(&self)

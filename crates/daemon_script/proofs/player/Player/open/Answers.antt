@@ -2,4 +2,4 @@ use Rattle.daemon_script.proofs.Applied.{empty_shelf}
 use Rattle.daemon_script.proofs.player.Player.open.Goals as goal
 
 pub returns : goal.returns
-returns c = λ i. record { player = (c.in_ok-open.ensures i).present; shelf = empty_shelf c.new.result c.new.ensures i; window = 0; most = (c.in_ok-open.ensures i).limit }
+returns c = λ i. record { player = (c.in_ok-open.ensures i).present; shelf = empty_shelf c.new.result c.new.ensures i }
