@@ -169,15 +169,15 @@ def show_memory(program):
         return program.run_with(lines).counts['peak_kib']
 
     def each(line):
-        """Bytes by which the peak grows with each event, from 100,000 to 200,000 of them."""
-        return '%.0f' % ((peak(line * 200000) - peak(line * 100000)) * 1024 / 100000)
+        """Bytes by which the peak grows with each event, from 2,100 to 4,000 of them: the greatest window has 4,096."""
+        return '%.0f' % ((peak(line * 4000) - peak(line * 2100)) * 1024 / 1900)
 
     row('memory', ('', ''), 'wanted')
     row('peak, 1 ping (KiB)', (peak(PING), ''))
     row('peak, 100000 pings (KiB)', (peak(PING * 100000), ''))
     row('peak, %d adds, 10000 deletes (KiB)' % ENTRIES, (peak(SONG + ADD * ENTRIES + DELETE * 10000), ''))
-    row('ping, bytes for each stored event', (each(PING), ''), '%d or less, with its texts' % (200 + PING_TEXTS))
-    row('add of no song, bytes for each stored event', (each(NO_SONG), ''), '%d or less, with its texts' % (200 + NO_SONG_TEXTS))
+    row('ping, bytes for each event of the window', (each(PING), ''), '%d or less, with its texts' % (200 + PING_TEXTS))
+    row('add of no song, bytes for each event of the window', (each(NO_SONG), ''), '%d or less, with its texts' % (200 + NO_SONG_TEXTS))
 
 
 def check(program):

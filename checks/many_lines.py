@@ -6,7 +6,7 @@
 Nine clients and the steps of decoder, output and scan say lines with random arguments, right and wrong, alone and in lists. The lines
 are made by a generator with a fixed start. The first run is fed some sixty lines at a time, so that steps can name the job that was
 given last; the second reads all of them from a file. Both have to end well and to print the same. The table says after how many lines
-the program had how much memory: the program keeps every event, so that grows in proportion.
+the program had how much memory: it is flat, since the history is folded, but for what the window holds of the longest answers.
 """
 import argparse
 import hashlib
@@ -163,9 +163,9 @@ def main():
         passed, again = time.time() - began, time.time()
         with open(kept.name, 'rb') as text:
             second = subprocess.run([given.program, 'script'], stdin=text, stdout=subprocess.PIPE, check=False)
-        print('| Lines | Memory, MB | Bytes a line |\n|---|---|---|')
+        print('| Lines | Memory, MB |\n|---|---|')
         for count, kilobytes in memory:
-            print('| {:,} | {:,.0f} | {:,.0f} |'.format(count, kilobytes / 1024, kilobytes * 1024 / count))
+            print('| {:,} | {:,.1f} |'.format(count, kilobytes / 1024))
         same = hashlib.sha256(second.stdout).hexdigest() == first
         print('\n{:,} lines, {:,} bytes printed; statuses {} and {}; {}; {:.0f} s as they were made, {:.0f} s from a file'.format(
             made, len(second.stdout), status, second.returncode, 'the same twice' if same else 'NOT THE SAME', passed, time.time() - again))

@@ -1,9 +1,19 @@
 """Refused memory: in each run one allocation of the program, the first, the second and so on, finds no memory."""
+import re
+
 from program import MOST_FAILURES, show_failures
 from rows import input_of, output_of, sessions
 
 CLIENTS = [b'%d%c' % (number, end) for number in range(1, 10) for end in b' \n']
-RIGHT, LINE, STEP, ENDED, FAILED = 'right', 'line refused', 'step refused', 'run ended', 'FAILED'
+RIGHT, LINE, STEP, FOLD, ENDED, FAILED = 'right', 'line refused', 'step refused', 'fold refused', 'run ended', 'FAILED'
+SORTS = RIGHT, LINE, STEP, FOLD, ENDED, FAILED
+
+# Each event after the first waits for a fold. The last text is printed where the one before `add c.wav` finds no memory.
+FOLDS = (b'! limit history 1\n! song a.wav 8000\n! song b.wav 16000\n! song c.wav 24000\n'
+         b'1 add a.wav\n1 add b.wav\n1 add c.wav\n! window\n1 status\n')
+STATUS = b''.join(b'1 %s: 0\n' % mode for mode in (b'repeat', b'random', b'single', b'consume'))
+NOT_FOLDED = (b'1 OK MPD 0.23.0\n1 OK\n1 OK\n1 ACK [52@0] {add} history full\n! window 1 3\n'
+              b'1 volume: 100\n' + STATUS + b'1 partition: default\n1 playlist: 3\n1 playlistlength: 2\n1 state: stop\n1 OK\n')
 
 
 def rest_of(program, steps, place, instead):
@@ -15,35 +25,55 @@ def rest_of(program, steps, place, instead):
     return output[len(front):] if output.startswith(front) else b'(no such front)'
 
 
+def most_of(steps):
+    """The most events of the window, where a step sets it."""
+    return next((line.split()[3] for line, _ in steps if line.startswith(b'! limit history ')), b'')
+
+
+def outputs(front, refusal, rest, most, sort):
+    """The outputs, each with its sort, where this line refused something. Where a full window found no memory to be folded, it
+    stays full; where it was folded and memory was wanting behind that, it is empty until the next event."""
+    right = {front + refusal + b'out of memory\n' + rest: sort}
+    if most:
+        folded = re.sub(rb'\A! window %s ' % most, b'! window 0 ', rest)
+        right.update({front + refusal + b'out of memory\n' + folded: sort, front + refusal + b'history full\n' + rest: FOLD})
+    return right
+
+
 def refusals(program, steps, place):
     """The outputs that are right where this one step found no memory: all later answers are as if it had not come."""
     line, printed = steps[place]
     if not line.startswith((b'! ', *CLIENTS)):
-        return set()
-    before, rest = output_of(steps[:place]), rest_of(program, steps, place, [])
+        return {}
+    most, before, rest = most_of(steps), output_of(steps[:place]), rest_of(program, steps, place, [])
     if line.startswith(b'! '):
-        return {before + b'! refused out of memory\n' + rest}
-    client, words = line[:1], line[1:].replace(b'"', b'').split()
-    refused = [client + b' ACK [52@0] {' + name + b'} out of memory\n' for name in (b'', *words[:1])]
+        return outputs(before, b'! refused ', rest, most, STEP)
+    client, words, right = line[:1], line[1:].replace(b'"', b'').split(), {}
+    refused = [client + b' ACK [52@0] {' + name + b'} ' for name in (b'', *words[:1])]
     greeting = client + b' OK MPD 0.23.0\n'
     if not printed.startswith(greeting):
-        return {before + answer + rest for answer in refused}
+        for refusal in refused:
+            right.update(outputs(before, refusal, rest, most, LINE))
+        return right
     # This line connects its client. Where memory was wanting for the connect, the greeting comes with a later line;
-    # where it was wanting for the line, the connect stands, as with an empty line.
-    empty = (client + b'\n', greeting + client + b' ACK [5@0] {} no command given\n')
-    connected = rest_of(program, steps, place, [empty])
-    return {before + refused[0] + rest} | {before + greeting + answer + connected for answer in refused}
+    # where it was wanting for the line, the connect stands, as with an empty list, which is no event.
+    empty = [(client + b' command_list_begin\n', greeting), (client + b' command_list_end\n', client + b' OK\n')]
+    connected = rest_of(program, steps, place, empty)
+    right.update(outputs(before, refused[0], rest, most, LINE))
+    for refusal in refused:
+        right.update(outputs(before + greeting, refusal, connected, most, LINE))
+    return right
 
 
 def list_refusals(program, steps, place):
     """The right outputs where a command of the list that this step ends found no memory: those before it are run and stand."""
-    end = steps[place][0]
+    end, most = steps[place][0], most_of(steps)
     client = end[:2]
     if end != client + b'command_list_end\n':
-        return set()
+        return {}
     begin = max((at for at in range(place) if steps[at][0].startswith(client + b'command_list_')), default=place)
     inside = [at for at in range(begin + 1, place) if steps[at][0].startswith(client)]
-    right = set()
+    right = {}
     for count, first in enumerate(inside):
         cut = set(inside[count:])
         lines = [(at, line) for at, (line, _) in enumerate(steps) if at not in cut]
@@ -52,8 +82,8 @@ def list_refusals(program, steps, place):
         whole = program.run(b''.join(line for _, line in lines)).output
         answers, _, notices = upto[len(before):].rpartition(client + b'OK\n')
         for name in (b'', *steps[first][0][2:].split()[:1]):
-            refusal = client + b'ACK [52@%d] {%s} out of memory\n' % (count, name)
-            right.add(before + answers + refusal + notices + whole[len(upto):])
+            refusal = client + b'ACK [52@%d] {%s} ' % (count, name)
+            right.update(outputs(before + answers, refusal, notices + whole[len(upto):], most, LINE))
     return right
 
 
@@ -70,11 +100,10 @@ def check_session(program, steps):
     """How many runs were of each sort, and what failed."""
     data, full = input_of(steps), output_of(steps)
     refused = {}
-    for place, (line, _) in enumerate(steps):
-        sort = STEP if line.startswith(b'! ') else LINE
-        refused.update((output, sort) for output in refusals(program, steps, place))
-        refused.update((output, LINE) for output in list_refusals(program, steps, place))
-    sorts = dict.fromkeys((RIGHT, LINE, STEP, ENDED, FAILED), 0)
+    for place in range(len(steps)):
+        refused.update(refusals(program, steps, place))
+        refused.update(list_refusals(program, steps, place))
+    sorts = dict.fromkeys(SORTS, 0)
     failures, number, none_refused = [], 0, False
     while not none_refused and len(failures) < MOST_FAILURES:
         number += 1
@@ -86,16 +115,30 @@ def check_session(program, steps):
         sorts[sort] += 1
         if sort == FAILED:
             failures.append('allocation %d refused: %s' % (number, run.told(full)))
+    if most_of(steps) and not sorts[FOLD]:
+        failures.append('no run found a fold without memory')
     return sorts, failures
+
+
+def check_fold(program):
+    """Looks for the run in which the one fold is refused memory. 0 where there is one, else 1."""
+    number = 1
+    run = program.run_with(FOLDS, allocation=number)
+    while run.output != NOT_FOLDED and not (run.counts and run.counts['allocations'] < number):
+        number += 1
+        run = program.run_with(FOLDS, allocation=number)
+    found = run.output == NOT_FOLDED and run.status == 0
+    print('  the fold before `add c.wav` refused: ' + ('as wanted, at allocation %d' % number if found else 'in no run  FAILED'))
+    return int(not found)
 
 
 def check(program):
     """Prints a table; the number of failures."""
     print('Refused memory: one allocation of the run is refused (the last run of each session refuses none)')
-    print('  %-32s %6s %6s %13s %13s %10s %7s' % ('session', 'runs', RIGHT, LINE, STEP, ENDED, FAILED))
-    failed = 0
+    print('  %-32s %6s %6s %13s %13s %13s %10s %7s' % ('session', 'runs', *SORTS))
+    failed = check_fold(program)
     for name, steps in sessions():
         sorts, failures = check_session(program, steps)
-        print('  %-32s %6d %6d %13d %13d %10d %7d' % (name, sum(sorts.values()), *sorts.values()))
+        print('  %-32s %6d %6d %13d %13d %13d %10d %7d' % (name, sum(sorts.values()), *sorts.values()))
         failed += show_failures(failures)
     return failed

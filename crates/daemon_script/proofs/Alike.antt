@@ -12,9 +12,9 @@ use Rattle.song_db.specs.Library.{in_byte_order}
 use Rattle.script_lines.specs.Lines.{LineData, ClientLine, StepLine, BadLine, script_line_of}
 use Rattle.script_lines.specs.Steps.{step_of}
 use Rattle.script_lines.specs.declared.limit.LimitName.{LimitName}
-use Rattle.script_lines.specs.declared.limit.LimitName.TheVariants.{MaxQueue, MaxVersion, MaxId, MaxCut}
+use Rattle.script_lines.specs.declared.limit.LimitName.TheVariants.{MaxQueue, MaxVersion, MaxId, MaxCut, History}
 use Rattle.script_lines.specs.declared.step.Step.{Step}
-use Rattle.script_lines.specs.declared.step.Step.TheVariants.{Song, Limit, Gone, Scanned, Want as WantStep, Have as HaveStep, Failed as FailedStep, Turn as TurnStep}
+use Rattle.script_lines.specs.declared.step.Step.TheVariants.{Song, Limit, Gone, Scanned, Want as WantStep, Have as HaveStep, Failed as FailedStep, Turn as TurnStep, Window}
 use Rattle.partition.specs.Answers.{Told}
 use Rattle.partition.specs.Lists.{ends_list}
 use Rattle.partition.specs.Shelves.{nothing_heard}
@@ -26,20 +26,24 @@ use Rattle.partition.specs.declared.event.Event.TheVariants.{Connect, Disconnect
 use Rattle.partition.specs.declared.partition.PartitionFault.{PartitionFault}
 use Rattle.partition.specs.declared.state.Limits.{Limits}
 use Rattle.daemon_script.specs.declared.memory.Memory.{Memory}
-use Rattle.daemon_script.specs.declared.memory.Memory.TheVariants.{Ample, NoneToConnect, NoneToRead, NoneToRun}
+use Rattle.daemon_script.specs.declared.memory.Memory.TheVariants.{Ample, NoneToConnect, NoneToFoldFirst, NoneToRead, NoneToRun, NoneToFold}
 use Rattle.daemon_script.specs.Kinds.{PlayerKind}
 use Rattle.daemon_script.specs.Output.{Run, script_after, text_of}
-use Rattle.daemon_script.specs.Reports.{report_text}
-use Rattle.daemon_script.specs.Script.{ScriptData, Shown, LineRun, bad, collects, lowers, limits_with, has_uri, told_for, notices_for, fault_of, connects, sent_off, sends_off, applied, applies, scan_result, shown_step, step_line, alone_line, request_run, asked_run, alone_run, runs, request_in, read_of, end_of, place_without, is_at, closed_line, ListRun, list_goes, list_step, list_run, notices_by_number, lines_for, list_of, with_list, commands_run, collected_run, too_large_run, taken_run, line_run, connect_run, line_after, client_run, shown_client, shown_kind, shown_of}
+use Rattle.daemon_script.specs.Reports.{report_text, window_text}
+use Rattle.daemon_script.specs.Script.{Found, ScriptData, Shown, LineRun, bad, collects, lowers, limits_with, has_uri, told_for, notices_for, fault_of, found_at, found_first, found_then, refusal, sent_off, sends_off, applied, applies, scan_result, shown_step, shows_window, step_line, alone_line, request_run, asked_run, alone_run, request_in, read_of, end_of, closed_line, ListRun, list_goes, list_step, list_run, notices_by_number, lines_for, list_of, with_list, commands_run, collected_run, too_large_run, taken_run, line_run, connect_run, line_after, client_run, shown_client, shown_kind, shown_of}
 use Rattle.daemon_script.proofs.Ranges.{limit_at_least_one}
 
 -- two kinds agree: a relation of their players holds at the opening and is kept by events, and related players answer alike
 pub record Agree {P Q : Type 0} (m : PlayerKind P) (n : PlayerKind Q) (R : P → Q → Type 0) : Type 0 where
   pub opens : (limits : Limits) (songs : List SongData) → 1 ≤ limits.max_version → R (m.opens limits songs) (n.opens limits songs)
   pub there : (p : P) (q : Q) (number : ℕ) → R p q → m.is_there number p ≡ n.is_there number q
+  pub full : (p : P) (q : Q) → R p q → m.is_full p ≡ n.is_full q
   pub limit : (p : P) (q : Q) (event : Event) → R p q → m.limit p event ≡ n.limit q event
   pub after : (p : P) (q : Q) (event : Event) → R p q → R (m.after p event) (n.after q event)
+  pub left : (p : P) (q : Q) (fault : PartitionFault) → R p q → R (m.left p fault) (n.left q fault)
   pub told : (p : P) (q : Q) (event : Event) → R p q → m.told p event ≡ n.told q event
+  pub window : (p : P) (q : Q) → R p q → m.window p ≡ n.window q
+  pub own : (p : P) (q : Q) → R p q → m.own p ≡ n.own q
 
 module _ {P Q : Type 0} (R : P → Q → Type 0) where
   abbrev pub SamePlayer : Option P → Option Q → Type 0
@@ -97,6 +101,7 @@ module _ {P Q : Type 0} (R : P → Q → Type 0) where
   above_with limits MaxVersion number above most = most
   above_with limits MaxId number above most = above
   above_with limits MaxCut number above most = above
+  above_with limits History number above most = above
 
   lowers_same : (s : ScriptData P) (q : Option Q) (name : LimitName) (number : ℕ) → 1 ≤ s.limits.max_version → 1 ≤ number → SamePlayer s.player q
       → SameShown (lowers s name number) (lowers (over s q) name number)
@@ -107,9 +112,13 @@ module _ {P Q : Type 0} (R : P → Q → Type 0) where
       (shows_same [] (record s { limits = limits_with s.limits name number }) q (above_with s.limits name number above most) r))
 
 module _ {P Q : Type 0} (m : PlayerKind P) (n : PlayerKind Q) (R : P → Q → Type 0) (agree : Agree m n R) where
+  -- what is refused by one is refused by the other
+  refuses_same : (p : P) (q : Q) (event : Event) (found : Found) → R p q → refusal m p event found ≡ refusal n q event found
+  refuses_same p q event found r = λ i. fault_of found (agree.full p q r i) (agree.limit p q event r i)
+
   request_same : (p : P) (q : Q) (number : ℕ) (request : Request) (fault : Option PartitionFault) → R p q
       → SameRun R (request_run m p number request fault) (request_run n q number request fault)
-  request_same p q number request (Some fault) r = record { player = r; list = refl; text = refl; connected = refl }
+  request_same p q number request (Some fault) r = record { player = agree.left p q fault r; list = refl; text = refl; connected = refl }
   request_same p q number request None r = record {
     player = agree.after p q (alone_line number request) r;
     list = refl;
@@ -118,17 +127,19 @@ module _ {P Q : Type 0} (m : PlayerKind P) (n : PlayerKind Q) (R : P → Q → T
   }
 
   -- a request that runs or is refused, by the limit that it would pass
-  asked_same : (p : P) (q : Q) (number : ℕ) (request : Request) (ample : Bool) → R p q
-      → SameRun R (asked_run m p number request ample) (asked_run n q number request ample)
-  asked_same p q number request ample r =
-      subst (λ (limit : Option PartitionFault). SameRun R (asked_run m p number request ample) (request_run n q number request (fault_of ample limit)))
-      (agree.limit p q (alone_line number request) r) (request_same p q number request (fault_of ample (m.limit p (alone_line number request))) r)
+  asked_same : (p : P) (q : Q) (number : ℕ) (request : Request) (found : Found) → R p q
+      → SameRun R (asked_run m p number request found) (asked_run n q number request found)
+  asked_same p q number request found r =
+      subst (λ (fault : Option PartitionFault). SameRun R (asked_run m p number request found) (request_run n q number request fault))
+      (refuses_same p q (alone_line number request) found r) (request_same p q number request (refusal m p (alone_line number request) found) r)
 
   alone_same : (p : P) (q : Q) (number : ℕ) (line : List ℕ) (memory : Memory) → R p q → SameRun R (alone_run m p number line memory) (alone_run n q number line memory)
-  alone_same p q number line Ample r = asked_same p q number (request_of line false) true r
-  alone_same p q number line NoneToConnect r = asked_same p q number (request_of line false) true r
+  alone_same p q number line Ample r = asked_same p q number (request_of line false) (found_then Ample) r
+  alone_same p q number line NoneToConnect r = asked_same p q number (request_of line false) (found_then NoneToConnect) r
+  alone_same p q number line NoneToFoldFirst r = asked_same p q number (request_of line false) (found_then NoneToFoldFirst) r
   alone_same p q number line (NoneToRead place) r = record { player = r; list = refl; text = refl; connected = refl }
-  alone_same p q number line (NoneToRun place) r = asked_same p q number (request_of line false) false r
+  alone_same p q number line (NoneToRun place) r = asked_same p q number (request_of line false) (found_then (NoneToRun place)) r
+  alone_same p q number line (NoneToFold place) r = asked_same p q number (request_of line false) (found_then (NoneToFold place)) r
 
   record SameList (a : ListRun P) (b : ListRun Q) : Type 0 where
     player : R a.player b.player
@@ -142,27 +153,27 @@ module _ {P Q : Type 0} (m : PlayerKind P) (n : PlayerKind Q) (R : P → Q → T
   goes_if false p q t ending a b r rest = record { player = rest.player; tolds = ap (λ (ts : List Told). t ∷ ts) rest.tolds; ending = rest.ending }
 
   list_step_same : (p p' : P) (q q' : Q) (place : ℕ) (request : Request) (fault : Option PartitionFault) (t u : Told) (a : ListRun P) (b : ListRun Q)
-      → R p q → R p' q' → t ≡ u → SameList a b → SameList (list_step p place request fault p' t a) (list_step q place request fault q' u b)
-  list_step_same p p' q q' place request (Some fault) t u a b r r' e rest = record { player = r; tolds = refl; ending = refl }
+      → R p q → R p' q' → t ≡ u → SameList a b → SameList (list_step m p place request fault p' t a) (list_step n q place request fault q' u b)
+  list_step_same p p' q q' place request (Some fault) t u a b r r' e rest = record { player = agree.left p q fault r; tolds = refl; ending = refl }
   list_step_same p p' q q' place request None t u a b r r' e rest =
       subst (λ (v : Told). SameList (list_goes p' t a) (list_goes q' v b)) e (goes_if (ends_list t) p' q' t (closed_line t.answer.next) a b r' rest)
 
-  list_same : (p : P) (q : Q) (number : ℕ) (form : ListForm) (place : ℕ) (requests : List Request) (without : Option ℕ) (end : List ℕ) → R p q
-      → SameList (list_run m p number form place requests without end) (list_run n q number form place requests without end)
+  list_same : (p : P) (q : Q) (number : ℕ) (form : ListForm) (place : ℕ) (requests : List Request) (found : ℕ → Found) (end : List ℕ) → R p q
+      → SameList (list_run m p number form place requests found end) (list_run n q number form place requests found end)
   unfolding list_run
-  list_same p q number form place [] without end r = record { player = r; tolds = refl; ending = refl }
-  list_same p q number form place (request ∷ requests) without end r =
+  list_same p q number form place [] found end r = record { player = r; tolds = refl; ending = refl }
+  list_same p q number form place (request ∷ requests) found end r =
       let event : Event = Line number (InList form place) request nothing_heard in
       let after : R (m.after p event) (n.after q event) = agree.after p q event r in
-      let rest = list_same (m.after p event) (n.after q event) number form (place + 1) requests without end after in
-      subst (λ (limit : Option PartitionFault). SameList (list_run m p number form place (request ∷ requests) without end)
-      (list_step q place request (fault_of (not (is_at place without)) limit) (n.after q event) (n.told q event) (list_run n (n.after q event) number form (place + 1) requests without end)))
-      (agree.limit p q event r)
-      (list_step_same p (m.after p event) q (n.after q event) place request (fault_of (not (is_at place without)) (m.limit p event)) (m.told p event) (n.told q event) _ _ r after (agree.told p q event r) rest)
+      let rest = list_same (m.after p event) (n.after q event) number form (place + 1) requests found end after in
+      subst (λ (fault : Option PartitionFault). SameList (list_run m p number form place (request ∷ requests) found end)
+      (list_step n q place request fault (n.after q event) (n.told q event) (list_run n (n.after q event) number form (place + 1) requests found end)))
+      (refuses_same p q event (found place) r)
+      (list_step_same p (m.after p event) q (n.after q event) place request (refusal m p event (found place)) (m.told p event) (n.told q event) _ _ r after (agree.told p q event r) rest)
 
   commands_same : (p : P) (q : Q) (number : ℕ) (commands : CommandList) (memory : Memory) → R p q → SameRun R (commands_run m p number commands memory) (commands_run n q number commands memory)
   commands_same p q number commands memory r =
-      let ran = list_same p q number commands.form 0 (read_of memory (map request_in commands.lines)) (place_without memory) (end_of memory (length commands.lines)) r in
+      let ran = list_same p q number commands.form 0 (read_of memory (map request_in commands.lines)) (found_at memory) (end_of memory (length commands.lines)) r in
       record {
         player = ran.player;
         list = refl;
@@ -174,12 +185,14 @@ module _ {P Q : Type 0} (m : PlayerKind P) (n : PlayerKind Q) (R : P → Q → T
       → SameRun R (collected_run m p list next number memory) (collected_run n q list next number memory)
   collected_same p q list next number Ample r = record { player = r; list = refl; text = refl; connected = refl }
   collected_same p q list next number NoneToConnect r = record { player = r; list = refl; text = refl; connected = refl }
+  collected_same p q list next number NoneToFoldFirst r = record { player = r; list = refl; text = refl; connected = refl }
+  collected_same p q list next number (NoneToFold place) r = record { player = r; list = refl; text = refl; connected = refl }
   collected_same p q list next number (NoneToRead place) r = record { player = r; list = refl; text = refl; connected = refl }
   collected_same p q list next number (NoneToRun place) r = record { player = r; list = refl; text = refl; connected = refl }
 
   too_large_same : (p : P) (q : Q) (list : Option CommandList) (number : ℕ) (fault : Option PartitionFault) → R p q
       → SameRun R (too_large_run m p list number fault) (too_large_run n q list number fault)
-  too_large_same p q list number (Some fault) r = record { player = r; list = refl; text = refl; connected = refl }
+  too_large_same p q list number (Some fault) r = record { player = agree.left p q fault r; list = refl; text = refl; connected = refl }
   too_large_same p q list number None r = record {
     player = agree.after p q (Disconnect number) r;
     list = refl;
@@ -194,8 +207,8 @@ module _ {P Q : Type 0} (m : PlayerKind P) (n : PlayerKind Q) (R : P → Q → T
   taken_same p q list next number line memory Collected r = collected_same p q list next number memory r
   taken_same p q list next number line memory (Ended commands) r = commands_same p q number commands memory r
   taken_same p q list next number line memory TooLarge r =
-      subst (λ (limit : Option PartitionFault). SameRun R (too_large_run m p list number (fault_of (runs memory) (m.limit p (Disconnect number)))) (too_large_run n q list number (fault_of (runs memory) limit)))
-      (agree.limit p q (Disconnect number) r) (too_large_same p q list number (fault_of (runs memory) (m.limit p (Disconnect number))) r)
+      subst (λ (fault : Option PartitionFault). SameRun R (too_large_run m p list number (refusal m p (Disconnect number) (found_then memory))) (too_large_run n q list number fault))
+      (refuses_same p q (Disconnect number) (found_then memory) r) (too_large_same p q list number (refusal m p (Disconnect number) (found_then memory)) r)
 
   line_same : (p : P) (q : Q) (list : Option CommandList) (number : ℕ) (line : List ℕ) (memory : Memory) → R p q
       → SameRun R (line_run m p list number line memory) (line_run n q list number line memory)
@@ -204,7 +217,7 @@ module _ {P Q : Type 0} (m : PlayerKind P) (n : PlayerKind Q) (R : P → Q → T
 
   new_same : (p : P) (q : Q) (list : Option CommandList) (number : ℕ) (line : List ℕ) (memory : Memory) (fault : Option PartitionFault) → R p q
       → SameRun R (line_after m (connect_run m p list number fault) number line memory) (line_after n (connect_run n q list number fault) number line memory)
-  new_same p q list number line memory (Some fault) r = record { player = r; list = refl; text = refl; connected = refl }
+  new_same p q list number line memory (Some fault) r = record { player = agree.left p q fault r; list = refl; text = refl; connected = refl }
   new_same p q list number line memory None r =
       let ran = line_same (m.after p (Connect number)) (n.after q (Connect number)) list number line memory (agree.after p q (Connect number) r) in
       record {
@@ -225,14 +238,15 @@ module _ {P Q : Type 0} (m : PlayerKind P) (n : PlayerKind Q) (R : P → Q → T
   unfolding client_run
   client_same p q list number line memory r =
       subst (λ (there : Bool). SameRun R (client_run m p list number line memory)
-      (if there then line_run n q list number line memory else line_after n (connect_run n q list number (fault_of (connects memory) (n.limit q (Connect number)))) number line memory)) (agree.there p q number r)
-      (subst (λ (limit : Option PartitionFault). SameRun R (client_run m p list number line memory)
-      (if m.is_there number p then line_run n q list number line memory else line_after n (connect_run n q list number (fault_of (connects memory) limit)) number line memory)) (agree.limit p q (Connect number) r)
-      (client_if (m.is_there number p) p q list number line memory (fault_of (connects memory) (m.limit p (Connect number))) r))
+      (if there then line_run n q list number line memory else line_after n (connect_run n q list number (refusal n q (Connect number) (found_first memory))) number line memory)) (agree.there p q number r)
+      (subst (λ (fault : Option PartitionFault). SameRun R (client_run m p list number line memory)
+      (if m.is_there number p then line_run n q list number line memory else line_after n (connect_run n q list number fault) number line memory)) (refuses_same p q (Connect number) (found_first memory) r)
+      (client_if (m.is_there number p) p q list number line memory (refusal m p (Connect number) (found_first memory)) r))
 
   sent_same : (s : ScriptData P) (p : P) (q : Q) (number : ℕ) (fault : Option PartitionFault) → 1 ≤ s.limits.max_version → SamePlayer R s.player (Some q) → R p q
       → SameShown R (sent_off m s p number fault) (sent_off n (over R s (Some q)) q number fault)
-  sent_same s p q number (Some fault) above has r = shows_same R _ s (Some q) above has
+  sent_same s p q number (Some fault) above has r =
+      record { script = same R (record s { player = Some (m.left p fault) }) (Some (n.left q fault)) above (agree.left p q fault r); text = refl }
   sent_same s p q number None above has r =
       record {
         script = same R (record s { player = Some (m.after p (Disconnect number)); lists = with_list number None s.lists }) (Some (n.after q (Disconnect number))) above (agree.after p q (Disconnect number) r);
@@ -240,19 +254,20 @@ module _ {P Q : Type 0} (m : PlayerKind P) (n : PlayerKind Q) (R : P → Q → T
       }
 
   -- by the player that is there
-  sends_same : (limits : Limits) (songs : List SongData) (lists : List (Option CommandList)) (p : Option P) (q : Option Q) (number : ℕ) → 1 ≤ limits.max_version → SamePlayer R p q
-      → SameShown R (sends_off m (record { limits = limits; songs = songs; lists = lists; player = p }) p number) (sends_off n (record { limits = limits; songs = songs; lists = lists; player = q }) q number)
-  sends_same limits songs lists None None number above r = shows_same R _ (record { limits = limits; songs = songs; lists = lists; player = None }) None above r
-  sends_same limits songs lists None (Some q) number above r = absurd r
-  sends_same limits songs lists (Some p) None number above r = absurd r
-  sends_same limits songs lists (Some p) (Some q) number above r =
+  sends_same : (limits : Limits) (songs : List SongData) (lists : List (Option CommandList)) (p : Option P) (q : Option Q) (number : ℕ) (found : Found) → 1 ≤ limits.max_version → SamePlayer R p q
+      → SameShown R (sends_off m (record { limits = limits; songs = songs; lists = lists; player = p }) p number found) (sends_off n (record { limits = limits; songs = songs; lists = lists; player = q }) q number found)
+  sends_same limits songs lists None None number found above r = shows_same R _ (record { limits = limits; songs = songs; lists = lists; player = None }) None above r
+  sends_same limits songs lists None (Some q) number found above r = absurd r
+  sends_same limits songs lists (Some p) None number found above r = absurd r
+  sends_same limits songs lists (Some p) (Some q) number found above r =
       let s : ScriptData P = record { limits = limits; songs = songs; lists = lists; player = Some p } in
-      subst (λ (limit : Option PartitionFault). SameShown R (sent_off m s p number (fault_of true (m.limit p (Disconnect number)))) (sent_off n (over R s (Some q)) q number (fault_of true limit)))
-      (agree.limit p q (Disconnect number) r) (sent_same s p q number (fault_of true (m.limit p (Disconnect number))) above r r)
+      subst (λ (fault : Option PartitionFault). SameShown R (sent_off m s p number (refusal m p (Disconnect number) found)) (sent_off n (over R s (Some q)) q number fault))
+      (refuses_same p q (Disconnect number) found r) (sent_same s p q number (refusal m p (Disconnect number) found) above r r)
 
   applied_same : (s : ScriptData P) (p : P) (q : Q) (event : Event) (fault : Option PartitionFault) → 1 ≤ s.limits.max_version → SamePlayer R s.player (Some q) → R p q
       → SameShown R (applied m s p event fault) (applied n (over R s (Some q)) q event fault)
-  applied_same s p q event (Some fault) above has r = shows_same R _ s (Some q) above has
+  applied_same s p q event (Some fault) above has r =
+      record { script = same R (record s { player = Some (m.left p fault) }) (Some (n.left q fault)) above (agree.left p q fault r); text = refl }
   applied_same s p q event None above has r =
       record {
         script = same R (record s { player = Some (m.after p event) }) (Some (n.after q event)) above (agree.after p q event r);
@@ -260,38 +275,54 @@ module _ {P Q : Type 0} (m : PlayerKind P) (n : PlayerKind Q) (R : P → Q → T
       }
 
   -- by the player that is there
-  applies_same : (limits : Limits) (songs : List SongData) (lists : List (Option CommandList)) (p : Option P) (q : Option Q) (event : Event) → 1 ≤ limits.max_version → SamePlayer R p q
-      → SameShown R (applies m (record { limits = limits; songs = songs; lists = lists; player = p }) p event) (applies n (record { limits = limits; songs = songs; lists = lists; player = q }) q event)
-  applies_same limits songs lists None None event above r = shows_same R _ (record { limits = limits; songs = songs; lists = lists; player = None }) None above r
-  applies_same limits songs lists None (Some q) event above r = absurd r
-  applies_same limits songs lists (Some p) None event above r = absurd r
-  applies_same limits songs lists (Some p) (Some q) event above r =
+  applies_same : (limits : Limits) (songs : List SongData) (lists : List (Option CommandList)) (p : Option P) (q : Option Q) (event : Event) (found : Found) → 1 ≤ limits.max_version → SamePlayer R p q
+      → SameShown R (applies m (record { limits = limits; songs = songs; lists = lists; player = p }) p event found) (applies n (record { limits = limits; songs = songs; lists = lists; player = q }) q event found)
+  applies_same limits songs lists None None event found above r = shows_same R _ (record { limits = limits; songs = songs; lists = lists; player = None }) None above r
+  applies_same limits songs lists None (Some q) event found above r = absurd r
+  applies_same limits songs lists (Some p) None event found above r = absurd r
+  applies_same limits songs lists (Some p) (Some q) event found above r =
       let s : ScriptData P = record { limits = limits; songs = songs; lists = lists; player = Some p } in
-      subst (λ (limit : Option PartitionFault). SameShown R (applied m s p event (fault_of true (m.limit p event))) (applied n (over R s (Some q)) q event (fault_of true limit)))
-      (agree.limit p q event r) (applied_same s p q event (fault_of true (m.limit p event)) above r r)
+      subst (λ (fault : Option PartitionFault). SameShown R (applied m s p event (refusal m p event found)) (applied n (over R s (Some q)) q event fault))
+      (refuses_same p q event found r) (applied_same s p q event (refusal m p event found) above r r)
 
   -- an event of a step
-  event_same : (s : ScriptData P) (q : Option Q) (event : Event) → 1 ≤ s.limits.max_version → SamePlayer R s.player q → SameShown R (applies m s s.player event) (applies n (over R s q) q event)
-  event_same s q event above r = applies_same s.limits s.songs s.lists s.player q event above r
+  event_same : (s : ScriptData P) (q : Option Q) (event : Event) (found : Found) → 1 ≤ s.limits.max_version → SamePlayer R s.player q
+      → SameShown R (applies m s s.player event found) (applies n (over R s q) q event found)
+  event_same s q event found above r = applies_same s.limits s.songs s.lists s.player q event found above r
 
-  step_same : (s : ScriptData P) (q : Option Q) (rest : List ℕ) (step : Option Step) → step_of rest ≡ step → 1 ≤ s.limits.max_version → SamePlayer R s.player q
-      → SameShown R (shown_step m s step) (shown_step n (over R s q) step)
-  step_same s q rest None e above r = shows_same R _ s q above r
-  step_same s q rest (Some (Song song)) e above r = collects_same R s q song above r
-  step_same s q rest (Some (Limit name number)) e above r = lowers_same R s q name number above (limit_at_least_one rest name number (sym e)) r
-  step_same s q rest (Some (Gone number)) e above r = sends_same s.limits s.songs s.lists s.player q number above r
-  step_same s q rest (Some Scanned) e above r = event_same s q (scan_result s) above r
-  step_same s q rest (Some WantStep) e above r = event_same s q (Want false) above r
-  step_same s q rest (Some (HaveStep number frames)) e above r = event_same s q (Have number frames) above r
-  step_same s q rest (Some (FailedStep number partner)) e above r = event_same s q (Failed number partner) above r
-  step_same s q rest (Some (TurnStep written discarded failed)) e above r = event_same s q (OutputTurn 0 written discarded failed) above r
+  -- what is told of the history, by the player that is there
+  window_same : (limits : Limits) (songs : List SongData) (lists : List (Option CommandList)) (p : Option P) (q : Option Q) → 1 ≤ limits.max_version → SamePlayer R p q
+      → SameShown R (shows_window m (record { limits = limits; songs = songs; lists = lists; player = p }) p) (shows_window n (record { limits = limits; songs = songs; lists = lists; player = q }) q)
+  window_same limits songs lists None None above r = shows_same R _ (record { limits = limits; songs = songs; lists = lists; player = None }) None above r
+  window_same limits songs lists None (Some q) above r = absurd r
+  window_same limits songs lists (Some p) None above r = absurd r
+  window_same limits songs lists (Some p) (Some q) above r =
+      record {
+        script = same R (record { limits = limits; songs = songs; lists = lists; player = Some p }) (Some q) above r;
+        text = λ i. window_text (agree.window p q r i) (agree.own p q r i);
+      }
+
+  step_same : (s : ScriptData P) (q : Option Q) (rest : List ℕ) (step : Option Step) (found : Found) → step_of rest ≡ step → 1 ≤ s.limits.max_version → SamePlayer R s.player q
+      → SameShown R (shown_step m s step found) (shown_step n (over R s q) step found)
+  step_same s q rest None found e above r = shows_same R _ s q above r
+  step_same s q rest (Some (Song song)) found e above r = collects_same R s q song above r
+  step_same s q rest (Some (Limit name number)) found e above r = lowers_same R s q name number above (limit_at_least_one rest name number (sym e)) r
+  step_same s q rest (Some (Gone number)) found e above r = sends_same s.limits s.songs s.lists s.player q number found above r
+  step_same s q rest (Some Scanned) found e above r = event_same s q (scan_result s) found above r
+  step_same s q rest (Some WantStep) found e above r = event_same s q (Want false) found above r
+  step_same s q rest (Some (HaveStep number frames)) found e above r = event_same s q (Have number frames) found above r
+  step_same s q rest (Some (FailedStep number partner)) found e above r = event_same s q (Failed number partner) found above r
+  step_same s q rest (Some (TurnStep written discarded failed)) found e above r = event_same s q (OutputTurn 0 written discarded failed) found above r
+  step_same s q rest (Some Window) found e above r = window_same s.limits s.songs s.lists s.player q above r
 
   step_line_same : (s : ScriptData P) (q : Option Q) (rest : List ℕ) (memory : Memory) → 1 ≤ s.limits.max_version → SamePlayer R s.player q
       → SameShown R (step_line m s rest memory) (step_line n (over R s q) rest memory)
-  step_line_same s q rest Ample above r = step_same s q rest (step_of rest) refl above r
-  step_line_same s q rest NoneToConnect above r = shows_same R _ s q above r
+  step_line_same s q rest Ample above r = step_same s q rest (step_of rest) (found_then Ample) refl above r
+  step_line_same s q rest NoneToConnect above r = step_same s q rest (step_of rest) (found_then NoneToConnect) refl above r
+  step_line_same s q rest NoneToFoldFirst above r = step_same s q rest (step_of rest) (found_then NoneToFoldFirst) refl above r
   step_line_same s q rest (NoneToRead place) above r = shows_same R _ s q above r
-  step_line_same s q rest (NoneToRun place) above r = shows_same R _ s q above r
+  step_line_same s q rest (NoneToRun place) above r = step_same s q rest (step_of rest) (found_then (NoneToRun place)) refl above r
+  step_line_same s q rest (NoneToFold place) above r = step_same s q rest (step_of rest) (found_then (NoneToFold place)) refl above r
 
   -- the script after a line of a client that was there when the line was run
   abbrev kept : {X : Type 0} → ScriptData X → ℕ → LineRun X → ScriptData X

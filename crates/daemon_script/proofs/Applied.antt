@@ -1,32 +1,33 @@
 -- Events of a player that is lent a shelf in memory.
-use Rattle.std.proofs.Common.{◌≡◌, ◌⊎◌, inl, inr, ℕ, Bool, true, false, List, Option, Some, None, Result, Ok, Err, refl, sym, subst, ap, ◌∙◌, if◌then◌else◌}
-use Rattle.std.specs.Result.{IfErr, IfOk, OnErr, OnOk}
+use Rattle.std.proofs.Common.{◌≡◌, inl, inr, ℕ, ◌+◌, Bool, true, false, [], ◌∷◌, ◌++◌, length, Option, Some, None, Result, Ok, Err, refl, sym, subst, ap, ◌∙◌, if◌then◌else◌}
+use Rattle.std.specs.Result.{IfErr, IfOk, OnOk}
 use Rattle.std.specs.FinMap.{get-empty}
-use Rattle.std.specs.Prelude.{◌||◌, not}
+use Rattle.std.specs.Prelude.{◌||◌, nat_le, not, slice_index_or}
+use Rattle.std.proofs.lemmas.List.{length-append}
 use Rattle.shelf.specs.Maps.{Same, no_maps}
 use Rattle.shelf.specs.declared.memory.MemShelf.{MemShelf}
 use Rattle.partition.specs.Answers.{Told}
-use Rattle.partition.specs.History.{Chronicle}
+use Rattle.partition.specs.History.{Chronicle, folded, is_full, joined_by, with_room}
 use Rattle.partition.specs.Image.{Image}
-use Rattle.partition.specs.Lent.{IsFull, IsRefused, Records, question, writing}
+use Rattle.partition.specs.Lent.{IsFull, IsRefused, Records, Refuses, question, writing}
 use Rattle.partition.specs.Refusals.{MayRefuse}
 use Rattle.partition.specs.Shelves.{Serves}
-use Rattle.partition.specs.Step.{hearing, limit_of, next_image, told}
+use Rattle.partition.specs.Step.{counts_frames, hearing, keeps_limits, limit_of, next_image, told, turn}
 use Rattle.partition.specs.declared.event.Event.{Event}
 use Rattle.partition.specs.declared.partition.PartitionFault.{PartitionFault}
-use Rattle.partition.specs.declared.partition.PartitionFault.TheVariants.{CutsAtLimit, AtLimit, NoMemory}
+use Rattle.partition.specs.declared.partition.PartitionFault.TheVariants.{HistoryFull, CutsAtLimit, AtLimit, NoMemory}
 use Rattle.partition.specs.declared.shelf_calls.Heard.{Heard}
 use Rattle.partition.specs.declared.event.Happened.{Happened}
 use Rattle.daemon_script.specs.Contents.{Contents, by_bytes, by_uri_and_name, no_contents}
-use Rattle.daemon_script.specs.Kinds.{Shelved, images}
-use Rattle.daemon_script.specs.Pieces.{has_memory}
-use Rattle.daemon_script.specs.Script.{fault_of}
+use Rattle.daemon_script.specs.Kinds.{Shelved, images, window_in_room}
+use Rattle.daemon_script.specs.Pieces.{found_by}
+use Rattle.daemon_script.specs.Script.{NoneFold, fault_of, refusal}
 use Rattle.daemon_script.specs.Shelf.{heard_by, shelf_after}
 use Rattle.daemon_script.proofs.Served.{contents, holds, never_failed, served, spared, standing_of}
 
--- a player beside a shelf
-abbrev pub beside : Image → MemShelf → Shelved Image
-beside i s = record { player = i; shelf = contents s }
+-- a player with its history, beside a shelf
+abbrev pub beside : Chronicle → MemShelf → Shelved Image
+beside c s = record { player = c.present; shelf = contents s; window = length c.window; most = c.limit }
 
 -- a shelf that shows nothing holds nothing
 pub empty_shelf : (s : MemShelf) → Same no_maps (standing_of s).maps → contents s ≡ no_contents
@@ -37,38 +38,58 @@ abbrev pub Gone : Type 0
 Gone = Option PartitionFault × (Shelved Image × Told)
 
 -- the same by what it heard
-abbrev pub gone : Image → MemShelf → Event → Heard → Gone
-gone i s e heard = (
-  limit_of 0 i (hearing e heard),
-  (record { player = next_image 0 i (hearing e heard); shelf = shelf_after (contents s) i e heard }, told i (hearing e heard)),
+abbrev pub gone : Chronicle → MemShelf → ℕ → Event → Heard → Gone
+gone c s window e heard = (
+  limit_of 0 c.present (hearing e heard),
+  (record { player = next_image 0 c.present (hearing e heard); shelf = shelf_after (contents s) c.present e heard; window = window; most = c.limit }, told c.present (hearing e heard)),
 )
 
 -- the same by what became of the shelf
-abbrev pub served_so : Image → Event → MemShelf → Heard → Gone
-served_so i e new heard = (limit_of 0 i (hearing e heard), (beside (next_image 0 i (hearing e heard)) new, told i (hearing e heard)))
+abbrev pub served_so : Chronicle → Event → MemShelf → Heard → Gone
+served_so c e new heard = (
+  limit_of 0 c.present (hearing e heard),
+  (record { player = next_image 0 c.present (hearing e heard); shelf = contents new; window = length (with_room c).window + 1; most = c.limit }, told c.present (hearing e heard)),
+)
 
 -- the same of a player beside the contents of a shelf
-abbrev pub said_so : Image → Event → MemShelf → Gone
-said_so i e old = (images.limit (beside i old) e, (images.after (beside i old) e, images.told (beside i old) e))
+abbrev pub said_so : Chronicle → Event → MemShelf → Gone
+said_so c e old = (images.limit (beside c old) e, (images.after (beside c old) e, images.told (beside c old) e))
+
+-- a window in which there is room
+in_room : (c : Chronicle) → length (with_room c).window ≡ (if is_full c then 0 else length c.window)
+in_room c = elim (is_full c) as (λ b. length (if b then folded c else c).window ≡ (if b then 0 else length c.window)) [ true ↦ refl | false ↦ refl ]
 
 -- an event that a shelf served goes as it does beside the shelf's contents
-pub goes : (i : Image) (e : Event) (old new : MemShelf) (heard : Heard)
-    → Serves standing_of never_failed old new (question i e) (writing i e heard) heard
-    → served_so i e new heard ≡ said_so i e old
-goes i e old new heard serves =
-    let is = served i e old new heard serves in
-    let by : Contents → Gone = λ c. (limit_of 0 i (hearing e heard), (record { player = next_image 0 i (hearing e heard); shelf = c }, told i (hearing e heard))) in
+pub goes : (c : Chronicle) (e : Event) (old new : MemShelf) (heard : Heard)
+    → Serves standing_of never_failed old new (question c.present e) (writing c.present e heard) heard
+    → served_so c e new heard ≡ said_so c e old
+goes c e old new heard serves =
+    let is = served c.present e old new heard serves in
+    let by : Contents → Gone = λ s. (limit_of 0 c.present (hearing e heard), (record { player = next_image 0 c.present (hearing e heard); shelf = s; window = length (with_room c).window + 1; most = c.limit }, told c.present (hearing e heard))) in
     ap by is.1
-    ∙ ap (gone i old e) is.0
+    ∙ ap (gone c old (length (with_room c).window + 1) e) is.0
+    ∙ ap (λ (n : ℕ). gone c old (n + 1) e (heard_by (contents old) c.present e)) (in_room c)
+
+-- an event more in a window
+longer : (c : Chronicle) (h : Happened) → length ((with_room c).window ++ h ∷ []) ≡ length (with_room c).window + 1
+longer c h = length-append (with_room c).window (h ∷ [])
+
+-- an event that joined
+pub joined_beside : (c : Chronicle) (h : Happened) (s : MemShelf)
+    → beside (joined_by c h) s ≡ record { player = next_image h.seat c.present h.event; shelf = contents s; window = length (with_room c).window + 1; most = c.limit }
+joined_beside c h s = ap (λ (n : ℕ). record { player = next_image h.seat c.present h.event; shelf = contents s; window = n; most = c.limit }) (longer c h)
 
 -- an event that was applied
-pub applied : (i j : Image) (history later : List Happened) (old new : MemShelf) (e : Event) (outcome : Told)
-    → Records standing_of never_failed i j history later old new 0 e outcome
-    → (images.limit (beside i old) e ≡ None) × ((beside j new ≡ images.after (beside i old) e) × (outcome ≡ images.told (beside i old) e))
-applied i j history later old new e outcome r =
-    let is = goes i e old new r.heard r.shelf in (
+pub applied : (c d : Chronicle) (old new : MemShelf) (e : Event) (outcome : Told) → d.limit ≡ c.limit
+    → Records standing_of never_failed c.present d.present (with_room c).window d.window old new 0 e outcome
+    → (images.limit (beside c old) e ≡ None) × ((beside d new ≡ images.after (beside c old) e) × (outcome ≡ images.told (beside c old) e))
+applied c d old new e outcome limit r =
+    let is = goes c e old new r.heard r.shelf in
+    let h : Happened = record { seat = 0; event = hearing e r.heard; told = outcome } in
+    let after : beside d new ≡ record { player = next_image 0 c.present (hearing e r.heard); shelf = contents new; window = length (with_room c).window + 1; most = c.limit } =
+    λ i. record { player = r.present i; shelf = contents new; window = (ap (length {A = Happened}) r.window ∙ longer c h) i; most = limit i } in (
       sym (ap (λ (x : Gone). x.0) is) ∙ r.within,
-      (ap (λ (k : Image). beside k new) r.present ∙ ap (λ (x : Gone). x.1.0) is, r.told_is ∙ ap (λ (x : Gone). x.1.1) is),
+      (after ∙ ap (λ (x : Gone). x.1.0) is, r.told_is ∙ ap (λ (x : Gone). x.1.1) is),
     )
 
 -- the limit that an event would pass, where it is refused for one
@@ -84,6 +105,18 @@ full_first false others rest e = cc
 full : (seat : ℕ) (i : Image) (event : Event) → IsFull seat i → limit_of seat i event ≡ Some AtLimit
 unfolding limit_of
 full seat i event is = full_first _ _ _ is
+
+-- no event passes the limit of a window
+never : (full others keeps : Bool) → (if full || others then Some AtLimit else (if keeps then None else Some CutsAtLimit)) ≡ Some HistoryFull → ⊥
+never true others keeps e = cc
+never false true keeps e = cc
+never false false true e = cc
+never false false false e = cc
+
+never_full : (seat : ℕ) (i : Image) (event : Event) → limit_of seat i event ≡ Some HistoryFull → ⊥
+unfolding limit_of
+never_full seat i event e =
+    never (nat_le 9223372036854775807 (slice_index_or i.shared.made seat 0)) (not (counts_frames i (turn i event))) (keeps_limits i (turn i event)) e
 
 module _ (seat : ℕ) (i : Image) (old new : MemShelf) (e : Event) where
   abbrev heard : Heard
@@ -103,17 +136,59 @@ module _ (seat : ℕ) (i : Image) (old new : MemShelf) (e : Event) where
       ] in
       same ∙ is
 
-  -- an event that was refused passes its limit by what the shelf's contents answer, or found no memory
-  pub refused : (fault : PartitionFault) → IsRefused standing_of never_failed i old new seat e fault
-      → fault_of (has_memory fault) (limit_of seat i (hearing e heard)) ≡ Some fault
-  refused CutsAtLimit r = for_limit CutsAtLimit (λ f. cc) r
-  refused AtLimit r = for_limit AtLimit (λ f. cc) r
-  refused NoMemory r = refl
+  -- an event that was refused behind a window with room passes its limit by what the shelf's contents answer, or found no memory
+  pub refused_in_room : (window_full : Bool) (fault : PartitionFault) → IsRefused standing_of never_failed i old new seat e fault
+      → fault_of (found_by fault) window_full (limit_of seat i (hearing e heard)) ≡ Some fault
+  refused_in_room window_full CutsAtLimit r = for_limit CutsAtLimit (λ f. cc) r
+  refused_in_room window_full AtLimit r = for_limit AtLimit (λ f. cc) r
+  refused_in_room window_full NoMemory r = refl
+  refused_in_room window_full HistoryFull r = absurd (never_full seat i (hearing e heard) (for_limit HistoryFull (λ f. cc) r))
 
--- an event that was refused changes neither
-pub unchanged : (before after : Chronicle) (e : Event) (old new : MemShelf) (fault : PartitionFault)
-    → IsRefused standing_of never_failed before.present old new 0 e fault → after ≡ before → beside after.present new ≡ beside before.present old
-unchanged before after e old new fault r same = λ i. record { player = (same i).present; shelf = spared before.present e old new r.spared i }
+  not_full : IsRefused standing_of never_failed i old new seat e HistoryFull → ⊥
+  not_full r = never_full seat i (hearing e heard) (for_limit HistoryFull (λ f. cc) r)
+
+-- a window in which there was no room for an event
+unfolded : (window_full : Bool) (limit : Option PartitionFault) → window_full ≡ true → fault_of NoneFold window_full limit ≡ Some HistoryFull
+unfolded true limit e = refl
+unfolded false limit e = cc
+
+-- an event that was refused, by what it found of memory
+pub refused : (seat : ℕ) (c d : Chronicle) (old new : MemShelf) (e : Event) (fault : PartitionFault) → Refuses standing_of never_failed c d old new seat e fault
+    → fault_of (found_by fault) (is_full c) (limit_of seat c.present (hearing e (heard_by (contents old) c.present e))) ≡ Some fault
+refused seat c d old new e fault r =
+    elim r [
+      | inl w ↦ subst (λ (f : PartitionFault). fault_of (found_by f) (is_full c) (limit_of seat c.present (hearing e (heard_by (contents old) c.present e))) ≡ Some f) (sym w.0)
+          (unfolded (is_full c) (limit_of seat c.present (hearing e (heard_by (contents old) c.present e))) w.1.0)
+      | inr w ↦ refused_in_room seat c.present old new e (is_full c) fault w.1
+    ]
+
+-- a folded window beside a shelf
+folded_beside : (c : Chronicle) (s : MemShelf) → beside (with_room c) s ≡ record (beside c s) { window = window_in_room (beside c s) }
+folded_beside c s =
+    elim (is_full c) as (λ b. beside (if b then folded c else c) s ≡ record { player = c.present; shelf = contents s; window = if b then 0 else length c.window; most = c.limit }) [ true ↦ refl | false ↦ refl ]
+
+left_in_room : (seat : ℕ) (c : Chronicle) (old new : MemShelf) (e : Event) (fault : PartitionFault) → IsRefused standing_of never_failed c.present old new seat e fault
+    → beside (with_room c) new ≡ images.left (beside c old) fault
+left_in_room seat c old new e fault r =
+    let is : beside (with_room c) new ≡ record (beside c old) { window = window_in_room (beside c old) } =
+    folded_beside c new ∙ ap (λ (s : Contents). record { player = c.present; shelf = s; window = window_in_room (beside c old); most = c.limit }) (spared c.present e old new r.spared) in
+    let by : (fault : PartitionFault) → IsRefused standing_of never_failed c.present old new seat e fault → beside (with_room c) new ≡ images.left (beside c old) fault =
+    λ fault. elim fault as (λ fault. IsRefused standing_of never_failed c.present old new seat e fault → beside (with_room c) new ≡ images.left (beside c old) fault) [
+      | HistoryFull ↦ λ r. absurd (not_full seat c.present old new e r)
+      | CutsAtLimit ↦ λ r. is
+      | AtLimit ↦ λ r. is
+      | NoMemory ↦ λ r. is
+    ] in
+    by fault r
+
+-- what an event leaves that was refused
+pub left_is : (seat : ℕ) (c d : Chronicle) (old new : MemShelf) (e : Event) (fault : PartitionFault) → Refuses standing_of never_failed c d old new seat e fault
+    → beside d new ≡ images.left (beside c old) fault
+left_is seat c d old new e fault r =
+    elim r [
+      | inl w ↦ subst (λ (f : PartitionFault). beside d new ≡ images.left (beside c old) f) (sym w.0) (λ i. beside (w.1.1.0 i) (w.1.1.1 i))
+      | inr w ↦ ap (λ (x : Chronicle). beside x new) w.0 ∙ left_in_room seat c old new e fault w.1
+    ]
 
 -- ---- results
 
@@ -129,29 +204,30 @@ pub if_err : {A E : Type 0} (r : Result A E) (P Q : E → Type 0) → ((e : E) �
 if_err (Ok a) P Q f p = tt
 if_err (Err e) P Q f p = f e p
 
-pub on_err : {A E : Type 0} (r : Result A E) (P : E → Type 0) (S Q : Type 0) → ((e : E) → P e → S → Q) → IfErr r P → OnErr r S → OnErr r Q
-on_err (Ok a) P S Q f p s = tt
-on_err (Err e) P S Q f p s = f e p s
-
 -- ---- results of an event, of a player that is read as this
 
-module _ (i j : Image) (history later : List Happened) (s t : MemShelf) (e : Event) (old new : Shelved Image) (was : beside i s ≡ old) (r : Result Told PartitionFault) where
-  pub told_after : IfOk r (Records standing_of never_failed i j history later s t 0 e) → IfOk r (λ outcome. outcome ≡ images.told old e)
-  told_after did =
+module _ (c d : Chronicle) (s t : MemShelf) (e : Event) (old new : Shelved Image) (was : beside c s ≡ old) (is : beside d t ≡ new) (r : Result Told PartitionFault) where
+  pub told_after : d.limit ≡ c.limit → IfOk r (Records standing_of never_failed c.present d.present (with_room c).window d.window s t 0 e) → IfOk r (λ outcome. outcome ≡ images.told old e)
+  told_after limit did =
       subst (λ (o : Shelved Image). IfOk r (λ outcome. outcome ≡ images.told o e)) was
-      (if_ok r _ (λ outcome. outcome ≡ images.told (beside i s) e) (λ outcome d. (applied i j history later s t e outcome d).1.1) did)
+      (if_ok r _ (λ outcome. outcome ≡ images.told (beside c s) e) (λ outcome x. (applied c d s t e outcome limit x).1.1) did)
 
-  pub player_after : beside j t ≡ new → IfOk r (Records standing_of never_failed i j history later s t 0 e) → OnOk r (new ≡ images.after old e)
-  player_after is did =
+  pub player_after : d.limit ≡ c.limit → IfOk r (Records standing_of never_failed c.present d.present (with_room c).window d.window s t 0 e) → OnOk r (new ≡ images.after old e)
+  player_after limit did =
       subst (λ (o : Shelved Image). OnOk r (new ≡ images.after o e)) was
-      (on_ok r _ (new ≡ images.after (beside i s) e) (λ outcome d. sym is ∙ (applied i j history later s t e outcome d).1.0) did)
+      (on_ok r _ (new ≡ images.after (beside c s) e) (λ outcome x. sym is ∙ (applied c d s t e outcome limit x).1.0) did)
 
-  pub within_after : IfOk r (Records standing_of never_failed i j history later s t 0 e) → OnOk r (images.limit old e ≡ None)
-  within_after did =
+  pub within_after : d.limit ≡ c.limit → IfOk r (Records standing_of never_failed c.present d.present (with_room c).window d.window s t 0 e) → OnOk r (images.limit old e ≡ None)
+  within_after limit did =
       subst (λ (o : Shelved Image). OnOk r (images.limit o e ≡ None)) was
-      (on_ok r _ (images.limit (beside i s) e ≡ None) (λ outcome d. (applied i j history later s t e outcome d).0) did)
+      (on_ok r _ (images.limit (beside c s) e ≡ None) (λ outcome x. (applied c d s t e outcome limit x).0) did)
 
-  pub refused_after : IfErr r (IsRefused standing_of never_failed i s t 0 e) → IfErr r (λ fault. fault_of (has_memory fault) (images.limit old e) ≡ Some fault)
+  pub refused_after : IfErr r (Refuses standing_of never_failed c d s t 0 e) → IfErr r (λ fault. refusal images old e (found_by fault) ≡ Some fault)
   refused_after did =
-      subst (λ (o : Shelved Image). IfErr r (λ fault. fault_of (has_memory fault) (images.limit o e) ≡ Some fault)) was
-      (if_err r _ (λ fault. fault_of (has_memory fault) (images.limit (beside i s) e) ≡ Some fault) (λ fault d. refused 0 i s t e fault d) did)
+      subst (λ (o : Shelved Image). IfErr r (λ fault. refusal images o e (found_by fault) ≡ Some fault)) was
+      (if_err r _ (λ fault. refusal images (beside c s) e (found_by fault) ≡ Some fault) (λ fault x. refused 0 c d s t e fault x) did)
+
+  pub left_after : IfErr r (Refuses standing_of never_failed c d s t 0 e) → IfErr r (λ fault. new ≡ images.left old fault)
+  left_after did =
+      subst (λ (o : Shelved Image). IfErr r (λ fault. new ≡ images.left o fault)) was
+      (if_err r _ (λ fault. new ≡ images.left (beside c s) fault) (λ fault x. sym is ∙ left_is 0 c d s t e fault x) did)

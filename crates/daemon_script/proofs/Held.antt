@@ -1,14 +1,11 @@
 -- What a shelf in memory shows is what its contents show.
-use Rattle.std.proofs.Common.{◌≡◌, ◌⊎◌, inl, inr, ℕ, Bool, true, false, cond, not, ◌&&◌, ◌||◌, List, [], ◌∷◌, map, filter, flat_map, length, Option, Some, None, option_map, is_some, IsSome, string_bytes, bytes_eq, refl, sym, ap, subst, ◌∙◌, if◌then◌else◌}
+use Rattle.std.proofs.Common.{◌≡◌, ◌⊎◌, inl, inr, ℕ, true, false, cond, not, ◌&&◌, List, [], ◌∷◌, map, Option, Some, None, option_map, string_bytes, bytes_eq, refl, sym, ap, ◌∙◌, if◌then◌else◌}
 use Rattle.std.specs.FinMap as finite
-use Rattle.std.specs.FinMap.{FinMap, find, IsAntisymmetric, nat_cmp-IsAntisymmetric, slice_cmp-IsAntisymmetric, get-empty, get-insert, get-remove, get-retain_keys, get-from_entries, get-entries, get-from_sorted, entries-from_sorted, entries_sorted, same_map}
-use Rattle.std.specs.FinMap.Entries.{is_sorted, below_all}
-use Rattle.std.specs.List.{AllByRecursion, list_any}
-use Rattle.std.specs.List.Sorted.{IsStrictlySortedBy}
-use Rattle.std.specs.Map.{lookup, update}
+use Rattle.std.specs.FinMap.{FinMap, find, IsAntisymmetric, nat_cmp-IsAntisymmetric, slice_cmp-IsAntisymmetric, get-empty, get-insert, get-retain_keys, get-from_entries, same_map}
+use Rattle.std.specs.Map.{lookup}
 use Rattle.std.specs.Cmp.{IsTotalOrder}
 use Rattle.std.specs.Cmp.Lexicographic.{slice_cmp}
-use Rattle.std.specs.Ordering.{eq_by_cmp, is_eq, is_lt, nat_cmp, ordering_then}
+use Rattle.std.specs.Ordering.{eq_by_cmp, is_eq, nat_cmp, ordering_then}
 use Rattle.std.specs.BTreeMap.{BTreeMap, get_by_text}
 use Rattle.std.specs.declared.alloc.Global.{Global}
 use Rattle.std.specs.declared.cmp.Ordering.{Ordering}
@@ -19,9 +16,9 @@ use Rattle.std.proofs.lemmas.Cmp.{on_total, then_total}
 use Rattle.std.specs.Cmp.Lexicographic.{nat_list_cmp_total}
 use Rattle.std.proofs.lemmas.Map.Text.{is_eq-slice_cmp}
 use Rattle.std.proofs.lemmas.Slice.Eq.{bytes_eq-Decides}
-use Rattle.shelf.specs.Maps.{AreKeys, AreEntries, Maps, Same, with_list, with_renamed, with_sticker, with_stickers, no_stickers}
+use Rattle.shelf.specs.Maps.{Same}
 use Rattle.shelf.specs.Memory.{Lists, Texts, memory_standing, stickers_in, text_in}
-use Rattle.daemon_script.specs.Contents.{Contents, by_bytes, by_uri_and_name, contents_of, has_stickers, is_of_other, maps_in, stickers_by_uri, stickers_named, stickers_of, with_names}
+use Rattle.daemon_script.specs.Contents.{Contents, by_bytes, by_uri_and_name, contents_of, is_of_other, maps_in, stickers_by_uri, with_names}
 
 -- ---- the two orders
 

@@ -7,8 +7,7 @@ use Rattle.std.specs.FinMap.Entries.{below_all, is_sorted, same_entries}
 use Rattle.std.specs.List.{AllByRecursion, list_any}
 use Rattle.std.specs.List.Sorted.{IsStrictlySortedBy}
 use Rattle.std.specs.Map.{lookup}
-use Rattle.std.specs.Cmp.Lexicographic.{slice_cmp}
-use Rattle.std.specs.Ordering.{eq_by_cmp, is_eq, is_lt, nat_cmp}
+use Rattle.std.specs.Ordering.{eq_by_cmp, is_lt}
 use Rattle.std.specs.declared.cmp.Ordering.{Ordering}
 use Rattle.std.specs.declared.cmp.Ordering.TheVariants.{Less, Equal, Greater}
 use Rattle.std.proofs.lemmas.Bool.{cases_Bool}

@@ -1,6 +1,6 @@
 -- What commands read of a player, and its life, agree.
 use Rattle.std.proofs.Common.{◌≡◌, ℕ, ◌≤◌, ◌==◌, Bool, true, false, List, [], ◌∷◌, ◌++◌, map, Option, None, Some, refl, sym, ap, ◌∙◌, arith, append_assoc, append-nil, subst, if◌then◌else◌}
-use Rattle.std.specs.Prelude.{is_some, option_map, ◌||◌}
+use Rattle.std.specs.Prelude.{is_some, nat_le, option_map, slice_index_or, ◌+◌, ◌||◌}
 use Rattle.std.specs.List.{list_any}
 use Rattle.mpd_text.specs.Songs.Song.{SongData}
 use Rattle.partition.specs.History.{replay}
@@ -9,16 +9,28 @@ use Rattle.partition.specs.Legal.{ReplaysWorlds}
 use Rattle.partition.specs.Step.{hearing, limit_of, next_image, told}
 use Rattle.partition.specs.World.{Life, Listener, Moment, client_in, image_of, life_after_event, life_from, life_after, opening_life}
 use Rattle.partition.specs.declared.event.Event.{Event}
+use Rattle.partition.specs.declared.partition.PartitionFault.{PartitionFault}
+use Rattle.partition.specs.declared.partition.PartitionFault.TheVariants.{HistoryFull, CutsAtLimit, AtLimit, NoMemory}
+use Rattle.partition.proofs.Counts.{made_of-at}
 use Rattle.partition.specs.declared.event.Happened.{Happened}
 use Rattle.partition.specs.declared.state.Client.{Client}
 use Rattle.partition.specs.declared.state.Library.{Library}
 use Rattle.partition.specs.declared.state.Limits.{Limits}
 use Rattle.partition.specs.declared.state.Setup.{Setup}
-use Rattle.daemon_script.specs.Kinds.{library_of, setup_of, Lived, Shelved, heard, image_kind, images, life_kind, lives, lived_after, told_at, seen}
+use Rattle.daemon_script.specs.Kinds.{library_of, left_by, setup_of, window_in_room, EventKind, Lived, Shelved, heard, image_kind, images, life_kind, lives, lived_after, told_at, seen}
 use Rattle.daemon_script.specs.Output.{RunsAreLived, seen_beside, seen_script}
 use Rattle.daemon_script.specs.Script.{ScriptData, opening_script}
 use Rattle.daemon_script.specs.Shelf.{heard_by, shelf_after}
 use Rattle.daemon_script.proofs.Alike.{Agree, SamePlayer, SameScript, runs_same}
+
+-- two kinds of player agree of events: a relation of their players holds at the opening and is kept by events, and related players answer alike
+record AgreeOfEvents {P Q : Type 0} (m : EventKind P) (n : EventKind Q) (R : P → Q → Type 0) : Type 0 where
+  opens : (limits : Limits) (songs : List SongData) → 1 ≤ limits.max_version → R (m.opens limits songs) (n.opens limits songs)
+  there : (p : P) (q : Q) (number : ℕ) → R p q → m.is_there number p ≡ n.is_there number q
+  limit : (p : P) (q : Q) (event : Event) → R p q → m.limit p event ≡ n.limit q event
+  after : (p : P) (q : Q) (event : Event) → R p q → R (m.after p event) (n.after q event)
+  told : (p : P) (q : Q) (event : Event) → R p q → m.told p event ≡ n.told q event
+  own : (p : P) (q : Q) → R p q → m.own p ≡ n.own q
 
 -- a life from an opening
 pub record FromOpening (lived : Lived) : Type 0 where
@@ -84,40 +96,62 @@ module _ (law : ReplaysWorlds) where
   unfolding told
   told_seen lived event = refl
 
-  agree : Agree image_kind life_kind Shows
+  agree : AgreeOfEvents image_kind life_kind Shows
   agree = record {
     opens = opens;
     there = λ i lived number shows. ap (λ (x : Image). is_some (client_of number x.clients)) shows.0 ∙ among lived.life.moments number lived.life.world.clients;
     limit = λ i lived event shows. ap (λ (x : Image). limit_of 0 x event) shows.0;
     after = λ i lived event shows. (ap (λ (x : Image). next_image 0 x event) shows.0 ∙ after_seen lived event shows.1, from_after lived event shows.1);
     told = λ i lived event shows. ap (λ (x : Image). told x event) shows.0 ∙ told_seen lived event;
+    own = λ i lived shows. ap (λ (x : Image). slice_index_or x.shared.made 0 0) shows.0 ∙ made_of-at lived.history 0 (omega arith);
   }
 
-  -- beside the same shelf
-  abbrev pub ShowsBeside : Shelved Image → Shelved Lived → Type 0
-  ShowsBeside p q = Shows p.player q.player × (p.shelf ≡ q.shelf)
+  -- beside the same shelf, with as many events in the window
+  pub record ShowsBeside (p : Shelved Image) (q : Shelved Lived) : Type 0 where
+    pub shows : Shows p.player q.player
+    pub shelf : p.shelf ≡ q.shelf
+    pub window : p.window ≡ q.window
+    pub most : p.most ≡ q.most
 
   heard_same : (p : Shelved Image) (q : Shelved Lived) (event : Event) → ShowsBeside p q → heard image_kind (λ i. i) p event ≡ heard life_kind seen q event
-  heard_same p q event same = λ j. hearing event (heard_by (same.1 j) (same.0.0 j) event)
+  heard_same p q event same = λ j. hearing event (heard_by (same.shelf j) (same.shows.0 j) event)
+
+  room_same : (p : Shelved Image) (q : Shelved Lived) → ShowsBeside p q → window_in_room p ≡ window_in_room q
+  room_same p q same = λ j. if nat_le (same.most j) (same.window j) then 0 else same.window j
+
+  folded_same : (p : Shelved Image) (q : Shelved Lived) → ShowsBeside p q → ShowsBeside (record p { window = window_in_room p }) (record q { window = window_in_room q })
+  folded_same p q same = record { shows = same.shows; shelf = same.shelf; window = room_same p q same; most = same.most }
+
+  left_same : (p : Shelved Image) (q : Shelved Lived) (fault : PartitionFault) → ShowsBeside p q → ShowsBeside (left_by fault p) (left_by fault q)
+  left_same p q HistoryFull same = same
+  left_same p q CutsAtLimit same = folded_same p q same
+  left_same p q AtLimit same = folded_same p q same
+  left_same p q NoMemory same = folded_same p q same
 
   agree_beside : Agree images lives ShowsBeside
   agree_beside = record {
-    opens = λ limits songs above. (agree.opens limits songs above, refl);
-    there = λ p q number same. agree.there p.player q.player number same.0;
-    limit = λ p q event same. ap (λ (e : Event). limit_of 0 p.player e) (heard_same p q event same) ∙ agree.limit p.player q.player (heard life_kind seen q event) same.0;
-    after = λ p q event same. (
-      subst (λ (e : Event). Shows (next_image 0 p.player e) (lived_after q.player (heard life_kind seen q event))) (sym (heard_same p q event same))
-          (agree.after p.player q.player (heard life_kind seen q event) same.0),
-      λ j. shelf_after (same.1 j) (same.0.0 j) event (heard_by (same.1 j) (same.0.0 j) event),
-    );
-    told = λ p q event same. ap (λ (e : Event). told p.player e) (heard_same p q event same) ∙ agree.told p.player q.player (heard life_kind seen q event) same.0;
+    opens = λ limits songs above. record { shows = agree.opens limits songs above; shelf = refl; window = refl; most = refl };
+    there = λ p q number same. agree.there p.player q.player number same.shows;
+    full = λ p q same j. nat_le (same.most j) (same.window j);
+    limit = λ p q event same. ap (λ (e : Event). limit_of 0 p.player e) (heard_same p q event same) ∙ agree.limit p.player q.player (heard life_kind seen q event) same.shows;
+    after = λ p q event same. record {
+      shows = subst (λ (e : Event). Shows (next_image 0 p.player e) (lived_after q.player (heard life_kind seen q event))) (sym (heard_same p q event same))
+          (agree.after p.player q.player (heard life_kind seen q event) same.shows);
+      shelf = λ j. shelf_after (same.shelf j) (same.shows.0 j) event (heard_by (same.shelf j) (same.shows.0 j) event);
+      window = ap (λ (n : ℕ). n + 1) (room_same p q same);
+      most = same.most;
+    };
+    left = left_same;
+    told = λ p q event same. ap (λ (e : Event). told p.player e) (heard_same p q event same) ∙ agree.told p.player q.player (heard life_kind seen q event) same.shows;
+    window = λ p q same. same.window;
+    own = λ p q same. agree.own p.player q.player same.shows;
   }
 
   player_seen : (p : Option (Shelved Image)) (q : Option (Shelved Lived)) → SamePlayer ShowsBeside p q → p ≡ option_map seen_beside q
   player_seen None None same = refl
   player_seen None (Some q) same = absurd same
   player_seen (Some p) None same = absurd same
-  player_seen (Some p) (Some q) same = λ i. Some (record { player = same.0.0 i; shelf = same.1 i })
+  player_seen (Some p) (Some q) same = λ i. Some (record { player = same.shows.0 i; shelf = same.shelf i; window = same.window i; most = same.most i })
 
   script_seen : (s : ScriptData (Shelved Image)) (t : ScriptData (Shelved Lived)) → SameScript ShowsBeside s t → s ≡ seen_script t
   script_seen s t same = λ i. record { limits = same.limits i; songs = same.songs i; lists = same.lists i; player = player_seen s.player t.player same.player i }

@@ -11,7 +11,7 @@ use Rattle.mpd_text.specs.declared.lines.quoting.WordsFault.{WordsFault}
 use Rattle.script_lines.specs.Cuts.{before, after}
 use Rattle.script_lines.specs.Lines.{LineData, ClientLine, StepLine, BadLine, by_head, script_line_of}
 use Rattle.script_lines.specs.Limits.{limit_named, greatest_of, within, number_within}
-use Rattle.script_lines.specs.Steps.{step_of, step_if_read, song_of, song_with, is_uri, limit_of, limit_with, limit_to, gone_of, gone_with, scanned_of, want_of, have_of, have_to, have_with, failed_of, failed_to, failed_with, mark_of, turn_as, turn_at, turn_of, turn_to, turn_told, turn_with, player_step_of}
+use Rattle.script_lines.specs.Steps.{step_of, step_if_read, song_of, song_with, is_uri, limit_of, limit_with, limit_to, gone_of, gone_with, scanned_of, window_of, want_of, have_of, have_to, have_with, failed_of, failed_to, failed_with, mark_of, turn_as, turn_at, turn_of, turn_to, turn_told, turn_with, player_step_of}
 use Rattle.script_lines.specs.Tags.{is_tag, tags_of}
 use Rattle.script_lines.specs.declared.limit.LimitName.{LimitName}
 use Rattle.script_lines.specs.declared.step.Step.{Step}
@@ -131,16 +131,23 @@ turn_no_limit : (words : List (List ℕ)) → SetsMore (turn_of words)
 turn_no_limit [] found n e = cc
 turn_no_limit (a ∷ more) found n e = turn_at_no_limit (number_of a) more found n e
 
-player_step_if : (a b c d : Bool) (words : List (List ℕ)) → SetsMore (cond a (want_of words) (cond b (have_of words) (cond c (failed_of words) (cond d (turn_of words) None))))
-player_step_if true b c d words found n e = want_no_limit words found n e
-player_step_if false true c d words found n e = have_no_limit words found n e
-player_step_if false false true d words found n e = failed_no_limit words found n e
-player_step_if false false false true words found n e = turn_no_limit words found n e
-player_step_if false false false false words found n e = cc
+window_no_limit : (words : List (List ℕ)) → SetsMore (window_of words)
+window_no_limit [] found n e = cc
+window_no_limit (a ∷ more) found n e = cc
+
+player_step_if : (z a b c d : Bool) (words : List (List ℕ))
+    → SetsMore (cond z (window_of words) (cond a (want_of words) (cond b (have_of words) (cond c (failed_of words) (cond d (turn_of words) None)))))
+player_step_if true a b c d words found n e = window_no_limit words found n e
+player_step_if false true b c d words found n e = want_no_limit words found n e
+player_step_if false false true c d words found n e = have_no_limit words found n e
+player_step_if false false false true d words found n e = failed_no_limit words found n e
+player_step_if false false false false true words found n e = turn_no_limit words found n e
+player_step_if false false false false false words found n e = cc
 
 player_step_no_limit : (word : List ℕ) (words : List (List ℕ)) → SetsMore (player_step_of word words)
 player_step_no_limit word words found n e =
-    player_step_if (bytes_eq word (codes "want")) (bytes_eq word (codes "have")) (bytes_eq word (codes "failed")) (bytes_eq word (codes "turn")) words found n e
+    player_step_if (bytes_eq word (codes "window")) (bytes_eq word (codes "want")) (bytes_eq word (codes "have")) (bytes_eq word (codes "failed"))
+    (bytes_eq word (codes "turn")) words found n e
 
 step_if : (a b c d : Bool) (word : List ℕ) (words : List (List ℕ))
     → SetsMore (cond a (song_of words) (cond b (limit_of words) (cond c (gone_of words) (cond d (scanned_of words) (player_step_of word words)))))

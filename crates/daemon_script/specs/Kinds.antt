@@ -1,5 +1,5 @@
 -- Two kinds of player: one that has what commands read, and one that has its whole past. Beside each is a shelf in memory.
-use Rattle.std.specs.Prelude.{ℕ, Bool, false, true, List, [], ◌∷◌, ◌++◌, Option, is_some, codes}
+use Rattle.std.specs.Prelude.{ℕ, ◌+◌, nat_le, slice_index_or, if◌then◌else◌, Bool, false, true, List, [], ◌∷◌, ◌++◌, Option, is_some, codes}
 use Rattle.mpd_text.specs.Songs.Song.{SongData}
 use Rattle.partition.specs.Answers.{Told}
 use Rattle.partition.specs.Image.{Image, opening, client_of}
@@ -10,7 +10,9 @@ use Rattle.partition.specs.World.{Life, Moment, is_there, image_of, life_after_e
 use Rattle.partition.specs.declared.event.Event.{Event}
 use Rattle.partition.specs.declared.event.Happened.{Happened}
 use Rattle.partition.specs.declared.event.Next.TheVariants.{Goes}
+use Rattle.partition.specs.History.{own}
 use Rattle.partition.specs.declared.partition.PartitionFault.{PartitionFault}
+use Rattle.partition.specs.declared.partition.PartitionFault.TheVariants.{HistoryFull, CutsAtLimit, AtLimit, NoMemory}
 use Rattle.partition.specs.declared.report.Report.TheVariants.{Nothing}
 use Rattle.partition.specs.declared.state.Library.{Library}
 use Rattle.partition.specs.declared.state.Limits.{Limits}
@@ -30,23 +32,38 @@ one_output = switched (record no_outputs { names = codes "out0" ∷ [] }) 0 true
 abbrev pub setup_of : Limits → Setup
 setup_of limits = record { limits = limits; random_start = 0; outputs = one_output }
 
--- what a script asks of a player: to be opened over a library, whether a client is there, what an event makes of it and makes
--- clients hear, and which limit it would pass, for which it is refused
-pub record PlayerKind (P : Type 0) : Type 0 where
+-- what events make of a player: it is opened over a library; whether a client is there, which limit an event would pass, for which
+-- it is refused, what an event makes of the player and makes clients hear, and how many events there were
+pub record EventKind (P : Type 0) : Type 0 where
   pub opens : Limits → List SongData → P
   pub is_there : ℕ → P → Bool
   pub limit : P → Event → Option PartitionFault
   pub after : P → Event → P
   pub told : P → Event → Told
+  pub own : P → ℕ
+
+-- What a script asks of a player: the same, and of the window of its history whether it is full and how many events it has. An event
+-- that is refused may leave a window that was folded.
+pub record PlayerKind (P : Type 0) : Type 0 where
+  pub opens : Limits → List SongData → P
+  pub is_there : ℕ → P → Bool
+  pub is_full : P → Bool
+  pub limit : P → Event → Option PartitionFault
+  pub after : P → Event → P
+  pub left : P → PartitionFault → P
+  pub told : P → Event → Told
+  pub window : P → ℕ
+  pub own : P → ℕ
 
 -- a player is what commands read: its queue has stamps and marks, and its clients have flags. All events are of seat 0
-abbrev pub image_kind : PlayerKind Image
+abbrev pub image_kind : EventKind Image
 image_kind = record {
   opens = λ limits songs. opening (setup_of limits) (library_of songs);
   is_there = λ number i. is_some (client_of number i.clients);
   limit = λ i event. limit_of 0 i event;
   after = λ i event. next_image 0 i event;
   told = λ i event. told i event;
+  own = λ i. slice_index_or i.shared.made 0 0;
 }
 
 -- a life, and what happened in it
@@ -70,21 +87,38 @@ lived_after lived event =
 
 -- a player is its life: every queue that it had, and every moment, at which clients hear what is said to them. All events
 -- are of seat 0
-abbrev pub life_kind : PlayerKind Lived
+abbrev pub life_kind : EventKind Lived
 life_kind = record {
   opens = λ limits songs. record { life = opening_life (opening (setup_of limits) (library_of songs)); history = [] };
   is_there = λ number lived. is_there number lived.life.world;
   limit = λ lived event. limit_of 0 (seen lived) event;
   after = lived_after;
   told = λ lived event. told_at (lived_after lived event).life.moments;
+  own = λ lived. own 0 lived.history;
 }
 
--- a player beside a shelf
+-- a player beside a shelf, how many events the window of its history has, and how many it may have
 pub record Shelved (P : Type 0) : Type 0 where
   pub player : P
   pub shelf : Contents
+  pub window : ℕ
+  pub most : ℕ
 
-module _ {P : Type 0} (kind : PlayerKind P) (read : P → Image) where
+abbrev pub is_full : {P : Type 0} → Shelved P → Bool
+is_full p = nat_le p.most p.window
+
+-- how many events the window has once there is room: one that is full is folded, which empties it
+abbrev pub window_in_room : {P : Type 0} → Shelved P → ℕ
+window_in_room p = if is_full p then 0 else p.window
+
+-- a full window is folded before an event is tried; where there is no memory to fold it, all is as it was
+abbrev pub left_by : {P : Type 0} → PartitionFault → Shelved P → Shelved P
+left_by HistoryFull p = p
+left_by CutsAtLimit p = record p { window = window_in_room p }
+left_by AtLimit p = record p { window = window_in_room p }
+left_by NoMemory p = record p { window = window_in_room p }
+
+module _ {P : Type 0} (kind : EventKind P) (read : P → Image) where
   -- an event with what the shelf answers to it
   abbrev pub heard : Shelved P → Event → Event
   heard p event = hearing event (heard_by p.shelf (read p.player) event)
@@ -92,14 +126,20 @@ module _ {P : Type 0} (kind : PlayerKind P) (read : P → Image) where
   -- a player that is lent the shelf at each event
   abbrev pub beside_shelf : PlayerKind (Shelved P)
   beside_shelf = record {
-    opens = λ limits songs. record { player = kind.opens limits songs; shelf = no_contents };
+    opens = λ limits songs. record { player = kind.opens limits songs; shelf = no_contents; window = 0; most = limits.history };
     is_there = λ number p. kind.is_there number p.player;
+    is_full = is_full;
     limit = λ p event. kind.limit p.player (heard p event);
     after = λ p event. record {
       player = kind.after p.player (heard p event);
       shelf = shelf_after p.shelf (read p.player) event (heard_by p.shelf (read p.player) event);
+      window = window_in_room p + 1;
+      most = p.most;
     };
+    left = λ p fault. left_by fault p;
     told = λ p event. kind.told p.player (heard p event);
+    window = λ p. p.window;
+    own = λ p. kind.own p.player;
   }
 
 abbrev pub images : PlayerKind (Shelved Image)

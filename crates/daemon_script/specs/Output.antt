@@ -63,7 +63,7 @@ CalledTooOften old new = new.calls ≡ min (old.calls + 2 ^ 32) (2 ^ 64 - 1)
 
 -- what commands read of a player's life, beside the same shelf
 abbrev pub seen_beside : Shelved Lived → Shelved Image
-seen_beside p = record { player = seen p.player; shelf = p.shelf }
+seen_beside p = record { player = seen p.player; shelf = p.shelf; window = p.window; most = p.most }
 
 -- what commands read of a script's life
 abbrev pub seen_script : ScriptData (Shelved Lived) → ScriptData (Shelved Image)

@@ -1,39 +1,40 @@
 -- What parts of a run print: a refused step, some lines, and the lines of a piece of the input.
-use Rattle.std.specs.Prelude.{◌≡◌, ℕ, ◌+◌, ◌<◌, Bool, true, false, not, List, ◌++◌, Option, None, map}
+use Rattle.std.specs.Prelude.{◌≡◌, ℕ, ◌+◌, ◌<◌, List, ◌++◌, Option, None, Some, map}
 use Rattle.mpd_text.specs.Lines.Cut.{split_from}
 use Rattle.mpd_text.specs.Lines.Split.{line_of}
 use Rattle.partition.specs.Image.{Image}
 use Rattle.daemon_script.specs.Kinds.{Shelved}
 use Rattle.partition.specs.declared.partition.PartitionFault.{PartitionFault}
-use Rattle.partition.specs.declared.partition.PartitionFault.TheVariants.{CutsAtLimit, AtLimit, NoMemory}
+use Rattle.partition.specs.declared.partition.PartitionFault.TheVariants.{HistoryFull, CutsAtLimit, AtLimit, NoMemory}
 use Rattle.daemon_script.specs.declared.memory.Memory.{Memory}
-use Rattle.daemon_script.specs.declared.memory.Memory.TheVariants.{Ample, NoneToRun}
+use Rattle.daemon_script.specs.declared.memory.Memory.TheVariants.{NoneToFold, NoneToRun}
 use Rattle.daemon_script.specs.Output.{Run, script_after, text_of, lines_in, ending}
 use Rattle.daemon_script.specs.Kinds.{images}
-use Rattle.daemon_script.specs.Script.{ScriptData, ending_of, is_at, list_run}
+use Rattle.daemon_script.specs.Script.{Found, Enough, NoneFold, NoneRun, ScriptData, ending_of, list_run}
 use Rattle.command_lists.specs.declared.word.ListForm.{ListForm}
 use Rattle.mpd_command.specs.declared.request.Request.{Request}
 use Rattle.mpd_text.specs.Answers.Answer.{ack_line}
 use Rattle.partition.specs.Answers.{Told}
 use Rattle.partition.specs.Lists.{Stop, fault_text}
 
--- whether an event that was refused found memory, and was refused for a limit
-abbrev pub has_memory : PartitionFault → Bool
-has_memory CutsAtLimit = true
-has_memory AtLimit = true
-has_memory NoMemory = false
+-- what an event found of memory that was refused
+abbrev pub found_by : PartitionFault → Found
+found_by CutsAtLimit = Enough
+found_by AtLimit = Enough
+found_by NoMemory = NoneRun
+found_by HistoryFull = NoneFold
 
--- the memory that a step found which the player refused
-abbrev pub memory_of : PartitionFault → Memory
-memory_of CutsAtLimit = Ample
-memory_of AtLimit = Ample
-memory_of NoMemory = NoneToRun 0
+-- the same of one that may have been refused
+abbrev pub found_in : Option PartitionFault → Found
+found_in None = Enough
+found_in (Some fault) = found_by fault
 
 -- the memory that a list found, of which so many commands were run and the next was refused; its lines had found this
 abbrev pub stopped_at : Memory → ℕ → PartitionFault → Memory
 stopped_at memory done CutsAtLimit = memory
 stopped_at memory done AtLimit = memory
 stopped_at memory done NoMemory = NoneToRun done
+stopped_at memory done HistoryFull = NoneToFold done
 
 -- by what the lines found of memory, the script goes on from old to new, and their texts are appended
 pub record ShowsLines (old new : ScriptData (Shelved Image)) (lines : List (Option (List ℕ))) (before after : List ℕ) : Type 0 where
@@ -52,12 +53,12 @@ pub record ShowsPiece (start : Option (List ℕ)) (piece : List ℕ) (old new : 
 -- a list ran whole, and these are its answers, whatever its answer ends in
 abbrev pub RunsWhole : Shelved Image → Shelved Image → ℕ → ListForm → List Request → List Told → Type 0
 RunsWhole before after number form requests tolds =
-    (end : List ℕ) → list_run images before number form 0 requests None end ≡ record { player = after; tolds = tolds; ending = ending_of end tolds }
+    (end : List ℕ) → list_run images before number form 0 requests (λ place. Enough) end ≡ record { player = after; tolds = tolds; ending = ending_of end tolds }
 
 -- a list stopped at the command after so many, which was refused; other commands may follow those that were read
 abbrev pub StopsWhole : Shelved Image → Shelved Image → ℕ → ListForm → List Request → Stop → Type 0
 StopsWhole before after number form requests stop =
-    (others : List Request) (without : Option ℕ) (end : List ℕ) → ((k : ℕ) → k < stop.done → is_at (0 + k) without ≡ false)
-    → not (is_at (0 + stop.done) without) ≡ has_memory stop.cause
-    → list_run images before number form 0 (requests ++ others) without end
+    (others : List Request) (found : ℕ → Found) (end : List ℕ) → ((k : ℕ) → k < stop.done → found (0 + k) ≡ Enough)
+    → found (0 + stop.done) ≡ found_by stop.cause
+    → list_run images before number form 0 (requests ++ others) found end
     ≡ record { player = after; tolds = stop.tolds; ending = ack_line 52 stop.done stop.command (fault_text stop.cause) }

@@ -32,6 +32,10 @@ unfoldable pub live_text : Live → List ℕ
 live_text live =
     codes "! live " ++ decimal live.cut ++ codes " " ++ decimal (digit live.enabled) ++ codes " " ++ decimal (digit live.paused) ++ codes "\n"
 
+-- how many events the window of the history has, and how many there were in all
+unfoldable pub window_text : ℕ → ℕ → List ℕ
+window_text window own = codes "! window " ++ decimal window ++ codes " " ++ decimal own ++ codes "\n"
+
 abbrev pub done_text : Bool → List ℕ
 done_text done = if done then codes "! ok\n" else codes "! none\n"
 

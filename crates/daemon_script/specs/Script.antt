@@ -14,9 +14,9 @@ use Rattle.song_db.specs.Library.{same_uri, in_byte_order}
 use Rattle.script_lines.specs.Lines.{LineData, ClientLine, StepLine, BadLine, script_line_of}
 use Rattle.script_lines.specs.Steps.{step_of}
 use Rattle.script_lines.specs.declared.limit.LimitName.{LimitName}
-use Rattle.script_lines.specs.declared.limit.LimitName.TheVariants.{MaxQueue, MaxVersion, MaxId, MaxCut}
+use Rattle.script_lines.specs.declared.limit.LimitName.TheVariants.{MaxQueue, MaxVersion, MaxId, MaxCut, History}
 use Rattle.script_lines.specs.declared.step.Step.{Step}
-use Rattle.script_lines.specs.declared.step.Step.TheVariants.{Song, Limit, Gone, Scanned, Want as WantStep, Have as HaveStep, Failed as FailedStep, Turn as TurnStep}
+use Rattle.script_lines.specs.declared.step.Step.TheVariants.{Song, Limit, Gone, Scanned, Want as WantStep, Have as HaveStep, Failed as FailedStep, Turn as TurnStep, Window}
 use Rattle.partition.specs.Answers.{Answer, Told}
 use Rattle.partition.specs.Commands.Status.{notice_text}
 use Rattle.mpd_command.specs.Requests.{request_of, name_in}
@@ -32,13 +32,13 @@ use Rattle.partition.specs.declared.event.Next.{Next}
 use Rattle.partition.specs.declared.event.Next.TheVariants.{Goes, Waits, Closes}
 use Rattle.partition.specs.declared.event.Notice.{Notice}
 use Rattle.partition.specs.declared.partition.PartitionFault.{PartitionFault}
-use Rattle.partition.specs.declared.partition.PartitionFault.TheVariants.{NoMemory}
+use Rattle.partition.specs.declared.partition.PartitionFault.TheVariants.{HistoryFull, NoMemory}
 use Rattle.partition.specs.declared.state.Limits.{Limits}
 use Rattle.partition.specs.Shelves.{nothing_heard}
 use Rattle.daemon_script.specs.Kinds.{PlayerKind}
-use Rattle.daemon_script.specs.Reports.{report_text}
+use Rattle.daemon_script.specs.Reports.{report_text, window_text}
 use Rattle.daemon_script.specs.declared.memory.Memory.{Memory}
-use Rattle.daemon_script.specs.declared.memory.Memory.TheVariants.{Ample, NoneToConnect, NoneToRead, NoneToRun}
+use Rattle.daemon_script.specs.declared.memory.Memory.TheVariants.{NoneToConnect, NoneToFoldFirst, NoneToRead, NoneToRun, NoneToFold}
 
 -- the limits and the songs that were collected, the command list that each client has open, by its number, and the player,
 -- which is there from the first client line on
@@ -56,7 +56,7 @@ pub record Shown (P : Type 0) : Type 0 where
 abbrev pub bad : {P : Type 0} → ScriptData P → Shown P
 bad s = record { script = s; text = codes "! bad\n" }
 
--- a step that found no memory does nothing
+-- a step that found no memory to be read does nothing
 abbrev pub refused : {P : Type 0} → ScriptData P → Shown P
 refused s = record { script = s; text = codes "! refused out of memory\n" }
 
@@ -68,15 +68,20 @@ abbrev pub collects : {P : Type 0} → ScriptData P → SongData → Shown P
 collects s song =
     if nat_lt (length s.songs) 100000 && not (has_uri song.uri s.songs) then record { script = record s { songs = s.songs ++ song ∷ [] }; text = [] } else bad s
 
+-- a step that could not be read, or what it is
+abbrev pub once_read : {P : Type 0} → ScriptData P → Memory → Shown P → Shown P
+once_read s (NoneToRead place) shown = refused s
+once_read s _ shown = shown
+
 abbrev pub collect_line : {P : Type 0} → ScriptData P → SongData → Memory → Shown P
-collect_line s song Ample = collects s song
-collect_line s song _ = refused s
+collect_line s song memory = once_read s memory (collects s song)
 
 abbrev pub limits_with : Limits → LimitName → ℕ → Limits
 limits_with limits MaxQueue n = record limits { max_queue = n }
 limits_with limits MaxVersion n = record limits { max_version = n }
 limits_with limits MaxId n = record limits { max_id = n }
 limits_with limits MaxCut n = record limits { max_cut = n }
+limits_with limits History n = record limits { history = n }
 
 -- a limit is set, before the player is there
 abbrev pub lowers : {P : Type 0} → ScriptData P → LimitName → ℕ → Shown P
@@ -117,15 +122,24 @@ notices_for notices = flat_map notice_lines notices
 abbrev pub told_for : ℕ → Told → List ℕ
 told_for number told = reply_for number told.answer ++ notices_for told.notices
 
--- an event that was refused changes nothing, and prints its line of number 52
+-- an event that was refused prints its line of number 52
 abbrev pub fault_for : ℕ → List ℕ → PartitionFault → List ℕ
 fault_for number name fault = lines_for number (ack_line 52 0 name (fault_text fault))
 
--- why an event of the script's one seat is refused, if it is: for want of memory, or else for the limit that it would pass
-abbrev pub fault_of : Bool → Option PartitionFault → Option PartitionFault
-fault_of ample limit = if ample then limit else Some NoMemory
+-- what an event found of memory: enough, none to fold the full window before it, or none to run it
+pub data Found : Type 0 where
+  Enough : Found
+  NoneFold : Found
+  NoneRun : Found
 
--- a step that the player refuses does nothing
+-- why an event of the script's one seat is refused, if it is: for want of memory, to fold the window only where that is full, or else for
+-- the limit that it would pass
+abbrev pub fault_of : Found → Bool → Option PartitionFault → Option PartitionFault
+fault_of Enough full limit = limit
+fault_of NoneFold full limit = Some (if full then HistoryFull else NoMemory)
+fault_of NoneRun full limit = Some NoMemory
+
+-- a step that the player refuses is no event
 abbrev pub refusal_text : PartitionFault → List ℕ
 refusal_text fault = codes "! refused " ++ (fault_text fault ++ codes "\n")
 
@@ -140,13 +154,17 @@ pub record LineRun (P : Type 0) : Type 0 where
 abbrev pub after_text : {P : Type 0} → List ℕ → LineRun P → LineRun P
 after_text text ran = record ran { text = text ++ ran.text }
 
-abbrev pub connects : Memory → Bool
-connects NoneToConnect = false
-connects _ = true
+-- what the connect of a line found of memory
+abbrev pub found_first : Memory → Found
+found_first NoneToConnect = NoneRun
+found_first NoneToFoldFirst = NoneFold
+found_first _ = Enough
 
-abbrev pub runs : Memory → Bool
-runs (NoneToRun place) = false
-runs _ = true
+-- what the event of a line or step found of memory
+abbrev pub found_then : Memory → Found
+found_then (NoneToRun place) = NoneRun
+found_then (NoneToFold place) = NoneFold
+found_then _ = Enough
 
 -- what a command list makes of the player, what its commands made clients hear, and what follows their answers
 pub record ListRun (P : Type 0) : Type 0 where
@@ -169,14 +187,11 @@ abbrev pub end_of : Memory → ℕ → List ℕ
 end_of (NoneToRead place) count = if nat_lt place count then ack_line 52 place [] (fault_text NoMemory) else codes "OK\n"
 end_of _ count = codes "OK\n"
 
--- the place whose command finds no memory, if one does
-abbrev pub place_without : Memory → Option ℕ
-place_without (NoneToRun place) = Some place
-place_without _ = None
-
-abbrev pub is_at : ℕ → Option ℕ → Bool
-is_at place None = false
-is_at place (Some other) = other == place
+-- what the command at a place of a list found of memory
+abbrev pub found_at : Memory → ℕ → Found
+found_at (NoneToRun other) place = if other == place then NoneRun else Enough
+found_at (NoneToFold other) place = if other == place then NoneFold else Enough
+found_at _ place = Enough
 
 -- a refusal ends a list with its own text
 abbrev pub closed_line : Next → List ℕ
@@ -194,10 +209,9 @@ list_goes after told rest =
     if ends_list told then record { player = after; tolds = told ∷ []; ending = closed_line told.answer.next }
     else record rest { tolds = told ∷ rest.tolds }
 
-abbrev pub list_step : {P : Type 0} → P → ℕ → Request → Option PartitionFault → P → Told → ListRun P → ListRun P
-list_step player place request (Some fault) after told rest =
-    record { player = player; tolds = []; ending = ack_line 52 place (name_in request) (fault_text fault) }
-list_step player place request None after told rest = list_goes after told rest
+-- a command that is refused ends its list
+abbrev pub list_stop : {P : Type 0} → P → ℕ → Request → PartitionFault → ListRun P
+list_stop left place request fault = record { player = left; tolds = []; ending = ack_line 52 place (name_in request) (fault_text fault) }
 
 -- the whole answer of a list
 abbrev pub list_answer : {P : Type 0} → ListRun P → List ℕ
@@ -231,8 +245,12 @@ abbrev pub scan_result : {P : Type 0} → ScriptData P → Event
 scan_result s = ScanResult (Some (in_byte_order s.songs))
 
 module _ {P : Type 0} (kind : PlayerKind P) where
+  -- why an event is refused, if it is, by what it found of memory
+  abbrev pub refusal : P → Event → Found → Option PartitionFault
+  refusal player event found = fault_of found (kind.is_full player) (kind.limit player event)
+
   abbrev pub sent_off : ScriptData P → P → ℕ → Option PartitionFault → Shown P
-  sent_off s player number (Some fault) = record { script = s; text = refusal_text fault }
+  sent_off s player number (Some fault) = record { script = record s { player = Some (kind.left player fault) }; text = refusal_text fault }
   sent_off s player number None =
       record {
         script = record s { player = Some (kind.after player (Disconnect number)); lists = with_list number None s.lists };
@@ -240,16 +258,12 @@ module _ {P : Type 0} (kind : PlayerKind P) where
       }
 
   -- a client goes, once the player is there, and its open list with it; one that is not there changes nothing
-  abbrev pub sends_off : ScriptData P → Option P → ℕ → Shown P
-  sends_off s None number = bad s
-  sends_off s (Some player) number = sent_off s player number (fault_of true (kind.limit player (Disconnect number)))
-
-  abbrev pub gone_line : ScriptData P → ℕ → Memory → Shown P
-  gone_line s number Ample = sends_off s s.player number
-  gone_line s number _ = refused s
+  abbrev pub sends_off : ScriptData P → Option P → ℕ → Found → Shown P
+  sends_off s None number found = bad s
+  sends_off s (Some player) number found = sent_off s player number (refusal player (Disconnect number) found)
 
   abbrev pub applied : ScriptData P → P → Event → Option PartitionFault → Shown P
-  applied s player event (Some fault) = record { script = s; text = refusal_text fault }
+  applied s player event (Some fault) = record { script = record s { player = Some (kind.left player fault) }; text = refusal_text fault }
   applied s player event None =
       record {
         script = record s { player = Some (kind.after player event) };
@@ -257,32 +271,40 @@ module _ {P : Type 0} (kind : PlayerKind P) where
       }
 
   -- a step that is one event, once the player is there: what the event tells, and then the notices to clients
-  abbrev pub applies : ScriptData P → Option P → Event → Shown P
-  applies s None event = bad s
-  applies s (Some player) event = applied s player event (fault_of true (kind.limit player event))
+  abbrev pub applies : ScriptData P → Option P → Event → Found → Shown P
+  applies s None event found = bad s
+  applies s (Some player) event found = applied s player event (refusal player event found)
+
+  abbrev pub gone_line : ScriptData P → ℕ → Memory → Shown P
+  gone_line s number memory = once_read s memory (sends_off s s.player number (found_then memory))
 
   abbrev pub event_line : ScriptData P → Event → Memory → Shown P
-  event_line s event Ample = applies s s.player event
-  event_line s event _ = refused s
+  event_line s event memory = once_read s memory (applies s s.player event (found_then memory))
 
-  abbrev pub shown_step : ScriptData P → Option Step → Shown P
-  shown_step s None = bad s
-  shown_step s (Some (Song song)) = collects s song
-  shown_step s (Some (Limit name n)) = lowers s name n
-  shown_step s (Some (Gone number)) = sends_off s s.player number
-  shown_step s (Some Scanned) = applies s s.player (scan_result s)
-  shown_step s (Some WantStep) = applies s s.player (Want false)
-  shown_step s (Some (HaveStep number frames)) = applies s s.player (Have number frames)
-  shown_step s (Some (FailedStep number partner)) = applies s s.player (Failed number partner)
-  shown_step s (Some (TurnStep written discarded failed)) = applies s s.player (OutputTurn 0 written discarded failed)
+  -- what is told of the history, once the player is there
+  abbrev pub shows_window : ScriptData P → Option P → Shown P
+  shows_window s None = bad s
+  shows_window s (Some player) = record { script = s; text = window_text (kind.window player) (kind.own player) }
+
+  -- a step, by what its event found of memory if it is one
+  abbrev pub shown_step : ScriptData P → Option Step → Found → Shown P
+  shown_step s None found = bad s
+  shown_step s (Some (Song song)) found = collects s song
+  shown_step s (Some (Limit name n)) found = lowers s name n
+  shown_step s (Some (Gone number)) found = sends_off s s.player number found
+  shown_step s (Some Scanned) found = applies s s.player (scan_result s) found
+  shown_step s (Some WantStep) found = applies s s.player (Want false) found
+  shown_step s (Some (HaveStep number frames)) found = applies s s.player (Have number frames) found
+  shown_step s (Some (FailedStep number partner)) found = applies s s.player (Failed number partner) found
+  shown_step s (Some (TurnStep written discarded failed)) found = applies s s.player (OutputTurn 0 written discarded failed) found
+  shown_step s (Some Window) found = shows_window s s.player
 
   abbrev pub step_line : ScriptData P → List ℕ → Memory → Shown P
-  step_line s rest Ample = shown_step s (step_of rest)
-  step_line s rest _ = refused s
+  step_line s rest memory = once_read s memory (shown_step s (step_of rest) (found_then memory))
 
   abbrev pub request_run : P → ℕ → Request → Option PartitionFault → LineRun P
   request_run player number request (Some fault) =
-      record { player = player; list = None; text = fault_for number (name_in request) fault; connected = true }
+      record { player = kind.left player fault; list = None; text = fault_for number (name_in request) fault; connected = true }
   request_run player number request None =
       record {
         player = kind.after player (alone_line number request);
@@ -291,29 +313,31 @@ module _ {P : Type 0} (kind : PlayerKind P) where
         connected = true;
       }
 
-  -- a request in no list, by whether there is memory to run it
-  abbrev pub asked_run : P → ℕ → Request → Bool → LineRun P
-  asked_run player number request ample = request_run player number request (fault_of ample (kind.limit player (alone_line number request)))
+  -- a request in no list, by what it found of memory
+  abbrev pub asked_run : P → ℕ → Request → Found → LineRun P
+  asked_run player number request found = request_run player number request (refusal player (alone_line number request) found)
 
   -- a line in no list
   abbrev pub alone_run : P → ℕ → List ℕ → Memory → LineRun P
-  alone_run player number line Ample = asked_run player number (request_of line false) true
-  alone_run player number line NoneToConnect = asked_run player number (request_of line false) true
   alone_run player number line (NoneToRead place) = record { player = player; list = None; text = fault_for number [] NoMemory; connected = true }
-  alone_run player number line (NoneToRun place) = asked_run player number (request_of line false) false
+  alone_run player number line memory = asked_run player number (request_of line false) (found_then memory)
 
   -- the requests of a list from this place on, one event after the other, up to the first that ends the list or finds no memory
-  unfoldable pub list_run : P → ℕ → ListForm → ℕ → List Request → Option ℕ → List ℕ → ListRun P
-  list_run player number form place [] without end = record { player = player; tolds = []; ending = end }
-  list_run player number form place (request ∷ requests) without end =
+  abbrev pub list_step : P → ℕ → Request → Option PartitionFault → P → Told → ListRun P → ListRun P
+  list_step player place request (Some fault) after told rest = list_stop (kind.left player fault) place request fault
+  list_step player place request None after told rest = list_goes after told rest
+
+  unfoldable pub list_run : P → ℕ → ListForm → ℕ → List Request → (ℕ → Found) → List ℕ → ListRun P
+  list_run player number form place [] found end = record { player = player; tolds = []; ending = end }
+  list_run player number form place (request ∷ requests) found end =
       let event = Line number (InList form place) request nothing_heard in
-      list_step player place request (fault_of (not (is_at place without)) (kind.limit player event)) (kind.after player event) (kind.told player event)
-      (list_run (kind.after player event) number form (place + 1) requests without end)
+      list_step player place request (refusal player event (found place)) (kind.after player event) (kind.told player event)
+      (list_run (kind.after player event) number form (place + 1) requests found end)
 
   -- a list that has ended is run under other clients' eyes: first comes its whole answer, and then the notices to others
   abbrev pub commands_run : P → ℕ → CommandList → Memory → LineRun P
   commands_run player number commands memory =
-      let ran = list_run player number commands.form 0 (read_of memory (map request_in commands.lines)) (place_without memory) (end_of memory (length commands.lines)) in
+      let ran = list_run player number commands.form 0 (read_of memory (map request_in commands.lines)) (found_at memory) (end_of memory (length commands.lines)) in
       record { player = ran.player; list = None; text = lines_for number (list_answer ran) ++ notices_by_number ran.tolds; connected = true }
 
   -- a line that is collected prints nothing
@@ -323,7 +347,7 @@ module _ {P : Type 0} (kind : PlayerKind P) where
 
   -- a list that is too large closes its client, which is a disconnect
   abbrev pub too_large_run : P → Option CommandList → ℕ → Option PartitionFault → LineRun P
-  too_large_run player list number (Some fault) = record { player = player; list = list; text = fault_for number [] fault; connected = true }
+  too_large_run player list number (Some fault) = record { player = kind.left player fault; list = list; text = fault_for number [] fault; connected = true }
   too_large_run player list number None =
       record {
         player = kind.after player (Disconnect number);
@@ -337,7 +361,7 @@ module _ {P : Type 0} (kind : PlayerKind P) where
   taken_run player list next number line memory Begun = record { player = player; list = next; text = []; connected = true }
   taken_run player list next number line memory Collected = collected_run player list next number memory
   taken_run player list next number line memory (Ended commands) = commands_run player number commands memory
-  taken_run player list next number line memory TooLarge = too_large_run player list number (fault_of (runs memory) (kind.limit player (Disconnect number)))
+  taken_run player list next number line memory TooLarge = too_large_run player list number (refusal player (Disconnect number) (found_then memory))
 
   -- the line of a client that is there, by the list that it has open
   abbrev pub line_run : P → Option CommandList → ℕ → List ℕ → Memory → LineRun P
@@ -346,7 +370,7 @@ module _ {P : Type 0} (kind : PlayerKind P) where
 
   -- the connect of a client that is not there
   abbrev pub connect_run : P → Option CommandList → ℕ → Option PartitionFault → LineRun P
-  connect_run player list number (Some fault) = record { player = player; list = list; text = fault_for number [] fault; connected = false }
+  connect_run player list number (Some fault) = record { player = kind.left player fault; list = list; text = fault_for number [] fault; connected = false }
   connect_run player list number None =
       record { player = kind.after player (Connect number); list = list; text = told_for number (kind.told player (Connect number)); connected = true }
 
@@ -357,7 +381,7 @@ module _ {P : Type 0} (kind : PlayerKind P) where
   unfoldable pub client_run : P → Option CommandList → ℕ → List ℕ → Memory → LineRun P
   client_run player list number line memory =
       if kind.is_there number player then line_run player list number line memory
-      else line_after (connect_run player list number (fault_of (connects memory) (kind.limit player (Connect number)))) number line memory
+      else line_after (connect_run player list number (refusal player (Connect number) (found_first memory))) number line memory
 
   -- a client line, which opens the player over the songs so far if it is the first. Where the connect of a first line is
   -- refused, no player is there
@@ -385,4 +409,4 @@ no_lists = None ∷ None ∷ None ∷ None ∷ None ∷ None ∷ None ∷ None �
 
 -- a script to which no line came
 abbrev pub opening_script : {P : Type 0} → ScriptData P
-opening_script = record { limits = record { max_queue = 16384; max_version = 2147483647; max_id = 2147483647; max_cut = 9223372036854775807 }; songs = []; lists = no_lists; player = None }
+opening_script = record { limits = record { max_queue = 16384; max_version = 2147483647; max_id = 2147483647; max_cut = 9223372036854775807; history = 4096 }; songs = []; lists = no_lists; player = None }

@@ -1,9 +1,11 @@
 //! Client lines, and the lines that they print.
-ghost use Rattle.std.specs.Prelude.{◌≡◌, ◌≢◌, ◌++◌, None, Some, is_none, false, true, unwrap_or, IfErr, IfOk, OnErr, OnOk};
+ghost use Rattle.std.specs.Prelude.{◌≡◌, ◌++◌, ℕ, List, None, Some, is_none, false, unwrap_or, IfErr, IfOk, OnErr, OnOk};
 ghost use Rattle.command_lists.specs.Lists.{outcome_of};
-ghost use Rattle.daemon_script.specs.Kinds.{images};
-ghost use Rattle.daemon_script.specs.Pieces.{has_memory as has_memory_lem};
-ghost use Rattle.daemon_script.specs.Script.{alone_run, asked_run, connect_run, connects, fault_for, fault_of, label, client_run, line_run, lines_for, notice_lines, notices_for, reply_for, told_for, runs, too_large_run};
+ghost use Rattle.mpd_command.specs.Requests.{request_of};
+ghost use Rattle.partition.specs.Image.{Image};
+ghost use Rattle.daemon_script.specs.Kinds.{Shelved, images};
+ghost use Rattle.daemon_script.specs.Pieces.{found_by, found_in};
+ghost use Rattle.daemon_script.specs.Script.{Enough, alone_run, asked_run, connect_run, fault_for, found_first, found_then, label, client_run, line_run, lines_for, notice_lines, notices_for, refusal, reply_for, told_for, too_large_run};
 
 use crate::lists::run_commands;
 use crate::memory::Memory;
@@ -61,9 +63,9 @@ fn connect(
     number: u32,
     shown: &mut Vec<u8>,
 ) -> Result<Option<Memory>, AllocError>
-    ensures player { IfOk result (λ refused. player.new ≡ (connect_run images player.old None number (fault_of (connects (unwrap_or refused Memory.Ample)) (images.limit player.old (Event.Connect number)))).player) }
-    ensures text { IfOk result (λ refused. shown.new.items ≡ shown.old.items ++ (connect_run images player.old None number (fault_of (connects (unwrap_or refused Memory.Ample)) (images.limit player.old (Event.Connect number)))).text) }
-    ensures connected { IfOk result (λ refused. is_none refused ≡ (connect_run images player.old None number (fault_of (connects (unwrap_or refused Memory.Ample)) (images.limit player.old (Event.Connect number)))).connected) }
+    ensures player { IfOk result (λ refused. player.new ≡ (connect_run images player.old None number (refusal images player.old (Event.Connect number) (found_first (unwrap_or refused Memory.Ample)))).player) }
+    ensures text { IfOk result (λ refused. shown.new.items ≡ shown.old.items ++ (connect_run images player.old None number (refusal images player.old (Event.Connect number) (found_first (unwrap_or refused Memory.Ample)))).text) }
+    ensures connected { IfOk result (λ refused. is_none refused ≡ (connect_run images player.old None number (refusal images player.old (Event.Connect number) (found_first (unwrap_or refused Memory.Ample)))).connected) }
 {
     match player.apply(Event::Connect(number)) {
         Ok(greeting) => {
@@ -79,20 +81,13 @@ fn connect(
 
 /// What a connect found of memory that was refused.
 fn memory_to_connect(fault: PartitionFault) -> Memory
-    ensures { connects result ≡ has_memory_lem fault }
+    ensures { found_first result ≡ found_by fault }
 {
-    if has_memory(fault) {
-        Memory::Ample
-    } else {
-        Memory::NoneToConnect
+    match fault {
+        PartitionFault::CutsAtLimit | PartitionFault::AtLimit => Memory::Ample,
+        PartitionFault::NoMemory => Memory::NoneToConnect,
+        PartitionFault::HistoryFull => Memory::NoneToFoldFirst,
     }
-}
-
-/// Whether an event that was refused found memory, and was refused for a limit.
-fn has_memory(fault: PartitionFault) -> bool
-    ensures { result ≡ has_memory_lem fault }
-{
-    !matches!(fault, PartitionFault::NoMemory)
 }
 
 /// Runs the line of a client that is there, by the command list that it has open.
@@ -107,7 +102,7 @@ fn run_connected_line(
     ensures player { IfOk result (λ memory. player.new ≡ (line_run images player.old list.old number line.now memory).player) }
     ensures list { IfOk result (λ memory. list.new ≡ (line_run images player.old list.old number line.now memory).list) }
     ensures text { IfOk result (λ memory. shown.new.items ≡ shown.old.items ++ (line_run images player.old list.old number line.now memory).text) }
-    ensures connects { IfOk result (λ memory. memory ≢ Memory.NoneToConnect) }
+    ensures connects { IfOk result (λ memory. found_first memory ≡ Enough) }
 {
     if list.is_too_large_with(Some(line)) {
         return close_with_list(alloc, player, list, number, shown);
@@ -132,10 +127,10 @@ fn close_with_list(
     number: u32,
     shown: &mut Vec<u8>,
 ) -> Result<Memory, AllocError>
-    ensures player { IfOk result (λ memory. player.new ≡ (too_large_run images player.old list.old number (fault_of (runs memory) (images.limit player.old (Event.Disconnect number)))).player) }
-    ensures list { IfOk result (λ memory. list.new ≡ (too_large_run images player.old list.old number (fault_of (runs memory) (images.limit player.old (Event.Disconnect number)))).list) }
-    ensures text { IfOk result (λ memory. shown.new.items ≡ shown.old.items ++ (too_large_run images player.old list.old number (fault_of (runs memory) (images.limit player.old (Event.Disconnect number)))).text) }
-    ensures connects { IfOk result (λ memory. memory ≢ Memory.NoneToConnect) }
+    ensures player { IfOk result (λ memory. player.new ≡ (too_large_run images player.old list.old number (refusal images player.old (Event.Disconnect number) (found_then memory))).player) }
+    ensures list { IfOk result (λ memory. list.new ≡ (too_large_run images player.old list.old number (refusal images player.old (Event.Disconnect number) (found_then memory))).list) }
+    ensures text { IfOk result (λ memory. shown.new.items ≡ shown.old.items ++ (too_large_run images player.old list.old number (refusal images player.old (Event.Disconnect number) (found_then memory))).text) }
+    ensures connects { IfOk result (λ memory. found_first memory ≡ Enough) }
 {
     match player.apply(Event::Disconnect(number)) {
         Ok(outcome) => {
@@ -145,20 +140,21 @@ fn close_with_list(
         }
         Err(fault) => {
             push_fault(alloc, shown, number, "", fault)?;
-            Ok(memory_to_close(fault))
+            Ok(memory_to_run(Some(fault)))
         }
     }
 }
 
-/// What a line found of memory whose client could not be closed.
-fn memory_to_close(fault: PartitionFault) -> Memory
-    ensures runs { runs result ≡ has_memory_lem fault }
-    ensures connects { result ≢ Memory.NoneToConnect }
+/// What a line found of memory whose event was refused for this, or was not refused.
+fn memory_to_run(refused: Option<PartitionFault>) -> Memory
+    ensures found { found_then result ≡ found_in refused }
+    ensures connects { found_first result ≡ Enough }
+    ensures read { (player : Shelved Image) (number : ℕ) (line : List ℕ) → alone_run images player number line result ≡ asked_run images player number (request_of line false) (found_in refused) }
 {
-    if has_memory(fault) {
-        Memory::Ample
-    } else {
-        Memory::NoneToRun(0)
+    match refused {
+        None | Some(PartitionFault::CutsAtLimit | PartitionFault::AtLimit) => Memory::Ample,
+        Some(PartitionFault::NoMemory) => Memory::NoneToRun(0),
+        Some(PartitionFault::HistoryFull) => Memory::NoneToFold(0),
     }
 }
 
@@ -172,39 +168,36 @@ fn run_line_alone(
 ) -> Result<Memory, AllocError>
     ensures player { IfOk result (λ memory. player.new ≡ (alone_run images player.old number line.now memory).player) }
     ensures text { IfOk result (λ memory. shown.new.items ≡ shown.old.items ++ (alone_run images player.old number line.now memory).text) }
-    ensures connects { IfOk result (λ memory. memory ≢ Memory.NoneToConnect) }
+    ensures connects { IfOk result (λ memory. found_first memory ≡ Enough) }
 {
     let Ok(request) = Request::of_line(alloc, line, false) else {
         push_fault(alloc, shown, number, "", PartitionFault::NoMemory)?;
         return Ok(Memory::NoneToRead(0));
     };
-    if run_request(alloc, player, number, request, shown)? {
-        Ok(Memory::Ample)
-    } else {
-        Ok(Memory::NoneToRun(0))
-    }
+    let refused = run_request(alloc, player, number, request, shown)?;
+    Ok(memory_to_run(refused))
 }
 
-/// Runs the request of a client that is there. The result says whether there was memory to run it.
+/// Runs the request of a client that is there. Gives why it was refused, if it was.
 fn run_request(
     alloc: Global,
     player: &mut Player,
     number: u32,
     request: Request,
     shown: &mut Vec<u8>,
-) -> Result<bool, AllocError>
-    ensures player { IfOk result (λ ample. player.new ≡ (asked_run images player.old number request ample).player) }
-    ensures text { IfOk result (λ ample. shown.new.items ≡ shown.old.items ++ (asked_run images player.old number request ample).text) }
+) -> Result<Option<PartitionFault>, AllocError>
+    ensures player { IfOk result (λ refused. player.new ≡ (asked_run images player.old number request (found_in refused)).player) }
+    ensures text { IfOk result (λ refused. shown.new.items ≡ shown.old.items ++ (asked_run images player.old number request (found_in refused)).text) }
 {
     let name = request.name();
     match player.apply(Event::line(number, Stand::Alone, request)) {
         Ok(outcome) => {
             push_outcome(alloc, shown, number, &outcome)?;
-            Ok(true)
+            Ok(None)
         }
         Err(fault) => {
             push_fault(alloc, shown, number, name, fault)?;
-            Ok(has_memory(fault))
+            Ok(Some(fault))
         }
     }
 }

@@ -1,10 +1,10 @@
 //! Command lists that have ended, and the lines that they print.
-ghost use Rattle.std.specs.Prelude.{◌≡◌, ◌≢◌, ◌++◌, ◌∷◌, [], None, map, string_bytes, IfOk, OnErr, OnOk};
+ghost use Rattle.std.specs.Prelude.{◌≡◌, ℕ, ◌++◌, ◌∷◌, [], map, string_bytes, IfOk, OnErr, OnOk};
 ghost use Rattle.std.specs.List.{flat_map};
 ghost use Rattle.partition.specs.Lists.{stop_text};
 ghost use Rattle.daemon_script.specs.Kinds.{images};
 ghost use Rattle.daemon_script.specs.Pieces.{stopped_at as stopped_at_lem};
-ghost use Rattle.daemon_script.specs.Script.{commands_run, end_of as end_of_lem, ending_of, lines_for, notices_by_number, client_numbers, notices_to, place_without, read_of, request_in as request_in_lem};
+ghost use Rattle.daemon_script.specs.Script.{commands_run, end_of as end_of_lem, ending_of, lines_for, notices_by_number, client_numbers, notices_to, Enough, found_at, found_first, read_of, request_in as request_in_lem};
 
 use crate::client_lines::{push_lines, push_notice};
 use crate::memory::Memory;
@@ -29,7 +29,7 @@ pub(crate) fn run_commands(
 ) -> Result<Memory, AllocError>
     ensures player { IfOk result (λ memory. player.new ≡ (commands_run images player.old number commands.now memory).player) }
     ensures text { IfOk result (λ memory. shown.new.items ≡ shown.old.items ++ (commands_run images player.old number commands.now memory).text) }
-    ensures connects { IfOk result (λ memory. memory ≢ Memory.NoneToConnect) }
+    ensures connects { IfOk result (λ memory. found_first memory ≡ Enough) }
 {
     let (requests, memory) = read_all(alloc, commands.lines.items());
     let end = end_of(alloc, memory, commands.lines.items().len())?;
@@ -48,19 +48,20 @@ pub(crate) fn run_commands(
 /// What a list found of memory, of which `done` commands were run and the next was refused; its lines had found `memory`.
 fn stopped_at(memory: Memory, done: usize, cause: PartitionFault) -> Memory
     ensures memory { result ≡ stopped_at_lem memory done cause }
-    ensures connects { memory ≢ Memory.NoneToConnect → result ≢ Memory.NoneToConnect }
+    ensures connects { found_first memory ≡ Enough → found_first result ≡ Enough }
 {
     match cause {
         PartitionFault::CutsAtLimit | PartitionFault::AtLimit => memory,
         PartitionFault::NoMemory => Memory::NoneToRun(done),
+        PartitionFault::HistoryFull => Memory::NoneToFold(done),
     }
 }
 
 /// What the lines of a list ask for, up to the first that there was no memory to read.
 fn read_all(alloc: Global, lines: &[ListLine]) -> (Vec<Request>, Memory)
     ensures read { result.0.items ≡ read_of result.1 (map request_in_lem lines.now) }
-    ensures runs { place_without result.1 ≡ None }
-    ensures connects { result.1 ≢ Memory.NoneToConnect }
+    ensures runs { (place : ℕ) → found_at result.1 place ≡ Enough }
+    ensures connects { found_first result.1 ≡ Enough }
 {
     let mut requests = Vec::new(alloc);
     for (place, line) in lines.iter().enumerate() {

@@ -1,10 +1,10 @@
 //! A script's player: a partition, and the shelf in memory that it is lent at each event.
-ghost use Rattle.std.specs.Prelude.{◌≡◌, ◌≤◌, ◌<◌, None, Some, IfErr, IfOk, OnErr, OnOk, true};
+ghost use Rattle.std.specs.Prelude.{◌≡◌, ◌≤◌, ◌<◌, None, Some, IfErr, IfOk, OnOk};
 ghost use Rattle.partition.specs.Image.{opening};
 ghost use Rattle.daemon_script.specs.Contents.{no_contents};
 ghost use Rattle.daemon_script.specs.Kinds.{images};
-ghost use Rattle.daemon_script.specs.Pieces.{RunsWhole, StopsWhole, has_memory};
-ghost use Rattle.daemon_script.specs.Script.{fault_of};
+ghost use Rattle.daemon_script.specs.Pieces.{RunsWhole, StopsWhole, found_by};
+ghost use Rattle.daemon_script.specs.Script.{Enough, refusal};
 
 use command_lists::ListForm;
 use mpd_command::Request;
@@ -18,7 +18,8 @@ use std::marker::Model;
 /// The one seat of a script's events.
 const SEAT: u8 = 0;
 
-/// A player, and its shelf. A clause sees what commands read of the player, and the contents of the shelf.
+/// A player, and its shelf. A clause sees what commands read of the player, the contents of the shelf, and how many events the window of
+/// the history has and may have.
 #[derive(Drop)]
 pub(crate) struct Player {
     partition: Partition,
@@ -26,6 +27,7 @@ pub(crate) struct Player {
 }
 
 impl Model for Player {
+    ghost use Rattle.std.specs.Prelude.{length};
     ghost use Rattle.partition.specs.Image.{Image};
     ghost use Rattle.daemon_script.specs.Contents.{contents_of};
     ghost use Rattle.daemon_script.specs.Kinds.{Shelved};
@@ -38,7 +40,7 @@ impl Model for Player {
 
     ghost coded = { Prim.hlevel (codes, finite.code) };
 
-    ghost view = { λ p. record { player = p.partition.present; shelf = contents_of p.shelf.lists p.shelf.stickers } };
+    ghost view = { λ p. record { player = p.partition.present; shelf = contents_of p.shelf.lists p.shelf.stickers; window = length p.partition.window; most = p.partition.limit } };
 }
 
 impl Player {
@@ -46,7 +48,8 @@ impl Player {
     pub(crate) fn open(alloc: Global, setup: Setup, library: Library) -> Result<Player, AllocError>
         requires version { 1 ≤ setup.limits.max_version }
         requires max_cut { setup.limits.max_cut < 9223372036854775808 }
-        ensures { IfOk result (λ player. player ≡ record { player = opening setup library; shelf = no_contents }) }
+        requires history { 1 ≤ setup.limits.history }
+        ensures { IfOk result (λ player. player ≡ record { player = opening setup library; shelf = no_contents; window = 0; most = setup.limits.history }) }
     {
         Ok(Player {
             partition: Partition::open(alloc, setup, library)?,
@@ -65,11 +68,25 @@ impl Player {
     pub(crate) fn apply(&mut self, event: Event) -> Result<Outcome, PartitionFault>
         ensures told { IfOk result (λ outcome. outcome ≡ images.told self.old event) }
         ensures player { OnOk result (self.new ≡ images.after self.old event) }
-        ensures err { OnErr result (self.new ≡ self.old) }
-        ensures within { OnOk result (fault_of true (images.limit self.old event) ≡ None) }
-        ensures refused { IfErr result (λ fault. fault_of (has_memory fault) (images.limit self.old event) ≡ Some fault) }
+        ensures left { IfErr result (λ fault. self.new ≡ images.left self.old fault) }
+        ensures within { OnOk result (refusal images self.old event Enough ≡ None) }
+        ensures refused { IfErr result (λ fault. refusal images self.old event (found_by fault) ≡ Some fault) }
     {
         self.partition.apply(SEAT, &mut self.shelf, event)
+    }
+
+    /// How many events the window of the history has.
+    pub(crate) fn window(&self) -> usize
+        ensures { result ≡ images.window self.now }
+    {
+        self.partition.history().len()
+    }
+
+    /// How many events there were in all.
+    pub(crate) fn own(&self) -> u64
+        ensures { result ≡ images.own self.now }
+    {
+        self.partition.own(SEAT)
     }
 
     /// Runs the requests of a command list, up to the first that ends the list.

@@ -1,7 +1,7 @@
 //! The lines that a player's reports to the decoder, an output or the scans print.
 ghost use Rattle.std.specs.Prelude.{◌≡◌, ◌++◌, string_bytes, IfOk, OnOk};
 ghost use Rattle.partition.specs.Commands.Status.{digit as digit_lem};
-ghost use Rattle.daemon_script.specs.Reports.{done_text, fade_text as fade_text_lem, feed_text, frames_text as frames_text_lem, had_text, job_text, live_text, part_text as part_text_lem, report_text, wanted_text};
+ghost use Rattle.daemon_script.specs.Reports.{done_text, fade_text as fade_text_lem, feed_text, frames_text as frames_text_lem, had_text, job_text, live_text, part_text as part_text_lem, report_text, wanted_text, window_text};
 
 use partition::{Feed, Report};
 use player_core::{FadePart, Job, Live};
@@ -118,6 +118,20 @@ fn push_live(alloc: Global, shown: &mut Vec<u8>, live: Live) -> Result<(), Alloc
     let enabled = digit(live.enabled);
     let paused = digit(live.paused);
     let line = format!(in alloc; "! live {cut} {enabled} {paused}\n")?;
+    shown.extend_from_slice(line.as_bytes())
+}
+
+/// Appends how many events the window of the history has, and how many there were in all.
+#[tactic(auto, unfolding(crate::specs::Reports::window_text))]
+pub(crate) fn push_window(
+    alloc: Global,
+    shown: &mut Vec<u8>,
+    window: usize,
+    own: u64,
+) -> Result<(), AllocError>
+    ensures { OnOk result (shown.new.items ≡ shown.old.items ++ window_text window own) }
+{
+    let line = format!(in alloc; "! window {window} {own}\n")?;
     shown.extend_from_slice(line.as_bytes())
 }
 

@@ -1,19 +1,20 @@
 //! A script: what it collects, and its player.
-ghost use Rattle.std.specs.Prelude.{◌≡◌, ◌<◌, ◌≤◌, ◌++◌, length, false, codes, None, IfOk, OnOk};
+ghost use Rattle.std.specs.Prelude.{◌≡◌, ◌<◌, ◌≤◌, ◌++◌, length, false, codes, None, Some, IfOk, OnOk, if◌then◌else◌};
 ghost use Rattle.mpd_text.specs.Lines.Split.{view as view_of_line};
 ghost use Rattle.song_db.specs.Library.{in_byte_order, is_twice_named};
-ghost use Rattle.daemon_script.specs.Kinds.{images, one_output as one_output_lem};
-ghost use Rattle.daemon_script.specs.Pieces.{memory_of};
-ghost use Rattle.daemon_script.specs.Script.{no_lists as no_lists_lem, client_run, list_of, with_list, opening_script, shown_of, step_line, collect_line, gone_line, event_line, scan_result, lowers, shown_client, refusal_text, has_uri as has_uri_lem};
+ghost use Rattle.daemon_script.specs.Kinds.{Shelved, images, one_output as one_output_lem};
+ghost use Rattle.partition.specs.Image.{Image};
+ghost use Rattle.daemon_script.specs.Pieces.{found_by};
+ghost use Rattle.daemon_script.specs.Script.{no_lists as no_lists_lem, client_run, list_of, with_list, opening_script, shown_of, step_line, collect_line, gone_line, event_line, found_then, once_read, scan_result, lowers, shown_client, shows_window, Shown, ScriptData, refusal_text, has_uri as has_uri_lem};
 
 use crate::client_lines::{LineRun, push_fault, push_notices, run_line};
 use crate::memory::Memory;
 use crate::player::Player;
-use crate::reports::push_report;
+use crate::reports::{push_report, push_window};
 use command_lists::ListCollector;
 use mpd_text::{Line, SharedText, Song, Tag};
 use partition::{Event, Library, Limits, Outputs, PartitionFault, Scan, Setup};
-use script_lines::{LimitName, MAX_ID, MAX_QUEUE, MAX_VERSION, ScriptLine, Step};
+use script_lines::{LimitName, MAX_HISTORY, MAX_ID, MAX_QUEUE, MAX_VERSION, ScriptLine, Step};
 use song_db::{Db, DbFault, MAX_SONGS, Rate, SharedDb};
 use std::alloc::{AllocError, Global};
 use std::marker::Model;
@@ -63,6 +64,7 @@ impl Script {
                 max_version: MAX_VERSION,
                 max_id: MAX_ID,
                 max_cut: MOST_CUTS,
+                history: MAX_HISTORY,
             },
             songs: Vec::new(alloc),
             lists: no_lists(),
@@ -106,8 +108,9 @@ impl Script {
                 let event = Event::OutputTurn(0, u64::from(written), u64::from(discarded), failed);
                 self.happen(event, shown)
             }
+            Ok(Some(Step::Window)) => self.show_window(shown),
             Ok(None) => push_bad(shown),
-            Err(AllocError) => push_refusal(shown, PartitionFault::NoMemory),
+            Err(AllocError) => push_unread(shown),
         }
     }
 
@@ -119,7 +122,7 @@ impl Script {
             return push_bad(shown);
         }
         if self.songs.push(song).is_err() {
-            return push_refusal(shown, PartitionFault::NoMemory);
+            return push_unread(shown);
         }
         Ok(Memory::Ample)
     }
@@ -138,6 +141,7 @@ impl Script {
             LimitName::MaxVersion => self.limits.max_version = n,
             LimitName::MaxId => self.limits.max_id = n,
             LimitName::MaxCut => self.limits.max_cut = u64::from(n),
+            LimitName::History => self.limits.history = n,
         }
         Ok(Memory::Ample)
     }
@@ -169,7 +173,7 @@ impl Script {
             return push_bad(shown);
         }
         let Ok(songs) = collected(self.alloc, &self.songs) else {
-            return push_refusal(shown, PartitionFault::NoMemory);
+            return push_unread(shown);
         };
         self.happen(Event::ScanResult(Some(songs)), shown)
     }
@@ -191,6 +195,19 @@ impl Script {
             }
             Err(fault) => push_refusal(shown, fault),
         }
+    }
+
+    /// Appends what the history holds, once the player is there.
+    fn show_window(&self, shown: &mut Vec<u8>) -> Result<Memory, AllocError>
+        ensures script { (shows_window images self.now self.now.player).script ≡ self.now }
+        ensures text { OnOk result (shown.new.items ≡ shown.old.items ++ (shows_window images self.now self.now.player).text) }
+        ensures memory { IfOk result (λ memory. memory ≡ Memory.Ample) }
+    {
+        let Some(player) = &self.player else {
+            return push_bad(shown);
+        };
+        push_window(self.alloc, shown, player.window(), player.own())?;
+        Ok(Memory::Ample)
     }
 
     fn run_client_line(
@@ -229,13 +246,27 @@ impl Script {
             return Ok(Memory::NoneToConnect);
         };
         let lists = &mut self.lists;
-        let ran = run_listed_line(self.alloc, &mut player, lists, number, line, shown)?;
-        if ran.connected {
+        match run_listed_line(self.alloc, &mut player, lists, number, line, shown) {
+            Ok(ran) => {
+                self.keep(player, ran.connected);
+                Ok(ran.memory)
+            }
+            Err(AllocError) => {
+                discard_player(player);
+                Err(AllocError)
+            }
+        }
+    }
+
+    /// Keeps a player whose first client is there.
+    fn keep(&mut self, player: Player, connected: bool)
+        ensures { self.new ≡ (if connected then record self.old { player = Some player } else self.old) }
+    {
+        if connected {
             self.player = Some(player);
         } else {
             discard_player(player);
         }
-        Ok(ran.memory)
     }
 
     /// A player over the songs so far.
@@ -347,10 +378,20 @@ fn push_bad(shown: &mut Vec<u8>) -> Result<Memory, AllocError>
     Ok(Memory::Ample)
 }
 
-/// Appends the line of a step that was refused.
+/// Appends the line of a step that found no memory to be read.
+fn push_unread(shown: &mut Vec<u8>) -> Result<Memory, AllocError>
+    ensures text { OnOk result (shown.new.items ≡ shown.old.items ++ codes "! refused out of memory\n") }
+    ensures memory { IfOk result (λ memory. memory ≡ Memory.NoneToRead 0) }
+{
+    shown.extend_from_slice(b"! refused out of memory\n")?;
+    Ok(Memory::NoneToRead(0))
+}
+
+/// Appends the line of a step that the player refused.
 fn push_refusal(shown: &mut Vec<u8>, fault: PartitionFault) -> Result<Memory, AllocError>
     ensures text { OnOk result (shown.new.items ≡ shown.old.items ++ refusal_text fault) }
-    ensures memory { IfOk result (λ memory. memory ≡ memory_of fault) }
+    ensures found { IfOk result (λ memory. found_then memory ≡ found_by fault) }
+    ensures read { IfOk result (λ memory. (script : ScriptData (Shelved Image)) (shown : Shown (Shelved Image)) → once_read script memory shown ≡ shown) }
 {
     match fault {
         PartitionFault::CutsAtLimit | PartitionFault::AtLimit => {
@@ -360,6 +401,10 @@ fn push_refusal(shown: &mut Vec<u8>, fault: PartitionFault) -> Result<Memory, Al
         PartitionFault::NoMemory => {
             shown.extend_from_slice(b"! refused out of memory\n")?;
             Ok(Memory::NoneToRun(0))
+        }
+        PartitionFault::HistoryFull => {
+            shown.extend_from_slice(b"! refused history full\n")?;
+            Ok(Memory::NoneToFold(0))
         }
     }
 }

@@ -1,11 +1,9 @@
 -- Tests that tell whether two readings of a player are one.
-use Rattle.std.proofs.Common.{◌≡◌, ℕ, suc, ◌+◌, Bool, true, false, not, ◌&&◌, nat_eq, List, Option, Some, None, refl, ap, arith}
+use Rattle.std.proofs.Common.{◌≡◌, ℕ, ◌+◌, Bool, true, false, nat_eq, List, Option, Some, None, refl, ap, arith}
 use Rattle.std.specs.Bool.{beq}
-use Rattle.std.specs.Str.{bytes_eq}
 use Rattle.std.proofs.lemmas.Bool.{and_parts, and_from, eq-eqb, eqb-true}
 use Rattle.std.proofs.lemmas.Slice.Eq.{bytes_eq-Decides}
 use Rattle.song_queue.proofs.Same.{pointwise-refl, pointwise-true}
-use Rattle.play_order.specs.declared.modes.Modes.{Modes}
 use Rattle.play_order.specs.declared.modes.Single.{Single}
 use Rattle.play_order.specs.declared.modes.Single.TheVariants as single_mode
 use Rattle.play_order.specs.declared.modes.Consume.{Consume}

@@ -29,7 +29,7 @@ use Rattle.shelf.specs.declared.faults.ShelfFault.{ShelfFault}
 use Rattle.partition.specs.Clients.{closes, notified, at, moved, move_of}
 use Rattle.partition.specs.Commands.Status.{Wish, ToWait, ToGoOn, granted, resumes, wish_of}
 use Rattle.partition.specs.Image.{Turn, client_of}
-use Rattle.partition.specs.Step.{acts, deed_of, departs, ends_by, greeting, name_of, once_written, quiet, turn_of, turn_line, turn_wished, unspoken, written_turn}
+use Rattle.partition.specs.Step.{absent, acts, deed_of, departs, ends_by, greeting, name_of, once_written, quiet, turn_of, turn_line, turn_wished, written_turn}
 use Rattle.partition.specs.World.{is_learning}
 use Rattle.partition.specs.Notices.{IsIn}
 use Rattle.partition.proofs.Members.{of_map}
@@ -154,7 +154,7 @@ kind_of part library clients (Want owes) = inl tt
 kind_of part library clients (Have number frames) = inl tt
 kind_of part library clients (Failed number partner) = inl tt
 kind_of part library clients (OutputTurn output written discarded failed) =
-    inl (quiet_if (is_output part.outputs output) (acts (Settles output written discarded failed)) (quiet unspoken) tt tt)
+    inl (quiet_if (is_output part.outputs output) (acts (Settles output written discarded failed)) absent tt tt)
 kind_of part library clients (Line number stand request heard) =
     let cases : (o : Option Client) → client_of number clients ≡ o → Quiet (move_of (turn_line part library o stand request heard.read).said) ⊎ IsAsking clients (Line number stand request heard) =
     λ o. elim o as (λ o. client_of number clients ≡ o → Quiet (move_of (turn_line part library o stand request heard.read).said) ⊎ IsAsking clients (Line number stand request heard))

@@ -1,8 +1,8 @@
 -- Books that an event leaves as they are.
-use Rattle.std.proofs.Common.{◌≡◌, ℕ, ◌+◌, Bool, true, false, ◌&&◌, List, [], ◌∷◌, length, refl, arith, if◌then◌else◌}
+use Rattle.std.proofs.Common.{◌≡◌, ℕ, ◌+◌, true, false, List, [], ◌∷◌, length, refl, arith, if◌then◌else◌}
 use Rattle.partition.specs.declared.doing.Doing.TheVariants.{Rests}
 use Rattle.partition.specs.declared.report.Report.TheVariants.{Nothing}
-use Rattle.partition.specs.Outputs.{FrameBooks, OutputsData, books_after, can_count, can_count_all, decoded_by, grown, is_enabled}
+use Rattle.partition.specs.Outputs.{OutputsData, books_after, can_count, can_count_all, decoded_by, grown, is_enabled}
 
 none_more : (x a : ℕ) → x ≡ 0 → x + a ≡ a
 none_more x a e = omega (arith, e)

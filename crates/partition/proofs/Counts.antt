@@ -46,3 +46,7 @@ at f (suc n) a (suc k) h = at f n (a + 1) k (omega arith) ∙ ap f (omega arith)
 -- the count of a seat
 pub made_of-at : (hs : List Happened) (seat : ℕ) → seat < 16 → slice_index_or (made_of hs) seat 0 ≡ own seat hs
 made_of-at hs seat h = at (λ s. own s hs) 16 0 seat h ∙ ap (λ s. own s hs) (omega arith)
+
+-- a history behind another
+pub own-behind : (seat : ℕ) (hs gs : List Happened) → own seat (hs ++ gs) ≡ own seat hs + own seat gs
+own-behind seat hs gs = sum_by-append (λ (x : Happened). if x.seat == seat then 1 else 0) hs gs

@@ -1,8 +1,7 @@
 -- The frames that events feed, and what steps leave of the queue.
-use Rattle.std.proofs.Common.{◌≡◌, ℕ, ◌+◌, ◌≤◌, Bool, true, false, not, ◌&&◌, nat_le, nat_lt, List, [], ◌∷◌, length, Option, Some, None, is_some, filter, max, refl, ap, sym, ◌∙◌, arith, if◌then◌else◌}
+use Rattle.std.proofs.Common.{◌≡◌, ℕ, ◌+◌, ◌≤◌, Bool, true, false, not, ◌&&◌, nat_le, List, [], ◌∷◌, Option, Some, None, is_some, filter, max, refl, arith, if◌then◌else◌}
 use Rattle.song_queue.specs.declared.entry.Entry.{Entry}
 use Rattle.song_queue.specs.Past.{greatest_in}
-use Rattle.song_queue.specs.State.{queue_of}
 use Rattle.play_order.specs.declared.modes.Modes.{Modes}
 use Rattle.play_order.specs.declared.modes.Single.{Single}
 use Rattle.play_order.specs.declared.modes.Single.TheVariants as single_mode
@@ -10,11 +9,11 @@ use Rattle.play_order.specs.Draws.{RoundState, has_id}
 use Rattle.play_order.specs.Order.{entry_of}
 use Rattle.play_order.specs.Ends as ends
 use Rattle.player_core.specs.declared.state.Job.{Job}
-use Rattle.player_core.specs.Player.{PlayerState, Stepped, given_up, stays, is_playing}
+use Rattle.player_core.specs.Player.{PlayerState, given_up, stays, is_playing}
 use Rattle.player_core.specs.Steps as steps
 use Rattle.player_core.specs.Decoding as decoding
 use Rattle.partition.specs.declared.doing.Doing.{Doing}
-use Rattle.partition.specs.declared.doing.Doing.TheVariants.{Edits, Shuffles, GoesOn, Wants, Accepts}
+use Rattle.partition.specs.declared.doing.Doing.TheVariants.{GoesOn, Wants, Accepts}
 use Rattle.partition.specs.declared.report.Report.TheVariants.{ToFeed}
 use Rattle.partition.specs.declared.state.Part.{Part}
 use Rattle.partition.specs.Outputs.{any_enabled, frames_fed}

@@ -1,5 +1,5 @@
 -- Shelves that were lent to an event and are as they were.
-use Rattle.std.proofs.Common.{◌≡◌, ◌⊎◌, inl, inr, ℕ, ◌≤◌, Bool, false, List, Option, Some, None, refl, sym, subst, ◌∙◌, arith}
+use Rattle.std.proofs.Common.{inl, inr, ℕ, ◌≤◌, false, Option, Some, None, refl, arith}
 use Rattle.shelf.specs.Calls.{Call}
 use Rattle.shelf.specs.Maps.{Maps, Same, Standing, Turns}
 use Rattle.partition.specs.declared.event.Event.{Event}

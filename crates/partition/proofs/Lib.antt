@@ -10,6 +10,9 @@ pub mod Gathers
 pub mod Notified
 pub mod Seats
 pub mod Lives
+pub mod Stands
+pub mod Folds
+pub mod Since
 pub mod Lending
 pub mod Listeners
 pub mod Members

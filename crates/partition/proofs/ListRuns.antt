@@ -1,5 +1,5 @@
 -- Command lists that run request by request.
-use Rattle.std.proofs.Common.{◌≡◌, inl, inr, ℕ, suc, ◌+◌, ◌≤◌, true, false, Option, Some, None, List, [], ◌∷◌, ◌++◌, length, map, take, refl, ap, sym, subst, ◌∙◌, append_assoc, append-nil, arith, if◌then◌else◌}
+use Rattle.std.proofs.Common.{◌≡◌, ◌⊎◌, inl, inr, ℕ, suc, ◌+◌, ◌≤◌, true, false, Option, Some, None, List, [], ◌∷◌, ◌++◌, length, map, take, refl, ap, sym, subst, ◌∙◌, append_assoc, append-nil, arith, if◌then◌else◌}
 use Rattle.std.specs.Prelude.{slice_get, slice_index_or}
 use Rattle.std.specs.Option.{ForSome}
 use Rattle.std.proofs.lemmas.List.{map-append, length-append}
@@ -14,16 +14,16 @@ use Rattle.partition.specs.declared.event.Event.TheVariants.{Line}
 use Rattle.partition.specs.declared.event.Happened.{Happened}
 use Rattle.partition.specs.declared.event.Stand.TheVariants.{InList}
 use Rattle.partition.specs.declared.partition.PartitionFault.{PartitionFault}
-use Rattle.partition.specs.declared.partition.PartitionFault.TheVariants.{NoMemory}
+use Rattle.partition.specs.declared.partition.PartitionFault.TheVariants.{HistoryFull, NoMemory}
 use Rattle.partition.specs.declared.shelf_calls.Heard.{Heard}
 use Rattle.partition.specs.Answers.{Told}
-use Rattle.partition.specs.History.{Chronicle, replay}
+use Rattle.partition.specs.History.{Chronicle, is_full, joined_by, replay, with_room}
 use Rattle.partition.specs.Image.{Image}
-use Rattle.partition.specs.Lent.{IsRefused, Records, ServesAll, question, writing}
+use Rattle.partition.specs.Lent.{IsRefused, Records, Refuses, ServesAll, question, writing}
 use Rattle.partition.specs.Lists.{Answered, ends_list, entries_of, AllWithin, Joins, RunsList, StopsList}
-use Rattle.partition.specs.Shelves.{Serves, Spares, nothing_heard}
-use Rattle.partition.specs.Step.{hearing, heard_at, limit_of, next_image, told}
-use Rattle.partition.proofs.Chronicles.{replay-append}
+use Rattle.partition.specs.Shelves.{Serves, nothing_heard}
+use Rattle.partition.specs.Step.{heard_at, limit_of, next_image, told}
+use Rattle.partition.proofs.Chronicles.{joined-append, replay-append}
 use Rattle.partition.proofs.Lending.{wanting}
 
 pub nothing_left : {X : Type 0} (l : List X) → length l ≡ 0 → l ≡ []
@@ -53,11 +53,12 @@ within_more i (g ∷ gs) h all e = (all.0, within_more (next_image g.seat i g.ev
 
 -- one entry more joins
 joins_more : (before mid now : Chronicle) (done : List Happened) (h : Happened)
-    → Joins before mid done → limit_of h.seat mid.present h.event ≡ None → now.base ≡ mid.base → now.window ≡ mid.window ++ h ∷ [] → now.present ≡ next_image h.seat mid.present h.event
+    → Joins before mid done → limit_of h.seat mid.present h.event ≡ None
+    → now.base ≡ (with_room mid).base → now.window ≡ (with_room mid).window ++ h ∷ [] → now.present ≡ next_image h.seat mid.present h.event → now.limit ≡ mid.limit
     → Joins before now (done ++ h ∷ [])
-joins_more before mid now done h joins within base window present = record {
-  base = base ∙ joins.base;
-  window = window ∙ ap (λ (hs : List Happened). hs ++ h ∷ []) joins.window ∙ append_assoc before.window done (h ∷ []);
+joins_more before mid now done h joins within base window present limit = record {
+  chronicle = (λ i. record { base = base i; window = window i; present = present i; limit = limit i })
+      ∙ ap (λ (c : Chronicle). joined_by c h) joins.chronicle ∙ sym (joined-append before done h);
   present = present ∙ ap (λ (i : Image). next_image h.seat i h.event) joins.present ∙ sym (replay-append before.present done h);
   within = within_more before.present done h joins.within (ap (λ (i : Image). limit_of h.seat i h.event) (sym joins.present) ∙ within);
 }
@@ -120,21 +121,22 @@ module _ {S : Type 0} (standing : S → Standing) (failed : S → S → Call →
 
   -- what an event of a list did
   pub record Does (before now : Chronicle) (old new : S) (place : ℕ) (request : Request) (t : Told) : Type 0 where
-    pub base : now.base ≡ before.base
-    pub records : Records standing failed before.present now.present before.window now.window old new seat (event_at place request nothing_heard) t
+    pub base : now.base ≡ (with_room before).base
+    pub limit : now.limit ≡ before.limit
+    pub records : Records standing failed before.present now.present (with_room before).window now.window old new seat (event_at place request nothing_heard) t
 
   -- an event that was applied
-  pub does_so : (before now : Chronicle) (old new : S) (place place' : ℕ) (request : Request) (t : Told) → place ≡ place' → now.base ≡ before.base
-      → Records standing failed before.present now.present before.window now.window old new seat (event_at place request nothing_heard) t
+  pub does_so : (before now : Chronicle) (old new : S) (place place' : ℕ) (request : Request) (t : Told) → place ≡ place' → now.base ≡ (with_room before).base → now.limit ≡ before.limit
+      → Records standing failed before.present now.present (with_room before).window now.window old new seat (event_at place request nothing_heard) t
       → Does before now old new place' request t
-  does_so before now old new place place' request t e base records =
-      subst (λ (n : ℕ). Does before now old new n request t) e (record { base = base; records = records })
+  does_so before now old new place place' request t e base limit records =
+      subst (λ (n : ℕ). Does before now old new n request t) e (record { base = base; limit = limit; records = records })
 
   pub none_ran : (before : Chronicle) (old : S) (requests : List Request) (tolds : List Told) → tolds ≡ [] → Ran before before old old requests requests tolds
   none_ran before old requests tolds none = record {
     done = [];
     front = [];
-    joins = record { base = refl; window = sym (append-nil before.window); present = refl; within = tt };
+    joins = record { chronicle = refl; present = refl; within = tt };
     told_are = none;
     all = λ more. refl;
     cut = refl;
@@ -169,7 +171,7 @@ module _ {S : Type 0} (standing : S → Standing) (failed : S → S → Call →
     longer = length-more ran.done h
 
     joins : Joins before now (ran.done ++ h ∷ [])
-    joins = joins_more before mid now ran.done h ran.joins does.records.within does.base does.records.window does.records.present
+    joins = joins_more before mid now ran.done h ran.joins does.records.within does.base does.records.window does.records.present does.limit
 
     served : ServesAll standing failed old new before.present (ran.done ++ h ∷ [])
     served =
@@ -248,12 +250,12 @@ module _ {S : Type 0} (standing : S → Standing) (failed : S → S → Call →
   length-asked [] = refl
   length-asked (a ∷ front) = ap suc (length-asked front)
 
-  pub ran_stop : (before now : Chronicle) (old between new : S) (requests rest rest' : List Request) (request : Request) (tolds : List Told) (command : List ℕ) (cause : PartitionFault)
+  pub ran_stop : (before now after : Chronicle) (old between new : S) (requests rest rest' : List Request) (request : Request) (tolds : List Told) (command : List ℕ) (cause : PartitionFault)
       → Ran before now old between requests rest tolds → rest ≡ request ∷ rest' → command ≡ name_in request
-      → IsRefused standing failed now.present between new seat (event_at (length tolds) request nothing_heard) cause
-      → StopsList standing failed before now old new seat client form requests (record { done = length tolds; tolds = tolds; command = command; cause = cause })
+      → Refuses standing failed now after between new seat (event_at (length tolds) request nothing_heard) cause
+      → StopsList standing failed before after old new seat client form requests (record { done = length tolds; tolds = tolds; command = command; cause = cause })
   unfolding entries_of
-  ran_stop before now old between new requests rest rest' request tolds command cause ran first named refused =
+  ran_stop before now after old between new requests rest rest' request tolds command cause ran first named refused =
       let place : length tolds ≡ length ran.done = place_is tolds ran.done ran.told_are in
       let more : List Answered = (request, nothing_heard) ∷ unheard rest' in
       let answered : List Answered = ran.front ++ more in
@@ -271,6 +273,7 @@ module _ {S : Type 0} (standing : S → Standing) (failed : S → S → Call →
         answered = answered;
         asked = map-append (λ (a : Answered). a.0) ran.front more
             ∙ ap (λ (rs : List Request). map (λ (a : Answered). a.0) ran.front ++ request ∷ rs) (asked_unheard rest') ∙ sym cut;
+        middle = now;
         joins = subst (Joins before now) (sym front) ran.joins;
         told = ran.told_are ∙ ap (map (λ (g : Happened). g.told)) (sym front);
         more = omega (arith, place, some, long, same);
@@ -279,9 +282,9 @@ module _ {S : Type 0} (standing : S → Standing) (failed : S → S → Call →
             ∙ name_at (map (λ (a : Answered). a.0) ran.front) rest' request);
         between = between;
         shelf = subst (ServesAll standing failed old between before.present) (sym front) ran.shelf;
-        cause = of_first entry (λ (h : Happened). IsRefused standing failed now.present between new h.seat h.event cause) (slice_get (entries before.present 0 answered) (length tolds))
+        cause = of_first entry (λ (h : Happened). Refuses standing failed now after between new h.seat h.event cause) (slice_get (entries before.present 0 answered) (length tolds))
             (ap (λ (hs : List Happened). slice_get hs (length tolds)) all ∙ ap (slice_get (ran.done ++ others)) place ∙ behind ran.done entry later)
-            (subst (λ (n : ℕ). IsRefused standing failed now.present between new seat (event_at n request nothing_heard) cause) place refused);
+            (subst (λ (n : ℕ). Refuses standing failed now after between new seat (event_at n request nothing_heard) cause) place refused);
       }
 
   -- a list without requests
@@ -291,17 +294,24 @@ module _ {S : Type 0} (standing : S → Standing) (failed : S → S → Call →
       record {
         answered = [];
         asked = sym (nothing_left requests none);
-        joins = record { base = refl; window = sym (append-nil c.window); present = refl; within = tt };
+        joins = record { chronicle = refl; present = refl; within = tt };
         told = refl;
         shelf = refl;
       }
 
   -- a list whose first request found no memory
-  pub first_stop : (c : Chronicle) (old : S) (requests : List Request) (tolds : List Told) (command : List ℕ)
+  pub first_stop : (c after : Chronicle) (old : S) (requests : List Request) (tolds : List Told) (command : List ℕ) (cause : PartitionFault)
       → 1 ≤ length requests → tolds ≡ [] → command ≡ slice_index_or (map name_in requests) 0 []
-      → StopsList standing failed c c old old seat client form requests (record { done = 0; tolds = tolds; command = command; cause = NoMemory })
-  first_stop c old [] tolds command some none named = absurd (omega (arith, some))
-  first_stop c old (request ∷ requests) tolds command some none named =
-      subst (λ (n : ℕ). StopsList standing failed c c old old seat client form (request ∷ requests) (record { done = n; tolds = tolds; command = command; cause = NoMemory })) (ap length none)
-      (ran_stop c c old old old (request ∷ requests) (request ∷ requests) requests request tolds command NoMemory
-      (none_ran c old (request ∷ requests) tolds none) refl named (wanting standing failed seat c.present old (event_at (length tolds) request nothing_heard)))
+      → ((cause ≡ HistoryFull) × ((is_full c ≡ true) × (after ≡ c))) ⊎ ((cause ≡ NoMemory) × (after ≡ with_room c))
+      → StopsList standing failed c after old old seat client form requests (record { done = 0; tolds = tolds; command = command; cause = cause })
+  first_stop c after old [] tolds command cause some none named wants = absurd (omega (arith, some))
+  first_stop c after old (request ∷ requests) tolds command cause some none named wants =
+      let event : Event = event_at (length tolds) request nothing_heard in
+      let refuses : Refuses standing failed c after old old seat event cause =
+      elim wants [
+        | inl w ↦ inl (w.0, (w.1.0, (w.1.1, refl)))
+        | inr w ↦ inr (w.1, subst (λ (f : PartitionFault). IsRefused standing failed c.present old old seat event f) (sym w.0) (wanting standing failed seat c.present old event))
+      ] in
+      subst (λ (n : ℕ). StopsList standing failed c after old old seat client form (request ∷ requests) (record { done = n; tolds = tolds; command = command; cause = cause })) (ap length none)
+      (ran_stop c c after old old old (request ∷ requests) (request ∷ requests) requests request tolds command cause
+      (none_ran c old (request ∷ requests) tolds none) refl named refuses)

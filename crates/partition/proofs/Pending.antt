@@ -53,15 +53,15 @@ pending_more number m ms true e =
 pending_more number m ms false e =
     ap (λ (l : List Moment). union_all (map (raised_at number) l)) (passed (λ x. not (begins_anew number x)) m ms (ap not e))
 
-either : (a b : Bool) → (a || b) ≡ true → (b ≡ true) ⊎ (a ≡ true)
+pub either : (a b : Bool) → (a || b) ≡ true → (b ≡ true) ⊎ (a ≡ true)
 either true b e = inr refl
 either false b e = inl e
 
-or_right : (a b : Bool) → b ≡ true → (a || b) ≡ true
+pub or_right : (a b : Bool) → b ≡ true → (a || b) ≡ true
 or_right true b e = refl
 or_right false b e = e
 
-or_left : (a b : Bool) → a ≡ true → (a || b) ≡ true
+pub or_left : (a b : Bool) → a ≡ true → (a || b) ≡ true
 or_left true b e = refl
 or_left false b e = cc
 
@@ -70,7 +70,7 @@ module _ (number : ℕ) (x : Subsystem) where
       → has (pending_for number (m ∷ ms)) x ≡ (has (pending_for number ms) x || has (raised_at number m) x)
   joined m ms e = ap (λ s. has s x) (pending_more number m ms false e) ∙ has_union (pending_for number ms) (raised_at number m) x
 
-  longer : (m : Moment) (ms : List Moment) → begins_anew number m ≡ false → IsPending number x ms → IsPending number x (m ∷ ms)
+  pub longer : (m : Moment) (ms : List Moment) → begins_anew number m ≡ false → IsPending number x ms → IsPending number x (m ∷ ms)
   longer m ms e p = record {
     later = m ∷ p.later;
     moment = p.moment;

@@ -4,8 +4,8 @@ use Rattle.std.specs.Prelude.{IsTrue}
 use Rattle.std.specs.List.{list_any}
 use Rattle.std.proofs.lemmas.Bool.{eq-eqb, eqb-true}
 use Rattle.idle_notes.specs.declared.sets.Subsystems.{Subsystems}
-use Rattle.idle_notes.specs.Channels.{MemberData, clients_with_messages, has_messages_beyond}
-use Rattle.idle_notes.specs.Sets.{none, is_nonempty}
+use Rattle.idle_notes.specs.Channels.{clients_with_messages, has_messages_beyond}
+use Rattle.idle_notes.specs.Sets.{is_nonempty}
 use Rattle.partition.specs.Clients.{has_messages}
 use Rattle.partition.specs.Settled.{nothing}
 use Rattle.partition.specs.Signs.{RaisedData, is_among, raised_in}

@@ -1,12 +1,12 @@
 -- Events that joined the history, or were refused.
-use Rattle.std.proofs.Common.{◌≡◌, ◌⊎◌, inl, inr, ℕ, Bool, true, false, not, ◌||◌, List, [], ◌∷◌, ◌++◌, Option, Some, None, refl, ap, sym, subst, ◌∙◌, if◌then◌else◌}
+use Rattle.std.proofs.Common.{◌≡◌, ◌⊎◌, inl, inr, ℕ, true, false, List, [], ◌∷◌, ◌++◌, None, refl, ap, sym, subst, ◌∙◌}
 use Rattle.std.specs.Prelude.{nat_le, slice_index_or}
 use Rattle.shelf.specs.Calls.{Call}
 use Rattle.shelf.specs.Maps.{Standing}
 use Rattle.partition.specs.declared.event.Event.{Event}
 use Rattle.partition.specs.declared.event.Happened.{Happened}
 use Rattle.partition.specs.declared.partition.PartitionFault.{PartitionFault}
-use Rattle.partition.specs.declared.partition.PartitionFault.TheVariants.{CutsAtLimit, AtLimit, NoMemory}
+use Rattle.partition.specs.declared.partition.PartitionFault.TheVariants.{HistoryFull, CutsAtLimit, AtLimit, NoMemory}
 use Rattle.partition.specs.Answers.{Told}
 use Rattle.partition.specs.Image.{Image, counted}
 use Rattle.partition.specs.Lent.{IsRefused, Records, question, writing}
@@ -24,6 +24,7 @@ unfolding limit_of
 may_refuse seat i e AtLimit free refused = rw (free, refused) (inl refl)
 may_refuse seat i e CutsAtLimit free refused = rw (free, refused.0, refused.1) (inl refl)
 may_refuse seat i e NoMemory free refused = may_want (limit_of seat i e)
+may_refuse seat i e HistoryFull free refused = absurd refused
 
 -- an event that passes no limit
 pub is_within : (seat : ℕ) (i : Image) (e : Event) → IsFree seat i → counts_frames i (turn i e) ≡ true → keeps_limits i (turn i e) ≡ true → limit_of seat i e ≡ None

@@ -1,12 +1,11 @@
 -- Commands over stickers change nothing of the player.
-use Rattle.std.proofs.Common.{◌≡◌, Bool, true, false, List, ℕ, Option, Some, None, ◌||◌, ap, refl, sym, subst, if◌then◌else◌}
+use Rattle.std.proofs.Common.{◌≡◌, Bool, true, false, List, ℕ, Option, Some, None, refl, sym, subst, if◌then◌else◌}
 use Rattle.shelf.specs.declared.faults.ShelfFault.{ShelfFault}
 use Rattle.shelf.specs.declared.faults.ShelfFault.TheVariants.{NoSuchList, Exists, BadName, NoSticker, StoreFault, NoMemory}
 use Rattle.shelf.specs.Maps.{is_sticker_name}
 use Rattle.mpd_command.specs.declared.sticker.Comparison.{Comparison}
 use Rattle.mpd_command.specs.declared.sticker.StickerCommand.{StickerCommand}
 use Rattle.mpd_command.specs.declared.sticker.StickerCommand.TheVariants.{Get, Set, Delete, List as ListStickers, Find}
-use Rattle.partition.specs.declared.doing.Doing.{Doing}
 use Rattle.partition.specs.declared.doing.Doing.TheVariants.{Rests}
 use Rattle.partition.specs.declared.event.Asked.{Asked}
 use Rattle.partition.specs.declared.shelf_calls.Read.{Read}
@@ -14,7 +13,7 @@ use Rattle.partition.specs.declared.shelf_calls.Read.TheVariants.{Nothing, Names
 use Rattle.partition.specs.declared.state.Library.{Library}
 use Rattle.partition.specs.declared.state.Part.{Part}
 use Rattle.partition.specs.Commands.Deeds.{bad_name, no_such_song}
-use Rattle.partition.specs.Commands.Shelf.{delete_stickers, is_place, is_song, named_sticker, set_value, show_found, show_stickers, show_value, sticker}
+use Rattle.partition.specs.Commands.Shelf.{delete_stickers, is_place, is_song, set_value, show_found, show_stickers, show_value, sticker}
 use Rattle.partition.specs.Image.{Deed}
 use Rattle.partition.specs.Plans.{Fits}
 

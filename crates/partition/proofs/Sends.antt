@@ -24,11 +24,11 @@ use Rattle.partition.specs.declared.event.Move.TheVariants.{Stay, Wait, Learn, R
 use Rattle.partition.specs.declared.event.Notice.{Notice}
 use Rattle.partition.specs.declared.state.Client.{Client}
 use Rattle.partition.specs.declared.state.Part.{Part}
-use Rattle.partition.specs.Answers.{Said, refused_by_shelf, shut, stays}
+use Rattle.partition.specs.Answers.{Said, refused_by_shelf, stays}
 use Rattle.partition.specs.Commands.Status.{Wish, ToWait, ToGoOn, wish_of}
 use Rattle.partition.specs.Clients.{notified, is_other, at, moved, notice_to, notice_for, notices_after, clients_after, staying, move_of, closes, AllAbove, Rising}
 use Rattle.partition.specs.Image.{Turn, client_of}
-use Rattle.partition.specs.Step.{acts, deed_of, departs, ends_by, name_of, once_written, quiet, turn_of, turn_line, turn_wished, written_turn, speaker, mover, unspoken}
+use Rattle.partition.specs.Step.{absent, acts, deed_of, departs, ends_by, name_of, once_written, turn_of, turn_line, turn_wished, written_turn, speaker, mover, unspoken}
 use Rattle.partition.specs.Shelves.{is_written}
 use Rattle.partition.specs.declared.shelf_calls.Read.{Read}
 use Rattle.shelf.specs.declared.faults.ShelfFault.{ShelfFault}
@@ -99,7 +99,7 @@ waiter_moves part library ks (Want owes) k named names e w m = cc
 waiter_moves part library ks (Have number frames) k named names e w m = cc
 waiter_moves part library ks (Failed number partner) k named names e w m = cc
 waiter_moves part library ks (OutputTurn output written discarded failed) k named names e w m =
-    elim (is_output part.outputs output) as (λ b. move_of (if b then acts (Settles output written discarded failed) else quiet unspoken).said ≡ Wait names → ⊥)
+    elim (is_output part.outputs output) as (λ b. move_of (if b then acts (Settles output written discarded failed) else absent).said ≡ Wait names → ⊥)
     [ true ↦ λ h. cc | false ↦ λ h. cc ] m
 waiter_moves part library ks (Line number stand request heard) k named names e w m =
     written_moves stand request heard.refused (turn_line part library (client_of number ks) stand request heard.read) names
@@ -117,7 +117,7 @@ is_other_speaker part library ks (Want owes) number ne = inr refl
 is_other_speaker part library ks (Have job frames) number ne = inr refl
 is_other_speaker part library ks (Failed job partner) number ne = inr refl
 is_other_speaker part library ks (OutputTurn output written discarded failed) number ne =
-    inr (elim (is_output part.outputs output) as (λ b. (if b then acts (Settles output written discarded failed) else quiet unspoken).said ≡ unspoken) [ true ↦ refl | false ↦ refl ])
+    inr (elim (is_output part.outputs output) as (λ b. (if b then acts (Settles output written discarded failed) else absent).said ≡ unspoken) [ true ↦ refl | false ↦ refl ])
 
 module _ (n : ℕ) (r : ℕ → Subsystems) where
   -- what of a client's named set changed

@@ -1,9 +1,8 @@
 -- What a lent shelf did for an event, from the calls that were made.
-use Rattle.std.proofs.Common.{◌≡◌, ℕ, Bool, true, false, List, Option, Some, None, Result, Ok, refl, ap, sym, subst, ◌∙◌}
-use Rattle.std.specs.Prelude.{IsTrue}
+use Rattle.std.proofs.Common.{◌≡◌, Bool, true, false, Option, None, refl, ap, sym, subst, ◌∙◌}
 use Rattle.shelf.specs.declared.faults.ShelfFault.{ShelfFault}
 use Rattle.shelf.specs.Calls.{Call}
-use Rattle.shelf.specs.Maps.{Maps, Same, Standing, Trusted, Turns}
+use Rattle.shelf.specs.Maps.{Maps, Standing, Trusted, Turns}
 use Rattle.partition.specs.declared.event.Event.{Event}
 use Rattle.partition.specs.declared.event.Event.TheVariants.{Connect, Disconnect, Line, ScanQuestion, ScanResult, Want, Have, Failed, OutputTurn}
 use Rattle.partition.specs.declared.shelf_calls.Heard.{Heard}

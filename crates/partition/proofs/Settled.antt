@@ -19,7 +19,7 @@ use Rattle.partition.specs.declared.event.Move.{Move}
 use Rattle.partition.specs.declared.event.Move.TheVariants.{Stay, Wait, Learn, Resume, Join}
 use Rattle.partition.specs.declared.state.Client.{Client}
 use Rattle.partition.specs.declared.state.Part.{Part}
-use Rattle.partition.specs.Answers.{Said, shut, stays}
+use Rattle.partition.specs.Answers.{Said}
 use Rattle.partition.specs.Clients.{has_messages, notified, notice_for, notice_to, is_other, at, joined, moved, staying, move_of, clients_after, options, playing, Rising}
 use Rattle.partition.specs.Commands.Status.{Wish, idles}
 use Rattle.partition.specs.History.{replay}

@@ -1,5 +1,5 @@
 -- Two lists of songs that are one.
-use Rattle.std.proofs.Common.{◌≡◌, Bool, true, false, not, List, ap}
+use Rattle.std.proofs.Common.{◌≡◌, true, false, not, List, ap}
 use Rattle.mpd_text.specs.Songs.Song.{SongData}
 use Rattle.song_queue.specs.Entries.{same_song}
 use Rattle.song_queue.proofs.Same.{pointwise-refl, pointwise-true, same_song-refl, same_song-true}

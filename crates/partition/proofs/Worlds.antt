@@ -16,24 +16,21 @@ use Rattle.partition.specs.declared.event.Event.{Event}
 use Rattle.partition.specs.declared.event.Happened.{Happened}
 use Rattle.partition.specs.declared.state.Client.{Client}
 use Rattle.partition.specs.declared.shelf_calls.ShelfWrite.{ShelfWrite}
-use Rattle.partition.specs.declared.state.Part.{Part}
 use Rattle.partition.specs.declared.state.Setup.{Setup}
-use Rattle.partition.specs.declared.state.Limits.{Limits}
 use Rattle.partition.specs.Clients.{Parts, raised, notified, closes, Rising}
 use Rattle.partition.specs.History.{made_of, replay}
-use Rattle.partition.specs.Outputs.{FrameBooks, books_after, decoded_by, discarded_by, grown, written_by}
-use Rattle.partition.specs.Doings.{Change, ByEdit, ByStep, change_of, channels_after, outputs_after, part_after, player_after, queue_after, volume_after}
+use Rattle.partition.specs.Doings.{Change, ByEdit, ByStep, change_of, channels_after, outputs_after, player_after, queue_after, volume_after}
 use Rattle.partition.specs.Image.{Image, Turn, client_of, library_after, opening}
 use Rattle.partition.specs.Legal.{ReplaysWorlds}
 use Rattle.partition.specs.Step.{turn, mover, raised_by, report_of, after_turn, told_by, next_image}
-use Rattle.partition.specs.World.{Listener, Moment, Life, raised_at, is_there, begins_anew, parts_in, pending_for, client_in, listener_of, books_of, image_of, past_after, world_after_turn, lived, life_after_event, life_from, opening_life}
+use Rattle.partition.specs.World.{Greatest, Listener, Moment, Life, raised_at, is_there, begins_anew, parts_in, pending_for, client_in, listener_of, books_of, image_of, past_after, world_after_turn, lived, life_after_event, life_from, limits_of, opening_life}
 use Rattle.partition.proofs.Counts.{made_of-more}
 use Rattle.partition.proofs.Frames.{Keeps, keeps}
 use Rattle.partition.proofs.Notified.{Each, flagged, all_stand}
 use Rattle.partition.proofs.Pending.{pending_more}
 use Rattle.partition.proofs.Rises.{rising_after}
 
-abbrev state_at : Limits → List (List Entry) → QueueState
+abbrev state_at : Greatest → List (List Entry) → QueueState
 state_at limits past = state_of limits.max_queue limits.max_version limits.max_id past
 
 pub some_past : (past : List (List Entry)) (change : Change) → 0 < length past → 0 < length (past_after past change)
@@ -41,10 +38,10 @@ some_past past (ByEdit edit) some = length-after_event past (queues.queue_after 
 some_past past (ByStep None) some = some
 some_past past (ByStep (Some left)) some = length-after_event past left some
 
-shows : (limits : Limits) (past : List (List Entry)) → present past ≡ queue_of (state_at limits past)
+shows : (limits : Greatest) (past : List (List Entry)) → present past ≡ queue_of (state_at limits past)
 shows limits past = sym (pasts_keep_queues.shows limits.max_queue limits.max_version limits.max_id past)
 
-follows : (limits : Limits) (past : List (List Entry)) (change : Change) → 1 ≤ limits.max_version → 0 < length past → Keeps (queue_of (state_at limits past)) change
+follows : (limits : Greatest) (past : List (List Entry)) (change : Change) → 1 ≤ limits.max_version → 0 < length past → Keeps (queue_of (state_at limits past)) change
     → state_at limits (past_after past change) ≡ queue_after (state_at limits past) change
 follows limits past (ByEdit edit) above some kept = sym (after_edit limits.max_queue limits.max_version limits.max_id (omega arith) past edit some)
 follows limits past (ByStep None) above some kept = refl
@@ -54,7 +51,7 @@ follows limits past (ByStep (Some left)) above some kept =
     sym (edited-at_end limits.max_queue limits.max_version limits.max_id (omega arith) past left some (omega (arith, kept, same, low)))
 
 -- what an event raised by the worlds is what its turn raises
-pub same_raised : (written : ShelfWrite) (limits : Limits) (past : List (List Entry)) (change : Change) (before after : Parts) → 1 ≤ limits.max_version → 0 < length past
+pub same_raised : (written : ShelfWrite) (limits : Greatest) (past : List (List Entry)) (change : Change) (before after : Parts) → 1 ≤ limits.max_version → 0 < length past
     → Keeps (queue_of (state_at limits past)) change
     → raised written (record before { queue = present past }) (record after { queue = present (past_after past change) })
     ≡ raised written (record before { queue = queue_of (state_at limits past) }) (record after { queue = queue_of (queue_after (state_at limits past) change) })
@@ -63,10 +60,10 @@ same_raised written limits past change before after above some kept =
     ∙ ap (λ (q : List Entry). raised written (record before { queue = queue_of (state_at limits past) }) (record after { queue = q }))
     (shows limits (past_after past change) ∙ ap queue_of (follows limits past change above some kept))
 
-same_first : (n : ℕ) → (n == n) ≡ true
+pub same_first : (n : ℕ) → (n == n) ≡ true
 same_first n = grind (arith, nat_tests)
 
-or_more : (a b : Bool) → b ≡ true → (a || b) ≡ true
+pub or_more : (a b : Bool) → b ≡ true → (a || b) ≡ true
 or_more true b e = refl
 or_more false b e = e
 
@@ -179,8 +176,8 @@ from life done (h ∷ hs) above some rising =
 
 pub opens : (setup : Setup) (library : Library) → 1 ≤ setup.limits.max_version → opening setup library ≡ image_of (opening_life (opening setup library)) []
 opens setup library above =
-    let limits : Limits = setup.limits in
     let base : Image = opening setup library in
+    let limits : Greatest = limits_of base in
     let zeroth : 1 ≡ 0 % limits.max_version + 1 = ap (λ n. n + 1) (sym (mod-eq_of_lt (let h : 0 < limits.max_version = omega arith in h))) in
     ap (λ (v : ℕ). record {
       part = record base.part {

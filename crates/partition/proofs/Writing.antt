@@ -1,5 +1,5 @@
 -- Events that write to the shelf.
-use Rattle.std.proofs.Common.{◌≡◌, ℕ, Bool, true, false, List, Option, Some, None, refl, ap, sym, ◌∙◌, if◌then◌else◌}
+use Rattle.std.proofs.Common.{◌≡◌, Bool, true, false, List, Option, Some, None, refl, ap, sym, ◌∙◌, if◌then◌else◌}
 use Rattle.mpd_command.specs.declared.request.Request.{Request}
 use Rattle.shelf.specs.declared.faults.ShelfFault.{ShelfFault}
 use Rattle.partition.specs.declared.doing.Doing.TheVariants.{Settles}
@@ -14,7 +14,7 @@ use Rattle.partition.specs.Answers.{refused_by_shelf, stays}
 use Rattle.partition.specs.Image.{Turn, client_of}
 use Rattle.partition.specs.Outputs.{is_output}
 use Rattle.partition.specs.Shelves.{is_written}
-use Rattle.partition.specs.Step.{acts, heard_at, hearing, name_at, name_of, once_written, quiet, stand_of, turn_line, turn_of, unspoken, written_turn}
+use Rattle.partition.specs.Step.{absent, acts, heard_at, hearing, name_at, name_of, once_written, quiet, stand_of, turn_line, turn_of, written_turn}
 
 -- an event hears what it heard
 pub same_hearing : (event : Event) → event ≡ hearing event (heard_at event)
@@ -75,8 +75,8 @@ module _ (part : Part) (library : Library) (ks : List Client) where
   hears (Have number frames) w heard = cc
   hears (Failed number partner) w heard = cc
   hears (OutputTurn output written discarded failed) w heard =
-      absurd (never (if is_output part.outputs output then acts (Settles output written discarded failed) else quiet unspoken)
-      (no_settle (is_output part.outputs output) (acts (Settles output written discarded failed)) (quiet unspoken) refl refl) w)
+      absurd (never (if is_output part.outputs output then acts (Settles output written discarded failed) else absent)
+      (no_settle (is_output part.outputs output) (acts (Settles output written discarded failed)) absent refl refl) w)
 
   refused_line : (stand : Stand) (request : Request) (t : Turn) (fault : ShelfFault) → is_written (written_turn stand request None t).written ≡ true
       → written_turn stand request (Some fault) t ≡ quiet (stays (refused_by_shelf stand (name_of request) fault))
@@ -104,5 +104,5 @@ module _ (part : Part) (library : Library) (ks : List Client) where
   refused_turn (Have number frames) fault w none = cc
   refused_turn (Failed number partner) fault w none = cc
   refused_turn (OutputTurn output written discarded failed) fault w none =
-      absurd (never (if is_output part.outputs output then acts (Settles output written discarded failed) else quiet unspoken)
-      (no_settle (is_output part.outputs output) (acts (Settles output written discarded failed)) (quiet unspoken) refl refl) w)
+      absurd (never (if is_output part.outputs output then acts (Settles output written discarded failed) else absent)
+      (no_settle (is_output part.outputs output) (acts (Settles output written discarded failed)) absent refl refl) w)

@@ -1,21 +1,17 @@
 -- Turns that write to the shelf, or are refused by it, and do nothing else.
-use Rattle.std.proofs.Common.{◌≡◌, ◌≤◌, ◌∙◌, ℕ, inl, inr, Bool, true, false, not, ◌&&◌, List, refl, ap, sym}
-use Rattle.std.specs.Prelude.{count_by}
+use Rattle.std.proofs.Common.{◌≡◌, ◌∙◌, ℕ, true, false, not, ◌&&◌, List, refl, ap, sym}
 use Rattle.idle_notes.specs.declared.sets.Subsystems.{Subsystems}
-use Rattle.partition.specs.declared.doing.Doing.{Doing}
 use Rattle.partition.specs.declared.doing.Doing.TheVariants.{Rests}
 use Rattle.partition.specs.declared.event.Event.{Event}
 use Rattle.partition.specs.declared.event.Notice.{Notice}
-use Rattle.partition.specs.declared.report.Report.{Report}
 use Rattle.partition.specs.declared.report.Report.TheVariants.{Nothing}
 use Rattle.partition.specs.declared.scan.ScanMove.{ScanMove}
 use Rattle.partition.specs.declared.scan.ScanMove.TheVariants.{Stay}
 use Rattle.partition.specs.declared.state.Client.{Client}
-use Rattle.partition.specs.Answers.{Said}
 use Rattle.partition.specs.Clients.{clients_after, notices_after, same_songs}
 use Rattle.partition.specs.Doings.{part_after}
 use Rattle.partition.specs.Image.{Image, Turn, library_after, songs_after}
-use Rattle.partition.specs.Outputs.{FrameBooks, books_after, can_count_all}
+use Rattle.partition.specs.Outputs.{books_after, can_count_all}
 use Rattle.partition.specs.Signs.{changes_subscriptions, signs, told_by_signs}
 use Rattle.partition.specs.Step.{after_turn, counts_frames, keeps_limits, mover, quiet, report_of, told_by}
 use Rattle.player_core.specs.Player as player

@@ -1,6 +1,6 @@
 -- What an event does to what one player owns (MPD protocol reference, Controlling playback; The queue; Playback options; Audio output
 -- devices; Client to client; the decoder's and the outputs' steps are this profile's).
-use Rattle.std.specs.Prelude.{ℕ, Bool, false, true, ◌&&◌, not, nat_le, List, Option, Some, None, option_map, slice_get, if◌then◌else◌}
+use Rattle.std.specs.Prelude.{ℕ, Bool, false, ◌&&◌, not, nat_le, List, Option, Some, None, option_map, slice_get}
 use Rattle.idle_notes.specs.Channels.{MemberData, subscribed, unsubscribed, sent, emptied, left}
 use Rattle.song_queue.specs.declared.entry.Entry.{Entry}
 use Rattle.song_queue.specs.declared.edit.Edit.{Edit}

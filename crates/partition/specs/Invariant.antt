@@ -1,14 +1,31 @@
 -- What is true of each player with its history.
-use Rattle.std.specs.Prelude.{◌≡◌, ◌≤◌}
+use Rattle.std.specs.Prelude.{◌≡◌, ◌≤◌, List, length}
+use Rattle.partition.specs.declared.event.Happened.{Happened}
 use Rattle.partition.specs.declared.partition.Partition.TheInside.{Inside}
+use Rattle.partition.specs.declared.state.Library.{Library}
+use Rattle.partition.specs.declared.state.Setup.{Setup}
 use Rattle.partition.specs.History.{Chronicle, replay, AreTold}
-use Rattle.partition.specs.Image.{image_of_state, opening}
+use Rattle.partition.specs.Image.{Image, image_of_state, opening}
+use Rattle.partition.specs.Sizes.{window_bytes}
 
 abbrev pub chronicle_of : Inside → Chronicle
-chronicle_of p = record { base = opening p.setup p.opened; window = p.history.items; present = image_of_state p.state }
+chronicle_of p = record { base = image_of_state p.base; window = p.history.items; present = image_of_state p.state; limit = p.limit }
 
--- the state is where the history leads from the opening, and each reply was the one of its place
+-- events that led from some opening to an image, and each was told what the player of one thread tells at its place
+pub record Came (i : Image) : Type 0 where
+  pub setup : Setup
+  pub library : Library
+  pub earlier : List Happened
+  pub above : 1 ≤ setup.limits.max_version
+  pub leads : i ≡ replay (opening setup library) earlier
+  pub told : AreTold (opening setup library) earlier
+
+-- some events led to the base, and the window leads from there to the present state; each was told what the player of one thread
+-- tells at its place; the window is within its limit, and its bytes are counted
 pub record IsReplayed (p : Inside) : Type 0 where
-  pub version : 1 ≤ p.setup.limits.max_version
-  pub present : image_of_state p.state ≡ replay (opening p.setup p.opened) p.history.items
-  pub told : AreTold (opening p.setup p.opened) p.history.items
+  pub room : 1 ≤ p.limit
+  pub few : length p.history.items ≤ p.limit
+  pub came : Came (image_of_state p.base)
+  pub present : image_of_state p.state ≡ replay (image_of_state p.base) p.history.items
+  pub told : AreTold (image_of_state p.base) p.history.items
+  pub bytes : p.bytes ≡ window_bytes p.history.items

@@ -1,5 +1,5 @@
 -- Histories that a player of one thread could have.
-use Rattle.std.specs.Prelude.{◌≡◌, ◌≢◌, ◌≤◌, ◌↔◌, ℕ, true, List, All, AllPairs}
+use Rattle.std.specs.Prelude.{◌≡◌, ◌≢◌, ◌≤◌, ◌↔◌, ℕ, true, List, ◌++◌, length, All, AllPairs}
 use Rattle.idle_notes.specs.declared.subsystem.Subsystem.{Subsystem}
 use Rattle.idle_notes.specs.Sets.{has}
 use Rattle.song_queue.specs.State.{queue_of}
@@ -8,34 +8,55 @@ use Rattle.partition.specs.declared.state.Client.{Client}
 use Rattle.partition.specs.declared.state.Library.{Library}
 use Rattle.partition.specs.declared.state.Setup.{Setup}
 use Rattle.partition.specs.Clients.{Rising}
-use Rattle.partition.specs.History.{Chronicle, replay, AreTold}
-use Rattle.partition.specs.Image.{opening}
+use Rattle.partition.specs.History.{Chronicle, Happening, replay, AreTold, AreToldBy, after_all, begun, events_among}
+use Rattle.partition.specs.Image.{Image, opening}
 use Rattle.partition.specs.Notices.{Raises, Tells, EachMoment, AreHeard}
-use Rattle.partition.specs.World.{Life, Moment, IsPending, pending_for, image_of, life_after}
-
--- the life of the player of one thread that a history tells
-abbrev pub life_of : Chronicle → Life
-life_of c = life_after c.base c.window
+use Rattle.partition.specs.Since.{HasPendingSince, books_since, moments_of}
+use Rattle.partition.specs.World.{Moment, IsPending, pending_for, image_of, life_after}
 
 -- the flags of a client are its pending set by the moments
 abbrev pub HasPending : List Moment → Client → Type 0
 HasPending moments client = (subsystem : Subsystem) → (has client.pending.changed subsystem ≡ true) ↔ IsPending client.number subsystem moments
 
--- The player was opened with some settings and songs; the present state is what can be read of the life after its
--- history, so each slot's stamp and mark are those of all past queues, and each output's frames are summed over all events; each client's flags are its pending set; each moment
--- raised what differs between its worlds, and told whom it had to tell; each reply was the one of its place, and what was told
--- with it is what its moment tells; ids are distinct; clients are in the order of their numbers.
+-- An image is what can be read of the life after a history, so each slot's stamp and mark are those of all past queues, each
+-- output's frames are summed over all events, and each seat's count is that of all its events; each client's flags are its pending
+-- set; each moment raised what differs between its worlds, and told whom it had to tell; each reply was the one of its place, and
+-- what was told with it is what its moment tells; clients are in the order of their numbers.
+pub record Stands (opened : Image) (history : List Happened) (i : Image) : Type 0 where
+  pub world : i ≡ image_of (life_after opened history) history
+  pub pending : All (HasPending (life_after opened history).moments) i.clients
+  pub raises : EachMoment (λ moment earlier. Raises moment) (life_after opened history).moments
+  pub tells : EachMoment Tells (life_after opened history).moments
+  pub told : AreTold opened history
+  pub heard : AreHeard (life_after opened history).moments history
+  pub rising : Rising i.clients
+
+-- The player was opened with some settings and songs, and some events came before the base. The base stands after these, and the
+-- present state after these and those of the window. The window leads from the base to the present state: each of its events was told
+-- what the player of one thread tells at its place, and each client's flags and each output's frames are those of the base and of
+-- what happened since. The window is within its limit, and ids are distinct.
 pub record IsPast (c : Chronicle) : Type 0 where
   pub setup : Setup
-  pub opened : c.base ≡ opening setup c.base.shared.library
-  pub world : c.present ≡ image_of (life_of c) c.window
-  pub pending : All (HasPending (life_of c).moments) c.present.clients
-  pub raises : EachMoment (λ moment earlier. Raises moment) (life_of c).moments
-  pub tells : EachMoment Tells (life_of c).moments
+  pub library : Library
+  pub earlier : List Happened
+  pub base : Stands (opening setup library) earlier c.base
+  pub present : Stands (opening setup library) (earlier ++ c.window) c.present
+  pub recent : c.present ≡ replay c.base c.window
   pub told : AreTold c.base c.window
-  pub heard : AreHeard (life_of c).moments c.window
+  pub since : All (HasPendingSince c.base (moments_of c)) c.present.clients
+  pub books : c.present.shared.books ≡ books_since c.base.shared.books (moments_of c)
+  pub few : length c.window ≤ c.limit
+  pub room : 1 ≤ c.limit
   pub distinct : AllPairs (λ e f. e.id ≢ f.id) (queue_of c.present.part.queue)
-  pub rising : Rising c.present.clients
+
+-- over every list of events, with folds between any two: the present state is what it would be without the folds, and the window
+-- leads there from the base
+abbrev pub FoldsAreUnseen : Type 0
+FoldsAreUnseen = (limit : ℕ) (setup : Setup) (library : Library) (happenings : List Happening) → 1 ≤ setup.limits.max_version
+    → AreToldBy (begun limit (opening setup library)) happenings
+    → Stands (opening setup library) (events_among happenings) (after_all (begun limit (opening setup library)) happenings).present
+    × ((after_all (begun limit (opening setup library)) happenings).present
+    ≡ replay (after_all (begun limit (opening setup library)) happenings).base (after_all (begun limit (opening setup library)) happenings).window)
 
 -- the images of the lives after a history, which remember every queue and every moment, are the replay's images, and their
 -- clients are in the order of their numbers

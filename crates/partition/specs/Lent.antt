@@ -5,10 +5,11 @@ use Rattle.shelf.specs.Maps.{Standing}
 use Rattle.partition.specs.declared.event.Event.{Event}
 use Rattle.partition.specs.declared.event.Happened.{Happened}
 use Rattle.partition.specs.declared.partition.PartitionFault.{PartitionFault}
-use Rattle.partition.specs.declared.partition.PartitionFault.TheVariants.{NoMemory}
+use Rattle.partition.specs.declared.partition.PartitionFault.TheVariants.{HistoryFull, NoMemory}
 use Rattle.partition.specs.declared.shelf_calls.Heard.{Heard}
 use Rattle.partition.specs.declared.shelf_calls.ShelfWrite.{ShelfWrite}
 use Rattle.partition.specs.Answers.{Told}
+use Rattle.partition.specs.History.{Chronicle, is_full, with_room}
 use Rattle.partition.specs.Image.{Image}
 use Rattle.partition.specs.Refusals.{MayRefuse}
 use Rattle.partition.specs.Shelves.{Question, Serves, Spares}
@@ -44,6 +45,13 @@ module _ {S : Type 0} (standing : S → Standing) (failed : S → S → Call →
     pub refused : MayRefuse (limit_of seat i (hearing event heard)) fault
     pub cause : (fault ≡ NoMemory) ⊎ (IsFull seat i ⊎ Serves standing failed old new (question i event) (writing i event heard) heard)
     pub spared : Spares standing failed old new
+
+  -- What an event leaves that was refused. A full window is folded first: where there was no memory for that, all is as it was. Else the
+  -- window has room, and the event was refused behind it.
+  abbrev pub Refuses : Chronicle → Chronicle → S → S → ℕ → Event → PartitionFault → Type 0
+  Refuses before after old new seat event fault =
+      ((fault ≡ HistoryFull) × ((is_full before ≡ true) × ((after ≡ before) × (new ≡ old))))
+      ⊎ ((after ≡ with_room before) × IsRefused before.present old new seat event fault)
 
   -- the lent shelf served these entries one after the other
   abbrev pub ServesAll : S → S → Image → List Happened → Type 0

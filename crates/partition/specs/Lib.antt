@@ -17,6 +17,8 @@ pub mod Settled
 pub mod History
 pub mod World
 pub mod Notices
+pub mod Since
+pub mod Sizes
 pub mod Legal
 pub mod Invariant
 pub mod Lent

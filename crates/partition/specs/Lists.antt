@@ -1,5 +1,5 @@
 -- Command lists (MPD protocol reference, Command lists; that each command is an event of its own is this profile's).
-use Rattle.std.specs.Prelude.{◌≡◌, ◌⊎◌, ℕ, ◌+◌, ◌<◌, Bool, true, false, ◌||◌, List, [], ◌∷◌, ◌++◌, length, map, take, codes, slice_get, slice_index_or, Option, Some, None, if◌then◌else◌}
+use Rattle.std.specs.Prelude.{◌≡◌, ℕ, ◌+◌, ◌<◌, Bool, true, false, ◌||◌, List, [], ◌∷◌, ◌++◌, length, map, take, codes, slice_get, slice_index_or, None, if◌then◌else◌}
 use Rattle.std.specs.List.{flat_map, list_any}
 use Rattle.std.specs.Option.{ForSome}
 use Rattle.command_lists.specs.declared.word.ListForm.{ListForm}
@@ -11,16 +11,16 @@ use Rattle.partition.specs.declared.event.Event.TheVariants.{Line}
 use Rattle.partition.specs.declared.event.Happened.{Happened}
 use Rattle.partition.specs.declared.event.Stand.TheVariants.{InList}
 use Rattle.partition.specs.declared.partition.PartitionFault.{PartitionFault}
-use Rattle.partition.specs.declared.partition.PartitionFault.TheVariants.{CutsAtLimit, AtLimit, NoMemory}
+use Rattle.partition.specs.declared.partition.PartitionFault.TheVariants.{HistoryFull, CutsAtLimit, AtLimit, NoMemory}
 use Rattle.player_core.specs.declared.fault.PlayerFault.{PlayerFault}
 use Rattle.player_core.specs.declared.fault.PlayerFault.TheVariants as player_fault
 use Rattle.partition.specs.Answers.{Told}
 use Rattle.partition.specs.Clients.{closes}
-use Rattle.partition.specs.Lent.{IsRefused, ServesAll}
+use Rattle.partition.specs.Lent.{Refuses, ServesAll}
 use Rattle.partition.specs.declared.shelf_calls.Heard.{Heard}
 use Rattle.shelf.specs.Calls.{Call}
 use Rattle.shelf.specs.Maps.{Standing}
-use Rattle.partition.specs.History.{Chronicle, replay, AreTold}
+use Rattle.partition.specs.History.{Chronicle, joined, replay, AreTold}
 use Rattle.partition.specs.Image.{Image}
 use Rattle.partition.specs.Step.{limit_of, next_image, told}
 
@@ -69,6 +69,7 @@ abbrev pub fault_text : PartitionFault → List ℕ
 fault_text CutsAtLimit = codes "player limit reached"
 fault_text AtLimit = codes "player limit reached"
 fault_text NoMemory = codes "out of memory"
+fault_text HistoryFull = codes "history full"
 
 -- why the player refuses what one of its steps refuses
 abbrev pub fault_for : PlayerFault → PartitionFault
@@ -91,10 +92,9 @@ abbrev pub AllWithin : Image → List Happened → Type 0
 AllWithin i [] = Unit {0}
 AllWithin i (h ∷ hs) = (limit_of h.seat i h.event ≡ None) × AllWithin (next_image h.seat i h.event) hs
 
--- these entries joined the history, and the player went their way
+-- these entries joined the history one after the other, and the player went their way
 pub record Joins (before after : Chronicle) (entries : List Happened) : Type 0 where
-  pub base : after.base ≡ before.base
-  pub window : after.window ≡ before.window ++ entries
+  pub chronicle : after ≡ joined before entries
   pub present : after.present ≡ replay before.present entries
   pub within : AllWithin before.present entries
 
@@ -112,10 +112,11 @@ module _ {S : Type 0} (standing : S → Standing) (failed : S → S → Call →
   pub record StopsList (before after : Chronicle) (old new : S) (seat client : ℕ) (form : ListForm) (requests : List Request) (stop : Stop) : Type 0 where
     pub answered : List Answered
     pub asked : map (λ a. a.0) answered ≡ requests
-    pub joins : Joins before after (take stop.done (entries_of seat before.present client form 0 answered))
+    pub middle : Chronicle
+    pub joins : Joins before middle (take stop.done (entries_of seat before.present client form 0 answered))
     pub told : stop.tolds ≡ map (λ h. h.told) (take stop.done (entries_of seat before.present client form 0 answered))
     pub more : stop.done < length (entries_of seat before.present client form 0 answered)
     pub command : stop.command ≡ slice_index_or (map name_in requests) stop.done []
     pub between : S
     pub shelf : ServesAll standing failed old between before.present (take stop.done (entries_of seat before.present client form 0 answered))
-    pub cause : ForSome (slice_get (entries_of seat before.present client form 0 answered) stop.done) (λ entry. IsRefused standing failed after.present between new entry.seat entry.event stop.cause)
+    pub cause : ForSome (slice_get (entries_of seat before.present client form 0 answered) stop.done) (λ entry. Refuses standing failed middle after between new entry.seat entry.event stop.cause)

@@ -18,7 +18,7 @@ use Rattle.partition.specs.declared.doing.Doing.TheVariants.{Rests, Wants, Accep
 use Rattle.partition.specs.declared.partition.PartitionFault.{PartitionFault}
 use Rattle.partition.specs.declared.partition.PartitionFault.TheVariants.{CutsAtLimit, AtLimit}
 use Rattle.partition.specs.declared.report.Report.{Report}
-use Rattle.partition.specs.declared.report.Report.TheVariants.{Nothing, ToScan, ScanEnded}
+use Rattle.partition.specs.declared.report.Report.TheVariants.{Nothing, ToScan, ScanEnded, ToPlay}
 use Rattle.partition.specs.declared.scan.ScanMove.TheVariants.{Stay, End}
 use Rattle.partition.specs.declared.state.Client.{Client}
 use Rattle.partition.specs.declared.state.Library.{Library}
@@ -192,7 +192,11 @@ once_written stand request (Some fault) t = quiet (stays (refused_by_shelf stand
 abbrev pub written_turn : Stand → Request → Option ShelfFault → Turn → Turn
 written_turn stand request refused t = if is_written t.written then once_written stand request refused t else t
 
--- what an event makes of a part, a library and some clients; the turn of an output that is not there does nothing
+-- an output that is not there has nothing to play (this profile's)
+abbrev pub absent : Turn
+absent = record (quiet unspoken) { report = ToPlay (record { cut = 0; enabled = false; paused = false }) }
+
+-- what an event makes of a part, a library and some clients; the turn of an output that is not there changes nothing
 abbrev pub turn_of : Part → Library → List Client → Event → Turn
 turn_of part library clients (Connect number) = quiet (said_to_new clients number)
 turn_of part library clients (Disconnect number) = departs number
@@ -204,7 +208,7 @@ turn_of part library clients (Want owes) = acts (Wants owes)
 turn_of part library clients (Have number frames) = acts (Accepts number frames)
 turn_of part library clients (Failed number partner) = acts (Fails number partner)
 turn_of part library clients (OutputTurn output written discarded failed) =
-    if is_output part.outputs output then acts (Settles output written discarded failed) else quiet unspoken
+    if is_output part.outputs output then acts (Settles output written discarded failed) else absent
 
 -- what an event asks the shelf: a line alone asks, and only one that is run
 abbrev pub question_in : Library → Request → Question

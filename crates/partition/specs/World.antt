@@ -18,7 +18,6 @@ use Rattle.partition.specs.declared.event.Notice.{Notice}
 use Rattle.partition.specs.declared.state.Client.{Client}
 use Rattle.partition.specs.declared.state.Library.{Library}
 use Rattle.partition.specs.declared.report.Report.{Report}
-use Rattle.partition.specs.declared.state.Limits.{Limits}
 use Rattle.partition.specs.Clients.{Parts, raised, move_of, options, playing}
 use Rattle.partition.specs.History.{made_of}
 use Rattle.partition.specs.Outputs.{FrameBooks, OutputsData, decoded_by, discarded_by, written_by}
@@ -26,6 +25,13 @@ use Rattle.partition.specs.Doings.{Change, ByEdit, ByStep, change_of, channels_a
 use Rattle.partition.specs.Image.{Image, Turn, library_after}
 use Rattle.partition.specs.Shelves.{changes_lists, changes_stickers}
 use Rattle.partition.specs.Step.{turn, mover, after_turn, report_of, told_by}
+
+-- the most entries of the queue, and the greatest version, id, and number of cuts, of starts, of jobs and of scans
+pub record Greatest : Type 0 where
+  pub max_queue : ℕ
+  pub max_version : ℕ
+  pub max_id : ℕ
+  pub max_cut : ℕ
 
 -- a client, and what it waits for, if it waits
 pub record Listener : Type 0 where
@@ -36,7 +42,7 @@ pub record Listener : Type 0 where
 -- which channel and the messages that wait, the clients
 pub record World : Type 0 where
   pub past : List (List Entry)
-  pub limits : Limits
+  pub limits : Greatest
   pub library : Library
   pub player : PlayerState
   pub volume : ℕ
@@ -206,7 +212,7 @@ abbrev pub life_from : List Happened → Life → List Happened → Life
 life_from done life [] = life
 life_from done life (h ∷ hs) = life_from (done ++ h ∷ []) (life_after_event done life h.event) hs
 
-abbrev pub limits_of : Image → Limits
+abbrev pub limits_of : Image → Greatest
 limits_of i = record { max_queue = i.part.queue.max_len; max_version = i.part.queue.max_version; max_id = i.part.queue.max_id; max_cut = i.part.player.max_cut }
 
 -- a life in which nothing happened to a player

@@ -50,6 +50,16 @@ impl Books {
         }
     }
 
+    pub(crate) fn copied(&self) -> Books
+        ensures { result ≡ self.now }
+    {
+        Books {
+            decoded: self.decoded,
+            written: self.written,
+            discarded: self.discarded,
+        }
+    }
+
     /// What is true of all books: their frames are counted together, and an event that feeds none, and by which no output has its
     /// turn, leaves them as they are.
     pub(crate) fn rest(&self)

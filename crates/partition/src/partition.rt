@@ -1,17 +1,16 @@
 //! The player with its history.
-ghost use Rattle.std.specs.Prelude.{◌≡◌, ◌≢◌, ◌↔◌, ◌++◌, ◌∷◌, ◌-◌, ◌^◌, ◌≤◌, ◌<◌, [], None, length, map, vec_capacity, IfOk, IfErr, OnErr, OnOk, IsErrOf, slice_index_or, nat_le, is_some, All, AllPairs};
+ghost use Rattle.std.specs.Prelude.{◌≡◌, ◌≢◌, ◌⊎◌, ◌↔◌, ◌++◌, ◌∷◌, ◌+◌, ◌-◌, ◌^◌, ◌≤◌, ◌<◌, [], None, length, map, vec_capacity, IfOk, IfErr, OnErr, OnOk, IsErrOf, slice_index_or, nat_le, is_some, true, min, List, All, AllPairs};
 ghost use Rattle.song_queue.specs.State.{queue_of};
 ghost use Rattle.mpd_command.specs.Requests.{name_in};
 ghost use Rattle.partition.specs.declared.event.Happened.{Happened};
-ghost use Rattle.partition.specs.History.{replay, AreTold, own as own_of};
-ghost use Rattle.partition.specs.Image.{Image, image_of_state, opening, client_of};
-ghost use Rattle.partition.specs.Lent.{IsRefused, Records};
+ghost use Rattle.partition.specs.History.{replay, AreTold, begun, folded, is_full, own as own_of, with_room};
+ghost use Rattle.partition.specs.Image.{Image, opening, client_of};
+ghost use Rattle.partition.specs.Lent.{IsRefused, Records, Refuses};
 ghost use Rattle.partition.specs.Lists.{RunsList, StopsList};
-ghost use Rattle.partition.specs.Legal.{HasPending, IsPast, life_of};
-ghost use Rattle.partition.specs.Notices.{AreHeard, EachMoment, Raises, Tells};
+ghost use Rattle.partition.specs.Legal.{IsPast};
 ghost use Rattle.partition.specs.Settled.{AllSettled};
-ghost use Rattle.partition.specs.Step.{next_image};
-ghost use Rattle.partition.specs.World.{books_of};
+ghost use Rattle.partition.specs.Since.{HasPendingSince, books_since, moments_of};
+ghost use Rattle.partition.specs.Sizes.{event_bytes as event_bytes_lem, window_bytes as window_bytes_lem};
 
 use crate::books::Books;
 use crate::clients::find_client;
@@ -20,9 +19,9 @@ use crate::happen::record_event;
 use crate::laws::replays_worlds;
 use crate::lists::{ListFault, ListOutcome};
 use crate::outputs::Outputs;
-use crate::state::{Client, Library, MAX_OWN, Part, Setup, State};
+use crate::sizes::event_bytes;
+use crate::state::{Client, Library, MAX_OWN, Setup, State};
 use command_lists::ListForm;
-use idle_notes::Channels;
 use mpd_command::{Request, Volume};
 use player_core::{Player, PlayerFault};
 use shelf::Shelf;
@@ -33,6 +32,8 @@ use std::marker::Model;
 /// Why an event was not applied.
 #[derive(Clone, Copy, Debug, PartialEq, Eq)]
 pub enum PartitionFault {
+    /// The window of the history was full, and there was no memory to fold it.
+    HistoryFull,
     /// A number of cuts, starts, jobs or scans would be above the greatest.
     CutsAtLimit,
     /// The seat made 2^63-1 events, or the frames of all outputs could not be counted together any more.
@@ -76,19 +77,23 @@ impl PartitionFault {
         match self {
             PartitionFault::CutsAtLimit | PartitionFault::AtLimit => "player limit reached",
             PartitionFault::NoMemory => "out of memory",
+            PartitionFault::HistoryFull => "history full",
         }
     }
 }
 
-/// A player of one thread, and everything that happened to it.
+/// A player of one thread: a base, a window of the events that happened since, and the present state. A window that is full is
+/// folded before the next event: the present state becomes the base.
 #[derive(Drop)]
 pub struct Partition {
     alloc: Global,
-    setup: Setup,
-    /// The library that it was opened with.
-    opened: Library,
+    /// The most events of the window.
+    limit: usize,
+    base: State,
     state: State,
     history: Vec<Happened>,
+    /// The bytes of the window's texts.
+    bytes: u64,
 }
 
 impl Model for Partition {
@@ -113,48 +118,33 @@ impl Partition {
     pub fn open(alloc: Global, setup: Setup, library: Library) -> Result<Partition, AllocError>
         requires version { 1 ≤ setup.limits.max_version }
         requires max_cut { setup.limits.max_cut < 9223372036854775808 }
-        ensures { IfOk result (λ partition. partition ≡ record { base = opening setup library; window = []; present = opening setup library }) }
+        requires history { 1 ≤ setup.limits.history }
+        ensures { IfOk result (λ partition. partition ≡ begun setup.limits.history (opening setup library)) }
     {
-        let opened = library.shared()?;
-        let outputs = setup.outputs.shared(alloc)?;
-        let limits = setup.limits;
-        let queue = Queue::new(
-            alloc,
-            limits.max_queue as usize,
-            limits.max_version,
-            limits.max_id,
-        );
+        let limit = setup.limits.history as usize;
+        let state = State::opening(alloc, setup, library);
+        let base = state.image(alloc)?;
         Ok(Partition {
             alloc,
-            state: State {
-                part: Part {
-                    queue,
-                    player: Player::new(alloc, setup.random_start, limits.max_cut),
-                    volume: Volume::full(),
-                    outputs,
-                    channels: Channels::new(alloc),
-                },
-                library,
-                made: [0; 16],
-                books: Books::empty(),
-                clients: Vec::new(alloc),
-            },
+            limit,
+            base,
+            state,
             history: Vec::new(alloc),
-            setup,
-            opened,
+            bytes: 0,
         })
     }
 
-    /// Applies an event of a seat, and keeps it with what the lent shelf answered to it and with what it made clients hear.
+    /// Applies an event of a seat, and keeps it with what the lent shelf answered to it and with what it made clients hear. A window
+    /// that is full is folded first.
     ///
     /// A line asks the shelf at most one question, and then writes at most one thing, once there is room for all that follows: nothing
     /// can fail behind it.
     ///
     /// # Errors
     ///
-    /// `CutsAtLimit` where the event would raise a number above the greatest, `AtLimit` where it could not be counted or its
-    /// frames could not; want of memory may come in their place, but not in that of a seat which made 2^63-1 events. The shelf keeps
-    /// its maps.
+    /// `HistoryFull` where the window was full and there was no memory to fold it: nothing changed. `CutsAtLimit` where the event would
+    /// raise a number above the greatest, `AtLimit` where it could not be counted or its frames could not; want of memory may come in
+    /// their place, but not in that of a seat which made 2^63-1 events. The shelf keeps its maps.
     pub fn apply<S: Shelf>(
         &mut self,
         seat: u8,
@@ -162,15 +152,40 @@ impl Partition {
         event: Event,
     ) -> Result<Outcome, PartitionFault>
         requires { seat < 16 }
-        ensures base { self.new.base ≡ self.old.base }
-        // The event and its reply join the history; the reply is the one of the player of one thread, and the new state is that
+        ensures base { OnOk result (self.new.base ≡ (with_room self.old).base) }
+        ensures limit { self.new.limit ≡ self.old.limit }
+        // The event and its reply join the window; the reply is the one of the player of one thread, and the new state is that
         // player's next one. The shelf answered and changed as that says.
+        ensures ok { IfOk result (λ outcome. Records S.standing S.failed self.old.present self.new.present (with_room self.old).window self.new.window shelf.old shelf.new seat event outcome) }
+        // It is refused where the full window cannot be folded, for the limit that it would pass, or for want of memory; nothing was
+        // written to the shelf.
+        ensures refused { IfErr result (λ fault. Refuses S.standing S.failed self.old self.new shelf.old shelf.new seat event fault) }
+        ensures own { 2 ^ 63 - 1 ≤ slice_index_or self.old.present.shared.made seat 0 → IsErrOf result PartitionFault.AtLimit ⊎ IsErrOf result PartitionFault.HistoryFull }
+        ensures legal { IsPast self.old }
+    {
+        self.legal();
+        if let Err(fault) = self.make_room() {
+            discard(event);
+            return Err(fault);
+        }
+        self.apply_in_room(seat, shelf, event)
+    }
+
+    /// Applies an event where the window has room for it.
+    fn apply_in_room<S: Shelf>(
+        &mut self,
+        seat: u8,
+        shelf: &mut S,
+        event: Event,
+    ) -> Result<Outcome, PartitionFault>
+        requires seat { seat < 16 }
+        requires room { length self.old.window < self.old.limit }
+        ensures base { self.new.base ≡ self.old.base }
+        ensures limit { self.new.limit ≡ self.old.limit }
         ensures ok { IfOk result (λ outcome. Records S.standing S.failed self.old.present self.new.present self.old.window self.new.window shelf.old shelf.new seat event outcome) }
         ensures err { OnErr result (self.new ≡ self.old) }
-        // It is refused for the limit that it would pass, or for want of memory; nothing was written to the shelf.
         ensures refused { IfErr result (λ fault. IsRefused S.standing S.failed self.old.present shelf.old shelf.new seat event fault) }
         ensures own { 2 ^ 63 - 1 ≤ slice_index_or self.old.present.shared.made seat 0 → IsErrOf result PartitionFault.AtLimit }
-        ensures legal { IsPast self.old }
     {
         self.legal();
         if self.is_at_limit(seat) {
@@ -179,7 +194,41 @@ impl Partition {
         }
         let history = &mut self.history;
         let outcome = record_event(self.alloc, &mut self.state, history, shelf, seat, event)?;
+        self.bytes = self.bytes.saturating_add(last_bytes(&self.history));
         Ok(outcome)
+    }
+
+    /// Folds the window if it is full.
+    fn make_room(&mut self) -> Result<(), PartitionFault>
+        ensures ok { OnOk result (self.new ≡ with_room self.old) }
+        ensures room { OnOk result (length self.new.window < self.new.limit) }
+        ensures err { OnErr result (self.new ≡ self.old) }
+        ensures full { OnErr result (is_full self.old ≡ true) }
+        ensures fault { IfErr result (λ fault. fault ≡ PartitionFault.HistoryFull) }
+    {
+        if self.history.len() >= self.limit {
+            self.fold()?;
+        }
+        Ok(())
+    }
+
+    /// Makes the present state the base, and empties the window. What commands read, answer and count stays as it is.
+    ///
+    /// # Errors
+    ///
+    /// `HistoryFull` where there is no memory to copy the state; nothing changed.
+    pub fn fold(&mut self) -> Result<(), PartitionFault>
+        ensures ok { OnOk result (self.new ≡ folded self.old) }
+        ensures err { OnErr result (self.new ≡ self.old) }
+        ensures fault { IfErr result (λ fault. fault ≡ PartitionFault.HistoryFull) }
+    {
+        let Ok(base) = self.state.image(self.alloc) else {
+            return Err(PartitionFault::HistoryFull);
+        };
+        self.base = base;
+        self.history.clear();
+        self.bytes = 0;
+        Ok(())
     }
 
     /// Runs the requests of a client's command list, each as an event of its own, side by side in the history, up to the first
@@ -211,10 +260,20 @@ impl Partition {
                 done: 0,
                 outcomes,
                 command: first_name(&requests),
-                cause: PartitionFault::NoMemory,
+                cause: self.find_no_memory(),
             });
         }
         self.run_requests(seat, shelf, client, form, requests, outcomes)
+    }
+
+    /// Why an event is refused for which there is no memory: a full window is folded before.
+    fn find_no_memory(&mut self) -> PartitionFault
+        ensures { ((result ≡ PartitionFault.HistoryFull) × ((is_full self.old ≡ true) × (self.new ≡ self.old))) ⊎ ((result ≡ PartitionFault.NoMemory) × (self.new ≡ with_room self.old)) }
+    {
+        match self.make_room() {
+            Ok(()) => PartitionFault::NoMemory,
+            Err(fault) => fault,
+        }
     }
 
     /// Runs requests side by side, and puts their outcomes where there is room for all.
@@ -267,29 +326,32 @@ impl Partition {
         self.state.made[usize::from(seat)] >= MAX_OWN
     }
 
-    /// All that happened, the first event first.
+    /// The events of the window, the first one first.
     pub fn history(&self) -> &[Happened]
         ensures window { result.now ≡ self.now.window }
         // Every reply is the one-thread player's at its place in the history.
         ensures told { AreTold self.now.base self.now.window }
-        // The present state is the replay's, and has the versions, stamps, marks and ids of the past queues.
+        // The present state is the base stepped through the window, with its versions, stamps, marks and ids.
         ensures present { self.now.present ≡ replay self.now.base self.now.window }
+        // There are earlier events after which the base stands, and the present state after these and the window's: each is the image of
+        // the life with every past queue and every moment.
         ensures legal { IsPast self.now }
         // The flags of each client are its pending set: what changed since its connect or last notice.
-        ensures pending { All (HasPending (life_of self.now).moments) self.now.present.clients }
-        // Each event raised the subsystems whose parts differ between the worlds before and after it.
-        ensures raises { EachMoment (λ moment earlier. Raises moment) (life_of self.now).moments }
-        // Each event told those that waited for what changed, by rising client, and nobody else.
-        ensures tells { EachMoment Tells (life_of self.now).moments }
-        // What is kept of each event is what was told at it.
-        ensures heard { AreHeard (life_of self.now).moments self.now.window }
-        // The frames of each output are the sums over all events.
-        ensures books { self.now.present.shared.books ≡ books_of (life_of self.now).moments }
+        ensures pending { All (HasPendingSince self.now.base (moments_of self.now)) self.now.present.clients }
+        // The frames of each output are those of the base and the sums over the window.
+        ensures books { self.now.present.shared.books ≡ books_since self.now.base.shared.books (moments_of self.now) }
         // Song ids are distinct.
         ensures distinct { AllPairs (λ e f. e.id ≢ f.id) (queue_of self.now.present.part.queue) }
     {
         self.legal();
         &self.history
+    }
+
+    /// The bytes that clients were answered at the events of the window, and that the shelf answered to these; at most 2^64-1.
+    pub fn window_bytes(&self) -> u64
+        ensures { result ≡ window_bytes_lem self.now.window }
+    {
+        self.bytes
     }
 
     /// What is true of each player: its queue keeps distinct ids, and all else follows from its history.
@@ -303,11 +365,11 @@ impl Partition {
         let _distinct = self.state.part.queue.len();
     }
 
-    /// How many events a seat made.
+    /// How many events a seat made, all those before the window too.
     pub fn own(&self, seat: u8) -> u64
         requires { seat < 16 }
         ensures made { result ≡ slice_index_or self.now.present.shared.made seat 0 }
-        ensures own { result ≡ own_of seat self.now.window }
+        ensures own { result ≡ slice_index_or self.now.base.shared.made seat 0 + own_of seat self.now.window }
     {
         self.legal();
         self.state.made[usize::from(seat)]
@@ -358,6 +420,16 @@ impl Partition {
         ensures { result.now ≡ self.now.present.clients }
     {
         &self.state.clients
+    }
+}
+
+/// The bytes of the last event's texts.
+fn last_bytes(history: &[Happened]) -> u64
+    ensures { (front : List Happened) (last : Happened) → history.now ≡ front ++ last ∷ [] → result ≡ min (event_bytes_lem last) (2 ^ 64 - 1) }
+{
+    match history {
+        [.., last] => event_bytes(last),
+        [] => 0,
     }
 }
 

@@ -1,5 +1,6 @@
 //! The state of a player.
-ghost use Rattle.std.specs.Prelude.{◌≡◌, IfOk};
+ghost use Rattle.std.specs.Prelude.{◌≡◌, ◌<◌, ◌≤◌, IfOk};
+ghost use Rattle.partition.specs.Image.{image_of_state, opening};
 
 use crate::books::Books;
 use crate::outputs::Outputs;
@@ -9,7 +10,7 @@ use mpd_command::Volume;
 use player_core::Player;
 use song_db::{Rate, SharedDb};
 use song_queue::Queue;
-use std::alloc::AllocError;
+use std::alloc::{AllocError, Global};
 
 /// The most clients that may be connected.
 pub const MAX_CLIENTS: usize = 64;
@@ -28,6 +29,8 @@ pub struct Limits {
     pub max_id: u32,
     /// The greatest number of cuts, of starts, of jobs and of scans, below 2^63.
     pub max_cut: u64,
+    /// The most events of the history that are kept one by one.
+    pub history: u32,
 }
 
 /// What a player is opened with.
@@ -87,6 +90,21 @@ pub struct Part {
     pub channels: Channels,
 }
 
+impl Part {
+    /// What it owns, a second time: what becomes of either leaves the other as it is. No song and no message is copied.
+    fn image(&self, alloc: Global) -> Result<Part, AllocError>
+        ensures { IfOk result (λ image. image ≡ self.now) }
+    {
+        Ok(Part {
+            queue: self.queue.try_clone()?,
+            player: self.player.image()?,
+            volume: self.volume.copied(),
+            outputs: self.outputs.shared(alloc)?,
+            channels: self.channels.image()?,
+        })
+    }
+}
+
 /// The present state.
 #[derive(Drop)]
 pub(crate) struct State {
@@ -96,4 +114,47 @@ pub(crate) struct State {
     pub(crate) books: Books,
     /// By rising number.
     pub(crate) clients: Vec<Client>,
+}
+
+impl State {
+    /// The state of a player to which nothing happened.
+    pub(crate) fn opening(alloc: Global, setup: Setup, library: Library) -> State
+        requires max_cut { setup.limits.max_cut < 9223372036854775808 }
+        requires version { 1 ≤ setup.limits.max_version }
+        ensures { image_of_state result ≡ opening setup library }
+    {
+        let limits = setup.limits;
+        let queue = Queue::new(
+            alloc,
+            limits.max_queue as usize,
+            limits.max_version,
+            limits.max_id,
+        );
+        State {
+            part: Part {
+                queue,
+                player: Player::new(alloc, setup.random_start, limits.max_cut),
+                volume: Volume::full(),
+                outputs: setup.outputs,
+                channels: Channels::new(alloc),
+            },
+            library,
+            made: [0; 16],
+            books: Books::empty(),
+            clients: Vec::new(alloc),
+        }
+    }
+
+    /// The state, a second time: what becomes of either leaves the other as it is. No song and no text is copied.
+    pub(crate) fn image(&self, alloc: Global) -> Result<State, AllocError>
+        ensures { IfOk result (λ image. image_of_state image ≡ image_of_state self.now) }
+    {
+        Ok(State {
+            part: self.part.image(alloc)?,
+            library: self.library.shared()?,
+            made: self.made,
+            books: self.books.copied(),
+            clients: self.clients.clone()?,
+        })
+    }
 }

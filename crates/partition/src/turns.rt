@@ -4,7 +4,7 @@ ghost use Rattle.std.specs.Option.{option_copied};
 ghost use Rattle.partition.specs.Plans.{Fits};
 ghost use Rattle.shelf.specs.Maps.{Trusted, Turns};
 ghost use Rattle.partition.specs.Shelves.{IsRead, is_ok_read, is_written};
-ghost use Rattle.partition.specs.Step.{acts, deed_of, ends_waiting as ends_waiting_lem, heard_at, question_of, quiet, unspoken, said_to_new, turn_command, turn_line, turn_of, turn_request};
+ghost use Rattle.partition.specs.Step.{absent, acts, deed_of, ends_waiting as ends_waiting_lem, heard_at, question_of, quiet, unspoken, said_to_new, turn_command, turn_line, turn_of, turn_request};
 ghost use Rattle.partition.specs.Image.{turn_by};
 ghost use Rattle.partition.specs.Outputs.{is_output};
 
@@ -40,6 +40,7 @@ use crate::spoken::{Spoken, refuses_line, shut, tells};
 use crate::state::{Client, Library, MAX_CLIENTS, Part};
 use filters::Case;
 use mpd_command::{Command, Request};
+use player_core::Live;
 use shelf::Shelf;
 use song_db::SharedDb;
 use std::alloc::{AllocError, Global};
@@ -93,14 +94,19 @@ fn end_scan(alloc: Global, library: &Library, songs: Option<&SharedDb>) -> Resul
     Plan::reports(alloc, ScanMove::End(found), Report::ScanEnded(ended))
 }
 
-/// An output has its turn, if it is there.
+/// An output has its turn; one that is not there has nothing to play.
 fn settle(alloc: Global, part: &Part, output: usize, turn: Doing) -> Result<Plan, AllocError>
-    ensures plan { IfOk result (λ plan. plan ≡ (if is_output part.now.outputs output then acts turn else quiet unspoken)) }
+    ensures plan { IfOk result (λ plan. plan ≡ (if is_output part.now.outputs output then acts turn else absent)) }
 {
     if part.outputs.is_output(output) {
         return Plan::acts(alloc, turn);
     }
-    Ok(Plan::only(tells(String::new(alloc), Move::Stay)?))
+    let live = Live {
+        cut: 0,
+        enabled: false,
+        paused: false,
+    };
+    Plan::reports(alloc, ScanMove::Stay, Report::ToPlay(live))
 }
 
 fn connect(alloc: Global, clients: &[Client], number: u32) -> Result<Spoken, AllocError>

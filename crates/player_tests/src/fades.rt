@@ -2,7 +2,7 @@
 use crate::player::session_over;
 use crate::tables::wants;
 
-const FADES: &str = "comes 1
+pub(crate) const FADES: &str = "comes 1
 1 crossfade 3601
 1 crossfade 3600
 1 add a.wav
@@ -18,7 +18,7 @@ decoder wants
 1 notcommands
 with_leave notcommands";
 
-const FADES_TELL: &str = "OK MPD 0.23.0
+pub(crate) const FADES_TELL: &str = "OK MPD 0.23.0
 ACK [2@0] {crossfade} bad argument \"3601\"
 OK
 OK

@@ -9,6 +9,8 @@ mod commands;
 #[cfg(test)]
 mod fades;
 #[cfg(test)]
+mod folds;
+#[cfg(test)]
 mod long_session;
 #[cfg(test)]
 mod player;
@@ -22,6 +24,8 @@ mod queues;
 mod runs;
 #[cfg(test)]
 mod script;
+#[cfg(test)]
+mod sessions;
 #[cfg(test)]
 mod shelf_commands;
 #[cfg(test)]

@@ -132,7 +132,7 @@ fn a_list_keeps_songs_that_are_gone(rt: HostRuntime) {
     wants(&rt, over_four(rt.alloc(), GONE_SONGS), GONE_SONGS_TELL);
 }
 
-const STICKERS: &str = "comes 1
+pub(crate) const STICKERS: &str = "comes 1
 1 sticker set song a.wav rating 5
 1 sticker set song a.wav note \"late night\"
 1 sticker set song folder/c.wav rating 3
@@ -154,7 +154,7 @@ const STICKERS: &str = "comes 1
 1 sticker find song nosuch rating
 1 sticker set song a.wav a=b c";
 
-const STICKERS_TELL: &str = "OK MPD 0.23.0
+pub(crate) const STICKERS_TELL: &str = "OK MPD 0.23.0
 OK
 OK
 OK
@@ -198,7 +198,7 @@ fn stickers_are_kept_and_found(rt: HostRuntime) {
     wants(&rt, over_four(rt.alloc(), STICKERS), STICKERS_TELL);
 }
 
-const MESSAGES: &str = "comes 1
+pub(crate) const MESSAGES: &str = "comes 1
 comes 2
 1 subscribe news
 2 subscribe news
@@ -223,7 +223,7 @@ goes 2
 comes 2
 2 readmessages";
 
-const MESSAGES_TELL: &str = "OK MPD 0.23.0
+pub(crate) const MESSAGES_TELL: &str = "OK MPD 0.23.0
 OK MPD 0.23.0
 OK
 OK
@@ -265,7 +265,7 @@ fn messages_are_sent_and_read(rt: HostRuntime) {
     wants(&rt, session(rt.alloc(), MESSAGES), MESSAGES_TELL);
 }
 
-const NOTICES: &str = "comes 1
+pub(crate) const NOTICES: &str = "comes 1
 comes 2
 2 idle stored_playlist
 1 save x
@@ -291,7 +291,7 @@ comes 2
 2 idle stored_playlist sticker
 1 rm y";
 
-const NOTICES_TELL: &str = "OK MPD 0.23.0
+pub(crate) const NOTICES_TELL: &str = "OK MPD 0.23.0
 OK MPD 0.23.0
 waits
 OK
@@ -333,14 +333,14 @@ fn a_waiter_hears_of_a_shelf_that_changed(rt: HostRuntime) {
     wants(&rt, session(rt.alloc(), NOTICES), NOTICES_TELL);
 }
 
-const IN_LISTS: &str = "comes 1
+pub(crate) const IN_LISTS: &str = "comes 1
 runs_ok add a.wav;save x;load x;listplaylists;sticker set song a.wav r 5
 runs_plain save y;save x;rm y
 runs_plain listplaylists;sticker get song a.wav r
 runs_ok subscribe c;sendmessage c hi;readmessages;channels
 show counts";
 
-const IN_LISTS_TELL: &str = "OK MPD 0.23.0
+pub(crate) const IN_LISTS_TELL: &str = "OK MPD 0.23.0
 list_OK
 list_OK
 list_OK

@@ -1,5 +1,6 @@
 //! Stored playlists, stickers and messages at their greatest sizes.
-use crate::player::{numbered, session};
+use crate::player::session;
+use crate::sessions::numbered;
 use crate::tables::{wants, wants_made};
 use std::alloc::{AllocError, Global};
 
@@ -58,7 +59,7 @@ fn a_sixty_fifth_message_is_not_taken(rt: HostRuntime) {
 }
 
 /// Steps after which the queue has 16,384 entries: it is saved and loaded 14 times, and so doubles each time.
-fn doubling(alloc: Global) -> Result<String, AllocError> {
+pub(crate) fn doubling(alloc: Global) -> Result<String, AllocError> {
     let mut all = String::from_str(alloc, "comes 1\n1 add a.wav\n")?;
     for number in 0..14u32 {
         let steps = format!(in alloc; "1 save p{number}\n1 load p{number}\n")?;

@@ -10,7 +10,7 @@ use Rattle.script_lines.specs.Limits.{limit_named, greatest_of, number_within}
 use Rattle.script_lines.specs.Tags.{is_tag, tags_of}
 use Rattle.script_lines.specs.declared.limit.LimitName.{LimitName}
 use Rattle.script_lines.specs.declared.step.Step.{Step}
-use Rattle.script_lines.specs.declared.step.Step.TheVariants.{Song, Limit, Gone, Scanned, Want, Have, Failed, Turn}
+use Rattle.script_lines.specs.declared.step.Step.TheVariants.{Song, Limit, Gone, Scanned, Want, Have, Failed, Turn, Window}
 
 -- 1 to 1,024 bytes without a newline
 unfoldable pub is_uri : List ℕ → Bool
@@ -52,6 +52,11 @@ gone_of _ = None
 abbrev pub scanned_of : List (List ℕ) → Option Step
 scanned_of [] = Some Scanned
 scanned_of (word ∷ words) = None
+
+-- nothing after the word
+abbrev pub window_of : List (List ℕ) → Option Step
+window_of [] = Some Window
+window_of (word ∷ words) = None
 
 -- nothing after the word
 abbrev pub want_of : List (List ℕ) → Option Step
@@ -120,11 +125,12 @@ turn_of [] = None
 -- the step of its words where the first one is of the player
 abbrev pub player_step_of : List ℕ → List (List ℕ) → Option Step
 player_step_of word arguments =
-    if bytes_eq word (codes "want") then want_of arguments
+    if bytes_eq word (codes "window") then window_of arguments
+    else (if bytes_eq word (codes "want") then want_of arguments
     else (if bytes_eq word (codes "have") then have_of arguments
     else (if bytes_eq word (codes "failed") then failed_of arguments
     else (if bytes_eq word (codes "turn") then turn_of arguments
-    else None)))
+    else None))))
 
 -- the step of its words
 abbrev pub step_of_words : List (List ℕ) → Option Step

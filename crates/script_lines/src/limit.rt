@@ -16,6 +16,9 @@ pub const MAX_ID: u32 = 2_147_483_647;
 /// The greatest number of cuts, starts and jobs that a script can set, since its words say no greater number.
 pub const MAX_CUT: u32 = u32::MAX;
 
+/// The greatest number of events that a player keeps one by one.
+pub const MAX_HISTORY: u32 = 4_096;
+
 /// A limit that a script may lower.
 #[derive(Clone, Copy, Debug, PartialEq, Eq)]
 pub enum LimitName {
@@ -27,13 +30,16 @@ pub enum LimitName {
     MaxId,
     /// How many cuts, how many starts and how many jobs a player may make.
     MaxCut,
+    /// How many events of its history a player keeps one by one.
+    History,
 }
 
-const LIMITS: [LimitName; 4] = [
+const LIMITS: [LimitName; 5] = [
     LimitName::MaxQueue,
     LimitName::MaxVersion,
     LimitName::MaxId,
     LimitName::MaxCut,
+    LimitName::History,
 ];
 
 impl LimitName {
@@ -54,6 +60,7 @@ impl LimitName {
             LimitName::MaxVersion => MAX_VERSION,
             LimitName::MaxId => MAX_ID,
             LimitName::MaxCut => MAX_CUT,
+            LimitName::History => MAX_HISTORY,
         }
     }
 
@@ -65,6 +72,7 @@ impl LimitName {
             LimitName::MaxVersion => "max_version",
             LimitName::MaxId => "max_id",
             LimitName::MaxCut => "max_cut",
+            LimitName::History => "history",
         }
     }
 }

@@ -1,7 +1,7 @@
 //! Steps of a script.
 ghost use Rattle.std.specs.Prelude.{◌≡◌, IfOk, map, string_bytes, Some, true};
 ghost use Rattle.mpd_text.specs.Lines.Cut.{HasNoNewline};
-ghost use Rattle.script_lines.specs.Steps.{is_uri as is_uri_lem, song_with as song_with_lem, song_of, limit_of, gone_of, scanned_of, want_of, have_of, failed_of, turn_of, turn_told as turn_told_lem, turn_as as turn_as_lem, mark_of, player_step_of, step_of_words, step_of};
+ghost use Rattle.script_lines.specs.Steps.{is_uri as is_uri_lem, song_with as song_with_lem, song_of, limit_of, gone_of, scanned_of, window_of, want_of, have_of, failed_of, turn_of, turn_told as turn_told_lem, turn_as as turn_as_lem, mark_of, player_step_of, step_of_words, step_of};
 
 use crate::cut::has;
 use crate::limit::{LimitName, number_within};
@@ -34,6 +34,8 @@ pub enum Step {
     Failed(u32, bool),
     /// A turn of output 0: how many frames it wrote, how many it discarded, and whether it failed.
     Turn(u32, u32, bool),
+    /// How many events the window of the history has, and how many there were in all.
+    Window,
 }
 
 impl Step {
@@ -143,7 +145,9 @@ fn scanned(arguments: &[String]) -> Option<Step>
 fn player_step(word: &str, arguments: &[String]) -> Option<Step>
     ensures { result ≡ player_step_of word.now (map string_bytes arguments.now) }
 {
-    if word == "want" {
+    if word == "window" {
+        window(arguments)
+    } else if word == "want" {
         want(arguments)
     } else if word == "have" {
         have(arguments)
@@ -153,6 +157,15 @@ fn player_step(word: &str, arguments: &[String]) -> Option<Step>
         turn(arguments)
     } else {
         None
+    }
+}
+
+fn window(arguments: &[String]) -> Option<Step>
+    ensures { result ≡ window_of (map string_bytes arguments.now) }
+{
+    match arguments {
+        [] => Some(Step::Window),
+        _ => None,
     }
 }
 

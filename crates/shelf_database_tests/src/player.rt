@@ -35,13 +35,14 @@ fn library(alloc: Global) -> Result<Library, AllocError> {
     })
 }
 
-/// A player without outputs.
+/// A player without outputs, whose window has at most two events.
 fn opened(alloc: Global) -> Result<Partition, AllocError> {
     let limits = Limits {
         max_queue: 16384,
         max_version: 2147483647,
         max_id: 2147483647,
         max_cut: 9223372036854775807,
+        history: 2,
     };
     let setup = Setup {
         limits,

@@ -50,6 +50,7 @@ pub fn read_step(alloc: Global, rest: &str) -> Result<String, AllocError> {
 fn player_step(alloc: Global, step: &Step) -> Result<String, AllocError> {
     match step {
         Step::Want => String::from_str(alloc, "want"),
+        Step::Window => String::from_str(alloc, "window"),
         Step::Have(job, count) => format!(in alloc; "have {job} {count}"),
         Step::Failed(job, partner) => format!(in alloc; "failed {job} {partner}"),
         Step::Turn(written, discarded, failed) => format!(in alloc;
@@ -102,6 +103,11 @@ limit max_cut 0 => bad
 limit max_cut 4294967296 => bad
 limit max_cut => bad
 limit max_cut 5 5 => bad
+limit history 1 => History 1
+limit history 4096 => History 4096
+limit history 0 => bad
+limit history 4097 => bad
+limit History 5 => bad
 limit Max_cut 5 => bad
 limit max_line 5 => bad
 limit max_queue => bad
@@ -113,7 +119,11 @@ gone 10 => bad
 gone 1 2 => bad
 scanned => scanned
 scanned now => bad
-Scanned => bad";
+Scanned => bad
+window => window
+window 1 => bad
+window \"\" => bad
+Window => bad";
 
 /// Whether a word is this limit's name, whose greatest value is this.
 fn is_limit(word: &str, name: LimitName, greatest: u32) -> bool {
@@ -123,7 +133,8 @@ fn is_limit(word: &str, name: LimitName, greatest: u32) -> bool {
 #[test]
 fn limits(rt: HostRuntime) {
     let told = compared(rt.alloc(), Reads::Step, LIMITS);
-    wants(&rt, told, "28 lines agree");
+    wants(&rt, told, "37 lines agree");
+    assert!(rt; is_limit("history", LimitName::History, 4_096));
     assert!(rt; is_limit("max_cut", LimitName::MaxCut, 4_294_967_295));
     assert!(rt; is_limit("max_id", LimitName::MaxId, 2_147_483_647));
     assert!(rt; is_limit("max_queue", LimitName::MaxQueue, 16_384));

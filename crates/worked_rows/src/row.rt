@@ -18,7 +18,7 @@ enum Kind {
 
 /// A wanted output line.
 #[derive(Drop)]
-pub struct Wanted {
+struct Wanted {
     kind: Kind,
     /// The client whose answer it is; no byte of a client at a step.
     speaker: u8,
@@ -27,10 +27,11 @@ pub struct Wanted {
     text: Vec<u8>,
 }
 
-/// A session: its input, and the output that is wanted.
+/// A session: its input, the lines that stand in front of it in further runs, and the output that is wanted of each run.
 #[derive(Drop)]
 pub struct Row {
     input: Vec<u8>,
+    again: Vec<Vec<u8>>,
     wanted: Vec<Wanted>,
 }
 
@@ -39,6 +40,7 @@ impl Row {
     pub fn read(alloc: Global, text: &str) -> Result<Option<Row>, AllocError> {
         let mut row = Row {
             input: Vec::new(alloc),
+            again: Vec::new(alloc),
             wanted: Vec::new(alloc),
         };
         let mut step = 0u64;
@@ -59,6 +61,8 @@ impl Row {
                 step = step.saturating_add(1);
                 speaker = 0;
                 row.input.push(b'\n')?;
+            } else if let Some(first) = line_again(alloc, line)? {
+                row.again.push(first)?;
             } else if !is_passed_over(line) {
                 return Ok(None);
             }
@@ -82,11 +86,32 @@ impl Row {
         Ok(())
     }
 
-    /// The input and the wanted lines.
-    pub fn parts(self) -> (Vec<u8>, Vec<Wanted>) {
-        let Row { input, wanted } = self;
-        (input, wanted)
+    pub fn input(&self) -> &[u8] {
+        &self.input
     }
+
+    /// The lines, each with its newline, in front of which the session is to be run once more.
+    pub fn again(&self) -> &[Vec<u8>] {
+        &self.again
+    }
+
+    /// How many lines were wanted, if the output is as wanted.
+    pub fn compare(&self, output: &[u8]) -> Option<u64> {
+        compare(&self.wanted, output)
+    }
+}
+
+/// The line of `again: STAGE LINE`, with its newline.
+fn line_again(alloc: Global, line: &str) -> Result<Option<Vec<u8>>, AllocError> {
+    let Some(rest) = line.strip_prefix("again: ") else {
+        return Ok(None);
+    };
+    let Some((_, first)) = rest.split_once(' ') else {
+        return Ok(None);
+    };
+    let mut bytes = Vec::from_slice(alloc, first.as_bytes())?;
+    bytes.push(b'\n')?;
+    Ok(Some(bytes))
 }
 
 fn is_passed_over(line: &str) -> bool {
@@ -94,7 +119,6 @@ fn is_passed_over(line: &str) -> bool {
         || line.starts_with('#')
         || line.starts_with("since: ")
         || line.starts_with("until: ")
-        || line.starts_with("again: ")
 }
 
 /// The bytes after one of two marks, the second of which has escapes.
@@ -183,7 +207,7 @@ fn push_repeated<'a>(bytes: &mut Vec<u8>, text: &'a str) -> Result<Option<&'a st
 }
 
 /// How many lines were wanted, if the output is as wanted.
-pub fn compare(wanted: &[Wanted], output: &[u8]) -> Option<u64> {
+fn compare(wanted: &[Wanted], output: &[u8]) -> Option<u64> {
     let text = str::from_utf8(output).ok()?;
     let mut lines = text.lines();
     let mut open = None;

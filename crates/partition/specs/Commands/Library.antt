@@ -1,5 +1,5 @@
 -- The commands that ask for songs and folders of the library, and add them (MPD protocol reference, The music database).
-use Rattle.std.specs.Prelude.{ℕ, ◌+◌, ◌-◌, Bool, if◌then◌else◌, List, [], ◌∷◌, ◌++◌, Option, Some, None, length, take, drop, codes, decimal}
+use Rattle.std.specs.Prelude.{ℕ, ◌+◌, ◌-◌, if◌then◌else◌, List, [], ◌++◌, Option, Some, None, length, take, drop, codes, decimal}
 use Rattle.std.specs.List.{flat_map}
 use Rattle.filters.specs.Expressions.{Expression, Under}
 use Rattle.filters.specs.declared.matching.Case.{Case}

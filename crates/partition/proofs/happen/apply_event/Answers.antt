@@ -1,4 +1,4 @@
-use Rattle.std.proofs.Common.{◌≡◌, ◌∙◌, inl, inr, false, Result, Ok, Err, None, ap, sym, subst, rules}
+use Rattle.std.proofs.Common.{◌≡◌, ◌∙◌, inr, false, Result, Ok, Err, ap, sym, subst, rules}
 use Rattle.std.specs.Prelude.{IfErr, IfOk, OnErr, OnOk}
 use Rattle.shelf.specs.Maps.{Trusted}
 use Rattle.partition.specs.declared.event.Event.{Event}

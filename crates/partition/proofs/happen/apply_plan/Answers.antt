@@ -1,4 +1,4 @@
-use Rattle.std.proofs.Common.{◌≡◌, ◌∙◌, ◌≤◌, not, ap, sym, rules}
+use Rattle.std.proofs.Common.{◌≡◌, ◌∙◌, not, ap, sym, rules}
 use Rattle.partition.specs.declared.doing.Doing.{Doing}
 use Rattle.partition.specs.Doings.{report_after}
 use Rattle.partition.specs.Clients.{same_songs}

@@ -1,5 +1,5 @@
-use Rattle.std.proofs.Common.{◌≡◌, ◌∙◌, ap, sym, rules}
-use Rattle.partition.specs.Image.{Image, counted, image_of_state}
+use Rattle.std.proofs.Common.{rules}
+use Rattle.partition.specs.Image.{Image, image_of_state}
 use Rattle.partition.proofs.Lending.{wanting}
 use Rattle.partition.proofs.Recorded.{records, refuses}
 use Rattle.partition.proofs.happen.record_event.Goals as goal

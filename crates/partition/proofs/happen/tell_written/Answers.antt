@@ -1,12 +1,9 @@
-use Rattle.std.proofs.Common.{◌≡◌, ◌∙◌, ℕ, false, ap, sym, subst, List}
+use Rattle.std.proofs.Common.{◌≡◌, ◌∙◌, ℕ, false, ap}
 use Rattle.idle_notes.specs.declared.sets.Subsystems.{Subsystems}
-use Rattle.partition.specs.Answers.{Said}
 use Rattle.partition.specs.Clients.{clients_after, notices_after}
 use Rattle.partition.specs.Image.{Image, Turn, image_of_state}
 use Rattle.partition.specs.Rooms.{listed}
-use Rattle.partition.specs.Signs.{SignsData, raised_in, told_by_signs}
-use Rattle.partition.specs.Step.{mover}
-use Rattle.partition.specs.declared.shelf_calls.ShelfWrite.{ShelfWrite}
+use Rattle.partition.specs.Signs.{raised_in, told_by_signs}
 use Rattle.partition.proofs.Written.{written_notices, written_step}
 use Rattle.partition.proofs.happen.tell_written.Goals as goal
 

@@ -1,7 +1,6 @@
-use Rattle.std.proofs.Common.{◌≡◌, Result, Ok, Err, sym, subst}
+use Rattle.std.proofs.Common.{Result, Ok, Err, sym, subst}
 use Rattle.std.specs.Prelude.{IfOk}
-use Rattle.partition.specs.Image.{Turn, turn_by}
-use Rattle.partition.specs.Commands.Shelf.{sticker}
+use Rattle.partition.specs.Image.{Turn}
 use Rattle.partition.specs.Plans.{Fits}
 use Rattle.partition.proofs.Rests.{sticker_fits}
 use Rattle.partition.proofs.turns.run.Goals as goal

@@ -1,5 +1,5 @@
-use Rattle.std.proofs.Common.{◌≡◌, ◌∙◌, true, ap, sym}
-use Rattle.partition.specs.Outputs.{FrameBooks, can_count_all}
+use Rattle.std.proofs.Common.{◌∙◌, ap, sym}
+use Rattle.partition.specs.Outputs.{can_count_all}
 use Rattle.partition.proofs.Booked.{all_counted, rests_same}
 use Rattle.partition.proofs.books.Books.rest.Goals as goal
 

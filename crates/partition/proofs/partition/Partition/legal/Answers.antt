@@ -1,35 +1,45 @@
-use Rattle.std.proofs.Common.{◌≡◌, ◌∙◌, refl, sym, subst}
-use Rattle.partition.specs.Clients.{Rising}
+use Rattle.std.proofs.Common.{◌++◌, sym, subst}
 use Rattle.partition.specs.Image.{Image, image_of_state, opening}
+use Rattle.partition.specs.Invariant.{Came}
 use Rattle.partition.specs.Settled.{AllSettled}
-use Rattle.partition.specs.World.{Life, image_of, life_after}
-use Rattle.partition.proofs.Flags.{flags_stand}
-use Rattle.partition.proofs.Lives.{all_raise, all_tell, all_heard}
+use Rattle.partition.specs.World.{life_after}
+use Rattle.partition.proofs.Chronicles.{leads_on}
 use Rattle.partition.proofs.Settled.{replay_settled}
+use Rattle.partition.proofs.Since.{since_stands}
+use Rattle.partition.proofs.Stands.{stands}
 use Rattle.partition.proofs.partition.Partition.legal.Goals as goal
 
 pub returns-clause-legal : goal.returns-clause-legal
 returns-clause-legal c =
     let p = c.self.inside in
-    let life : Life = life_after (opening p.setup p.opened) p.history.items in
-    let law = c.replays_worlds.ensures p.setup p.opened p.history.items c.self.invariant.version in
-    let world : image_of_state p.state ≡ image_of life p.history.items = c.self.invariant.present ∙ law.0 in
+    let base : Image = image_of_state p.base in
+    let present : Image = image_of_state p.state in
+    let was : Came base = c.self.invariant.came in
+    let first : Image = opening was.setup was.library in
+    let on = leads_on first base present was.earlier p.history.items was.leads was.told c.self.invariant.present c.self.invariant.told in
+    let before = stands was.setup was.library was.earlier base was.above was.leads was.told in
+    let since = since_stands base present p.history.items (life_after first was.earlier).moments before.rising (λ i. (before.world i).shared.books) c.self.invariant.present in
     rw (← c.self.view_is)
     (record {
-      setup = p.setup;
-      opened = refl;
-      world = world;
-      pending = flags_stand life p.history.items (image_of_state p.state) world;
-      raises = all_raise p.setup p.opened p.history.items c.self.invariant.version;
-      tells = all_tell p.setup p.opened p.history.items c.self.invariant.version;
+      setup = was.setup;
+      library = was.library;
+      earlier = was.earlier;
+      base = before;
+      present = stands was.setup was.library (was.earlier ++ p.history.items) present was.above on.0 on.1;
+      recent = c.self.invariant.present;
       told = c.self.invariant.told;
-      heard = all_heard p.setup p.opened p.history.items c.self.invariant.version c.self.invariant.told;
+      since = since.0;
+      books = since.1;
+      few = c.self.invariant.few;
+      room = c.self.invariant.room;
       distinct = c.len-distinct.ensures.valid.distinct;
-      rising = subst (λ (i : Image). Rising i.clients) (sym world) law.1;
     })
 
 pub returns-clause-settled : goal.returns-clause-settled
 returns-clause-settled c =
     let p = c.self.inside in
+    let was : Came (image_of_state p.base) = c.self.invariant.came in
+    let first : Image = opening was.setup was.library in
+    let on = leads_on first (image_of_state p.base) (image_of_state p.state) was.earlier p.history.items was.leads was.told c.self.invariant.present c.self.invariant.told in
     rw (← c.self.view_is)
-    (subst (λ (i : Image). AllSettled i.clients) (sym c.self.invariant.present) (replay_settled p.history.items (opening p.setup p.opened) tt tt))
+    (subst (λ (i : Image). AllSettled i.clients) (sym on.0) (replay_settled (was.earlier ++ p.history.items) first tt tt))

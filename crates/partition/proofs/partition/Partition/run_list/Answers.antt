@@ -19,6 +19,6 @@ returns-then-is_empty-clause-ok g c =
 
 pub returns-then-is_err-clause-err : goal.returns-then-is_err-clause-err
 returns-then-is_err-clause-err g c =
-    first_stop g.S.Shelf.standing g.S.Shelf.failed c.args.seat c.args.client c.args.form c.args.self.now c.args.shelf.now c.args.requests.items c.reserve.new.self.items c.first_name.result.now
+    first_stop g.S.Shelf.standing g.S.Shelf.failed c.args.seat c.args.client c.args.form c.args.self.now c.find_no_memory.new.self c.args.shelf.now c.args.requests.items c.reserve.new.self.items c.first_name.result.now c.find_no_memory.result
     (some_are c.is_empty.result _ _ c.is_empty.ensures c.if-is_empty.false c.args.requests.ok.0)
-    (c.reserve.ensures.items ∙ c.new-outcomes.ensures.items) (c.first_name.ensures ∙ ap (λ rs. slice_index_or (map name_in rs) 0 []) c.deref.ensures.value)
+    (c.reserve.ensures.items ∙ c.new-outcomes.ensures.items) (c.first_name.ensures ∙ ap (λ rs. slice_index_or (map name_in rs) 0 []) c.deref.ensures.value) c.find_no_memory.ensures

@@ -3,7 +3,8 @@ use Rattle.std.proofs.lemmas.List.{length-append}
 use Rattle.std.specs.Vec.Iter.{into_iter_items}
 use Rattle.partition.specs.declared.event.Event.TheVariants.{Line}
 use Rattle.partition.specs.declared.event.Stand.TheVariants.{InList}
-use Rattle.partition.specs.Lent.{IsRefused, Records}
+use Rattle.partition.specs.History.{with_room}
+use Rattle.partition.specs.Lent.{Records, Refuses}
 use Rattle.partition.specs.Shelves.{nothing_heard}
 use Rattle.partition.specs.Lists.{RunsList, StopsList}
 use Rattle.partition.proofs.ListRuns.{does_so, nothing_left, none_ran, ran_all, ran_last, ran_more, ran_stop}
@@ -28,8 +29,8 @@ returns-then-ends-clause-ok g c =
     subst (λ rs. RunsList g.S.Shelf.standing g.S.Shelf.failed c.args.self.now c.apply.new.self c.args.shelf.now c.apply.new.shelf c.args.seat c.args.client c.args.form rs c.push_reserved.new.self.items) all
     (ran_last g.S.Shelf.standing g.S.Shelf.failed c.args.seat c.args.client c.args.form c.args.self.now at.self c.apply.new.self c.args.shelf.now at.shelf c.apply.new.shelf _ _ _ c.in-Some.request at.outcomes.items c.push_reserved.new.self.items c.in-Ok.outcome
     at.invariant.ran c.in-Some.ensures.steps.0
-    (does_so g.S.Shelf.standing g.S.Shelf.failed c.args.seat c.args.client c.args.form at.self c.apply.new.self at.shelf c.apply.new.shelf c.len-done.result _ c.in-Some.request c.in-Ok.outcome (c.len-done.ensures ∙ at.outcomes.ok.0) c.in-Ok.ensures.base
-    (subst (λ e. Records g.S.Shelf.standing g.S.Shelf.failed at.self.present c.apply.new.self.present at.self.window c.apply.new.self.window at.shelf c.apply.new.shelf c.args.seat e c.in-Ok.outcome) c.line-event.ensures c.in-Ok.ensures.ok))
+    (does_so g.S.Shelf.standing g.S.Shelf.failed c.args.seat c.args.client c.args.form at.self c.apply.new.self at.shelf c.apply.new.shelf c.len-done.result _ c.in-Some.request c.in-Ok.outcome (c.len-done.ensures ∙ at.outcomes.ok.0) c.in-Ok.ensures.base c.in-Ok.ensures.limit
+    (subst (λ e. Records g.S.Shelf.standing g.S.Shelf.failed at.self.present c.apply.new.self.present (with_room at.self).window c.apply.new.self.window at.shelf c.apply.new.shelf c.args.seat e c.in-Ok.outcome) c.line-event.ensures c.in-Ok.ensures.ok))
     c.push_reserved.ensures.items (sym c.ends_list-ends.ensures ∙ c.if-ends.true))
 
 pub loop-request-preserved : goal.loop-request-preserved
@@ -45,8 +46,8 @@ loop-request-preserved g c =
     record {
       ran = ran_more g.S.Shelf.standing g.S.Shelf.failed c.args.seat c.args.client c.args.form c.args.self.now at.self c.apply.new.self c.args.shelf.now at.shelf c.apply.new.shelf _ _ _ c.in-Some.request at.outcomes.items c.push_reserved.new.self.items c.in-Ok.outcome
           at.invariant.ran steps
-          (does_so g.S.Shelf.standing g.S.Shelf.failed c.args.seat c.args.client c.args.form at.self c.apply.new.self at.shelf c.apply.new.shelf c.len-done.result _ c.in-Some.request c.in-Ok.outcome (c.len-done.ensures ∙ at.outcomes.ok.0) c.in-Ok.ensures.base
-          (subst (λ e. Records g.S.Shelf.standing g.S.Shelf.failed at.self.present c.apply.new.self.present at.self.window c.apply.new.self.window at.shelf c.apply.new.shelf c.args.seat e c.in-Ok.outcome) c.line-event.ensures c.in-Ok.ensures.ok))
+          (does_so g.S.Shelf.standing g.S.Shelf.failed c.args.seat c.args.client c.args.form at.self c.apply.new.self at.shelf c.apply.new.shelf c.len-done.result _ c.in-Some.request c.in-Ok.outcome (c.len-done.ensures ∙ at.outcomes.ok.0) c.in-Ok.ensures.base c.in-Ok.ensures.limit
+          (subst (λ e. Records g.S.Shelf.standing g.S.Shelf.failed at.self.present c.apply.new.self.present (with_room at.self).window c.apply.new.self.window at.shelf c.apply.new.shelf c.args.seat e c.in-Ok.outcome) c.line-event.ensures c.in-Ok.ensures.ok))
           c.push_reserved.ensures.items (sym c.ends_list-ends.ensures ∙ c.if-ends.false);
       room = rw c.push_reserved.ensures.capacity (let n = length-append at.outcomes.items (c.in-Ok.outcome ∷ []) in omega (arith, room, short, longer, n));
       left = omega (arith, left, gone, short);
@@ -56,12 +57,12 @@ pub returns-in-Err-clause-err : goal.returns-in-Err-clause-err
 returns-in-Err-clause-err g c =
     let all = c.into_iter-request-iterator.ensures.into_iter_gives.0 in
     let at = c.loop-request in
-    rw (c.in-Err.ensures.err, c.len-done.ensures ∙ at.outcomes.ok.0)
-    (subst (λ rs. StopsList g.S.Shelf.standing g.S.Shelf.failed c.args.self.now at.self c.args.shelf.now c.apply.new.shelf c.args.seat c.args.client c.args.form rs
+    rw (c.len-done.ensures ∙ at.outcomes.ok.0)
+    (subst (λ rs. StopsList g.S.Shelf.standing g.S.Shelf.failed c.args.self.now c.apply.new.self c.args.shelf.now c.apply.new.shelf c.args.seat c.args.client c.args.form rs
     (record { done = length at.outcomes.items; tolds = at.outcomes.items; command = c.name-command.result.now; cause = c.in-Err.cause })) all
-    (ran_stop g.S.Shelf.standing g.S.Shelf.failed c.args.seat c.args.client c.args.form c.args.self.now at.self c.args.shelf.now at.shelf c.apply.new.shelf _ _ _ c.in-Some.request at.outcomes.items c.name-command.result.now c.in-Err.cause
+    (ran_stop g.S.Shelf.standing g.S.Shelf.failed c.args.seat c.args.client c.args.form c.args.self.now at.self c.apply.new.self c.args.shelf.now at.shelf c.apply.new.shelf _ _ _ c.in-Some.request at.outcomes.items c.name-command.result.now c.in-Err.cause
     at.invariant.ran c.in-Some.ensures.steps.0 c.name-command.ensures
-    (subst (λ e. IsRefused g.S.Shelf.standing g.S.Shelf.failed at.self.present at.shelf c.apply.new.shelf c.args.seat e c.in-Err.cause)
+    (subst (λ e. Refuses g.S.Shelf.standing g.S.Shelf.failed at.self c.apply.new.self at.shelf c.apply.new.shelf c.args.seat e c.in-Err.cause)
     (c.line-event.ensures ∙ ap (λ n. Line c.args.client (InList c.args.form n) c.in-Some.request nothing_heard) (c.len-done.ensures ∙ at.outcomes.ok.0)) c.in-Err.ensures.refused)))
 
 pub returns-clause-ok : goal.returns-clause-ok

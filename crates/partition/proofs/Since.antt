@@ -1,0 +1,160 @@
+-- The flags and the frames that stand are those of a base and of the window behind it.
+use Rattle.std.proofs.Common.{◌≡◌, inl, inr, ℕ, ◌<◌, ◌==◌, Bool, true, false, ◌||◌, List, [], ◌∷◌, ◌++◌, Option, Some, None, map, arith, refl, ap, sym, subst, ◌∙◌, if◌then◌else◌}
+use Rattle.std.specs.List.{All, list_any}
+use Rattle.std.proofs.lemmas.Bool.Decides.{nat_tests}
+use Rattle.std.proofs.lemmas.List.Elements.{All-nil, All-cons}
+use Rattle.idle_notes.specs.declared.sets.Subsystems.{Subsystems}
+use Rattle.idle_notes.specs.declared.subsystem.Subsystem.{Subsystem}
+use Rattle.idle_notes.specs.Sets.{none, union, has}
+use Rattle.partition.specs.declared.event.Happened.{Happened}
+use Rattle.partition.specs.declared.state.Client.{Client}
+use Rattle.partition.specs.Clients.{notified, closes, AllAbove, Rising}
+use Rattle.partition.specs.History.{replay}
+use Rattle.partition.specs.Image.{Image, Turn, client_of}
+use Rattle.partition.specs.Outputs.{FrameBooks, books_after}
+use Rattle.partition.specs.Since.{world_of, moment_at, moments_from, flags_of, kept_for, IsPendingSince, HasPendingSince, books_since}
+use Rattle.partition.specs.Step.{turn, mover, raised_by, report_of, after_turn, next_image, told}
+use Rattle.partition.specs.World.{Moment, raised_at, is_there, begins_anew, books_of, listener_of, NeverAnew}
+use Rattle.partition.proofs.Notified.{Each, flagged, all_stand}
+use Rattle.partition.proofs.Parts.{raised_differ}
+use Rattle.partition.proofs.Pending.{has_union, has_none, either, or_right, or_left, longer}
+use Rattle.partition.proofs.Rises.{rising_after}
+use Rattle.partition.proofs.Worlds.{same_first, or_more}
+
+module _ (base : Image) where
+  -- what is pending for a client, as a union
+  abbrev since : ℕ → List Moment → Subsystems
+  since n [] = kept_for n base
+  since n (m ∷ ms) = if begins_anew n m then none else union (since n ms) (raised_at n m)
+
+  module _ (n : ℕ) (x : Subsystem) where
+    anew : (m : Moment) (ms : List Moment) → begins_anew n m ≡ true → has (since n (m ∷ ms)) x ≡ false
+    anew m ms e = ap (λ b. has (if b then none else union (since n ms) (raised_at n m)) x) e ∙ has_none x
+
+    joined : (m : Moment) (ms : List Moment) → begins_anew n m ≡ false → has (since n (m ∷ ms)) x ≡ (has (since n ms) x || has (raised_at n m) x)
+    joined m ms e = ap (λ b. has (if b then none else union (since n ms) (raised_at n m)) x) e ∙ has_union (since n ms) (raised_at n m) x
+
+    there : (ms : List Moment) → has (since n ms) x ≡ true → IsPendingSince base n x ms
+    there [] h = inr (h, tt)
+    there (m ∷ ms) h =
+        let cases : (b : Bool) → begins_anew n m ≡ b → IsPendingSince base n x (m ∷ ms) =
+        λ b. elim b as (λ b. begins_anew n m ≡ b → IsPendingSince base n x (m ∷ ms)) [
+          | true ↦ λ e. (let clash : false ≡ true = sym (anew m ms e) ∙ h in cc)
+          | false ↦ λ e. elim (either _ _ (sym (joined m ms e) ∙ h)) [
+            | inl r ↦ inl (record { later = []; moment = m; earlier = ms; order = refl; raised = (raised_differ n m x).0 r; since = (e, tt) })
+            | inr r ↦ elim (there ms r) [
+              | inl p ↦ inl (longer n x m ms e p)
+              | inr q ↦ inr (q.0, (e, q.1))
+            ]
+          ]
+        ] in
+        cases (begins_anew n m) refl
+
+    back_raised : (later : List Moment) (m : Moment) (earlier : List Moment) → has (raised_at n m) x ≡ true → NeverAnew n (later ++ m ∷ [])
+        → has (since n (later ++ m ∷ earlier)) x ≡ true
+    back_raised [] m earlier r never = joined m earlier never.0 ∙ or_right _ _ r
+    back_raised (l ∷ ls) m earlier r never = joined l (ls ++ m ∷ earlier) never.0 ∙ or_left _ _ (back_raised ls m earlier r never.1)
+
+    back_kept : (ms : List Moment) → has (kept_for n base) x ≡ true → NeverAnew n ms → has (since n ms) x ≡ true
+    back_kept [] h never = h
+    back_kept (m ∷ ms) h never = joined m ms never.0 ∙ or_left _ _ (back_kept ms h never.1)
+
+    back : (ms : List Moment) → IsPendingSince base n x ms → has (since n ms) x ≡ true
+    back ms (inl p) = ap (λ l. has (since n l) x) p.order ∙ back_raised p.later p.moment p.earlier ((raised_differ n p.moment x).1 p.raised) p.since
+    back ms (inr q) = back_kept ms q.0 q.1
+
+  all_read : (ms : List Moment) (ks : List Client) → Each (λ k. k.pending.changed ≡ since k.number ms) ks → All (HasPendingSince base ms) ks
+  all_read ms [] e = All-nil (HasPendingSince base ms)
+  all_read ms (k ∷ ks) e =
+      All-cons (HasPendingSince base ms) k ks
+      (λ x. (λ h. there k.number x ms (ap (λ s. has s x) (sym e.0) ∙ h), λ p. ap (λ s. has s x) e.0 ∙ back k.number x ms p))
+      (all_read ms ks e.1)
+
+abbrev among : ℕ → List Client → Bool
+among n ks = list_any (λ l. l.number == n) (map listener_of ks)
+
+further : (k : Client) (all ks : List Client) → Each (λ x. among x.number all ≡ true) ks → Each (λ x. among x.number (k ∷ all) ≡ true) ks
+further k all [] e = tt
+further k all (x ∷ xs) e = (or_more (k.number == x.number) (among x.number all) e.0, further k all xs e.1)
+
+all_among : (ks : List Client) → Each (λ x. among x.number ks ≡ true) ks
+all_among [] = tt
+all_among (k ∷ ks) = (ap (λ b. b || among k.number ks) (same_first k.number), further k ks ks (all_among ks))
+
+both : (P Q : Client → Type 0) (ks : List Client) → Each P ks → Each Q ks → Each (λ k. P k × Q k) ks
+both P Q [] p q = tt
+both P Q (k ∷ ks) p q = ((p.0, q.0), both P Q ks p.1 q.1)
+
+absent : (r : ℕ → Subsystems) (n : ℕ) (ks : List Client) → client_of n (map (notified r) ks) ≡ None → among n ks ≡ false
+absent r n [] e = refl
+absent r n (k ∷ ks) e =
+    let rest : Option Client = client_of n (map (notified r) ks) in
+    let first : Client = notified r k in
+    let cases : (b : Bool) → (k.number == n) ≡ b → (b || among n ks) ≡ false =
+    λ b. elim b as (λ b. (k.number == n) ≡ b → (b || among n ks) ≡ false) [
+      | true ↦ λ t. (let found : (if k.number == n then Some first else rest) ≡ Some first = rw t refl in let clash : Some first ≡ None = sym found ∙ e in cc)
+      | false ↦ λ t. absent r n ks (rw t at e)
+    ] in
+    cases (k.number == n) refl
+
+-- by rising numbers each client is the one of its number
+behind : (k : Client) (all ks : List Client) → AllAbove k.number ks → Each (λ x. client_of x.number all ≡ Some x) ks
+    → Each (λ x. client_of x.number (k ∷ all) ≡ Some x) ks
+behind k all [] above e = tt
+behind k all (x ∷ xs) above e =
+    let less : k.number < x.number = above.0 in
+    let other : (k.number == x.number) ≡ false = grind (arith, nat_tests) in
+    (ap (λ b. if b then Some k else client_of x.number all) other ∙ e.0, behind k all xs above.1 e.1)
+
+all_found : (ks : List Client) → Rising ks → Each (λ x. client_of x.number ks ≡ Some x) ks
+all_found [] r = tt
+all_found (k ∷ ks) r =
+    (ap (λ b. if b then Some k else client_of k.number ks) (same_first k.number), behind k ks ks r.0 (all_found ks r.1))
+
+unflagged : (after : ℕ → Subsystems) (ks : List Client) → Each (λ k. flagged after k ≡ k) ks → Each (λ k. k.pending.changed ≡ after k.number) ks
+unflagged after [] e = tt
+unflagged after (k ∷ ks) e = (sym (ap (λ (x : Client). x.pending.changed) e.0), unflagged after ks e.1)
+
+kept : (base : Image) (ks : List Client) → Each (λ x. client_of x.number base.clients ≡ Some x) ks → Each (λ k. k.pending.changed ≡ kept_for k.number base) ks
+kept base [] e = tt
+kept base (k ∷ ks) e = (sym (ap flags_of e.0), kept base ks e.1)
+
+module _ (base : Image) where
+  -- clients are in the order of their numbers, their flags are what is pending since the base, and the frames are summed since
+  abbrev Right : Image → List Moment → Type 0
+  Right i ms = Rising i.clients × (Each (λ k. k.pending.changed ≡ since base k.number ms) i.clients × (i.shared.books ≡ books_since base.shared.books ms))
+
+  step : (i : Image) (ms : List Moment) (h : Happened) → Right i ms → Right (next_image h.seat i h.event) (moment_at i h ∷ ms)
+  unfolding next_image told
+  step i ms h right =
+      let t : Turn = turn i h.event in
+      let r : ℕ → Subsystems = raised_by i.part i.shared.library t in
+      let m : Moment = moment_at i h in
+      let flag : ℕ → Subsystems = λ n. since base n ms in
+      let after : ℕ → Subsystems = λ n. since base n (m ∷ ms) in (
+        rising_after (mover h.event) r t.said i.clients right.0,
+        (
+          unflagged after (after_turn i h.event t).clients
+              (all_stand r flag after (λ n. is_there n (world_of i)) (mover h.event) i.clients right.0
+              (both (λ k. among k.number i.clients ≡ true) (λ k. k.pending.changed ≡ flag k.number) i.clients (all_among i.clients) right.1.0)
+              (closes t.said.answer.next) t.said.move (λ n. refl) (absent r (mover h.event) i.clients)),
+          ap (λ (b : FrameBooks). books_after b i.part.outputs t.doing (report_of i.part i.shared.library t)) right.1.1,
+        ),
+      )
+
+  walk : (i : Image) (ms : List Moment) (hs : List Happened) → Right i ms → Right (replay i hs) (moments_from i ms hs)
+  walk i ms [] right = right
+  walk i ms (h ∷ hs) right = walk (next_image h.seat i h.event) (moment_at i h ∷ ms) hs (step i ms h right)
+
+-- books that are sums are eight numbers of each kind
+begun_books : (books : FrameBooks) (moments : List Moment) → books ≡ books_of moments → books ≡ books_since books []
+begun_books books moments is = subst (λ (b : FrameBooks). b ≡ books_since b []) (sym is) refl
+
+-- of what a window leads to
+pub since_stands : (base i : Image) (window : List Happened) (moments : List Moment) → Rising base.clients → base.shared.books ≡ books_of moments
+    → i ≡ replay base window
+    → All (HasPendingSince base (moments_from base [] window)) i.clients × (i.shared.books ≡ books_since base.shared.books (moments_from base [] window))
+since_stands base i window moments rising books leads =
+    let right = walk base base [] window (rising, (kept base base.clients (all_found base.clients rising), begun_books base.shared.books moments books)) in
+    subst (λ (j : Image). All (HasPendingSince base (moments_from base [] window)) j.clients × (j.shared.books ≡ books_since base.shared.books (moments_from base [] window))) (sym leads)
+    (all_read base (moments_from base [] window) (replay base window).clients right.1.0, right.1.1)

@@ -1,0 +1,77 @@
+-- What is pending, and the frames of the outputs, by a base and the window behind it.
+use Rattle.std.specs.Prelude.{◌≡◌, ◌↔◌, ◌⊎◌, ℕ, ◌+◌, true, List, [], ◌∷◌, Option, Some, None, map, slice_index_or}
+use Rattle.std.specs.List.{range_with_len}
+use Rattle.idle_notes.specs.declared.sets.Subsystems.{Subsystems}
+use Rattle.idle_notes.specs.declared.subsystem.Subsystem.{Subsystem}
+use Rattle.idle_notes.specs.Sets.{none, has}
+use Rattle.song_queue.specs.State.{queue_of}
+use Rattle.partition.specs.declared.event.Happened.{Happened}
+use Rattle.partition.specs.declared.state.Client.{Client}
+use Rattle.partition.specs.History.{Chronicle}
+use Rattle.partition.specs.Image.{Image, client_of}
+use Rattle.partition.specs.Outputs.{FrameBooks, decoded_by, discarded_by, written_by}
+use Rattle.partition.specs.Step.{next_image, told_by, report_of, turn}
+use Rattle.partition.specs.World.{World, Moment, NeverAnew, IsPending, limits_of, listener_of}
+
+-- the world that an image shows: of its past only the present queue
+abbrev pub world_of : Image → World
+world_of i = record {
+  past = queue_of i.part.queue ∷ [];
+  limits = limits_of i;
+  library = i.shared.library;
+  player = i.part.player;
+  volume = i.part.volume;
+  outputs = i.part.outputs;
+  channels = i.part.channels;
+  clients = map listener_of i.clients;
+}
+
+-- the moment of an event behind an image
+abbrev pub moment_at : Image → Happened → Moment
+moment_at i h = record {
+  before = world_of i;
+  event = h.event;
+  turn = turn i h.event;
+  notices = (told_by i h.event (turn i h.event)).notices;
+  report = report_of i.part i.shared.library (turn i h.event);
+  after = world_of (next_image h.seat i h.event);
+}
+
+-- some moments, and in front of them those of these events behind an image
+abbrev pub moments_from : Image → List Moment → List Happened → List Moment
+moments_from i earlier [] = earlier
+moments_from i earlier (h ∷ hs) = moments_from (next_image h.seat i h.event) (moment_at i h ∷ earlier) hs
+
+-- the moments of a window, the latest first
+abbrev pub moments_of : Chronicle → List Moment
+moments_of c = moments_from c.base [] c.window
+
+abbrev pub flags_of : Option Client → Subsystems
+flags_of None = none
+flags_of (Some client) = client.pending.changed
+
+-- what an image keeps as pending for a client; nothing for one that is not there
+abbrev pub kept_for : ℕ → Image → Subsystems
+kept_for number i = flags_of (client_of number i.clients)
+
+-- a subsystem is pending for a client where some event since the base raised it, at which and since which the client was there
+-- and was sent no notice; or where it is pending in the base, and since then the client was there and was sent no notice
+abbrev pub IsPendingSince : Image → ℕ → Subsystem → List Moment → Type 0
+IsPendingSince base number subsystem moments = IsPending number subsystem moments ⊎ ((has (kept_for number base) subsystem ≡ true) × NeverAnew number moments)
+
+-- the flags of a client are its pending set by a base and the moments since
+abbrev pub HasPendingSince : Image → List Moment → Client → Type 0
+HasPendingSince base moments client = (subsystem : Subsystem) → (has client.pending.changed subsystem ≡ true) ↔ IsPendingSince base client.number subsystem moments
+
+-- a number, and a sum over the moments since
+abbrev pub summed_onto : ℕ → (Moment → ℕ) → List Moment → ℕ
+summed_onto first of_one [] = first
+summed_onto first of_one (m ∷ ms) = of_one m + summed_onto first of_one ms
+
+-- the frames of eight outputs: those of the books of a base, and those of the moments since
+abbrev pub books_since : FrameBooks → List Moment → FrameBooks
+books_since base moments = record {
+  decoded = map (λ output. summed_onto (slice_index_or base.decoded output 0) (λ m. decoded_by m.before.outputs m.turn.doing m.report output) moments) (range_with_len 0 8);
+  written = map (λ output. summed_onto (slice_index_or base.written output 0) (λ m. written_by m.turn.doing output) moments) (range_with_len 0 8);
+  discarded = map (λ output. summed_onto (slice_index_or base.discarded output 0) (λ m. discarded_by m.turn.doing output) moments) (range_with_len 0 8);
+}

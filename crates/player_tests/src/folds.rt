@@ -1,0 +1,405 @@
+//! Folds of the history: a session tells the same in a window of any size, and with a fold by hand between any two events.
+use crate::fades::{FADES, FADES_TELL};
+use crate::player::{session, session_over, session_within};
+use crate::sessions::{
+    DELETION, DELETION_TELLS, EDITS, EDITS_TELL, LISTS, LISTS_TELL, ROOMS, ROOMS_TELL, SCANS,
+    SCANS_TELL, numbered,
+};
+use crate::shelf_commands::{
+    IN_LISTS, IN_LISTS_TELL, MESSAGES, MESSAGES_TELL, NOTICES, NOTICES_TELL, STICKERS,
+    STICKERS_TELL,
+};
+use crate::shelf_sizes::doubling;
+use crate::tables::{push_line, wants, wants_made};
+use std::alloc::{AllocError, Global};
+
+/// The most events of the windows in which each session is run.
+const WINDOWS: [u32; 4] = [1, 2, 3, 4096];
+
+/// The numbers of the windows in which a session tells something else than is wanted, each in a line.
+fn in_windows(alloc: Global, uris: &str, steps: &str, wanted: &str) -> Result<String, AllocError> {
+    let mut all = String::new(alloc);
+    for most in WINDOWS {
+        if session_within(alloc, most, uris, steps)?.as_str() != wanted {
+            all.push_str(format!(in alloc; "in a window of {most}\n")?.as_str())?;
+        }
+    }
+    Ok(all)
+}
+
+/// The steps with a fold before the one at a place; places count from 0.
+fn with_fold(alloc: Global, steps: &str, place: usize) -> Result<String, AllocError> {
+    let mut all = String::new(alloc);
+    for (number, line) in steps.lines().enumerate() {
+        if number == place {
+            push_line(&mut all, "folds")?;
+        }
+        push_line(&mut all, line)?;
+    }
+    Ok(all)
+}
+
+/// The places of the steps before which a fold makes a session tell something else than is wanted, each in a line.
+fn with_folds(alloc: Global, uris: &str, steps: &str, wanted: &str) -> Result<String, AllocError> {
+    let mut all = String::new(alloc);
+    for place in 0..steps.lines().count() {
+        let folded = with_fold(alloc, steps, place)?;
+        if session_over(alloc, uris, folded.as_str())?.as_str() != wanted {
+            all.push_str(format!(in alloc; "with a fold before step {place}\n")?.as_str())?;
+        }
+    }
+    Ok(all)
+}
+
+/// Where a session tells something else than is wanted.
+fn oddities(alloc: Global, uris: &str, steps: &str, wanted: &str) -> Result<String, AllocError> {
+    let mut all = in_windows(alloc, uris, steps, wanted)?;
+    all.push_str(with_folds(alloc, uris, steps, wanted)?.as_str())?;
+    Ok(all)
+}
+
+#[test]
+fn folds_keep_the_queue(rt: HostRuntime) {
+    let alloc = rt.alloc();
+    wants(&rt, oddities(alloc, "a.wav", DELETION, DELETION_TELLS), "");
+    wants(&rt, oddities(alloc, "a.wav", EDITS, EDITS_TELL), "");
+    wants(&rt, oddities(alloc, "a.wav", LISTS, LISTS_TELL), "");
+}
+
+#[test]
+fn folds_keep_what_is_played(rt: HostRuntime) {
+    let alloc = rt.alloc();
+    wants(&rt, oddities(alloc, "a.wav", ROOMS, ROOMS_TELL), "");
+    wants(&rt, oddities(alloc, "a.wav\nb.wav", FADES, FADES_TELL), "");
+    wants(&rt, oddities(alloc, "a.wav", SCANS, SCANS_TELL), "");
+}
+
+const FOUR: &str = "a.wav
+b.wav
+folder/c.wav
+folder/d.wav";
+
+#[test]
+fn folds_keep_lists_and_messages(rt: HostRuntime) {
+    let alloc = rt.alloc();
+    wants(&rt, oddities(alloc, FOUR, STICKERS, STICKERS_TELL), "");
+    wants(&rt, oddities(alloc, "a.wav", MESSAGES, MESSAGES_TELL), "");
+    wants(&rt, oddities(alloc, "a.wav", NOTICES, NOTICES_TELL), "");
+    wants(&rt, oddities(alloc, "a.wav", IN_LISTS, IN_LISTS_TELL), "");
+}
+
+/// A session that leaves something in each part of the state, and then shows all of it.
+const HOUSE: &str = "comes 1
+comes 2
+1 add a.wav
+1 add b.wav
+1 addid c.wav 1
+1 prioid 3 2
+1 swap 0 1
+2 idle mixer
+1 setvol 40
+1 play 1
+decoder wants
+decoder 1 1024
+turn 0 500 24
+1 subscribe news
+2 sendmessage news hello
+1 update
+scan fails
+1 playlistadd x b.wav
+show pending
+show entries
+show books
+show counts
+2 idle
+1 readmessages
+1 plchangesposid 5
+1 status
+goes 2
+comes 2
+show pending
+1 idle
+1 playlistdelete x 0
+show counts";
+
+const HOUSE_TELLS: &str = "OK MPD 0.23.0
+OK MPD 0.23.0
+OK
+OK
+Id: 3
+OK
+OK
+OK
+waits
+OK
+2: changed: mixer
+OK
+job 1 1 0 1024
+feed 1 40
+live 1 true false
+OK
+OK
+updating_db: 1
+OK
+ended
+OK
+client: 1
+changed: update
+changed: stored_playlist
+changed: playlist
+changed: player
+changed: mixer
+changed: subscription
+changed: message
+client: 2
+changed: update
+changed: stored_playlist
+changed: player
+changed: subscription
+3 0
+1 0
+2 3
+1024 500 24
+1024 0 0
+0 0 0
+0 0 0
+2 12 18 3 2 40
+changed: update
+changed: stored_playlist
+changed: player
+changed: subscription
+OK
+channel: news
+message: hello
+OK
+cpos: 0
+Id: 3
+cpos: 1
+Id: 1
+OK
+volume: 40
+repeat: 0
+random: 0
+single: 0
+consume: 0
+partition: default
+playlist: 6
+playlistlength: 3
+state: play
+song: 1
+songid: 1
+nextsong: 2
+nextsongid: 2
+elapsed: 0.128
+duration: 1.000
+audio: 8000:16:2
+OK
+closed
+OK MPD 0.23.0
+client: 1
+changed: update
+changed: stored_playlist
+changed: playlist
+changed: player
+changed: mixer
+changed: subscription
+changed: message
+client: 2
+changed: update
+changed: stored_playlist
+changed: playlist
+changed: player
+changed: mixer
+changed: subscription
+changed: message
+OK
+OK
+4 18 26 3 2 40
+";
+
+const THREE: &str = "a.wav
+b.wav
+c.wav";
+
+#[test]
+fn folds_keep_each_part(rt: HostRuntime) {
+    let alloc = rt.alloc();
+    wants(&rt, session_over(alloc, THREE, HOUSE), HOUSE_TELLS);
+    wants(&rt, oddities(alloc, THREE, HOUSE, HOUSE_TELLS), "");
+}
+
+/// What is shown of the window after each of four events.
+const FOUR_EVENTS: &str = "comes 1
+show window
+1 ping
+show window
+1 nosuch
+show window
+turn 0 0 0
+show window";
+
+/// What is told of four events, with what is shown after each: the events of the window, their bytes, and all events.
+fn four_events(alloc: Global, shown: [&str; 4]) -> Result<String, AllocError> {
+    let [first, second, third, last] = shown;
+    let refused = "ACK [5@0] {} unknown command \"nosuch\"\n";
+    format!(in alloc;
+        "OK MPD 0.23.0\n{first}\nOK\n{second}\n{refused}{third}\nlive 0 true false\n{last}\n"
+    )
+}
+
+/// What is told of them in a window of so many.
+fn four_events_within(alloc: Global, most: u32) -> Result<String, AllocError> {
+    session_within(alloc, most, "a.wav", FOUR_EVENTS)
+}
+
+#[test]
+fn a_full_window_is_folded_before_the_next_event(rt: HostRuntime) {
+    let alloc = rt.alloc();
+    let one = four_events(alloc, ["1 14 1", "1 3 2", "1 38 3", "1 0 4"]);
+    let two = four_events(alloc, ["1 14 1", "2 17 2", "1 38 3", "2 38 4"]);
+    let three = four_events(alloc, ["1 14 1", "2 17 2", "3 55 3", "1 0 4"]);
+    wants_made(&rt, four_events_within(alloc, 1), one);
+    wants_made(&rt, four_events_within(alloc, 2), two);
+    wants_made(&rt, four_events_within(alloc, 3), three);
+}
+
+/// What the shelf answers counts too: a list of one URI and its newline, a name of one letter, a value of one, a sticker of two, and
+/// a sticker of six with its URI. Where it refused, nothing does.
+const BYTES: &str = "comes 1
+1 playlistadd x a.wav
+show window
+1 listplaylist x
+show window
+1 listplaylists
+show window
+1 sticker set song a.wav r 5
+show window
+1 sticker get song a.wav r
+show window
+1 sticker list song a.wav
+show window
+1 sticker find song \"\" r
+show window
+folds
+show window
+1 ping
+show window";
+
+const BYTES_TELL: &str = "OK MPD 0.23.0
+OK
+2 17 2
+file: a.wav
+OK
+3 38 3
+playlist: x
+OK
+4 54 4
+OK
+5 57 5
+sticker: r=5
+OK
+6 74 6
+sticker: r=5
+OK
+7 92 7
+file: a.wav
+sticker: r=5
+OK
+8 126 8
+0 0 8
+OK
+1 3 9
+";
+
+#[test]
+fn the_bytes_of_a_window_are_counted(rt: HostRuntime) {
+    wants(&rt, session(rt.alloc(), BYTES), BYTES_TELL);
+}
+
+/// What is told where the greatest window is filled, and two more events come.
+fn greatest_window(alloc: Global) -> Result<String, AllocError> {
+    let pings = "1 ping\n".repeat(alloc, 4095)?;
+    let more = "show window\n1 ping\nshow window\n1 ping\nshow window\n";
+    let steps = format!(in alloc; "comes 1\n{pings}{more}")?;
+    session(alloc, steps.as_str())
+}
+
+fn greatest_window_tells(alloc: Global) -> Result<String, AllocError> {
+    let pinged = "OK\n".repeat(alloc, 4095)?;
+    format!(in alloc; "OK MPD 0.23.0\n{pinged}4096 12299 4096\nOK\n1 3 4097\nOK\n2 6 4098\n")
+}
+
+#[test]
+fn the_greatest_window_is_folded(rt: HostRuntime) {
+    wants_made(
+        &rt,
+        greatest_window(rt.alloc()),
+        greatest_window_tells(rt.alloc()),
+    );
+}
+
+/// The window of 93 events is full, is folded by the next event, and then by hand. The order of play is the one of a round over
+/// as many songs.
+const GREATEST: &str = "show window
+show counts
+1 random 1
+show window
+1 play
+1 currentsong
+folds
+1 next
+1 currentsong
+1 delete 16383
+1 prio 7 5
+1 plchangesposid 17
+64 idle
+show counts";
+
+const GREATEST_TELLS: &str = "93 99281 93
+64 29 93 16384 64 100
+OK
+1 3 94
+OK
+file: a.wav
+Time: 1
+duration: 1.000
+Pos: 1148
+Id: 1149
+OK
+OK
+file: a.wav
+Time: 1
+duration: 1.000
+Pos: 15849
+Id: 15850
+OK
+OK
+OK
+cpos: 5
+Id: 6
+OK
+changed: playlist
+changed: player
+changed: options
+OK
+64 38 102 16383 64 100
+";
+
+/// What is told where the state is the greatest: 16,384 entries and 64 clients.
+fn greatest(alloc: Global) -> Result<String, AllocError> {
+    let doubling = doubling(alloc)?;
+    let come = numbered(alloc, "comes ", 2, "")?;
+    let steps = format!(in alloc; "{doubling}{come}{GREATEST}")?;
+    session_within(alloc, 93, "a.wav", steps.as_str())
+}
+
+fn greatest_tells(alloc: Global) -> Result<String, AllocError> {
+    let doubled = "OK\n".repeat(alloc, 29)?;
+    let greeted = "OK MPD 0.23.0\n".repeat(alloc, 63)?;
+    format!(in alloc; "OK MPD 0.23.0\n{doubled}{greeted}{GREATEST_TELLS}")
+}
+
+#[test]
+fn the_greatest_state_is_folded(rt: HostRuntime) {
+    wants_made(&rt, greatest(rt.alloc()), greatest_tells(rt.alloc()));
+}

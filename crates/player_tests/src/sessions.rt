@@ -1,0 +1,395 @@
+//! Worked sessions of the player of one thread, and what they tell.
+use crate::player::session;
+use crate::tables::{wants, wants_made};
+use mpd_command::{NAMES, Name, Request, Volume};
+use partition::{PartitionFault, folds_are_unseen, reads_pending, replays_worlds};
+use std::alloc::{AllocError, Global};
+
+pub(crate) const DELETION: &str = "comes 1
+1 add a.wav
+1 add a.wav/
+1 delete 0
+1 plchangesposid 3
+1 add b.wav
+show counts
+show 1";
+
+pub(crate) const DELETION_TELLS: &str = "OK MPD 0.23.0
+OK
+OK
+OK
+cpos: 0
+Id: 2
+OK
+ACK [50@0] {add} no such song
+1 5 6 1 1 100
+there
+";
+
+#[test]
+fn a_deletion_restamps_the_slot_after_it(rt: HostRuntime) {
+    wants(&rt, session(rt.alloc(), DELETION), DELETION_TELLS);
+}
+
+const WAITING: &str = "comes 2
+comes 1
+2 idle mixer options
+1 add a.wav
+1 setvol 40
+1 repeat 1
+2 idle
+2 idle
+2 noidle
+2 idle
+2 ping
+show counts
+show 2
+show kept
+show pending";
+
+const WAITING_TELLS: &str = "OK MPD 0.23.0
+OK MPD 0.23.0
+waits
+OK
+OK
+2: changed: mixer
+OK
+changed: options
+OK
+waits
+OK
+waits
+closed
+2 9 11 1 1 40
+not there
+closed
+client: 1
+changed: playlist
+changed: mixer
+changed: options
+";
+
+#[test]
+fn a_waiting_client_hears_of_a_change_once(rt: HostRuntime) {
+    wants(&rt, session(rt.alloc(), WAITING), WAITING_TELLS);
+}
+
+pub(crate) const ROOMS: &str = "comes 1
+comes 2
+2 idle player output
+1 add a.wav
+decoder wants
+1 play
+decoder wants
+1 setvol 40
+decoder 1 1024
+decoder 1 1024
+1 disableoutput 6
+decoder wants
+decoder 2 24
+turn 0 1000 24
+turn 6 24 1000
+turn 8 5 5
+2 idle output
+2 idle output
+turn 0 0 4294967295
+1 enableoutput 0
+1 enableoutput 8
+show books
+show counts";
+
+pub(crate) const ROOMS_TELL: &str = "OK MPD 0.23.0
+OK MPD 0.23.0
+waits
+OK
+no job
+OK
+2: changed: player
+job 1 1 0 1024
+OK
+feed 1 40
+stale
+OK
+job 2 1 1024 1024
+feed 1 40
+live 1 true false
+live 1 false false
+live 0 false false
+changed: output
+OK
+waits
+2: changed: output
+live 1 false false
+ACK [52@0] {enableoutput} output has failed
+ACK [50@0] {enableoutput} no such output
+1048 1000 4294967319
+1024 24 1000
+0 0 0
+0 0 0
+2 9 21 1 2 40
+";
+
+#[test]
+fn eight_rooms_have_their_books(rt: HostRuntime) {
+    wants(&rt, session(rt.alloc(), ROOMS), ROOMS_TELL);
+}
+
+pub(crate) const SCANS: &str = "comes 1
+scan asks
+1 update
+scan asks
+comes 2
+2 idle database update
+scan fails
+1 add a.wav
+1 rescan
+2 idle database
+scan b.wav
+1 add a.wav
+1 add b.wav
+scan b.wav
+show counts";
+
+pub(crate) const SCANS_TELL: &str = "OK MPD 0.23.0
+no scan
+updating_db: 1
+OK
+scan 1
+OK MPD 0.23.0
+waits
+2: changed: update
+ended
+OK
+updating_db: 2
+OK
+waits
+2: changed: database
+ended
+ACK [50@0] {add} no such song
+OK
+none ran
+2 7 14 2 2 100
+";
+
+#[test]
+fn a_scan_that_ends_is_told(rt: HostRuntime) {
+    wants(&rt, session(rt.alloc(), SCANS), SCANS_TELL);
+}
+
+fn is_read_back(name: Name) -> bool {
+    Name::of_word(name.text()) == Some(name)
+}
+
+/// The name of a request.
+fn name_of(alloc: Global, line: &str) -> Result<String, AllocError> {
+    let request = Request::of_line(alloc, line, false)?;
+    String::from_str(alloc, request.name())
+}
+
+#[test]
+fn each_name_is_read_back(rt: HostRuntime) {
+    for name in NAMES {
+        assert!(rt; is_read_back(name));
+    }
+    wants(&rt, name_of(rt.alloc(), "swap 0 1"), "swap");
+}
+
+/// A line for each number from this one to 64, between two texts.
+pub(crate) fn numbered(
+    alloc: Global,
+    before: &str,
+    first: u32,
+    after: &str,
+) -> Result<String, AllocError> {
+    let mut all = String::new(alloc);
+    for number in first..65 {
+        let line = format!(in alloc; "{before}{number}{after}\n")?;
+        all.push_str(line.as_str())?;
+    }
+    Ok(all)
+}
+
+/// What 64 clients hear that come.
+fn greetings(alloc: Global) -> Result<String, AllocError> {
+    "OK MPD 0.23.0\n".repeat(alloc, 64)
+}
+
+/// What is told where 64 clients come, then another, then one goes and that other one comes.
+fn crowd(alloc: Global) -> Result<String, AllocError> {
+    let come = numbered(alloc, "comes ", 1, "")?;
+    let steps = format!(in alloc; "{come}comes 65\nshow 65\nshow counts\ngoes 7\ncomes 65\n")?;
+    session(alloc, steps.as_str())
+}
+
+fn crowd_tells(alloc: Global) -> Result<String, AllocError> {
+    let mut all = greetings(alloc)?;
+    all.push_str("closed\nnot there\n65 0 65 0 64 100\nclosed\nOK MPD 0.23.0\n")?;
+    Ok(all)
+}
+
+#[test]
+fn a_sixty_fifth_client_is_closed(rt: HostRuntime) {
+    wants_made(&rt, crowd(rt.alloc()), crowd_tells(rt.alloc()));
+}
+
+/// What is told where 63 clients wait for a change of the queue, and another makes one.
+fn waiting_crowd(alloc: Global) -> Result<String, AllocError> {
+    let come = numbered(alloc, "comes ", 1, "")?;
+    let wait = numbered(alloc, "", 2, " idle playlist")?;
+    let steps = format!(in alloc; "{come}{wait}1 add a.wav\n")?;
+    session(alloc, steps.as_str())
+}
+
+fn waiting_crowd_tells(alloc: Global) -> Result<String, AllocError> {
+    let greetings = greetings(alloc)?;
+    let waits = "waits\n".repeat(alloc, 63)?;
+    let notices = numbered(alloc, "", 2, ": changed: playlist")?;
+    format!(in alloc; "{greetings}{waits}OK\n{notices}")
+}
+
+#[test]
+fn all_clients_are_told_at_once(rt: HostRuntime) {
+    wants_made(
+        &rt,
+        waiting_crowd(rt.alloc()),
+        waiting_crowd_tells(rt.alloc()),
+    );
+}
+
+pub(crate) const EDITS: &str = "comes 1
+1 addid a.wav
+1 addid a.wav 0
+1 playlistid 1
+1 move 0:1 1
+1 prio 7 0
+1 plchanges 3 0:1
+1 swapid 1 2
+1 moveid 9 1
+1 kill
+1 delete 0:
+1 addid a.wav +0";
+
+pub(crate) const EDITS_TELL: &str = "OK MPD 0.23.0
+Id: 1
+OK
+Id: 2
+OK
+file: a.wav
+Time: 1
+duration: 1.000
+Pos: 1
+Id: 1
+OK
+OK
+OK
+file: a.wav
+Time: 1
+duration: 1.000
+Pos: 0
+Id: 1
+Prio: 7
+OK
+OK
+ACK [50@0] {moveid} no such song
+ACK [4@0] {kill} no permission for \"kill\"
+OK
+ACK [55@0] {addid} no current song
+";
+
+#[test]
+fn a_desktop_edits_the_queue(rt: HostRuntime) {
+    wants(&rt, session(rt.alloc(), EDITS), EDITS_TELL);
+}
+
+const PLAIN_LIST: &str = "comes 1
+plain_list 0 add a.wav
+plain_list 1 ping
+plain_list 2 nosuch";
+
+const PLAIN_LIST_TELLS: &str = "OK MPD 0.23.0
+ACK [5@2] {} unknown command \"nosuch\"
+";
+
+const OK_LIST: &str = "comes 1
+ok_list 0 add a.wav
+ok_list 1 ping
+ok_list 2 nosuch";
+
+const OK_LIST_TELLS: &str = "OK MPD 0.23.0
+list_OK
+list_OK
+ACK [5@2] {} unknown command \"nosuch\"
+";
+
+pub(crate) const LISTS: &str = "comes 1
+comes 2
+2 idle mixer
+runs_plain
+runs_ok add a.wav;setvol 40;ping
+runs_plain add a.wav;add nosuch;add a.wav
+runs_ok ping;close;add a.wav
+show counts
+show 1";
+
+pub(crate) const LISTS_TELL: &str = "OK MPD 0.23.0
+OK MPD 0.23.0
+waits
+OK
+list_OK
+list_OK
+list_OK
+OK
+2: changed: mixer
+ACK [50@1] {add} no such song
+list_OK
+closed
+2 8 10 2 1 40
+not there
+";
+
+#[test]
+fn lists_run_to_their_end_or_first_failure(rt: HostRuntime) {
+    wants(&rt, session(rt.alloc(), LISTS), LISTS_TELL);
+}
+
+#[test]
+fn an_answer_in_a_list_has_no_ok(rt: HostRuntime) {
+    wants(&rt, session(rt.alloc(), PLAIN_LIST), PLAIN_LIST_TELLS);
+    wants(&rt, session(rt.alloc(), OK_LIST), OK_LIST_TELLS);
+}
+
+/// What is said of an event that is refused.
+fn said_of(fault: PartitionFault) -> &'static str {
+    fault.text()
+}
+
+#[test]
+fn a_refusal_says_why(rt: HostRuntime) {
+    assert_eq!(rt; said_of(PartitionFault::HistoryFull), "history full");
+    assert_eq!(rt; said_of(PartitionFault::NoMemory), "out of memory");
+}
+
+#[test]
+fn laws_can_be_called(_rt: HostRuntime) {
+    replays_worlds();
+    folds_are_unseen();
+    reads_pending();
+}
+
+/// What a volume is kept as; 1,000 where there is none.
+fn kept_as(percent: u32) -> u32 {
+    match Volume::new(percent) {
+        Some(volume) => u32::from(volume.percent()),
+        None => 1_000,
+    }
+}
+
+fn full() -> u8 {
+    Volume::full().copied().percent()
+}
+
+#[test]
+fn a_volume_is_at_most_100(rt: HostRuntime) {
+    assert!(rt; kept_as(0) == 0 && kept_as(100) == 100);
+    assert!(rt; kept_as(101) == 1_000 && full() == 100);
+}
