@@ -71,6 +71,7 @@ impl AnsweredList {
 #[derive(Drop)]
 pub struct Reported {
     pub(crate) outcome: Outcome,
+    pub(crate) changes: u64,
 }
 
 impl Model for Reported {
@@ -89,6 +90,11 @@ impl Reported {
         ensures { result.now ≡ self.now.answer }
     {
         self.outcome.reply()
+    }
+
+    /// How often the house had changed after the event, for [`House::rest`](crate::House::rest).
+    pub fn changes(&self) -> u64 {
+        self.changes
     }
 
     /// What a part of the daemon is told that is no client.

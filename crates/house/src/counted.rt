@@ -3,13 +3,17 @@ ghost use Rattle.std.specs.Prelude.{◌≡◌};
 ghost use Rattle.house.specs.Lists.{done_in};
 
 use crate::frames::{decoded_in, discarded_in, enabled_in, written_in};
+use crate::pulse::Pulse;
 use crate::seat::{Seat, SeatBooks};
 use command_lists::ListForm;
 use mpd_command::Request;
 use partition::{
     Client, Event, Happened, ListFault, ListOutcome, Outcome, Partition, PartitionFault,
 };
+use player_core::Playback;
 use shelf::Shelf;
+use song_db::SharedSong;
+use std::alloc::AllocError;
 use std::marker::Model;
 use std::sync::ledger::Ledger;
 
@@ -138,6 +142,28 @@ impl<A: Ledger, B: Ledger, C: Ledger, D: Ledger> Counted<A, B, C, D> {
         ensures legal { IsPast self.now }
     {
         self.partition.history()
+    }
+
+    /// What a thread at rest is woken for, where it changes.
+    pub(crate) fn pulse(&self) -> Pulse {
+        Pulse::of(&self.partition)
+    }
+
+    /// Whether a song is being played.
+    pub(crate) fn plays(&self) -> bool {
+        matches!(self.partition.player().playback(), Playback::Play)
+    }
+
+    /// The song of an entry of the present queue.
+    pub(crate) fn song(&self, id: u32) -> Result<Option<SharedSong>, AllocError> {
+        let queue = self.partition.queue();
+        let Some(place) = queue.position_of(id) else {
+            return Ok(None);
+        };
+        match queue.get(place) {
+            Some(entry) => Ok(Some(entry.song.clone()?)),
+            None => Ok(None),
+        }
     }
 
     /// The clients that are connected.

@@ -7,6 +7,7 @@ use std::marker::Model;
 pub struct Fed {
     pub(crate) outcome: Outcome,
     pub(crate) outputs: [bool; 8],
+    pub(crate) changes: u64,
 }
 
 impl Model for Fed {
@@ -25,6 +26,11 @@ impl Fed {
         ensures { result ≡ self.now.told.report }
     {
         self.outcome.report()
+    }
+
+    /// How often the house had changed after the event, for [`House::rest`](crate::House::rest).
+    pub fn changes(&self) -> u64 {
+        self.changes
     }
 
     /// Whether they are for this output, where they are fed.

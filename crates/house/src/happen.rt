@@ -5,7 +5,7 @@ ghost use Rattle.partition.specs.Legal.{IsPast};
 ghost use Rattle.partition.specs.Lent.{Records};
 ghost use Rattle.partition.specs.Shelves.{nothing_heard};
 ghost use Rattle.partition.specs.Step.{limit_of, told as told_of};
-ghost use Rattle.partition.specs.declared.event.Event.TheVariants.{Line, Have, OutputTurn};
+ghost use Rattle.partition.specs.declared.event.Event.TheVariants.{End, Line, Have, OutputTurn};
 ghost use Rattle.partition.specs.declared.event.Stand.TheVariants.{Alone};
 ghost use Rattle.house.specs.News.{event_of};
 ghost use Rattle.house.specs.Seats.{after_events};
@@ -108,6 +108,30 @@ pub(crate) fn hear_news<A: Ledger, B: Ledger, C: Ledger, D: Ledger>(
 {
     let mut shelf = MemShelf::new(alloc);
     happen(counted, waiting, seat, &mut shelf, news.into_event())
+}
+
+/// The end. It brings no frames.
+pub(crate) fn hear_end<A: Ledger, B: Ledger, C: Ledger, D: Ledger>(
+    alloc: Global,
+    counted: &mut Counted<A, B, C, D>,
+    waiting: &mut Vec<Notice>,
+    seat: &mut Seat<A, B, C, D>,
+) -> Result<Outcome, PartitionFault>
+    ensures found { seat.old.number < 4 → own_in seat.old.number counted.old.present ≡ seat.old.made }
+    ensures legal { IsPast counted.old }
+    ensures told { IfOk result (λ outcome. outcome ≡ told_of counted.old.present End) }
+    ensures player { IfOk result (λ outcome. counted.new ≡ joined_by counted.old (entry seat.old.number End outcome)) }
+    ensures within { OnOk result (limit_of seat.old.number counted.old.present End ≡ None) }
+    ensures made { OnOk result (seat.new ≡ after_events seat.old 1) }
+    ensures seat { OnErr result (seat.new ≡ seat.old) }
+    ensures refused { IfErr result (λ fault. IsRefusedFor counted.old seat.old.number End fault) }
+    ensures spared { OnErr result (IsSpared counted.old counted.new) }
+    ensures books { counted.new.present.shared.books ≡ counted.old.present.shared.books }
+    ensures waiting { waiting.new.items ≡ waiting.old.items }
+    ensures room { IfOk result (λ outcome. vec_len waiting.new + length outcome.notices ≤ vec_capacity waiting.new) }
+{
+    let mut shelf = MemShelf::new(alloc);
+    happen(counted, waiting, seat, &mut shelf, Event::End)
 }
 
 /// Frames of a job were decoded. They are the books' of frames given, where they are not stale.

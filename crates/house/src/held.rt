@@ -1,14 +1,16 @@
 //! What lies under the house's lock.
 use crate::answered::{Answered, Reported};
 use crate::counted::Counted;
-use crate::happen::{hear_line, hear_news};
+use crate::happen::{hear_end, hear_line, hear_news};
 use crate::news::News;
+use crate::pulse::count_change;
 use crate::seat::{NoSeat, Seat, SeatBooks};
 use crate::waiting::{drop_gone, put_all, take_first};
 use frame_ledger::{Blanks as FrameBlanks, Books, OutputShares};
 use mpd_command::Request;
 use partition::{Happened, MAX_OUTPUTS, Notice, Partition, PartitionFault};
 use shelf::Shelf;
+use song_db::SharedSong;
 use std::alloc::{AllocError, Global};
 use std::marker::Model;
 use std::sync::ledger::{Blank, Ledger, Share};
@@ -40,6 +42,9 @@ pub struct Held<A: Ledger, B: Ledger, C: Ledger, D: Ledger, E: Ledger, W: Ledger
     pub(crate) free: Vec<Seat<A, B, C, D>>,
     /// Whether an output was settled, whose last fates no event told of.
     pub(crate) is_settled: bool,
+    /// How often something changed that a thread at rest is woken for; it begins anew behind its greatest value. No contract speaks of
+    /// it.
+    pub(crate) changes: u64,
 }
 
 impl<A: Ledger, B: Ledger, C: Ledger, D: Ledger, E: Ledger, W: Ledger, X: Ledger> Model
@@ -81,7 +86,7 @@ impl<A: Ledger, B: Ledger, C: Ledger, D: Ledger, E: Ledger, W: Ledger, X: Ledger
     ghost use Rattle.partition.specs.Outputs.{empty_books};
     ghost use Rattle.partition.specs.Shelves.{nothing_heard};
     ghost use Rattle.partition.specs.Step.{limit_of, told as told_of};
-    ghost use Rattle.partition.specs.declared.event.Event.TheVariants.{Line};
+    ghost use Rattle.partition.specs.declared.event.Event.TheVariants.{End, Line};
     ghost use Rattle.partition.specs.declared.event.Stand.TheVariants.{Alone};
     ghost use Rattle.house.specs.News.{event_of, kept_at};
     ghost use Rattle.house.specs.Seats.{after_events, IsBlankOf};
@@ -119,6 +124,7 @@ impl<A: Ledger, B: Ledger, C: Ledger, D: Ledger, E: Ledger, W: Ledger, X: Ledger
             books,
             free,
             is_settled: false,
+            changes: 0,
         };
         Ok((held, CrewShares { decoded, outputs }))
     }
@@ -197,10 +203,13 @@ impl<A: Ledger, B: Ledger, C: Ledger, D: Ledger, E: Ledger, W: Ledger, X: Ledger
             books: _books,
             free: _free,
             is_settled: _is_settled,
+            changes,
         } = self;
+        let pulse = counted.pulse();
         let outcome = hear_line(counted, waiting, seat, shelf, client, request)?;
         let front = take_first(waiting, client);
         put_all(waiting, outcome.notices());
+        count_change(changes, counted.pulse() != pulse);
         Ok(Answered { front, outcome })
     }
 
@@ -235,12 +244,51 @@ impl<A: Ledger, B: Ledger, C: Ledger, D: Ledger, E: Ledger, W: Ledger, X: Ledger
             books: _books,
             free: _free,
             is_settled: _is_settled,
+            changes,
         } = self;
+        let pulse = counted.pulse();
         let gone = news.gone();
         let outcome = hear_news(*alloc, counted, waiting, seat, news)?;
         drop_gone(waiting, gone);
         put_all(waiting, outcome.notices());
-        Ok(Reported { outcome })
+        count_change(changes, counted.pulse() != pulse);
+        Ok(Reported {
+            outcome,
+            changes: *changes,
+        })
+    }
+
+    /// The end: from now on nothing is decoded and no scan begins.
+    ///
+    /// # Errors
+    ///
+    /// As [`Held::command`].
+    pub fn end(&mut self, seat: &mut Seat<A, B, C, D>) -> Result<(), PartitionFault>
+        ensures found { seat.old.number < 4 → own_in seat.old.number self.old.player.present ≡ seat.old.made }
+        ensures legal { IsPast self.old.player }
+        ensures player { OnOk result (self.new.player ≡ joined_by self.old.player (entry seat.old.number End (told_of self.old.player.present End))) }
+        ensures within { OnOk result (limit_of seat.old.number self.old.player.present End ≡ None) }
+        ensures waiting { OnOk result (self.new.waiting ≡ self.old.waiting ++ (told_of self.old.player.present End).notices) }
+        ensures kept { OnErr result (self.new.waiting ≡ self.old.waiting) }
+        ensures made { OnOk result (seat.new ≡ after_events seat.old 1) }
+        ensures seat { OnErr result (seat.new ≡ seat.old) }
+        ensures books { (self.new.books ≡ self.old.books) × (self.new.is_settled ≡ self.old.is_settled) × (self.new.free ≡ self.old.free) }
+        ensures refused { IfErr result (λ fault. IsRefusedFor self.old.player seat.old.number End fault) }
+        ensures spared { OnErr result (IsSpared self.old.player self.new.player) }
+    {
+        let Held {
+            alloc,
+            counted,
+            waiting,
+            books: _books,
+            free: _free,
+            is_settled: _is_settled,
+            changes,
+        } = self;
+        let outcome = hear_end(*alloc, counted, waiting, seat)?;
+        put_all(waiting, outcome.notices());
+        count_change(changes, true);
+        Ok(())
     }
 
     /// Folds the history where the texts of its window take more than 16 MiB. Where there is no memory for that, nothing changes.
@@ -256,8 +304,24 @@ impl<A: Ledger, B: Ledger, C: Ledger, D: Ledger, E: Ledger, W: Ledger, X: Ledger
             books: _books,
             free: _free,
             is_settled: _is_settled,
+            changes: _changes,
         } = self;
         counted.lighten();
+    }
+
+    /// How often something changed that a thread at rest is woken for.
+    pub(crate) fn changes(&self) -> u64 {
+        self.changes
+    }
+
+    /// Whether a song is being played.
+    pub(crate) fn plays(&self) -> bool {
+        self.counted.plays()
+    }
+
+    /// The song of an entry of the present queue. It is no event.
+    pub fn song(&self, id: u32) -> Result<Option<SharedSong>, AllocError> {
+        self.counted.song(id)
     }
 
     /// The client's waiting notice, which is taken out. It is no event and takes no memory.

@@ -22,14 +22,18 @@ use mpd_command::Request;
 use output_ring::{Drainer, Fates, FeederEnd};
 use partition::{ListFault, Notice, Partition, PartitionFault};
 use shelf::Shelf;
+use song_db::SharedSong;
 use std::alloc::{AllocError, Global};
 use std::sync::ledger::{Ledger, Share};
-use std::sync::{Mutex, Wait};
+use std::sync::{Condvar, Mutex, Wait};
+use std::time::{Clock, Duration};
 
 /// A player that any thread may use.
 #[derive(Drop)]
 pub struct House<A: Ledger, B: Ledger, C: Ledger, D: Ledger, E: Ledger, W: Ledger, X: Ledger> {
     held: Mutex<Held<A, B, C, D, E, W, X>>,
+    /// Rung where something changed that a thread at rest is woken for.
+    bell: Condvar,
 }
 
 impl<A: Ledger, B: Ledger, C: Ledger, D: Ledger, E: Ledger, W: Ledger, X: Ledger> House<
@@ -57,6 +61,7 @@ impl<A: Ledger, B: Ledger, C: Ledger, D: Ledger, E: Ledger, W: Ledger, X: Ledger
         Ok((
             House {
                 held: Mutex::new(held),
+                bell: Condvar::new(),
             },
             shares,
         ))
@@ -91,9 +96,15 @@ impl<A: Ledger, B: Ledger, C: Ledger, D: Ledger, E: Ledger, W: Ledger, X: Ledger
         ensures fault { OnErr result ((seat.new ≡ seat.old) × IsUnwritten S.standing S.failed shelf.old shelf.new) }
         ensures somewhere { IfOk result (λ a. seat.old.number < 4 → AnswersSomewhere S.standing S.failed shelf.old shelf.new seat.old.number seat.old.made (Line client Alone request nothing_heard) a.told.answer) }
     {
-        let mut held = self.held.lock(rt);
-        held.lighten();
-        held.command(seat, shelf, client, request)
+        let (told, rings) = {
+            let mut held = self.held.lock(rt);
+            let before = held.changes();
+            held.lighten();
+            let told = held.command(seat, shelf, client, request);
+            (told, held.changes() != before)
+        };
+        self.ring(rings);
+        told
     }
 
     /// The commands of a client's list under one taking of the lock.
@@ -115,9 +126,15 @@ impl<A: Ledger, B: Ledger, C: Ledger, D: Ledger, E: Ledger, W: Ledger, X: Ledger
         ensures somewhere { IfOk result (λ a. seat.old.number < 4 → TellsListSomewhere S.standing S.failed shelf.old shelf.new seat.old.number seat.old.made client form requests.items a.tolds) }
         ensures stopped { IfErr result (λ stop. seat.old.number < 4 → StopsListSomewhere S.standing S.failed shelf.old shelf.new seat.old.number seat.old.made client form requests.items stop) }
     {
-        let mut held = self.held.lock(rt);
-        held.lighten();
-        held.list(seat, shelf, client, form, requests)
+        let (told, rings) = {
+            let mut held = self.held.lock(rt);
+            let before = held.changes();
+            held.lighten();
+            let told = held.list(seat, shelf, client, form, requests);
+            (told, held.changes() != before)
+        };
+        self.ring(rings);
+        told
     }
 
     /// A piece of news.
@@ -135,9 +152,15 @@ impl<A: Ledger, B: Ledger, C: Ledger, D: Ledger, E: Ledger, W: Ledger, X: Ledger
         ensures fault { OnErr result (seat.new ≡ seat.old) }
         ensures somewhere { IfOk result (λ told. seat.old.number < 4 → TellsSomewhere seat.old.number seat.old.made (event_of news) told) }
     {
-        let mut held = self.held.lock(rt);
-        held.lighten();
-        held.notice(seat, news)
+        let (told, rings) = {
+            let mut held = self.held.lock(rt);
+            let before = held.changes();
+            held.lighten();
+            let told = held.notice(seat, news);
+            (told, held.changes() != before)
+        };
+        self.ring(rings);
+        told
     }
 
     /// The client's waiting notice, which is taken out. It is no event and takes no memory.
@@ -163,9 +186,15 @@ impl<A: Ledger, B: Ledger, C: Ledger, D: Ledger, E: Ledger, W: Ledger, X: Ledger
         ensures parts { share.new.parts ≡ share.old.parts }
         ensures fault { OnErr result ((seat.new ≡ seat.old) × (share.new ≡ share.old)) }
     {
-        let mut held = self.held.lock(rt);
-        held.lighten();
-        held.have(seat, number, frames, share)
+        let (told, rings) = {
+            let mut held = self.held.lock(rt);
+            let before = held.changes();
+            held.lighten();
+            let told = held.have(seat, number, frames, share);
+            (told, held.changes() != before)
+        };
+        self.ring(rings);
+        told
     }
 
     /// An output had its turn.
@@ -187,9 +216,15 @@ impl<A: Ledger, B: Ledger, C: Ledger, D: Ledger, E: Ledger, W: Ledger, X: Ledger
         ensures parts { (shares.new.written.parts ≡ shares.old.written.parts) × (shares.new.discarded.parts ≡ shares.old.discarded.parts) }
         ensures fault { OnErr result ((seat.new ≡ seat.old) × (shares.new ≡ shares.old)) }
     {
-        let mut held = self.held.lock(rt);
-        held.lighten();
-        held.turn(seat, output, fates, failed, shares)
+        let (told, rings) = {
+            let mut held = self.held.lock(rt);
+            let before = held.changes();
+            held.lighten();
+            let told = held.turn(seat, output, fates, failed, shares);
+            (told, held.changes() != before)
+        };
+        self.ring(rings);
+        told
     }
 
     /// Compares the books of an output with its ring.
@@ -213,5 +248,41 @@ impl<A: Ledger, B: Ledger, C: Ledger, D: Ledger, E: Ledger, W: Ledger, X: Ledger
         ensures kept { (shares.new.written.parts ≡ shares.old.written.parts) × (shares.new.discarded.parts ≡ shares.old.discarded.parts) }
     {
         self.held.lock(rt).settle(end, drainer, output, shares)
+    }
+
+    /// The end: from now on nothing is decoded and no scan begins. Each thread of the house is told of it at its next event.
+    ///
+    /// # Errors
+    ///
+    /// As [`Held::end`].
+    pub fn end(&self, rt: &impl Wait, seat: &mut Seat<A, B, C, D>) -> Result<(), PartitionFault>
+        ensures made { OnOk result (seat.new ≡ after_events seat.old 1) }
+        ensures fault { OnErr result (seat.new ≡ seat.old) }
+    {
+        let ended = self.held.lock(rt).end(seat);
+        self.ring(true);
+        ended
+    }
+
+    /// The song of an entry of the present queue. It is no event.
+    pub fn song(&self, rt: &impl Wait, id: u32) -> Result<Option<SharedSong>, AllocError> {
+        self.held.lock(rt).song(id)
+    }
+
+    /// Rests until something changed since the house had changed so often; while a song is played, no longer than the time that is
+    /// given, and else a second.
+    pub fn rest<R: Wait + Clock>(&self, rt: &R, seen: u64, while_playing: Duration) {
+        let plays = self.held.lock(rt).plays();
+        let most = if plays { while_playing } else { Duration::from_millis(1_000) };
+        let _waited = self
+            .bell
+            .wait_timeout_while(rt, self.held.lock(rt), most, |held| held.changes() == seen);
+    }
+
+    /// Wakes the threads that rest, if they are to be woken.
+    fn ring(&self, rings: bool) {
+        if rings {
+            self.bell.notify_all();
+        }
     }
 }

@@ -13,6 +13,7 @@ mod listed;
 mod mark;
 mod news;
 mod output;
+mod pulse;
 mod seat;
 mod waiting;
 

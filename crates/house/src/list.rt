@@ -2,6 +2,7 @@
 use crate::answered::AnsweredList;
 use crate::held::Held;
 use crate::listed::hear_list;
+use crate::pulse::count_change;
 use crate::seat::Seat;
 use crate::waiting::{put_each, take_first};
 use command_lists::ListForm;
@@ -61,10 +62,14 @@ impl<A: Ledger, B: Ledger, C: Ledger, D: Ledger, E: Ledger, W: Ledger, X: Ledger
             books: _books,
             free: _free,
             is_settled: _is_settled,
+            changes,
         } = self;
-        match hear_list(
+        let pulse = counted.pulse();
+        let end = hear_list(
             *alloc, counted, waiting, seat, shelf, client, form, requests,
-        ) {
+        );
+        count_change(changes, counted.pulse() != pulse);
+        match end {
             Ok(outcome) => {
                 let front = take_first(waiting, client);
                 put_each(waiting, outcome.outcomes());

@@ -4,6 +4,7 @@ use crate::fed::Fed;
 use crate::frames::book_fates;
 use crate::happen::{hear_frames, hear_turn};
 use crate::held::Held;
+use crate::pulse::count_change;
 use crate::seat::Seat;
 use crate::waiting::put_all;
 use frame_ledger::{OutputShares, SettleFault, Settled, settle};
@@ -73,13 +74,20 @@ impl<A: Ledger, B: Ledger, C: Ledger, D: Ledger, E: Ledger, W: Ledger, X: Ledger
             books,
             free: _free,
             is_settled: _is_settled,
+            changes,
         } = self;
         let outputs = counted.enabled();
         let outcome = hear_frames(*alloc, counted, waiting, seat, number, frames)?;
         put_all(waiting, outcome.notices());
         let decoded = counted.decoded();
         books.decoded.raise_to(share, &decoded);
-        Ok(Fed { outcome, outputs })
+        // Frames that are fed wake the outputs.
+        count_change(changes, true);
+        Ok(Fed {
+            outcome,
+            outputs,
+            changes: *changes,
+        })
     }
 
     /// An output had its turn: it wrote and discarded so many frames since its last one. Its books and the shares grow by them, unless
@@ -124,13 +132,19 @@ impl<A: Ledger, B: Ledger, C: Ledger, D: Ledger, E: Ledger, W: Ledger, X: Ledger
             books,
             free: _free,
             is_settled,
+            changes,
         } = self;
+        let pulse = counted.pulse();
         let outcome = hear_turn(*alloc, counted, waiting, seat, output, told_fates, failed)?;
         put_all(waiting, outcome.notices());
         let written = counted.written();
         let discarded = counted.discarded();
         book_fates(books, shares, *is_settled, written, discarded);
-        Ok(Reported { outcome })
+        count_change(changes, counted.pulse() != pulse);
+        Ok(Reported {
+            outcome,
+            changes: *changes,
+        })
     }
 
     /// Compares the books of an output with its ring, once the fates that no turn told of are counted in them. It takes no memory.
@@ -172,6 +186,7 @@ impl<A: Ledger, B: Ledger, C: Ledger, D: Ledger, E: Ledger, W: Ledger, X: Ledger
             books,
             free: _free,
             is_settled,
+            changes: _changes,
         } = self;
         *is_settled = true;
         settle(end, drainer, books, output, shares)

@@ -30,7 +30,7 @@ impl<A: Ledger, B: Ledger, C: Ledger, D: Ledger> Model for Seat<A, B, C, D> {
 
 impl<A: Ledger, B: Ledger, C: Ledger, D: Ledger> Seat<A, B, C, D> {
     /// The seat of a thread of the house's own.
-    pub(crate) fn of_crew(n: u8) -> Self
+    pub fn of_crew(n: u8) -> Self
         requires { n < 12 }
         ensures { result ≡ place (4 + n) 0 }
     {

@@ -11,5 +11,4 @@ mod frames;
 mod notices;
 #[cfg(test)]
 mod own_songs;
-#[cfg(test)]
-mod rooms;
+pub mod rooms;

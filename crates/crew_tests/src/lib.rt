@@ -1,0 +1,7 @@
+//! Tests of the house's own threads.
+#![tactic(auto)]
+
+#[cfg(test)]
+mod day;
+#[cfg(test)]
+mod wire;
