@@ -1,9 +1,6 @@
 //! The program: what its words ask for, done with standard input, standard output and the files of the system.
 #![tactic(auto)]
 
-mod output_file;
-mod serving;
-
 use command_line::{LineFault, Program, command_line};
 use daemon_script::{ScriptFault, run_script};
 use library_scan::{ScanFault, scan};
@@ -21,13 +18,6 @@ fn main(rt: HostRuntime) -> io::Result<ExitCode> {
         Err(error) if error.kind() == ErrorKind::OutOfMemory => return fail(&rt, "out of memory"),
         Err(_) => return refuse_bytes(&rt),
     };
-    // A draft: the command line does not know `serve` yet.
-    if let [_, command, path] = words.as_slice() {
-        if command.as_str() == "serve" {
-            let ran = serving::serve_file(rt, rt.alloc(), path.as_str());
-            return serving::print_end(&rt, path.as_str(), ran);
-        }
-    }
     match command_line(rt.alloc(), &words) {
         Ok(Program::Scan(rate, folder)) => print_scan(&rt, folder, &rate),
         Ok(Program::Script) => run_input(&rt),

@@ -22,7 +22,7 @@ use Rattle.partition.specs.declared.shelf_calls.ShelfWrite.{ShelfWrite}
 use Rattle.partition.specs.Rooms.{is_waiting}
 use Rattle.partition.specs.Settled.{HasRoom}
 use Rattle.partition.proofs.Listeners.{among_waiting, changes}
-use Rattle.partition.specs.Step.{mover, raised_by, report_of, after_turn, ended_after, told_by}
+use Rattle.partition.specs.Step.{mover, raised_by, report_of, after_turn, told_by}
 
 pub differ-self : (b : Bool) → differ b b ≡ false
 differ-self true = refl
@@ -75,15 +75,15 @@ module _ (i : Image) (event : Event) (t : Turn) (part : Part) (library : Library
   is_raised part_is library_is raised_is = raised_is ∙ by_signs i.part i.shared.library part library t part_is library_is
 
   -- the image after a turn, from what was made of each of its fields
-  pub stepped : (books : FrameBooks) (ended : Bool) (clients : List Client) → PartIs → LibraryIs
-      → books ≡ books_after i.shared.books i.part.outputs t.doing (report_of i.part i.shared.library t) → ended ≡ ended_after i.shared.ended event → said ≡ t.said → Shown
+  pub stepped : (books : FrameBooks) (clients : List Client) → PartIs → LibraryIs
+      → books ≡ books_after i.shared.books i.part.outputs t.doing (report_of i.part i.shared.library t) → said ≡ t.said → Shown
       → clients ≡ clients_after (mover event) raised said i.clients
-      → record { part = part; shared = record i.shared { library = library; books = books; ended = ended }; clients = clients } ≡ after_turn i event t
-  stepped books ended clients part_is library_is books_are ended_is said_is raised_is clients_are =
+      → record { part = part; shared = record i.shared { library = library; books = books }; clients = clients } ≡ after_turn i event t
+  stepped books clients part_is library_is books_are said_is raised_is clients_are =
       let all : raised ≡ raised_by i.part i.shared.library t = is_raised part_is library_is raised_is in
       let told : clients ≡ clients_after (mover event) (raised_by i.part i.shared.library t) t.said i.clients =
       clients_are ∙ ap (λ r. clients_after (mover event) r said i.clients) all ∙ ap (λ s. clients_after (mover event) (raised_by i.part i.shared.library t) s i.clients) said_is in
-      λ j. record { part = part_is j; shared = record i.shared { library = library_is j; books = books_are j; ended = ended_is j }; clients = told j }
+      λ j. record { part = part_is j; shared = record i.shared { library = library_is j; books = books_are j }; clients = told j }
 
   -- the notices of a turn, from what was made of it
   pub noticed : (notices : List Notice) → PartIs → LibraryIs → said ≡ t.said → Shown

@@ -12,7 +12,7 @@ ghost use Rattle.partition.specs.Rooms.{is_waiting, listed, room_in};
 ghost use Rattle.partition.specs.Settled.{AllSettled, HasRoom, nothing};
 ghost use Rattle.partition.specs.Refusals.{RefusesTurn};
 ghost use Rattle.partition.specs.Shelves.{IsAnswered, Serves, Spares, answered, is_ok_write, is_wanting, is_written, maps_after};
-ghost use Rattle.partition.specs.Step.{after_turn, counts_frames, ended_after as ended_after_lem, heard_at, hearing, keeps_limits, quiet, raised_by, mover as mover_lem, name_at, stand_of, told_by, turn, turn_of};
+ghost use Rattle.partition.specs.Step.{after_turn, counts_frames, heard_at, hearing, keeps_limits, quiet, raised_by, mover as mover_lem, name_at, stand_of, told_by, turn, turn_of};
 
 use crate::clients::{leave, list_notices, make_move, notify_all, waiting};
 use crate::doing::done;
@@ -135,14 +135,7 @@ fn apply_event<S: Shelf>(
         read,
         refused: None,
     });
-    let plan = plan_turn(
-        alloc,
-        &state.part,
-        &state.library,
-        &state.clients,
-        state.ended,
-        event,
-    )?;
+    let plan = plan_turn(alloc, &state.part, &state.library, &state.clients, event)?;
     if plan.written.is_written() {
         return write_plan(alloc, state, shelf, event, plan);
     }
@@ -180,7 +173,6 @@ fn apply_plan(
     let subscription = changes_subscriptions(&state.part.channels, &plan.doing);
     let telling = carry_out(&mut state.part, &mut state.library, plan)?;
     state.books = books;
-    state.ended = ended_after(state.ended, event);
     let unwritten = ShelfWrite::Nothing;
     let raised = before.changed(
         database,
@@ -235,7 +227,6 @@ fn write_plan<S: Shelf>(
         &state.part,
         &state.library,
         &state.clients,
-        state.ended,
         shelf,
         event,
         plan,
@@ -270,7 +261,6 @@ fn tell_written(
     ensures limits { keeps_limits (image_of_state state.old) plan ≡ true }
 {
     state.books.rest();
-    state.ended = ended_after(state.ended, event);
     let _ = done(&state.part);
     let raised = before.changed(false, false, &plan.written, &state.part, &state.library);
     let telling = plan.into_telling();
@@ -289,19 +279,18 @@ fn write_out<S: Shelf>(
     part: &Part,
     library: &Library,
     clients: &[Client],
-    ended: bool,
     shelf: &mut S,
     event: &mut Event,
     plan: Plan,
     refusals: Refusals,
 ) -> Result<Plan, AllocError>
-    requires plan { plan ≡ turn_of ended part.now library.now clients.now event.old }
+    requires plan { plan ≡ turn_of part.now library.now clients.now event.old }
     requires alone { plan ≡ record (quiet plan.said) { written = plan.written } }
     requires written { is_written plan.written ≡ true }
     requires unrefused { (heard_at event.old).refused ≡ None }
     requires refusals { refusals ≡ (stand_of event.old, name_at event.old) }
     ensures event { event.new ≡ hearing event.old (record (heard_at event.old) { refused = (heard_at event.new).refused }) }
-    ensures plan { IfOk result (λ after. after ≡ turn_of ended part.now library.now clients.now event.new) }
+    ensures plan { IfOk result (λ after. after ≡ turn_of part.now library.now clients.now event.new) }
     ensures alone { IfOk result (λ after. after ≡ record (quiet after.said) { written = after.written }) }
     ensures turns { OnOk result (Turns (S.standing shelf.old) (S.standing shelf.new) (is_ok_write plan.written (answered (heard_at event.new).refused)) (maps_after plan.written (S.standing shelf.old).maps)) }
     ensures answers { OnOk result (Trusted (S.standing shelf.old) (S.standing shelf.new) → IsAnswered (S.failed shelf.old shelf.new) (S.standing shelf.old).maps plan.written (answered (heard_at event.new).refused)) }
@@ -442,16 +431,6 @@ fn closes(next: Next) -> bool
     }
 }
 
-/// Whether the daemon has ended, after an event.
-fn ended_after(ended: bool, event: &Event) -> bool
-    ensures { result ≡ ended_after_lem ended event.now }
-{
-    match event {
-        Event::End => true,
-        _ => ended,
-    }
-}
-
 /// The client whose answer and move are an event's; 0 where it comes from none, which makes no move.
 fn mover(event: &Event) -> u32
     ensures { result ≡ mover_lem event.now }
@@ -464,7 +443,6 @@ fn mover(event: &Event) -> u32
         | Event::Want(_)
         | Event::Have(_, _)
         | Event::Failed(_, _)
-        | Event::OutputTurn(_, _, _, _)
-        | Event::End => 0,
+        | Event::OutputTurn(_, _, _, _) => 0,
     }
 }

@@ -112,8 +112,6 @@ pub(crate) struct State {
     pub(crate) library: Library,
     pub(crate) made: [u64; 16],
     pub(crate) books: Books,
-    /// Whether the daemon has ended.
-    pub(crate) ended: bool,
     /// By rising number.
     pub(crate) clients: Vec<Client>,
 }
@@ -143,7 +141,6 @@ impl State {
             library,
             made: [0; 16],
             books: Books::empty(),
-            ended: false,
             clients: Vec::new(alloc),
         }
     }
@@ -157,7 +154,6 @@ impl State {
             library: self.library.shared()?,
             made: self.made,
             books: self.books.copied(),
-            ended: self.ended,
             clients: self.clients.clone()?,
         })
     }

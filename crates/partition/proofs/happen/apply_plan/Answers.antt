@@ -43,8 +43,8 @@ returns-clause-image c =
     c.changes_subscriptions-subscription.result (changes_subscriptions i.part.channels c.args.plan.doing) _ c.args.plan.written c.in_ok-before.before (signs i.part i.shared.library)
     c.carry_out.new.part c.carry_out.new.library (search rules) (search rules) (sym (unwritten c.args.plan.written c.requires.unwritten)) (search rules) in
     let doing : c.plan.inside.doing ≡ c.args.plan.doing = ap (λ (t : Turn). t.doing) c.plan.view_is in
-    stepped i c.args.event.now c.args.plan c.carry_out.new.part c.carry_out.new.library (raised_in c.changed-raised.result) c.in_ok-telling.telling.spoken c.in-Some.books c.ended_after.result c.tell.new.clients.items
-    (search rules) (search rules) ((c.in-Some.ensures i.shared.library.rate c.args.plan.report).1 ∙ ap (λ (d : Doing). books_after i.shared.books i.part.outputs d (report_after i.shared.library.rate i.part d c.args.plan.report)) doing) c.ended_after.ensures (search rules) shown (search rules)
+    stepped i c.args.event.now c.args.plan c.carry_out.new.part c.carry_out.new.library (raised_in c.changed-raised.result) c.in_ok-telling.telling.spoken c.in-Some.books c.tell.new.clients.items
+    (search rules) (search rules) ((c.in-Some.ensures i.shared.library.rate c.args.plan.report).1 ∙ ap (λ (d : Doing). books_after i.shared.books i.part.outputs d (report_after i.shared.library.rate i.part d c.args.plan.report)) doing) (search rules) shown (search rules)
 
 pub returns-clause-given : goal.returns-clause-given
 returns-clause-given c =

@@ -1,7 +1,0 @@
-//! Tests of the house's own threads.
-#![tactic(auto)]
-
-#[cfg(test)]
-mod day;
-#[cfg(test)]
-mod wire;
