@@ -3,7 +3,7 @@ use Rattle.std.specs.Prelude.{ℕ, Bool, true, false, List, [], ◌++◌, Option
 use Rattle.partition.specs.Commands.Status.{digit}
 use Rattle.partition.specs.declared.report.Feed.{Feed}
 use Rattle.partition.specs.declared.report.Report.{Report}
-use Rattle.partition.specs.declared.report.Report.TheVariants.{Nothing, ToScan, ScanEnded, ToDecode, ToFeed, ToPlay}
+use Rattle.partition.specs.declared.report.Report.TheVariants.{Nothing, ToScan, ScanEnded, ToDecode, ToFeed, ToPlay, Ended}
 use Rattle.player_core.specs.declared.state.FadePart.{FadePart}
 use Rattle.player_core.specs.declared.state.Job.{Job}
 use Rattle.player_core.specs.declared.state.Live.{Live}
@@ -48,7 +48,7 @@ abbrev pub had_text : Option Feed → List ℕ
 had_text None = codes "! stale\n"
 had_text (Some feed) = feed_text feed
 
--- an event that tells nothing is done; no step asks for a scan
+-- an event that tells nothing is done; no step asks for a scan, and none ends the daemon
 abbrev pub report_text : Report → List ℕ
 report_text Nothing = done_text true
 report_text (ToScan number) = []
@@ -56,3 +56,4 @@ report_text (ScanEnded ended) = done_text ended
 report_text (ToDecode job) = wanted_text job
 report_text (ToFeed feed) = had_text feed
 report_text (ToPlay live) = live_text live
+report_text Ended = codes "! ended\n"

@@ -22,6 +22,7 @@ pub(crate) fn push_report(
         Report::ToDecode(job) => push_wanted(alloc, shown, job),
         Report::ToFeed(feed) => push_had(alloc, shown, feed),
         Report::ToPlay(live) => push_live(alloc, shown, live),
+        Report::Ended => shown.extend_from_slice(b"! ended\n"),
     }
 }
 

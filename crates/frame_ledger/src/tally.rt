@@ -78,6 +78,27 @@ impl<L: Ledger> Tally<L> {
         Ok(())
     }
 
+    /// Sets the number of each output, and adds to the share what all together have grown. It takes no memory.
+    pub fn raise_to(&mut self, share: &mut Share<L>, numbers: &[u64])
+        requires outputs { length numbers.now ≡ length self.old }
+        requires grown { sum self.old ≤ sum numbers.now }
+        requires room { sum numbers.now < 2 ^ 63 }
+        requires part { 0 < share.old.parts }
+        ensures numbers { self.new ≡ numbers.now }
+        ensures share { share.new.amount + sum self.old ≡ share.old.amount + sum numbers.now }
+        ensures parts { share.new.parts ≡ share.old.parts }
+    {
+        let Tally {
+            numbers: own,
+            total,
+            book,
+        } = self;
+        let after = sum_of(numbers);
+        own.copy_from_slice(numbers);
+        book.add(share, after - *total);
+        *total = after;
+    }
+
     /// An output's number.
     pub fn number(&self, output: usize) -> u64
         requires { output < length self.now }
@@ -101,4 +122,16 @@ impl<L: Ledger> Tally<L> {
     {
         self.book.audit(all);
     }
+}
+
+// The sum of some numbers.
+fn sum_of(numbers: &[u64]) -> u64
+    requires { sum numbers.now < 2 ^ 63 }
+    ensures { result ≡ sum numbers.now }
+{
+    let mut all = 0u64;
+    for n in numbers {
+        all += *n;
+    }
+    all
 }

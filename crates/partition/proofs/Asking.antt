@@ -13,7 +13,7 @@ use Rattle.mpd_command.specs.declared.name.Name.{Name}
 use Rattle.mpd_command.specs.declared.request.Request.{Request}
 use Rattle.mpd_command.specs.declared.request.Request.TheVariants.{Run, Refused}
 use Rattle.partition.specs.declared.event.Event.{Event}
-use Rattle.partition.specs.declared.event.Event.TheVariants.{Connect, Disconnect, Line, ScanQuestion, ScanResult, Want, Have, Failed, OutputTurn}
+use Rattle.partition.specs.declared.event.Event.TheVariants.{Connect, Disconnect, Line, ScanQuestion, ScanResult, Want, Have, Failed, OutputTurn, End}
 use Rattle.partition.specs.declared.doing.Doing.TheVariants.{Settles}
 use Rattle.partition.specs.Outputs.{is_output}
 use Rattle.partition.specs.declared.event.Move.{Move}
@@ -142,20 +142,21 @@ module _ (part : Part) (library : Library) (heard : Heard) (clients : List Clien
   kind_of_line (InList form place) (Refused ack) = inl (quiet_line false (quiet (stays (refuses (InList form place) ack.command ack.number ack.text))) tt)
 
 -- each event makes a quiet move, or is `idle`
-pub kind_of : (part : Part) (library : Library) (clients : List Client) (event : Event)
-    → Quiet (move_of (turn_of part library clients event).said) ⊎ IsAsking clients event
-kind_of part library clients (Connect number) =
+pub kind_of : (ended : Bool) (part : Part) (library : Library) (clients : List Client) (event : Event)
+    → Quiet (move_of (turn_of ended part library clients event).said) ⊎ IsAsking clients event
+kind_of ended part library clients (Connect number) =
     let full : Bool = nat_le 64 (length clients) in
     inl (quiet_said (is_some (client_of number clients)) (stays (tells (codes ""))) (if full then stays shut else greeting) tt (quiet_said full (stays shut) greeting tt tt))
-kind_of part library clients (Disconnect number) = inl tt
-kind_of part library clients ScanQuestion = inl tt
-kind_of part library clients (ScanResult songs) = inl tt
-kind_of part library clients (Want owes) = inl tt
-kind_of part library clients (Have number frames) = inl tt
-kind_of part library clients (Failed number partner) = inl tt
-kind_of part library clients (OutputTurn output written discarded failed) =
+kind_of ended part library clients (Disconnect number) = inl tt
+kind_of ended part library clients ScanQuestion = inl tt
+kind_of ended part library clients (ScanResult songs) = inl tt
+kind_of ended part library clients (Want owes) = inl tt
+kind_of ended part library clients (Have number frames) = inl tt
+kind_of ended part library clients (Failed number partner) = inl tt
+kind_of ended part library clients End = inl tt
+kind_of ended part library clients (OutputTurn output written discarded failed) =
     inl (quiet_if (is_output part.outputs output) (acts (Settles output written discarded failed)) absent tt tt)
-kind_of part library clients (Line number stand request heard) =
+kind_of ended part library clients (Line number stand request heard) =
     let cases : (o : Option Client) → client_of number clients ≡ o → Quiet (move_of (turn_line part library o stand request heard.read).said) ⊎ IsAsking clients (Line number stand request heard) =
     λ o. elim o as (λ o. client_of number clients ≡ o → Quiet (move_of (turn_line part library o stand request heard.read).said) ⊎ IsAsking clients (Line number stand request heard))
     [ None ↦ λ e. inl tt | Some k ↦ λ e. kind_of_line part library heard clients number k e stand request ] in

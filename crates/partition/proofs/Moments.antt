@@ -196,7 +196,7 @@ module _ (life : Life) (done : List Happened) (event : Event) (above : 1 ≤ lif
       let waited : client_of number i.clients ≡ Some (client number (Some told.named)) = found (client number (Some told.named)) i.clients rising was in
       let free : (more : Subsystems) → move_of t.said ≡ Wait more → k.number ≡ n → ⊥ =
       λ more moves same.
-      waiter_moves i.part i.shared.library i.clients event (client number (Some told.named)) told.named more
+      waiter_moves i.shared.ended i.part i.shared.library i.clients event (client number (Some told.named)) told.named more
       (ap (λ (x : ℕ). client_of x i.clients) (sym same ∙ s.3) ∙ waited) refl moves in
       record {
         waits = after_of k number None s.1 s.3 (does_none n r (move_of t.said) (notified r k) (told_none n r k s.2) free);
@@ -223,7 +223,7 @@ module _ (life : Life) (done : List Happened) (event : Event) (above : 1 ≤ lif
       → WaitsFor number named m.after
   on number named other waited unsent =
       let k : Client = client number (Some named) in
-      elim (is_other_speaker i.part i.shared.library i.clients event number other) [
+      elim (is_other_speaker i.shared.ended i.part i.shared.library i.clients event number other) [
         | inl apart ↦ still number named unsent (others_kept n r t.said i.clients k (listed number (Some named) waited) apart)
             (does_other n r (move_of t.said) (notified r k) apart)
         | inr unsaid ↦ still number named unsent (open_kept n r t.said i.clients k (listed number (Some named) waited) (ap (λ (s : Said). closes s.answer.next) unsaid))
@@ -240,7 +240,7 @@ module _ (life : Life) (done : List Happened) (event : Event) (above : 1 ≤ lif
 
     turn_is : t ≡ turn_idle k named
     turn_is =
-        ap (turn_of i.part i.shared.library i.clients) asks.event
+        ap (turn_of i.shared.ended i.part i.shared.library i.clients) asks.event
         ∙ ap (λ (o : Option Client). written_turn Alone (Run asks.name (Idle named)) asks.heard.refused (turn_line i.part i.shared.library o Alone (Run asks.name (Idle named)) asks.heard.read)) (found k i.clients rising (listed number None asks.free))
 
     pub speaks : n ≡ number
@@ -332,7 +332,7 @@ module _ (life : Life) (done : List Happened) (event : Event) (above : 1 ≤ lif
         cases (is_nonempty d) refl
 
   kind : Quiet (move_of t.said) ⊎ IsAsking i.clients event
-  kind = kind_of i.part i.shared.library i.clients event
+  kind = kind_of i.shared.ended i.part i.shared.library i.clients event
 
   asks_of : (a : IsAsking i.clients event) → Asks a.number a.named m
   asks_of a =

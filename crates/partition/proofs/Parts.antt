@@ -258,6 +258,7 @@ agree before i event t notices report same_player none =
         outputs = record { names = names j; enabled = enabled j; failed = after.outputs.failed };
         channels = after.channels;
         clients = after.clients;
+        ended = after.ended;
       },
       listening,
     )

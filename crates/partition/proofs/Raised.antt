@@ -1,6 +1,5 @@
 -- What the signs of a player tell of a turn.
-use Rattle.std.proofs.Common.{◌≡◌, inl, inr, ℕ, ◌≤◌, Bool, true, false, not, ◌&&◌, List, Some, None, refl, ap, sym, ◌∙◌, arith}
-use Rattle.std.specs.Prelude.{count_by}
+use Rattle.std.proofs.Common.{◌≡◌, inl, inr, ℕ, Bool, true, false, not, ◌&&◌, List, Some, None, refl, ap, sym, ◌∙◌}
 use Rattle.idle_notes.specs.Channels.{MemberData, clients_with_messages}
 use Rattle.idle_notes.specs.declared.sets.Subsystems.{Subsystems}
 use Rattle.song_queue.specs.Entries.{same_queue}
@@ -19,10 +18,9 @@ use Rattle.partition.specs.Doings.{Change, ByEdit, ByStep, change_of, channels_a
 use Rattle.partition.specs.Image.{Image, Turn, library_after, songs_after}
 use Rattle.partition.specs.Signs.{SignsData, changes_subscriptions, is_among, signs, told_by_signs}
 use Rattle.partition.specs.declared.shelf_calls.ShelfWrite.{ShelfWrite}
-use Rattle.partition.specs.Rooms.{is_waiting}
 use Rattle.partition.specs.Settled.{HasRoom}
 use Rattle.partition.proofs.Listeners.{among_waiting, changes}
-use Rattle.partition.specs.Step.{mover, raised_by, report_of, after_turn, told_by}
+use Rattle.partition.specs.Step.{mover, raised_by, report_of, after_turn, ended_after, told_by}
 
 pub differ-self : (b : Bool) → differ b b ≡ false
 differ-self true = refl
@@ -75,15 +73,15 @@ module _ (i : Image) (event : Event) (t : Turn) (part : Part) (library : Library
   is_raised part_is library_is raised_is = raised_is ∙ by_signs i.part i.shared.library part library t part_is library_is
 
   -- the image after a turn, from what was made of each of its fields
-  pub stepped : (books : FrameBooks) (clients : List Client) → PartIs → LibraryIs
-      → books ≡ books_after i.shared.books i.part.outputs t.doing (report_of i.part i.shared.library t) → said ≡ t.said → Shown
+  pub stepped : (books : FrameBooks) (ended : Bool) (clients : List Client) → PartIs → LibraryIs
+      → books ≡ books_after i.shared.books i.part.outputs t.doing (report_of i.part i.shared.library t) → ended ≡ ended_after i.shared.ended event → said ≡ t.said → Shown
       → clients ≡ clients_after (mover event) raised said i.clients
-      → record { part = part; shared = record i.shared { library = library; books = books }; clients = clients } ≡ after_turn i event t
-  stepped books clients part_is library_is books_are said_is raised_is clients_are =
+      → record { part = part; shared = record i.shared { library = library; books = books; ended = ended }; clients = clients } ≡ after_turn i event t
+  stepped books ended clients part_is library_is books_are ended_is said_is raised_is clients_are =
       let all : raised ≡ raised_by i.part i.shared.library t = is_raised part_is library_is raised_is in
       let told : clients ≡ clients_after (mover event) (raised_by i.part i.shared.library t) t.said i.clients =
       clients_are ∙ ap (λ r. clients_after (mover event) r said i.clients) all ∙ ap (λ s. clients_after (mover event) (raised_by i.part i.shared.library t) s i.clients) said_is in
-      λ j. record { part = part_is j; shared = record i.shared { library = library_is j; books = books_are j }; clients = told j }
+      λ j. record { part = part_is j; shared = record i.shared { library = library_is j; books = books_are j; ended = ended_is j }; clients = told j }
 
   -- the notices of a turn, from what was made of it
   pub noticed : (notices : List Notice) → PartIs → LibraryIs → said ≡ t.said → Shown
@@ -93,9 +91,6 @@ module _ (i : Image) (event : Event) (t : Turn) (part : Part) (library : Library
       notices_are ∙ ap (λ r. notices_after (mover event) r said i.clients) all ∙ ap (λ s. notices_after (mover event) (raised_by i.part i.shared.library t) s i.clients) said_is
 
   -- there is room for the notices of what was raised
-  pub roomy : (clients : List Client) (room most : ℕ) → PartIs → LibraryIs → Shown → clients ≡ i.clients
-      → HasRoom (raised_by i.part i.shared.library t) i.clients most → most ≤ room → HasRoom raised clients room
-  roomy clients room most part_is library_is raised_is clients_are (inl none) fits = inl (is_raised part_is library_is raised_is ∙ none)
-  roomy clients room most part_is library_is raised_is clients_are (inr few) fits =
-      let same = ap (count_by is_waiting) clients_are in
-      inr (omega (arith, few, fits, same))
+  pub roomy : (room : ℕ) → PartIs → LibraryIs → Shown → HasRoom (raised_by i.part i.shared.library t) i.clients room → HasRoom raised i.clients room
+  roomy room part_is library_is raised_is (inl none) = inl (is_raised part_is library_is raised_is ∙ none)
+  roomy room part_is library_is raised_is (inr few) = inr few

@@ -67,3 +67,22 @@ module _ {S : Type 0} (standing : S → Standing) (failed : S → S → Call →
     cause = elim cause [ inl none ↦ inl none | inr serves ↦ inr (inr serves) ];
     spared = spared;
   }
+
+  -- the same, where the state was found equal to the one before
+  pub records_before : (found before after : Image) (history later : List Happened) (old new : S) (seat : ℕ) (event heard : Event) (outcome : Told)
+      → found ≡ before → heard ≡ hearing event (heard_at heard)
+      → later ≡ history ++ record { seat = seat; event = heard; told = outcome } ∷ []
+      → outcome ≡ told_by found heard (turn found heard) → after ≡ counted seat (after_turn found heard (turn found heard))
+      → IsFree seat found → counts_frames found (turn found heard) ≡ true → keeps_limits found (turn found heard) ≡ true
+      → Serves standing failed old new (question found event) (writing found event (heard_at heard)) (heard_at heard)
+      → Records standing failed before after history later old new seat event outcome
+  records_before found before after history later old new seat event heard outcome same heard_is window told_is after_is free counts keeps serves =
+      subst (λ (i : Image). Records standing failed i after history later old new seat event outcome) same
+      (records found after history later old new seat event heard outcome heard_is window told_is after_is free counts keeps serves)
+
+  pub refuses_before : (found before : Image) (old new : S) (seat : ℕ) (event heard : Event) (fault : PartitionFault)
+      → found ≡ before → heard ≡ hearing event (heard_at heard) → IsFree seat found → RefusesTurn found (turn found heard) fault
+      → (fault ≡ NoMemory) ⊎ Serves standing failed old new (question found event) (writing found event (heard_at heard)) (heard_at heard)
+      → Spares standing failed old new → IsRefused standing failed before old new seat event fault
+  refuses_before found before old new seat event heard fault same heard_is free refused cause spared =
+      subst (λ (i : Image). IsRefused standing failed i old new seat event fault) same (refuses found old new seat event heard fault heard_is free refused cause spared)

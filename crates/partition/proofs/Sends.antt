@@ -16,7 +16,7 @@ use Rattle.partition.specs.declared.event.Asked.{Asked}
 use Rattle.partition.specs.declared.event.Stand.{Stand}
 use Rattle.partition.specs.declared.event.Stand.TheVariants.{Alone, InList}
 use Rattle.partition.specs.declared.event.Event.{Event}
-use Rattle.partition.specs.declared.event.Event.TheVariants.{Connect, Disconnect, Line, ScanQuestion, ScanResult, Want, Have, Failed, OutputTurn}
+use Rattle.partition.specs.declared.event.Event.TheVariants.{Connect, Disconnect, Line, ScanQuestion, ScanResult, Want, Have, Failed, OutputTurn, End}
 use Rattle.partition.specs.declared.doing.Doing.TheVariants.{Settles}
 use Rattle.partition.specs.Outputs.{is_output}
 use Rattle.partition.specs.declared.event.Move.{Move}
@@ -89,34 +89,36 @@ written_moves stand request refused t names free =
     ]
 
 -- a client that waits does not begin to wait
-pub waiter_moves : (part : Part) (library : Library) (ks : List Client) (event : Event) (k : Client) (named names : Subsystems)
-    → client_of (mover event) ks ≡ Some k → k.pending.waiting ≡ Some named → move_of (turn_of part library ks event).said ≡ Wait names → ⊥
-waiter_moves part library ks (Connect number) k named names e w m = (let n = rw e at m in cc)
-waiter_moves part library ks (Disconnect number) k named names e w m = cc
-waiter_moves part library ks ScanQuestion k named names e w m = cc
-waiter_moves part library ks (ScanResult songs) k named names e w m = cc
-waiter_moves part library ks (Want owes) k named names e w m = cc
-waiter_moves part library ks (Have number frames) k named names e w m = cc
-waiter_moves part library ks (Failed number partner) k named names e w m = cc
-waiter_moves part library ks (OutputTurn output written discarded failed) k named names e w m =
+pub waiter_moves : (ended : Bool) (part : Part) (library : Library) (ks : List Client) (event : Event) (k : Client) (named names : Subsystems)
+    → client_of (mover event) ks ≡ Some k → k.pending.waiting ≡ Some named → move_of (turn_of ended part library ks event).said ≡ Wait names → ⊥
+waiter_moves ended part library ks (Connect number) k named names e w m = (let n = rw e at m in cc)
+waiter_moves ended part library ks (Disconnect number) k named names e w m = cc
+waiter_moves ended part library ks ScanQuestion k named names e w m = cc
+waiter_moves ended part library ks (ScanResult songs) k named names e w m = cc
+waiter_moves ended part library ks (Want owes) k named names e w m = cc
+waiter_moves ended part library ks (Have number frames) k named names e w m = cc
+waiter_moves ended part library ks (Failed number partner) k named names e w m = cc
+waiter_moves ended part library ks End k named names e w m = cc
+waiter_moves ended part library ks (OutputTurn output written discarded failed) k named names e w m =
     elim (is_output part.outputs output) as (λ b. move_of (if b then acts (Settles output written discarded failed) else absent).said ≡ Wait names → ⊥)
     [ true ↦ λ h. cc | false ↦ λ h. cc ] m
-waiter_moves part library ks (Line number stand request heard) k named names e w m =
+waiter_moves ended part library ks (Line number stand request heard) k named names e w m =
     written_moves stand request heard.refused (turn_line part library (client_of number ks) stand request heard.read) names
     (λ h. line_moves part library heard.read k named names stand request w (rw e at h)) m
 
 -- an event of another speaker is of another client, or of no client: then nothing is said
-pub is_other_speaker : (part : Part) (library : Library) (ks : List Client) (event : Event) (number : ℕ) → speaker event ≢ Some number
-    → ((number == mover event) ≡ false) ⊎ ((turn_of part library ks event).said ≡ unspoken)
-is_other_speaker part library ks (Connect c) number ne = inl (ne_eqb number c (λ e. ne (ap Some (sym e))))
-is_other_speaker part library ks (Disconnect c) number ne = inl (ne_eqb number c (λ e. ne (ap Some (sym e))))
-is_other_speaker part library ks (Line c stand request heard) number ne = inl (ne_eqb number c (λ e. ne (ap Some (sym e))))
-is_other_speaker part library ks ScanQuestion number ne = inr refl
-is_other_speaker part library ks (ScanResult songs) number ne = inr refl
-is_other_speaker part library ks (Want owes) number ne = inr refl
-is_other_speaker part library ks (Have job frames) number ne = inr refl
-is_other_speaker part library ks (Failed job partner) number ne = inr refl
-is_other_speaker part library ks (OutputTurn output written discarded failed) number ne =
+pub is_other_speaker : (ended : Bool) (part : Part) (library : Library) (ks : List Client) (event : Event) (number : ℕ) → speaker event ≢ Some number
+    → ((number == mover event) ≡ false) ⊎ ((turn_of ended part library ks event).said ≡ unspoken)
+is_other_speaker ended part library ks (Connect c) number ne = inl (ne_eqb number c (λ e. ne (ap Some (sym e))))
+is_other_speaker ended part library ks (Disconnect c) number ne = inl (ne_eqb number c (λ e. ne (ap Some (sym e))))
+is_other_speaker ended part library ks (Line c stand request heard) number ne = inl (ne_eqb number c (λ e. ne (ap Some (sym e))))
+is_other_speaker ended part library ks ScanQuestion number ne = inr refl
+is_other_speaker ended part library ks (ScanResult songs) number ne = inr refl
+is_other_speaker ended part library ks (Want owes) number ne = inr refl
+is_other_speaker ended part library ks (Have job frames) number ne = inr refl
+is_other_speaker ended part library ks (Failed job partner) number ne = inr refl
+is_other_speaker ended part library ks End number ne = inr refl
+is_other_speaker ended part library ks (OutputTurn output written discarded failed) number ne =
     inr (elim (is_output part.outputs output) as (λ b. (if b then acts (Settles output written discarded failed) else absent).said ≡ unspoken) [ true ↦ refl | false ↦ refl ])
 
 module _ (n : ℕ) (r : ℕ → Subsystems) where

@@ -4,7 +4,7 @@ use Rattle.shelf.specs.declared.faults.ShelfFault.{ShelfFault}
 use Rattle.shelf.specs.Calls.{Call}
 use Rattle.shelf.specs.Maps.{Maps, Standing, Trusted, Turns}
 use Rattle.partition.specs.declared.event.Event.{Event}
-use Rattle.partition.specs.declared.event.Event.TheVariants.{Connect, Disconnect, Line, ScanQuestion, ScanResult, Want, Have, Failed, OutputTurn}
+use Rattle.partition.specs.declared.event.Event.TheVariants.{Connect, Disconnect, Line, ScanQuestion, ScanResult, Want, Have, Failed, OutputTurn, End}
 use Rattle.partition.specs.declared.shelf_calls.Heard.{Heard}
 use Rattle.partition.specs.declared.shelf_calls.Read.{Read}
 use Rattle.partition.specs.declared.shelf_calls.ShelfWrite.{ShelfWrite}
@@ -36,6 +36,7 @@ unrefused (Want owes) read = refl
 unrefused (Have number frames) read = refl
 unrefused (Failed number partner) read = refl
 unrefused (OutputTurn output written discarded failed) read = refl
+unrefused End read = refl
 
 -- the event once something was refused to it, or nothing
 abbrev pub refused_to : Event → Read → Option ShelfFault → Event
@@ -68,6 +69,7 @@ module _ {S : Type 0} (standing : S → Standing) (failed : S → S → Call →
   asked_by old between (Have number frames) read r turns = dropped (standing old) (standing between) (is_read read) turns
   asked_by old between (Failed number partner) read r turns = dropped (standing old) (standing between) (is_read read) turns
   asked_by old between (OutputTurn output written discarded failed) read r turns = dropped (standing old) (standing between) (is_read read) turns
+  asked_by old between End read r turns = dropped (standing old) (standing between) (is_read read) turns
 
   abbrev Reads : S → S → Image → Event → Read → Type 0
   Reads old between i e read = Trusted (standing old) (standing between) → IsRead (failed old between) (standing old).maps (question i e) read
@@ -83,6 +85,7 @@ module _ {S : Type 0} (standing : S → Standing) (failed : S → S → Call →
   read_by i old between (Have number frames) read r reads = λ trusted. refl
   read_by i old between (Failed number partner) read r reads = λ trusted. refl
   read_by i old between (OutputTurn output written discarded failed) read r reads = λ trusted. refl
+  read_by i old between End read r reads = λ trusted. refl
 
   -- what is to be written is what the turn says that was only answered
   writes_by : (i : Image) (e : Event) (read : Read) (r : Option ShelfFault)
@@ -96,6 +99,7 @@ module _ {S : Type 0} (standing : S → Standing) (failed : S → S → Call →
   writes_by i (Have number frames) read r = refl
   writes_by i (Failed number partner) read r = refl
   writes_by i (OutputTurn output written discarded failed) read r = refl
+  writes_by i End read r = refl
 
   -- the shelf was asked, and then it was asked to write
   pub serves_written : (i : Image) (e after : Event) (read : Read) (r : Option ShelfFault) (write : ShelfWrite) (old between new : S)

@@ -175,9 +175,9 @@ all_in : (f g : Client → Client) (ks : List Client) → ((k : Client) → IsIn
 all_in f g [] each = tt
 all_in f g (k ∷ ks) each = (each k (inl refl), all_in f g ks (λ c among. each c (inr among)))
 
-module _ (part : Part) (library : Library) (ks : List Client) (event : Event) (rising : Rising ks) where
+module _ (ended : Bool) (part : Part) (library : Library) (ks : List Client) (event : Event) (rising : Rising ks) where
   abbrev t : Turn
-  t = turn_of part library ks event
+  t = turn_of ended part library ks event
 
   -- the clients once one of them waits, after the turn by which it does
   abbrev Waiting : ℕ → Subsystems → Turn → Type 0
@@ -189,7 +189,7 @@ module _ (part : Part) (library : Library) (ks : List Client) (event : Event) (r
   idle_is : (a : IsAsking ks event) → t ≡ turn_idle a.client a.named
   idle_is a =
       let once : Turn → Turn = λ u. written_turn Alone (Run a.name a.command) a.heard.refused u in
-      ap (turn_of part library ks) a.is
+      ap (turn_of ended part library ks) a.is
       ∙ ap (λ (o : Option Client). once (turn_line part library o Alone (Run a.name a.command) a.heard.read)) a.found
       ∙ ap (λ (o : Option Wish). once (if is_some a.client.pending.waiting && not (ends_by Alone o) then departs a.client.number else turn_wished (asked_by a) a.client (deed_of (asked_by a) part library a.heard.read a.command) o)) a.wish
       ∙ ap (λ (w : Option Subsystems). once (if is_some w && true then departs a.client.number else turn_idle a.client a.named)) a.free
@@ -218,14 +218,14 @@ module _ (part : Part) (library : Library) (ks : List Client) (event : Event) (r
   pub settled_after : AllSettled (clients_after (mover event) (raised_by part library t) t.said ks)
   settled_after =
       settled_moved (mover event) (move_of t.said) (map (notified (raised_by part library t)) (staying (mover event) t.said ks))
-      (λ names moves. elim (kind_of part library ks event) [ inl quiet ↦ absurd (quiet_unwaiting (move_of t.said) names quiet moves) | inr a ↦ asked a names moves ])
+      (λ names moves. elim (kind_of ended part library ks event) [ inl quiet ↦ absurd (quiet_unwaiting (move_of t.said) names quiet moves) | inr a ↦ asked a names moves ])
       (all_notified (raised_by part library t) (staying (mover event) t.said ks))
 
 next_settled : (seat : ℕ) (i : Image) (event : Event) → Rising i.clients → Rising (next_image seat i event).clients × AllSettled (next_image seat i event).clients
 unfolding next_image
 next_settled seat i event rising =
     let t : Turn = turn i event in
-    (rising_after (mover event) (raised_by i.part i.shared.library t) t.said i.clients rising, settled_after i.part i.shared.library i.clients event rising)
+    (rising_after (mover event) (raised_by i.part i.shared.library t) t.said i.clients rising, settled_after i.shared.ended i.part i.shared.library i.clients event rising)
 
 -- over every history
 pub replay_settled : (hs : List Happened) (i : Image) → Rising i.clients → AllSettled i.clients → AllSettled (replay i hs).clients
@@ -294,3 +294,8 @@ fewer_wanted raised number ks room (inl e) = inl e
 fewer_wanted raised number ks room (inr e) =
     let less : count_by is_waiting (filter (is_other number) ks) ≤ count_by is_waiting ks = fewer_wait number ks in
     inr (omega (arith, less, e))
+
+-- more room does as well
+pub more_room : (raised : ℕ → Subsystems) (clients : List Client) (most room : ℕ) → HasRoom raised clients most → most ≤ room → HasRoom raised clients room
+more_room raised clients most room (inl none) fits = inl none
+more_room raised clients most room (inr few) fits = inr (omega (arith, few, fits))

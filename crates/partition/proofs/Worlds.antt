@@ -22,7 +22,7 @@ use Rattle.partition.specs.History.{made_of, replay}
 use Rattle.partition.specs.Doings.{Change, ByEdit, ByStep, change_of, channels_after, outputs_after, player_after, queue_after, volume_after}
 use Rattle.partition.specs.Image.{Image, Turn, client_of, library_after, opening}
 use Rattle.partition.specs.Legal.{ReplaysWorlds}
-use Rattle.partition.specs.Step.{turn, mover, raised_by, report_of, after_turn, told_by, next_image}
+use Rattle.partition.specs.Step.{turn, mover, raised_by, report_of, after_turn, ended_after, told_by, next_image}
 use Rattle.partition.specs.World.{Greatest, Listener, Moment, Life, raised_at, is_there, begins_anew, parts_in, pending_for, client_in, listener_of, books_of, image_of, past_after, world_after_turn, lived, life_after_event, life_from, limits_of, opening_life}
 use Rattle.partition.proofs.Counts.{made_of-more}
 use Rattle.partition.proofs.Frames.{Keeps, keeps}
@@ -150,7 +150,7 @@ module _ (life : Life) (done : List Happened) (event : Event) (above : 1 ≤ lif
           outputs = outputs_after life.world.outputs t.doing;
           channels = channels_after life.world.channels t.doing;
         };
-        shared = record { library = library_after life.world.library t.scan; made = made; books = books_of (m ∷ life.moments) };
+        shared = record { library = library_after life.world.library t.scan; made = made; books = books_of (m ∷ life.moments); ended = ended_after life.world.ended event };
         clients = k;
       } in
       ap (λ k. all k (state_at life.world.limits (past_after life.world.past change)) (made_of (done ++ h ∷ []))) clients_stand
@@ -183,7 +183,7 @@ opens setup library above =
       part = record base.part {
         queue = record { slots = []; version = v; greatest_id = 0; max_len = limits.max_queue; max_version = limits.max_version; max_id = limits.max_id; parity = false };
       };
-      shared = record { library = library; made = made_of []; books = books_of [] };
+      shared = record { library = library; made = made_of []; books = books_of []; ended = false };
       clients = [];
     }) zeroth
 

@@ -4,7 +4,7 @@ use Rattle.mpd_command.specs.declared.request.Request.{Request}
 use Rattle.shelf.specs.declared.faults.ShelfFault.{ShelfFault}
 use Rattle.partition.specs.declared.doing.Doing.TheVariants.{Settles}
 use Rattle.partition.specs.declared.event.Event.{Event}
-use Rattle.partition.specs.declared.event.Event.TheVariants.{Connect, Disconnect, Line, ScanQuestion, ScanResult, Want, Have, Failed, OutputTurn}
+use Rattle.partition.specs.declared.event.Event.TheVariants.{Connect, Disconnect, Line, ScanQuestion, ScanResult, Want, Have, Failed, OutputTurn, End}
 use Rattle.partition.specs.declared.event.Stand.{Stand}
 use Rattle.partition.specs.declared.shelf_calls.Heard.{Heard}
 use Rattle.partition.specs.declared.state.Client.{Client}
@@ -27,6 +27,7 @@ same_hearing (Want owes) = refl
 same_hearing (Have number frames) = refl
 same_hearing (Failed number partner) = refl
 same_hearing (OutputTurn output written discarded failed) = refl
+same_hearing End = refl
 
 pub hears_last : (event : Event) (first last : Heard) → hearing (hearing event first) last ≡ hearing event last
 hears_last (Line number stand request heard) first last = refl
@@ -38,6 +39,7 @@ hears_last (Want owes) first last = refl
 hears_last (Have number frames) first last = refl
 hears_last (Failed number partner) first last = refl
 hears_last (OutputTurn output written discarded failed) first last = refl
+hears_last End first last = refl
 
 pub hears_so : (event : Event) (heard : Heard) → hearing event heard ≡ hearing event (heard_at (hearing event heard))
 hears_so (Line number stand request before) heard = refl
@@ -49,6 +51,7 @@ hears_so (Want owes) heard = refl
 hears_so (Have number frames) heard = refl
 hears_so (Failed number partner) heard = refl
 hears_so (OutputTurn output written discarded failed) heard = refl
+hears_so End heard = refl
 
 abbrev Unwritten : Turn → Type 0
 Unwritten t = is_written t.written ≡ false
@@ -57,9 +60,9 @@ no_settle : (b : Bool) (t u : Turn) → Unwritten t → Unwritten u → Unwritte
 no_settle true t u e f = e
 no_settle false t u e f = f
 
-module _ (part : Part) (library : Library) (ks : List Client) where
+module _ (ended : Bool) (part : Part) (library : Library) (ks : List Client) where
   abbrev Writes : Event → Type 0
-  Writes event = is_written (turn_of part library ks event).written ≡ true
+  Writes event = is_written (turn_of ended part library ks event).written ≡ true
 
   never : (t : Turn) → Unwritten t → is_written t.written ≡ true → ⊥
   never t e w = (let clash : true ≡ false = sym w ∙ e in cc)
@@ -74,6 +77,7 @@ module _ (part : Part) (library : Library) (ks : List Client) where
   hears (Want owes) w heard = cc
   hears (Have number frames) w heard = cc
   hears (Failed number partner) w heard = cc
+  hears End w heard = cc
   hears (OutputTurn output written discarded failed) w heard =
       absurd (never (if is_output part.outputs output then acts (Settles output written discarded failed) else absent)
       (no_settle (is_output part.outputs output) (acts (Settles output written discarded failed)) absent refl refl) w)
@@ -92,7 +96,7 @@ module _ (part : Part) (library : Library) (ks : List Client) where
 
   -- an event whose write the shelf refuses is answered so, and does nothing
   pub refused_turn : (event : Event) (fault : ShelfFault) → Writes event → (heard_at event).refused ≡ None
-      → turn_of part library ks (hearing event (record (heard_at event) { refused = Some fault })) ≡ quiet (stays (refused_by_shelf (stand_of event) (name_at event) fault))
+      → turn_of ended part library ks (hearing event (record (heard_at event) { refused = Some fault })) ≡ quiet (stays (refused_by_shelf (stand_of event) (name_at event) fault))
   refused_turn (Line number stand request heard) fault w none =
       refused_line stand request (turn_line part library (client_of number ks) stand request heard.read) fault
       (ap (λ (r : Option ShelfFault). is_written (written_turn stand request r (turn_line part library (client_of number ks) stand request heard.read)).written) (sym none) ∙ w)
@@ -103,6 +107,7 @@ module _ (part : Part) (library : Library) (ks : List Client) where
   refused_turn (Want owes) fault w none = cc
   refused_turn (Have number frames) fault w none = cc
   refused_turn (Failed number partner) fault w none = cc
+  refused_turn End fault w none = cc
   refused_turn (OutputTurn output written discarded failed) fault w none =
       absurd (never (if is_output part.outputs output then acts (Settles output written discarded failed) else absent)
       (no_settle (is_output part.outputs output) (acts (Settles output written discarded failed)) absent refl refl) w)

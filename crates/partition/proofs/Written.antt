@@ -1,5 +1,5 @@
 -- Turns that write to the shelf, or are refused by it, and do nothing else.
-use Rattle.std.proofs.Common.{◌≡◌, ◌∙◌, ℕ, true, false, not, ◌&&◌, List, refl, ap, sym}
+use Rattle.std.proofs.Common.{◌≡◌, ◌∙◌, ℕ, Bool, true, false, not, ◌&&◌, List, refl, ap, sym}
 use Rattle.idle_notes.specs.declared.sets.Subsystems.{Subsystems}
 use Rattle.partition.specs.declared.doing.Doing.TheVariants.{Rests}
 use Rattle.partition.specs.declared.event.Event.{Event}
@@ -13,7 +13,7 @@ use Rattle.partition.specs.Doings.{part_after}
 use Rattle.partition.specs.Image.{Image, Turn, library_after, songs_after}
 use Rattle.partition.specs.Outputs.{books_after, can_count_all}
 use Rattle.partition.specs.Signs.{changes_subscriptions, signs, told_by_signs}
-use Rattle.partition.specs.Step.{after_turn, counts_frames, keeps_limits, mover, quiet, report_of, told_by}
+use Rattle.partition.specs.Step.{after_turn, counts_frames, ended_after, keeps_limits, mover, quiet, report_of, told_by}
 use Rattle.player_core.specs.Player as player
 use Rattle.partition.proofs.Raised.{noticed, stepped}
 use Rattle.partition.proofs.Songs.{same_songs-refl}
@@ -50,11 +50,11 @@ module _ (i : Image) (event : Event) (t : Turn) (alone : t ≡ record (quiet t.s
   books_are : (books_after i.shared.books i.part.outputs Rests Nothing ≡ i.shared.books) → i.shared.books ≡ books_after i.shared.books i.part.outputs t.doing (report_of i.part i.shared.library t)
   books_are rests = sym rests ∙ (λ j. books_after i.shared.books i.part.outputs (sym doing_is j) (told_nothing j))
 
-  pub written_step : (clients : List Client) → (books_after i.shared.books i.part.outputs Rests Nothing ≡ i.shared.books)
+  pub written_step : (ended : Bool) (clients : List Client) → ended ≡ ended_after i.shared.ended event → (books_after i.shared.books i.part.outputs Rests Nothing ≡ i.shared.books)
       → clients ≡ clients_after (mover event) raised t.said i.clients
-      → record i { clients = clients } ≡ after_turn i event t
-  written_step clients rests clients_are =
-      stepped i event t i.part i.shared.library raised t.said i.shared.books clients part_is library_is (books_are rests) refl is_shown clients_are
+      → record i { shared = record i.shared { ended = ended }; clients = clients } ≡ after_turn i event t
+  written_step ended clients ended_is rests clients_are =
+      stepped i event t i.part i.shared.library raised t.said i.shared.books ended clients part_is library_is (books_are rests) ended_is refl is_shown clients_are
 
   pub written_notices : (notices : List Notice) → notices ≡ notices_after (mover event) raised t.said i.clients → notices ≡ (told_by i event t).notices
   written_notices notices notices_are = noticed i event t i.part i.shared.library raised t.said notices part_is library_is refl is_shown notices_are

@@ -128,12 +128,19 @@ part_after rate part doing = record {
 abbrev pub feed_of : ℕ → Option ℕ → Option Feed
 feed_of volume cut = option_map (λ cut. record { cut = cut; volume = volume }) cut
 
--- what a step is answered: a job, whether frames are fed, what is to be heard. Another event is answered this report
+-- what is told where nothing else is
+abbrev pub told_or : Report → Report → Report
+told_or Nothing own = own
+told_or other own = other
+
+-- what a step is answered: a job, whether frames are fed, what is to be heard unless something else is told. Another event is answered
+-- this report
 abbrev pub report_after : ℕ → Part → Doing → Report → Report
 report_after rate part Rests report = report
 report_after rate part (Wants owes) report = ToDecode (wanted rate part owes).job
 report_after rate part (Accepts number frames) report = ToFeed (feed_of part.volume (had part number frames).feed)
-report_after rate part (Settles output written discarded failed) report = ToPlay (decoding.turn part.player (is_enabled (turned part.outputs output failed) output))
+report_after rate part (Settles output written discarded failed) report =
+    told_or report (ToPlay (decoding.turn part.player (is_enabled (turned part.outputs output failed) output)))
 report_after rate part _ report = Nothing
 
 -- a scan would have a number above the limit of numbers

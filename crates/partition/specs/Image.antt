@@ -1,5 +1,5 @@
 -- What a command can read of a player, and what an event makes of it.
-use Rattle.std.specs.Prelude.{ℕ, ◌+◌, ◌==◌, List, [], ◌∷◌, Option, Some, None, unwrap_or, slice_set, slice_index_or, if◌then◌else◌}
+use Rattle.std.specs.Prelude.{ℕ, ◌+◌, ◌==◌, Bool, false, List, [], ◌∷◌, Option, Some, None, unwrap_or, slice_set, slice_index_or, if◌then◌else◌}
 use Rattle.rand_core.specs.Pcg32Seed.{pcg32_seed}
 use Rattle.rand_pcg.specs.Pcg.{pcg32_of_seed}
 use Rattle.song_queue.specs.State.{opened}
@@ -20,11 +20,12 @@ use Rattle.partition.specs.Answers.{Answer, Said, stays}
 use Rattle.partition.specs.Outputs.{FrameBooks, empty_books}
 use Rattle.partition.specs.Scans.{scan_after}
 
--- what all share: the library, how many events each seat made, and the frames of the outputs
+-- what all share: the library, how many events each seat made, the frames of the outputs, and whether the daemon has ended
 pub record Shared : Type 0 where
   pub library : Library
   pub made : List ℕ
   pub books : FrameBooks
+  pub ended : Bool
 
 -- a player; its clients are in the order of their numbers
 pub record Image : Type 0 where
@@ -73,7 +74,7 @@ counted seat i = record i { shared = record i.shared { made = slice_set i.shared
 abbrev pub image_of_state : State → Image
 image_of_state s = record {
   part = s.part;
-  shared = record { library = s.library; made = s.made; books = s.books };
+  shared = record { library = s.library; made = s.made; books = s.books; ended = s.ended };
   clients = s.clients.items;
 }
 
@@ -90,6 +91,6 @@ opening setup library = record {
     outputs = setup.outputs;
     channels = [];
   };
-  shared = record { library = library; made = no_events; books = empty_books };
+  shared = record { library = library; made = no_events; books = empty_books; ended = false };
   clients = [];
 }

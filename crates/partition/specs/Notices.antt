@@ -25,11 +25,11 @@ use Rattle.partition.specs.World.{World, Moment, Differs, IsPending, is_told, ra
 abbrev pub with_order_of : PlayerState → PlayerState → PlayerState
 with_order_of p other = record p { round = other.round; place = other.place; jobs = other.jobs; job = other.job; fade = other.fade; gave_up = other.gave_up }
 
--- two worlds are one but for who is there and who waits, the order of play and the decoder's work, which outputs have failed, and
--- the messages that wait
+-- two worlds are one but for who is there and who waits, the order of play and the decoder's work, which outputs have failed,
+-- the messages that wait, and whether the daemon has ended
 abbrev pub AgreeButForUnspoken : World → World → Type 0
 AgreeButForUnspoken before after =
-    (after ≡ record before { player = with_order_of before.player after.player; outputs = record before.outputs { failed = after.outputs.failed }; channels = after.channels; clients = after.clients })
+    (after ≡ record before { player = with_order_of before.player after.player; outputs = record before.outputs { failed = after.outputs.failed }; channels = after.channels; clients = after.clients; ended = after.ended })
     × (pairs before.channels ≡ pairs after.channels)
 
 -- A subsystem is raised for a client exactly where its part differs. Where no part differs the worlds agree in all but what no subsystem speaks

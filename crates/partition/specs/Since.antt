@@ -24,6 +24,7 @@ world_of i = record {
   outputs = i.part.outputs;
   channels = i.part.channels;
   clients = map listener_of i.clients;
+  ended = i.shared.ended;
 }
 
 -- the moment of an event behind an image

@@ -9,7 +9,7 @@ use Rattle.mpd_command.specs.declared.request.Request.{Request}
 use Rattle.mpd_command.specs.declared.request.Request.TheVariants.{Run, Refused}
 use Rattle.partition.specs.declared.event.Asked.{Asked}
 use Rattle.partition.specs.declared.event.Event.{Event}
-use Rattle.partition.specs.declared.event.Event.TheVariants.{Connect, Disconnect, Line, ScanQuestion, ScanResult, Want, Have, Failed, OutputTurn}
+use Rattle.partition.specs.declared.event.Event.TheVariants.{Connect, Disconnect, Line, ScanQuestion, ScanResult, Want, Have, Failed, OutputTurn, End}
 use Rattle.partition.specs.declared.event.Move.TheVariants.{Join}
 use Rattle.partition.specs.declared.event.Stand.{Stand}
 use Rattle.partition.specs.declared.event.Stand.TheVariants.{Alone, InList}
@@ -18,8 +18,8 @@ use Rattle.partition.specs.declared.doing.Doing.TheVariants.{Rests, Wants, Accep
 use Rattle.partition.specs.declared.partition.PartitionFault.{PartitionFault}
 use Rattle.partition.specs.declared.partition.PartitionFault.TheVariants.{CutsAtLimit, AtLimit}
 use Rattle.partition.specs.declared.report.Report.{Report}
-use Rattle.partition.specs.declared.report.Report.TheVariants.{Nothing, ToScan, ScanEnded, ToPlay}
-use Rattle.partition.specs.declared.scan.ScanMove.TheVariants.{Stay, End}
+use Rattle.partition.specs.declared.report.Report.TheVariants.{Nothing, ToScan, ScanEnded, ToFeed, ToPlay, Ended}
+use Rattle.partition.specs.declared.scan.ScanMove.TheVariants.{Stay, End as EndsScan}
 use Rattle.partition.specs.declared.state.Client.{Client}
 use Rattle.partition.specs.declared.state.Library.{Library}
 use Rattle.partition.specs.declared.state.Part.{Part}
@@ -196,19 +196,29 @@ written_turn stand request refused t = if is_written t.written then once_written
 abbrev pub absent : Turn
 absent = record (quiet unspoken) { report = ToPlay (record { cut = 0; enabled = false; paused = false }) }
 
--- what an event makes of a part, a library and some clients; the turn of an output that is not there changes nothing
-abbrev pub turn_of : Part → Library → List Client → Event → Turn
-turn_of part library clients (Connect number) = quiet (said_to_new clients number)
-turn_of part library clients (Disconnect number) = departs number
-turn_of part library clients (Line number stand request heard) =
+-- the end, whatever else is told
+abbrev pub or_ended : Bool → Turn → Turn
+or_ended ended t = record t { report = if ended then Ended else t.report }
+
+-- a step of the decoder; after the end it does nothing, and is told so
+abbrev pub acts_unless : Bool → Report → Doing → Turn
+acts_unless ended report doing = record (acts doing) { doing = if ended then Rests else doing; report = if ended then report else Nothing }
+
+-- What an event makes of a part, a library and some clients. The turn of an output that is not there changes nothing. After the end
+-- wants, scan questions and turns are told of it, and a have is stale; an output still tells of its frames.
+abbrev pub turn_of : Bool → Part → Library → List Client → Event → Turn
+turn_of ended part library clients (Connect number) = quiet (said_to_new clients number)
+turn_of ended part library clients (Disconnect number) = departs number
+turn_of ended part library clients (Line number stand request heard) =
     written_turn stand request heard.refused (turn_line part library (client_of number clients) stand request heard.read)
-turn_of part library clients ScanQuestion = record (quiet unspoken) { report = ToScan (running library.scan) }
-turn_of part library clients (ScanResult songs) = record (quiet unspoken) { scan = End songs; report = ScanEnded library.scan.runs }
-turn_of part library clients (Want owes) = acts (Wants owes)
-turn_of part library clients (Have number frames) = acts (Accepts number frames)
-turn_of part library clients (Failed number partner) = acts (Fails number partner)
-turn_of part library clients (OutputTurn output written discarded failed) =
-    if is_output part.outputs output then acts (Settles output written discarded failed) else absent
+turn_of ended part library clients ScanQuestion = record (quiet unspoken) { report = if ended then Ended else ToScan (running library.scan) }
+turn_of ended part library clients (ScanResult songs) = record (quiet unspoken) { scan = EndsScan songs; report = ScanEnded library.scan.runs }
+turn_of ended part library clients (Want owes) = acts_unless ended Ended (Wants owes)
+turn_of ended part library clients (Have number frames) = acts_unless ended (ToFeed None) (Accepts number frames)
+turn_of ended part library clients (Failed number partner) = acts (Fails number partner)
+turn_of ended part library clients (OutputTurn output written discarded failed) =
+    or_ended ended (if is_output part.outputs output then acts (Settles output written discarded failed) else absent)
+turn_of ended part library clients End = quiet unspoken
 
 -- what an event asks the shelf: a line alone asks, and only one that is run
 abbrev pub question_in : Library → Request → Question
@@ -244,7 +254,7 @@ hearing (Line number stand request before) heard = Line number stand request hea
 hearing event heard = event
 
 abbrev pub turn : Image → Event → Turn
-turn i event = turn_of i.part i.shared.library i.clients event
+turn i event = turn_of i.shared.ended i.part i.shared.library i.clients event
 
 -- the client that an event comes from, if it comes from one
 abbrev pub speaker : Event → Option ℕ
@@ -257,6 +267,7 @@ speaker (Want owes) = None
 speaker (Have number frames) = None
 speaker (Failed number partner) = None
 speaker (OutputTurn output written discarded failed) = None
+speaker End = None
 
 -- the client whose answer and move those of an event are. An event that comes from none makes no move and closes nobody, so
 -- that it does not matter which one is named
@@ -271,6 +282,11 @@ raised_by part library t = raised t.written (parts_of part library) (parts_of (p
 abbrev pub report_of : Part → Library → Turn → Report
 report_of part library t = report_after library.rate part t.doing t.report
 
+-- whether the daemon has ended, after an event
+abbrev pub ended_after : Bool → Event → Bool
+ended_after ended End = true
+ended_after ended _ = ended
+
 -- the image after a turn, with its clients
 abbrev pub after_turn : Image → Event → Turn → Image
 after_turn i event t = record {
@@ -278,6 +294,7 @@ after_turn i event t = record {
   shared = record i.shared {
     library = library_after i.shared.library t.scan;
     books = books_after i.shared.books i.part.outputs t.doing (report_of i.part i.shared.library t);
+    ended = ended_after i.shared.ended event;
   };
   clients = clients_after (mover event) (raised_by i.part i.shared.library t) t.said i.clients;
 }

@@ -24,7 +24,7 @@ use Rattle.partition.specs.Outputs.{FrameBooks, OutputsData, decoded_by, discard
 use Rattle.partition.specs.Doings.{Change, ByEdit, ByStep, change_of, channels_after, outputs_after, player_after, volume_after}
 use Rattle.partition.specs.Image.{Image, Turn, library_after}
 use Rattle.partition.specs.Shelves.{changes_lists, changes_stickers}
-use Rattle.partition.specs.Step.{turn, mover, after_turn, report_of, told_by}
+use Rattle.partition.specs.Step.{turn, mover, after_turn, ended_after, report_of, told_by}
 
 -- the most entries of the queue, and the greatest version, id, and number of cuts, of starts, of jobs and of scans
 pub record Greatest : Type 0 where
@@ -39,7 +39,7 @@ pub record Listener : Type 0 where
   pub waiting : Option Subsystems
 
 -- all queues that the player had, the newest first; its limits, its library, what is played, the volume, the outputs, who listens to
--- which channel and the messages that wait, the clients
+-- which channel and the messages that wait, the clients, and whether the daemon has ended
 pub record World : Type 0 where
   pub past : List (List Entry)
   pub limits : Greatest
@@ -49,6 +49,7 @@ pub record World : Type 0 where
   pub outputs : OutputsData
   pub channels : List MemberData
   pub clients : List Listener
+  pub ended : Bool
 
 -- one event: the worlds before and after it, what it made of the player, the notices that went out, and what a part of the daemon
 -- was told that is no client
@@ -171,7 +172,7 @@ books_of moments = record {
 abbrev pub image_of : Life → List Happened → Image
 image_of life history = record {
   part = record { queue = state_of life.world.limits.max_queue life.world.limits.max_version life.world.limits.max_id life.world.past; player = life.world.player; volume = life.world.volume; outputs = life.world.outputs; channels = life.world.channels };
-  shared = record { library = life.world.library; made = made_of history; books = books_of life.moments };
+  shared = record { library = life.world.library; made = made_of history; books = books_of life.moments; ended = life.world.ended };
   clients = map (client_in life.moments) life.world.clients;
 }
 
@@ -191,6 +192,7 @@ world_after_turn w i event t = record w {
   outputs = outputs_after w.outputs t.doing;
   channels = channels_after w.channels t.doing;
   clients = map listener_of (after_turn i event t).clients;
+  ended = ended_after w.ended event;
 }
 
 abbrev pub lived : Life → Image → Event → Turn → Life
@@ -227,6 +229,7 @@ opening_life base = record {
     outputs = base.part.outputs;
     channels = base.part.channels;
     clients = [];
+    ended = base.shared.ended;
   };
   moments = [];
 }

@@ -6,7 +6,7 @@ ghost use Rattle.player_core.specs.Player as player;
 ghost use Rattle.player_core.specs.Decoding as decoding;
 ghost use Rattle.partition.specs.Outputs.{is_enabled, turned};
 ghost use Rattle.partition.specs.Plans.{Fits};
-ghost use Rattle.partition.specs.Doings.{entries, feed_of as feed_of_lem, had, part_after, player_after, player_edited, played_entry, report_after, sought_entry, wanted};
+ghost use Rattle.partition.specs.Doings.{entries, feed_of as feed_of_lem, had, part_after, player_after, player_edited, played_entry, report_after, sought_entry, told_or as told_or_lem, wanted};
 
 use crate::report::{Feed, Report};
 use crate::state::Part;
@@ -110,7 +110,7 @@ pub(crate) fn carry_out(part: &mut Part, rate: &Rate, doing: Doing, report: Repo
         Doing::Wants(owes) => want(part, rate, owes),
         Doing::Accepts(number, frames) => accept(part, number, frames),
         Doing::Fails(number, partner) => { part.player.failed(&part.queue, number, partner)?; Ok(done(part)) }
-        Doing::Settles(output, _, _, failed) => Ok(settle(part, output, failed)),
+        Doing::Settles(output, _, _, failed) => Ok(told_or(report, settle(part, output, failed))),
         Doing::Subscribes(client, channel) => { subscribe(part, client, channel.as_str())?; Ok(done(part)) }
         Doing::Unsubscribes(client, channel) => { unsubscribe(part, client, channel.as_str()); Ok(done(part)) }
         Doing::Sends(channel, text) => { send(part, channel.as_str(), text.as_str())?; Ok(done(part)) }
@@ -159,6 +159,16 @@ fn settle(part: &mut Part, output: usize, failed: bool) -> Report
     part.outputs.settle(output, failed);
     let _ = done(part);
     Report::ToPlay(part.player.turn(part.outputs.is_enabled(output)))
+}
+
+/// What is told, or where that is nothing the step's own.
+fn told_or(report: Report, own: Report) -> Report
+    ensures { result ≡ told_or_lem report own }
+{
+    match report {
+        Report::Nothing => own,
+        told => told,
+    }
 }
 
 /// What is answered to a step that nobody has to be told of. Numbers are within their limit.

@@ -38,6 +38,8 @@ pub enum Event {
     Failed(u64, bool),
     /// An output has its turn: its number, how many frames it wrote and discarded since its last one, and whether it failed.
     OutputTurn(usize, u64, u64, bool),
+    /// The daemon ends: from now on nothing is decoded and no scan begins.
+    End,
 }
 
 impl Event {

@@ -12,20 +12,21 @@ ghost use Rattle.partition.specs.Rooms.{is_waiting, listed, room_in};
 ghost use Rattle.partition.specs.Settled.{AllSettled, HasRoom, nothing};
 ghost use Rattle.partition.specs.Refusals.{RefusesTurn};
 ghost use Rattle.partition.specs.Shelves.{IsAnswered, Serves, Spares, answered, is_ok_write, is_wanting, is_written, maps_after};
-ghost use Rattle.partition.specs.Step.{after_turn, counts_frames, heard_at, hearing, keeps_limits, quiet, raised_by, mover as mover_lem, name_at, stand_of, told_by, turn, turn_of};
+ghost use Rattle.partition.specs.Step.{after_turn, counts_frames, ended_after as ended_after_lem, heard_at, hearing, keeps_limits, quiet, raised_by, mover as mover_lem, name_at, stand_of, told_by, turn, turn_of};
 
-use crate::clients::{leave, list_notices, make_move, notify_all, waiting};
+use crate::clients::{leave, list_notices, make_move, notify_all};
 use crate::doing::done;
 use crate::event::{Event, Happened, Next, Outcome, discard};
 use crate::lent::write;
 use crate::notices::Notices;
 use crate::partition::PartitionFault;
 use crate::plan::{Plan, Telling, carry_out, discard as discard_plan};
+use crate::prepare::{Prepared, prepare_step, prepare_write};
 use crate::refusals::Refusals;
 use crate::same::same_songs;
 use crate::scan::ScanMove;
 use crate::shelf_calls::{Heard, ShelfWrite};
-use crate::signs::{Raised, Signs, changes_subscriptions};
+use crate::signs::{Raised, changes_subscriptions};
 use crate::spoken::Spoken;
 use crate::state::{Client, Library, Part, State};
 use crate::turns::{ask_shelf, plan_turn};
@@ -88,7 +89,7 @@ pub(crate) fn record_event<S: Shelf>(
     ensures unkept { OnErr result (history.new.items ≡ history.old.items) }
 {
     let mut event = event;
-    if history.reserve(1).is_err() {
+    if reserve(history, &mut state.clients).is_err() {
         discard(event);
         return Err(PartitionFault::NoMemory);
     }
@@ -106,6 +107,17 @@ pub(crate) fn record_event<S: Shelf>(
     }
 }
 
+/// Makes room for one more event and one more client.
+fn reserve(history: &mut Vec<Happened>, clients: &mut Vec<Client>) -> Result<(), AllocError>
+    ensures history { history.new.items ≡ history.old.items }
+    ensures clients { clients.new.items ≡ clients.old.items }
+    ensures event { OnOk result (vec_len history.new < vec_capacity history.new) }
+    ensures client { OnOk result (vec_len clients.new < vec_capacity clients.new) }
+{
+    history.reserve(1)?;
+    clients.reserve(1)
+}
+
 /// Applies an event, all but the count of its seat, and puts in what the shelf answered. Where it is refused, nothing changes, and the
 /// shelf was asked at most.
 fn apply_event<S: Shelf>(
@@ -114,6 +126,7 @@ fn apply_event<S: Shelf>(
     shelf: &mut S,
     event: &mut Event,
 ) -> Result<Applied, PartitionFault>
+    requires space { vec_len state.old.clients < vec_capacity state.old.clients }
     requires settled { AllSettled state.old.clients.items }
     ensures event { event.new ≡ hearing event.old (heard_at event.new) }
     ensures image { OnOk result (image_of_state state.new ≡ after_turn (image_of_state state.old) event.new (turn (image_of_state state.old) event.new)) }
@@ -135,7 +148,14 @@ fn apply_event<S: Shelf>(
         read,
         refused: None,
     });
-    let plan = plan_turn(alloc, &state.part, &state.library, &state.clients, event)?;
+    let plan = plan_turn(
+        alloc,
+        &state.part,
+        &state.library,
+        &state.clients,
+        state.ended,
+        event,
+    )?;
     if plan.written.is_written() {
         return write_plan(alloc, state, shelf, event, plan);
     }
@@ -149,6 +169,7 @@ fn apply_plan(
     event: &Event,
     plan: Plan,
 ) -> Result<Applied, PartitionFault>
+    requires space { vec_len state.old.clients < vec_capacity state.old.clients }
     requires settled { AllSettled state.old.clients.items }
     requires fits { Fits state.old.part plan.doing }
     requires unwritten { is_written plan.written ≡ false }
@@ -161,18 +182,30 @@ fn apply_plan(
     ensures refused { IfErr result (λ fault. RefusesTurn (image_of_state state.old) plan fault) }
     ensures err { OnErr result (image_of_state state.new ≡ image_of_state state.old) }
 {
-    state.clients.reserve(1)?;
-    let Some(books) = state.books.after(&state.part, &plan.doing) else {
-        discard_plan(plan);
-        return Err(PartitionFault::AtLimit);
+    let (prepared, books) = match prepare_step(
+        alloc,
+        &state.part,
+        &state.library,
+        &state.clients,
+        &state.books,
+        &plan,
+    ) {
+        Ok(made) => made,
+        Err(fault) => {
+            discard_plan(plan);
+            return Err(fault);
+        }
     };
-    let room = room_wanted(&plan, &state.part, &state.library, &state.clients);
-    let (given, kept) = rooms(alloc, room)?;
-    let before = Signs::of(alloc, &state.part, &state.library)?;
+    let Prepared {
+        given,
+        kept,
+        before,
+    } = prepared;
     let database = changes_songs(&plan, &state.library);
     let subscription = changes_subscriptions(&state.part.channels, &plan.doing);
     let telling = carry_out(&mut state.part, &mut state.library, plan)?;
     state.books = books;
+    state.ended = ended_after(state.ended, event);
     let unwritten = ShelfWrite::Nothing;
     let raised = before.changed(
         database,
@@ -200,6 +233,7 @@ fn write_plan<S: Shelf>(
     event: &mut Event,
     plan: Plan,
 ) -> Result<Applied, PartitionFault>
+    requires space { vec_len state.old.clients < vec_capacity state.old.clients }
     requires settled { AllSettled state.old.clients.items }
     requires plan { plan ≡ turn (image_of_state state.old) event.old }
     requires alone { plan ≡ record (quiet plan.said) { written = plan.written } }
@@ -219,39 +253,39 @@ fn write_plan<S: Shelf>(
     ensures spared { OnErr result (Turns (S.standing shelf.old) (S.standing shelf.new) false (maps_after plan.written (S.standing shelf.old).maps)) }
     ensures err { OnErr result (image_of_state state.new ≡ image_of_state state.old) }
 {
-    state.clients.reserve(1)?;
-    let (given, kept) = rooms(alloc, waiting(&state.clients))?;
-    let before = Signs::of(alloc, &state.part, &state.library)?;
-    let refusals = Refusals::of(alloc, event)?;
+    let Ok((prepared, refusals)) = prepare_write(
+        alloc,
+        &state.part,
+        &state.library,
+        &state.clients,
+        event,
+    ) else {
+        discard_plan(plan);
+        return Err(PartitionFault::NoMemory);
+    };
     let plan = write_out(
         &state.part,
         &state.library,
         &state.clients,
+        state.ended,
         shelf,
         event,
         plan,
         refusals,
     )?;
-    Ok(tell_written(state, event, plan, &before, given, kept))
+    Ok(tell_written(state, event, plan, prepared))
 }
 
 /// Tells of what was written to the shelf, or why it was not: the plan does nothing else.
-fn tell_written(
-    state: &mut State,
-    event: &Event,
-    plan: Plan,
-    before: &Signs,
-    given: Notices,
-    kept: Notices,
-) -> Applied
-    requires room { vec_len state.old.clients < vec_capacity state.old.clients }
+fn tell_written(state: &mut State, event: &Event, plan: Plan, prepared: Prepared) -> Applied
+    requires space { vec_len state.old.clients < vec_capacity state.old.clients }
     requires settled { AllSettled state.old.clients.items }
     requires alone { plan ≡ record (quiet plan.said) { written = plan.written } }
-    requires before { before.now ≡ signs state.old.part state.old.library }
-    requires given { count_by is_waiting state.old.clients.items ≤ room_in given }
-    requires kept { count_by is_waiting state.old.clients.items ≤ room_in kept }
-    requires none_given { listed given ≡ [] }
-    requires none_kept { listed kept ≡ [] }
+    requires before { prepared.before ≡ signs state.old.part state.old.library }
+    requires given { count_by is_waiting state.old.clients.items ≤ room_in prepared.given }
+    requires kept { count_by is_waiting state.old.clients.items ≤ room_in prepared.kept }
+    requires none_given { listed prepared.given ≡ [] }
+    requires none_kept { listed prepared.kept ≡ [] }
     ensures image { image_of_state state.new ≡ after_turn (image_of_state state.old) event.now plan }
     ensures answer { result.telling.spoken.answer ≡ plan.said.answer }
     ensures report { result.telling.report ≡ (told_by (image_of_state state.old) event.now plan).report }
@@ -260,7 +294,13 @@ fn tell_written(
     ensures counts { counts_frames (image_of_state state.old) plan ≡ true }
     ensures limits { keeps_limits (image_of_state state.old) plan ≡ true }
 {
+    let Prepared {
+        given,
+        kept,
+        before,
+    } = prepared;
     state.books.rest();
+    state.ended = ended_after(state.ended, event);
     let _ = done(&state.part);
     let raised = before.changed(false, false, &plan.written, &state.part, &state.library);
     let telling = plan.into_telling();
@@ -279,18 +319,19 @@ fn write_out<S: Shelf>(
     part: &Part,
     library: &Library,
     clients: &[Client],
+    ended: bool,
     shelf: &mut S,
     event: &mut Event,
     plan: Plan,
     refusals: Refusals,
 ) -> Result<Plan, AllocError>
-    requires plan { plan ≡ turn_of part.now library.now clients.now event.old }
+    requires plan { plan ≡ turn_of ended part.now library.now clients.now event.old }
     requires alone { plan ≡ record (quiet plan.said) { written = plan.written } }
     requires written { is_written plan.written ≡ true }
     requires unrefused { (heard_at event.old).refused ≡ None }
     requires refusals { refusals ≡ (stand_of event.old, name_at event.old) }
     ensures event { event.new ≡ hearing event.old (record (heard_at event.old) { refused = (heard_at event.new).refused }) }
-    ensures plan { IfOk result (λ after. after ≡ turn_of part.now library.now clients.now event.new) }
+    ensures plan { IfOk result (λ after. after ≡ turn_of ended part.now library.now clients.now event.new) }
     ensures alone { IfOk result (λ after. after ≡ record (quiet after.said) { written = after.written }) }
     ensures turns { OnOk result (Turns (S.standing shelf.old) (S.standing shelf.new) (is_ok_write plan.written (answered (heard_at event.new).refused)) (maps_after plan.written (S.standing shelf.old).maps)) }
     ensures answers { OnOk result (Trusted (S.standing shelf.old) (S.standing shelf.new) → IsAnswered (S.failed shelf.old shelf.new) (S.standing shelf.old).maps plan.written (answered (heard_at event.new).refused)) }
@@ -340,16 +381,6 @@ fn tell(
     }
 }
 
-/// Two lists of notices with room for so many.
-fn rooms(alloc: Global, room: usize) -> Result<(Notices, Notices), AllocError>
-    ensures given { IfOk result (λ lists. (listed lists.0 ≡ []) × (room ≤ room_in lists.0)) }
-    ensures kept { IfOk result (λ lists. (listed lists.1 ≡ []) × (room ≤ room_in lists.1)) }
-{
-    let given = Notices::with_room(alloc, room)?;
-    let kept = Notices::with_room(alloc, room)?;
-    Ok((given, kept))
-}
-
 /// Whether a plan changes the songs of a library.
 #[tactic(auto, using(crate::proofs::Songs::unchanged))]
 fn changes_songs(plan: &Plan, library: &Library) -> bool
@@ -362,18 +393,6 @@ fn changes_songs(plan: &Plan, library: &Library) -> bool
         return false;
     }
     !same_songs(library.songs.db().songs(), songs.db().songs())
-}
-
-/// How many notices a plan can give at most. For one that changes nothing no client is looked at.
-fn room_wanted(plan: &Plan, part: &Part, library: &Library, clients: &[Client]) -> usize
-    requires { is_written plan.now.written ≡ false }
-    ensures { HasRoom (raised_by part.now library.now plan.now) clients.now result }
-{
-    if plan.changes(part, library) {
-        waiting(clients)
-    } else {
-        0
-    }
 }
 
 /// Tells the clients what was raised, and lets the one that the event comes from do what it does. The notices join the list.
@@ -431,6 +450,16 @@ fn closes(next: Next) -> bool
     }
 }
 
+/// Whether the daemon has ended, after an event.
+fn ended_after(ended: bool, event: &Event) -> bool
+    ensures { result ≡ ended_after_lem ended event.now }
+{
+    match event {
+        Event::End => true,
+        _ => ended,
+    }
+}
+
 /// The client whose answer and move are an event's; 0 where it comes from none, which makes no move.
 fn mover(event: &Event) -> u32
     ensures { result ≡ mover_lem event.now }
@@ -443,6 +472,7 @@ fn mover(event: &Event) -> u32
         | Event::Want(_)
         | Event::Have(_, _)
         | Event::Failed(_, _)
-        | Event::OutputTurn(_, _, _, _) => 0,
+        | Event::OutputTurn(_, _, _, _)
+        | Event::End => 0,
     }
 }

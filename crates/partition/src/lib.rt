@@ -14,6 +14,7 @@ mod notices;
 mod outputs;
 mod partition;
 mod plan;
+mod prepare;
 mod refusals;
 mod report;
 mod same;

@@ -415,6 +415,20 @@ impl Partition {
         &self.state.books
     }
 
+    /// The songs, and the scans that look for them.
+    pub fn library(&self) -> &Library
+        ensures { result.now ≡ self.now.present.shared.library }
+    {
+        &self.state.library
+    }
+
+    /// Whether the daemon has ended.
+    pub fn has_ended(&self) -> bool
+        ensures { result ≡ self.now.present.shared.ended }
+    {
+        self.state.ended
+    }
+
     /// The clients that are connected, by rising number.
     pub fn clients(&self) -> &[Client]
         ensures { result.now ≡ self.now.present.clients }

@@ -7,7 +7,7 @@ ghost use Rattle.partition.specs.Plans.{Fits};
 ghost use Rattle.partition.specs.Shelves.{is_written};
 ghost use Rattle.partition.specs.Settled.{nothing};
 ghost use Rattle.partition.specs.declared.report.Report.{Report};
-ghost use Rattle.partition.specs.Step.{acts as acts_lem, departs as departs_lem, quiet, raised_by, report_of, unspoken};
+ghost use Rattle.partition.specs.Step.{acts as acts_lem, acts_unless as acts_unless_lem, departs as departs_lem, or_ended as or_ended_lem, quiet, raised_by, report_of, unspoken};
 
 use crate::doing::{Doing, carry_out as carry_out_doing};
 use crate::event::{Asked, Move};
@@ -74,6 +74,22 @@ impl Plan {
             spoken: tells(String::new(alloc), Move::Stay)?,
             report: Report::Nothing,
         })
+    }
+
+    /// A step of the decoder; after the end it does nothing, and is told so.
+    pub(crate) fn acts_unless(
+        alloc: Global,
+        ended: bool,
+        report: Report,
+        doing: Doing,
+    ) -> Result<Plan, AllocError>
+        ensures { IfOk result (λ plan. plan ≡ acts_unless_lem ended report doing) }
+    {
+        if ended {
+            discard_doing(doing, ScanMove::Stay);
+            return Plan::reports(alloc, ScanMove::Stay, report);
+        }
+        Plan::acts(alloc, doing)
     }
 
     /// The queue is edited, and these lines are shown.
@@ -199,6 +215,19 @@ impl Plan {
             spoken: tells(String::new(alloc), Move::Stay)?,
             report,
         })
+    }
+
+    /// The end, whatever else is told.
+    pub(crate) fn or_ended(self, ended: bool) -> Plan
+        ensures { result ≡ or_ended_lem ended self }
+    {
+        if ended {
+            return Plan {
+                report: Report::Ended,
+                ..self
+            };
+        }
+        self
     }
 
     /// The part stays as it is, and these lines are shown.

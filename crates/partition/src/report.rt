@@ -24,4 +24,6 @@ pub enum Report {
     ToFeed(Option<Feed>),
     /// What an output does with its frames.
     ToPlay(Live),
+    /// The daemon has ended: a decoder, an output or a scanner ends too.
+    Ended,
 }

@@ -112,6 +112,8 @@ pub(crate) struct State {
     pub(crate) library: Library,
     pub(crate) made: [u64; 16],
     pub(crate) books: Books,
+    /// Whether the daemon has ended.
+    pub(crate) ended: bool,
     /// By rising number.
     pub(crate) clients: Vec<Client>,
 }
@@ -141,6 +143,7 @@ impl State {
             library,
             made: [0; 16],
             books: Books::empty(),
+            ended: false,
             clients: Vec::new(alloc),
         }
     }
@@ -154,6 +157,7 @@ impl State {
             library: self.library.shared()?,
             made: self.made,
             books: self.books.copied(),
+            ended: self.ended,
             clients: self.clients.clone()?,
         })
     }

@@ -51,10 +51,11 @@ pub(crate) fn plan_turn(
     part: &Part,
     library: &Library,
     clients: &[Client],
+    ended: bool,
     event: &Event,
 ) -> Result<Plan, AllocError>
     requires { (heard_at event.now).refused ≡ None }
-    ensures plan { IfOk result (λ plan. plan ≡ turn_of part.now library.now clients.now event.now) }
+    ensures plan { IfOk result (λ plan. plan ≡ turn_of ended part.now library.now clients.now event.now) }
     ensures alone { IfOk result (λ plan. is_written plan.written ≡ true → plan ≡ record (quiet plan.said) { written = plan.written }) }
     ensures fits { IfOk result (λ plan. Fits part.now plan.doing) }
 {
@@ -67,17 +68,25 @@ pub(crate) fn plan_turn(
             Ok(plan.once_written())
         }
         Event::ScanQuestion => {
-            let report = Report::ToScan(library.scan.running());
+            let report = if ended {
+                Report::Ended
+            } else {
+                Report::ToScan(library.scan.running())
+            };
             Plan::reports(alloc, ScanMove::Stay, report)
         }
         Event::ScanResult(songs) => end_scan(alloc, library, songs.as_ref()),
-        Event::Want(owes) => Plan::acts(alloc, Doing::Wants(*owes)),
-        Event::Have(number, frames) => Plan::acts(alloc, Doing::Accepts(*number, *frames)),
+        Event::Want(owes) => { Plan::acts_unless(alloc, ended, Report::Ended, Doing::Wants(*owes)) }
+        Event::Have(number, frames) => {
+            let doing = Doing::Accepts(*number, *frames);
+            Plan::acts_unless(alloc, ended, Report::ToFeed(None), doing)
+        }
         Event::Failed(number, partner) => Plan::acts(alloc, Doing::Fails(*number, *partner)),
         Event::OutputTurn(output, written, discarded, failed) => {
             let turn = Doing::Settles(*output, *written, *discarded, *failed);
-            settle(alloc, part, *output, turn)
+            Ok(settle(alloc, part, *output, turn)?.or_ended(ended))
         }
+        Event::End => Plan::reports(alloc, ScanMove::Stay, Report::Nothing),
     }
 }
 

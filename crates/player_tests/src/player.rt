@@ -126,6 +126,7 @@ fn report_told(alloc: Global, report: Report) -> Result<String, AllocError> {
             format!(in alloc; "live {} {} {}\n", live.cut, live.enabled, live.paused)
         }
         Report::Nothing => Ok(String::new(alloc)),
+        Report::Ended => String::from_str(alloc, "the end\n"),
         Report::ToScan(Some(number)) => format!(in alloc; "scan {number}\n"),
         Report::ToScan(None) => String::from_str(alloc, "no scan\n"),
         Report::ScanEnded(true) => String::from_str(alloc, "ended\n"),
@@ -438,6 +439,8 @@ fn step(lent: &mut Lent, alloc: Global, line: &str, all: &mut String) -> Result<
         decodes(lent, alloc, rest, all)
     } else if word == "turn" {
         turns(lent, alloc, rest, all)
+    } else if word == "ends" {
+        happens(lent, alloc, 0, Event::End, all)
     } else if word == "folds" {
         folds(&mut lent.player, all)
     } else if word == "show" {

@@ -74,6 +74,47 @@ fn a_waiting_client_hears_of_a_change_once(rt: HostRuntime) {
     wants(&rt, session(rt.alloc(), WAITING), WAITING_TELLS);
 }
 
+const ENDED: &str = "comes 1
+1 add a.wav
+1 play
+decoder wants
+ends
+decoder 1 1024
+decoder wants
+scan asks
+turn 0 5 6
+turn 9 0 0
+1 ping
+1 idle
+folds
+decoder wants
+show books";
+
+const ENDED_TELLS: &str = "OK MPD 0.23.0
+OK
+OK
+job 1 1 0 1024
+stale
+the end
+the end
+the end
+the end
+OK
+changed: playlist
+changed: player
+OK
+the end
+0 5 6
+0 0 0
+0 0 0
+0 0 0
+";
+
+#[test]
+fn after_the_end_nothing_is_decoded(rt: HostRuntime) {
+    wants(&rt, session(rt.alloc(), ENDED), ENDED_TELLS);
+}
+
 pub(crate) const ROOMS: &str = "comes 1
 comes 2
 2 idle player output

@@ -51,7 +51,7 @@ returns-then-is_written-clause-shelf g c =
     c.args.shelf.now c.ask_shelf-asked.new.shelf c.write_plan.new.shelf c.in_ok-read.ensures.turns
     (subst (λ ks. Trusted (g.S.Shelf.standing c.args.shelf.now) (g.S.Shelf.standing c.ask_shelf-asked.new.shelf)
     → IsRead (g.S.Shelf.failed c.args.shelf.now c.ask_shelf-asked.new.shelf) (g.S.Shelf.standing c.args.shelf.now).maps (question_of i.shared.library ks c.args.event.now) c.in_ok-read.read) c.deref.ensures.value c.in_ok-read.ensures.read)
-    (ap (λ (t : Turn). t.written) (c.in_ok-plan.ensures.plan ∙ ap (λ ks. turn_of i.part i.shared.library ks c.hear-2.new.self) c.deref-2.ensures.value ∙ ap (turn i) second))
+    (ap (λ (t : Turn). t.written) (c.in_ok-plan.ensures.plan ∙ ap (λ ks. turn_of i.shared.ended i.part i.shared.library ks c.hear-2.new.self) c.deref-2.ensures.value ∙ ap (turn i) second))
     (c.write_plan.ensures.event ∙ ap (λ (e : Event). hearing e (record (heard_at e) { refused = (heard_at c.write_plan.new.event).refused })) second)
     turns answers ample)
     c.write_plan.ensures.turns c.write_plan.ensures.answers c.write_plan.ensures.ample
@@ -65,13 +65,13 @@ pub returns-clause-given : goal.returns-clause-given
 returns-clause-given g c =
     let i : Image = image_of_state c.args.state.now in
     subst (λ (t : Turn). IfOk c.apply_plan.result (λ applied. listed applied.given ≡ (told_by i c.hear-2.new.self t).notices))
-    (c.in_ok-plan.ensures.plan ∙ ap (λ ks. turn_of i.part i.shared.library ks c.hear-2.new.self) c.deref-2.ensures.value) c.apply_plan.ensures.given
+    (c.in_ok-plan.ensures.plan ∙ ap (λ ks. turn_of i.shared.ended i.part i.shared.library ks c.hear-2.new.self) c.deref-2.ensures.value) c.apply_plan.ensures.given
 
 pub returns-clause-kept : goal.returns-clause-kept
 returns-clause-kept g c =
     let i : Image = image_of_state c.args.state.now in
     subst (λ (t : Turn). IfOk c.apply_plan.result (λ applied. listed applied.kept ≡ (told_by i c.hear-2.new.self t).notices))
-    (c.in_ok-plan.ensures.plan ∙ ap (λ ks. turn_of i.part i.shared.library ks c.hear-2.new.self) c.deref-2.ensures.value) c.apply_plan.ensures.kept
+    (c.in_ok-plan.ensures.plan ∙ ap (λ ks. turn_of i.shared.ended i.part i.shared.library ks c.hear-2.new.self) c.deref-2.ensures.value) c.apply_plan.ensures.kept
 
 pub returns-clause-shelf : goal.returns-clause-shelf
 returns-clause-shelf g c =
@@ -83,7 +83,7 @@ returns-clause-shelf g c =
     (serves_unwritten g.S.Shelf.standing g.S.Shelf.failed i c.args.event.now c.hear-2.new.self c.in_ok-read.read c.args.shelf.now c.ask_shelf-asked.new.shelf c.in_ok-read.ensures.turns
     (subst (λ ks. Trusted (g.S.Shelf.standing c.args.shelf.now) (g.S.Shelf.standing c.ask_shelf-asked.new.shelf)
     → IsRead (g.S.Shelf.failed c.args.shelf.now c.ask_shelf-asked.new.shelf) (g.S.Shelf.standing c.args.shelf.now).maps (question_of i.shared.library ks c.args.event.now) c.in_ok-read.read) c.deref.ensures.value c.in_ok-read.ensures.read)
-    (sym (ap (λ (t : Turn). is_written t.written) (c.in_ok-plan.ensures.plan ∙ ap (λ ks. turn_of i.part i.shared.library ks c.hear-2.new.self) c.deref-2.ensures.value ∙ ap (turn i) second)) ∙ none)
+    (sym (ap (λ (t : Turn). is_written t.written) (c.in_ok-plan.ensures.plan ∙ ap (λ ks. turn_of i.shared.ended i.part i.shared.library ks c.hear-2.new.self) c.deref-2.ensures.value ∙ ap (turn i) second)) ∙ none)
     second)
 
 pub returns-clause-cause : goal.returns-clause-cause
@@ -96,7 +96,7 @@ returns-clause-cause g c =
     (serves_unwritten g.S.Shelf.standing g.S.Shelf.failed i c.args.event.now c.hear-2.new.self c.in_ok-read.read c.args.shelf.now c.ask_shelf-asked.new.shelf c.in_ok-read.ensures.turns
     (subst (λ ks. Trusted (g.S.Shelf.standing c.args.shelf.now) (g.S.Shelf.standing c.ask_shelf-asked.new.shelf)
     → IsRead (g.S.Shelf.failed c.args.shelf.now c.ask_shelf-asked.new.shelf) (g.S.Shelf.standing c.args.shelf.now).maps (question_of i.shared.library ks c.args.event.now) c.in_ok-read.read) c.deref.ensures.value c.in_ok-read.ensures.read)
-    (sym (ap (λ (t : Turn). is_written t.written) (c.in_ok-plan.ensures.plan ∙ ap (λ ks. turn_of i.part i.shared.library ks c.hear-2.new.self) c.deref-2.ensures.value ∙ ap (turn i) second)) ∙ none)
+    (sym (ap (λ (t : Turn). is_written t.written) (c.in_ok-plan.ensures.plan ∙ ap (λ ks. turn_of i.shared.ended i.part i.shared.library ks c.hear-2.new.self) c.deref-2.ensures.value ∙ ap (turn i) second)) ∙ none)
     second))
 
 pub returns-clause-spared : goal.returns-clause-spared

@@ -1,13 +1,8 @@
-use Rattle.std.proofs.Common.{◌≡◌, ◌∙◌, not, ap, sym, rules}
-use Rattle.partition.specs.declared.doing.Doing.{Doing}
-use Rattle.partition.specs.Doings.{report_after}
+use Rattle.std.proofs.Common.{◌∙◌, not, sym, rules}
 use Rattle.partition.specs.Clients.{same_songs}
-use Rattle.partition.specs.Image.{Image, Turn, image_of_state, songs_after}
-use Rattle.partition.specs.Outputs.{books_after}
+use Rattle.partition.specs.Image.{Image, image_of_state, songs_after}
 use Rattle.partition.specs.Rooms.{listed, room_in}
-use Rattle.partition.specs.Settled.{HasRoom}
 use Rattle.partition.specs.Signs.{changes_subscriptions, raised_in, signs}
-use Rattle.partition.specs.Step.{raised_by}
 use Rattle.partition.proofs.Raised.{PartIs, LibraryIs, Shown, stepped, noticed, roomy, told_alike}
 use Rattle.partition.proofs.Settled.{unwritten}
 use Rattle.partition.proofs.happen.apply_plan.Goals as goal
@@ -18,10 +13,8 @@ tell-requires-clause-given c =
     let part_is : PartIs i c.args.event.now c.args.plan c.carry_out.new.part c.carry_out.new.library (raised_in c.changed-raised.result) c.args.plan.said = search rules in
     let library_is : LibraryIs i c.args.event.now c.args.plan c.carry_out.new.part c.carry_out.new.library (raised_in c.changed-raised.result) c.args.plan.said = search rules in
     let shown : Shown i c.args.event.now c.args.plan c.carry_out.new.part c.carry_out.new.library (raised_in c.changed-raised.result) c.args.plan.said = search rules in
-    let told : c.reserve.new.self.items ≡ i.clients = search rules in
-    let may : HasRoom (raised_by i.part i.shared.library c.args.plan) i.clients c.room_wanted-room.result = search rules in
     roomy i c.args.event.now c.args.plan c.carry_out.new.part c.carry_out.new.library (raised_in c.changed-raised.result) c.args.plan.said
-    c.reserve.new.self.items (room_in c.in_ok-given.given) c.room_wanted-room.result part_is library_is shown told may c.in_ok-given.ensures.given.1
+    (room_in c.in-Ok.made.0.given) part_is library_is shown (search rules)
 
 pub tell-requires-clause-kept : goal.tell-requires-clause-kept
 tell-requires-clause-kept c =
@@ -29,10 +22,8 @@ tell-requires-clause-kept c =
     let part_is : PartIs i c.args.event.now c.args.plan c.carry_out.new.part c.carry_out.new.library (raised_in c.changed-raised.result) c.args.plan.said = search rules in
     let library_is : LibraryIs i c.args.event.now c.args.plan c.carry_out.new.part c.carry_out.new.library (raised_in c.changed-raised.result) c.args.plan.said = search rules in
     let shown : Shown i c.args.event.now c.args.plan c.carry_out.new.part c.carry_out.new.library (raised_in c.changed-raised.result) c.args.plan.said = search rules in
-    let told : c.reserve.new.self.items ≡ i.clients = search rules in
-    let may : HasRoom (raised_by i.part i.shared.library c.args.plan) i.clients c.room_wanted-room.result = search rules in
     roomy i c.args.event.now c.args.plan c.carry_out.new.part c.carry_out.new.library (raised_in c.changed-raised.result) c.args.plan.said
-    c.reserve.new.self.items (room_in c.in_ok-given.kept) c.room_wanted-room.result part_is library_is shown told may c.in_ok-given.ensures.kept.1
+    (room_in c.in-Ok.made.0.kept) part_is library_is shown (search rules)
 
 pub returns-clause-image : goal.returns-clause-image
 returns-clause-image c =
@@ -40,11 +31,10 @@ returns-clause-image c =
     let shown : Shown i c.args.event.now c.args.plan c.carry_out.new.part c.carry_out.new.library (raised_in c.changed-raised.result) c.args.plan.said =
     c.changed-raised.ensures
     ∙ told_alike c.changes_songs-database.result (not (same_songs i.shared.library.songs (songs_after i.shared.library c.args.plan.scan)))
-    c.changes_subscriptions-subscription.result (changes_subscriptions i.part.channels c.args.plan.doing) _ c.args.plan.written c.in_ok-before.before (signs i.part i.shared.library)
+    c.changes_subscriptions-subscription.result (changes_subscriptions i.part.channels c.args.plan.doing) _ c.args.plan.written c.in-Ok.made.0.before (signs i.part i.shared.library)
     c.carry_out.new.part c.carry_out.new.library (search rules) (search rules) (sym (unwritten c.args.plan.written c.requires.unwritten)) (search rules) in
-    let doing : c.plan.inside.doing ≡ c.args.plan.doing = ap (λ (t : Turn). t.doing) c.plan.view_is in
-    stepped i c.args.event.now c.args.plan c.carry_out.new.part c.carry_out.new.library (raised_in c.changed-raised.result) c.in_ok-telling.telling.spoken c.in-Some.books c.tell.new.clients.items
-    (search rules) (search rules) ((c.in-Some.ensures i.shared.library.rate c.args.plan.report).1 ∙ ap (λ (d : Doing). books_after i.shared.books i.part.outputs d (report_after i.shared.library.rate i.part d c.args.plan.report)) doing) (search rules) shown (search rules)
+    stepped i c.args.event.now c.args.plan c.carry_out.new.part c.carry_out.new.library (raised_in c.changed-raised.result) c.in_ok-telling.telling.spoken c.in-Ok.made.1 c.ended_after-state.result c.tell.new.clients.items
+    (search rules) (search rules) (search rules) c.ended_after-state.ensures (search rules) shown (search rules)
 
 pub returns-clause-given : goal.returns-clause-given
 returns-clause-given c =
@@ -52,7 +42,7 @@ returns-clause-given c =
     let shown : Shown i c.args.event.now c.args.plan c.carry_out.new.part c.carry_out.new.library (raised_in c.changed-raised.result) c.args.plan.said =
     c.changed-raised.ensures
     ∙ told_alike c.changes_songs-database.result (not (same_songs i.shared.library.songs (songs_after i.shared.library c.args.plan.scan)))
-    c.changes_subscriptions-subscription.result (changes_subscriptions i.part.channels c.args.plan.doing) _ c.args.plan.written c.in_ok-before.before (signs i.part i.shared.library)
+    c.changes_subscriptions-subscription.result (changes_subscriptions i.part.channels c.args.plan.doing) _ c.args.plan.written c.in-Ok.made.0.before (signs i.part i.shared.library)
     c.carry_out.new.part c.carry_out.new.library (search rules) (search rules) (sym (unwritten c.args.plan.written c.requires.unwritten)) (search rules) in
     noticed i c.args.event.now c.args.plan c.carry_out.new.part c.carry_out.new.library (raised_in c.changed-raised.result) c.in_ok-telling.telling.spoken (listed c.tell.result.given)
     (search rules) (search rules) (search rules) shown (search rules)
@@ -63,7 +53,7 @@ returns-clause-kept c =
     let shown : Shown i c.args.event.now c.args.plan c.carry_out.new.part c.carry_out.new.library (raised_in c.changed-raised.result) c.args.plan.said =
     c.changed-raised.ensures
     ∙ told_alike c.changes_songs-database.result (not (same_songs i.shared.library.songs (songs_after i.shared.library c.args.plan.scan)))
-    c.changes_subscriptions-subscription.result (changes_subscriptions i.part.channels c.args.plan.doing) _ c.args.plan.written c.in_ok-before.before (signs i.part i.shared.library)
+    c.changes_subscriptions-subscription.result (changes_subscriptions i.part.channels c.args.plan.doing) _ c.args.plan.written c.in-Ok.made.0.before (signs i.part i.shared.library)
     c.carry_out.new.part c.carry_out.new.library (search rules) (search rules) (sym (unwritten c.args.plan.written c.requires.unwritten)) (search rules) in
     noticed i c.args.event.now c.args.plan c.carry_out.new.part c.carry_out.new.library (raised_in c.changed-raised.result) c.in_ok-telling.telling.spoken (listed c.tell.result.kept)
     (search rules) (search rules) (search rules) shown (search rules)

@@ -14,7 +14,7 @@ returns-clause-image c =
     let written_is : c.plan.inside.written ≡ c.args.plan.written = ap (λ (t : Turn). t.written) c.plan.view_is in
     let shown : raised ≡ told_by_signs false false c.args.plan.written _ i.part i.shared.library =
     c.changed-raised.ensures ∙ (λ j. told_by_signs false false (written_is j) (c.requires.before j) i.part i.shared.library) in
-    written_step i c.args.event.now c.args.plan c.requires.alone raised shown c.tell.new.clients.items (c.rest.ensures.same i.part.outputs)
+    written_step i c.args.event.now c.args.plan c.requires.alone raised shown c.ended_after-state.result c.tell.new.clients.items c.ended_after-state.ensures (c.rest.ensures.same i.part.outputs)
     (c.tell.ensures.clients ∙ (λ j. clients_after (c.mover.ensures j) raised (c.into_telling-telling.ensures.spoken j) i.clients))
 
 pub returns-clause-given : goal.returns-clause-given

@@ -14,17 +14,17 @@ use Rattle.partition.proofs.happen.write_out.Goals as goal
 
 pub returns-in-Err : goal.returns-in-Err
 returns-in-Err g c =
-    let writes : is_written (turn_of c.args.part.now c.args.library.now c.args.clients.now c.args.event.now).written ≡ true =
+    let writes : is_written (turn_of c.args.ended c.args.part.now c.args.library.now c.args.clients.now c.args.event.now).written ≡ true =
     ap (λ (t : Turn). is_written t.written) (sym c.requires.plan) ∙ c.requires.written in
     let heard : Heard = record { read = (heard_at c.args.event.now).read; refused = Some c.in-Err.fault } in
-    let heard_is : heard_at c.refuse.new.self ≡ heard = ap heard_at c.refuse.ensures ∙ hears c.args.part.now c.args.library.now c.args.clients.now c.args.event.now writes heard in
+    let heard_is : heard_at c.refuse.new.self ≡ heard = ap heard_at c.refuse.ensures ∙ hears c.args.ended c.args.part.now c.args.library.now c.args.clients.now c.args.event.now writes heard in
     let refused_is : (heard_at c.refuse.new.self).refused ≡ Some c.in-Err.fault = ap (λ (h : Heard). h.refused) heard_is in
     let written_is : c.plan.inside.written ≡ c.args.plan.written = ap (λ (t : Turn). t.written) c.plan.view_is in
     record {
       event = c.refuse.ensures ∙ ap (λ (r : Option ShelfFault). hearing c.args.event.now (record (heard_at c.args.event.now) { refused = r })) (sym refused_is);
       plan = c.only.ensures ∙ ap quiet (c.into_spoken.ensures ∙ ap (λ (r : Stand × Option Name). stays (refused_by_shelf r.0 r.1 c.in-Err.fault)) c.requires.refusals)
-          ∙ sym (refused_turn c.args.part.now c.args.library.now c.args.clients.now c.args.event.now c.in-Err.fault writes c.requires.unrefused)
-          ∙ ap (turn_of c.args.part.now c.args.library.now c.args.clients.now) (sym c.refuse.ensures);
+          ∙ sym (refused_turn c.args.ended c.args.part.now c.args.library.now c.args.clients.now c.args.event.now c.in-Err.fault writes c.requires.unrefused)
+          ∙ ap (turn_of c.args.ended c.args.part.now c.args.library.now c.args.clients.now) (sym c.refuse.ensures);
       alone = rw c.only.ensures refl;
       turns = rw refused_is (subst (λ (w : ShelfWrite). Turns (g.S.Shelf.standing c.args.shelf.now) (g.S.Shelf.standing c.write.new.shelf) false (maps_after w (g.S.Shelf.standing c.args.shelf.now).maps)) written_is c.in-Err.ensures.turns);
       answers = λ trusted. rw refused_is (subst (λ (w : ShelfWrite). IsAnswered (g.S.Shelf.failed c.args.shelf.now c.write.new.shelf) (g.S.Shelf.standing c.args.shelf.now).maps w (Err c.in-Err.fault)) written_is (c.in-Err.ensures.answers trusted));

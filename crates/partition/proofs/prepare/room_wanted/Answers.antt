@@ -1,5 +1,5 @@
 use Rattle.std.proofs.Common.{inr, arith}
-use Rattle.partition.proofs.happen.room_wanted.Goals as goal
+use Rattle.partition.proofs.prepare.room_wanted.Goals as goal
 
 pub returns-then-changes : goal.returns-then-changes
 returns-then-changes c =

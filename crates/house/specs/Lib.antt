@@ -1,0 +1,5 @@
+pub mod Seats
+pub mod Waiting
+pub mod Views
+pub mod News
+pub mod Lists

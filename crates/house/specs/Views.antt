@@ -1,0 +1,84 @@
+-- What contracts see of what the lock holds, and what a caller learns who cannot see it.
+use Rattle.std.specs.Prelude.{ℕ, ◌≡◌, ◌⊎◌, Bool, true, List, [], ◌∷◌, Option, slice_index_or}
+use Rattle.shelf.specs.Calls.{Call}
+use Rattle.shelf.specs.Maps.{Standing}
+use Rattle.partition.specs.declared.event.Event.{Event}
+use Rattle.partition.specs.declared.event.Happened.{Happened}
+use Rattle.partition.specs.declared.event.Notice.{Notice}
+use Rattle.partition.specs.declared.partition.PartitionFault.{PartitionFault}
+use Rattle.partition.specs.declared.partition.PartitionFault.TheVariants.{HistoryFull, NoMemory}
+use Rattle.partition.specs.declared.shelf_calls.Heard.{Heard}
+use Rattle.partition.specs.Answers.{Answer, Told}
+use Rattle.partition.specs.History.{Chronicle, is_full, with_room}
+use Rattle.partition.specs.Image.{Image, no_events}
+use Rattle.partition.specs.Legal.{IsPast}
+use Rattle.partition.specs.Lent.{Refuses, question, writing}
+use Rattle.partition.specs.Outputs.{FrameBooks, empty_books}
+use Rattle.partition.specs.Refusals.{MayRefuse}
+use Rattle.partition.specs.Shelves.{Serves, Spares}
+use Rattle.partition.specs.Step.{hearing, limit_of, told}
+
+-- the player with its history; the notices that wait to be handed out; the books of frames; whether an output was settled, whose
+-- last fates then stand in the books of written and discarded frames, though no event told of them; and how many seats are free
+pub record View : Type 0 where
+  pub player : Chronicle
+  pub waiting : List Notice
+  pub books : FrameBooks
+  pub is_settled : Bool
+  pub free : ℕ
+
+-- what a line of a client is answered with: its waiting notice, and what its event told
+pub record Handed : Type 0 where
+  pub front : Option Notice
+  pub told : Told
+
+-- what the decoder is told of frames that it had, and which outputs were enabled
+pub record FedData : Type 0 where
+  pub told : Told
+  pub outputs : List Bool
+
+-- how many events a seat made
+abbrev pub own_in : ℕ → Image → ℕ
+own_in seat i = slice_index_or i.shared.made seat 0
+
+-- the counts of the four seats of callers
+abbrev pub owns : List ℕ → List ℕ
+owns made = slice_index_or made 0 0 ∷ slice_index_or made 1 0 ∷ slice_index_or made 2 0 ∷ slice_index_or made 3 0 ∷ []
+
+-- a player of which no seat made an event, and whose outputs have no frames
+abbrev pub IsFresh : Image → Type 0
+IsFresh i = (i.shared.made ≡ no_events) × (i.shared.books ≡ empty_books)
+
+-- an entry of the history
+abbrev pub entry : ℕ → Event → Told → Happened
+entry seat event outcome = record { seat = seat; event = event; told = outcome }
+
+-- all is as it was, but that a full window may have been folded
+abbrev pub IsSpared : Chronicle → Chronicle → Type 0
+IsSpared before after = (after ≡ before) ⊎ (after ≡ with_room before)
+
+-- Why an event that asks no shelf is refused: the full window cannot be folded; or the limit that the event would pass, or want of memory.
+abbrev pub IsRefusedFor : Chronicle → ℕ → Event → PartitionFault → Type 0
+IsRefusedFor before seat event fault = ((fault ≡ HistoryFull) × (is_full before ≡ true)) ⊎ MayRefuse (limit_of seat before.present event) fault
+
+-- What the player of one thread tells at the event after some past in which the seat made so many events.
+abbrev pub TellsSomewhere : ℕ → ℕ → Event → Told → Type 0
+TellsSomewhere seat made event outcome = (past : Chronicle) × IsPast past × (own_in seat past.present ≡ made) × (outcome ≡ told past.present event)
+
+module _ {S : Type 0} (standing : S → Standing) (failed : S → S → Call → Type 0) where
+  -- An answer that the player of one thread gives to the event after some past in which the seat made so many events, by what the lent
+  -- shelf answered, which answered and changed as that past and the event say.
+  abbrev pub AnswersSomewhere : S → S → ℕ → ℕ → Event → Answer → Type 0
+  AnswersSomewhere old new seat made event answer =
+      (past : Chronicle) × IsPast past × (own_in seat past.present ≡ made)
+      × ((heard : Heard) × (answer ≡ (told past.present (hearing event heard)).answer)
+      × Serves standing failed old new (question past.present event) (writing past.present event heard) heard)
+
+  -- What an event leaves that was refused: before it was begun, for want of memory, all is as it was; else what the player says.
+  abbrev pub Stops : Chronicle → Chronicle → S → S → ℕ → Event → PartitionFault → Type 0
+  Stops before after old new seat event fault =
+      ((fault ≡ NoMemory) × ((after ≡ before) × (new ≡ old))) ⊎ Refuses standing failed before after old new seat event fault
+
+  -- nothing was written to the lent shelf
+  abbrev pub IsUnwritten : S → S → Type 0
+  IsUnwritten old new = (new ≡ old) ⊎ Spares standing failed old new

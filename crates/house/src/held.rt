@@ -1,0 +1,343 @@
+//! What lies under the house's lock.
+use crate::answered::{Answered, Reported};
+use crate::counted::Counted;
+use crate::happen::{hear_end, hear_line, hear_news};
+use crate::news::News;
+use crate::pulse::count_change;
+use crate::seat::{NoSeat, Seat, SeatBooks};
+use crate::waiting::{drop_gone, put_all, take_first};
+use frame_ledger::{Blanks as FrameBlanks, Books, OutputShares};
+use mpd_command::Request;
+use partition::{Happened, MAX_OUTPUTS, Notice, Partition, PartitionFault};
+use shelf::Shelf;
+use song_db::SharedSong;
+use std::alloc::{AllocError, Global};
+use std::marker::Model;
+use std::sync::ledger::{Blank, Ledger, Share};
+
+/// Seven new ledgers: one for each seat of a caller, and those of the books of frames.
+#[derive(Drop)]
+pub struct Blanks {
+    pub first: Blank,
+    pub second: Blank,
+    pub third: Blank,
+    pub fourth: Blank,
+    pub frames: FrameBlanks,
+}
+
+/// The whole shares of the books of frames, which the house's own threads have.
+#[derive(Drop)]
+pub struct CrewShares<E: Ledger, W: Ledger, X: Ledger> {
+    pub decoded: Share<E>,
+    pub outputs: OutputShares<W, X>,
+}
+
+/// The player, the notices that wait to be handed out, and the books that count its events and its frames.
+#[derive(Drop)]
+pub struct Held<A: Ledger, B: Ledger, C: Ledger, D: Ledger, E: Ledger, W: Ledger, X: Ledger> {
+    pub(crate) alloc: Global,
+    pub(crate) counted: Counted<A, B, C, D>,
+    pub(crate) waiting: Vec<Notice>,
+    pub(crate) books: Books<E, W, X>,
+    pub(crate) free: Vec<Seat<A, B, C, D>>,
+    /// Whether an output was settled, whose last fates no event told of.
+    pub(crate) is_settled: bool,
+    /// How often something changed that a thread at rest is woken for; it begins anew behind its greatest value. No contract speaks of
+    /// it.
+    pub(crate) changes: u64,
+}
+
+impl<A: Ledger, B: Ledger, C: Ledger, D: Ledger, E: Ledger, W: Ledger, X: Ledger> Model
+    for Held<A, B, C, D, E, W, X> {
+    ghost use Rattle.std.specs.Prelude.{◌≡◌, ◌<◌, All, false, length, vec_len};
+    ghost use Rattle.house.specs.Views.{View};
+
+    ghost Value = { View };
+
+    // A filter, which an event may have, holds itself, so its code is named.
+    ghost use Rattle.filters.specs.contracts.expression.Filter as filter;
+    ghost use Rattle.std.specs.Coded.{codes};
+
+    ghost coded = { Prim.hlevel (codes, filter.the_row.coded) };
+
+    ghost view = { λ h. record { player = h.counted; waiting = h.waiting.items; books = record { decoded = h.books.decoded; written = h.books.written; discarded = h.books.discarded }; is_settled = h.is_settled; free = vec_len h.free } };
+
+    ghost invariant = { λ h. (h.books.decoded ≡ h.counted.present.shared.books.decoded)
+        × (h.is_settled ≡ false → h.books.written ≡ h.counted.present.shared.books.written)
+        × (h.is_settled ≡ false → h.books.discarded ≡ h.counted.present.shared.books.discarded)
+        × (length h.books.decoded ≡ 8) × (length h.books.written ≡ 8) × (length h.books.discarded ≡ 8)
+        × All (λ s. (s.number < 4) × (s.made ≡ 0)) h.free.items };
+}
+
+impl<A: Ledger, B: Ledger, C: Ledger, D: Ledger, E: Ledger, W: Ledger, X: Ledger> Held<
+    A,
+    B,
+    C,
+    D,
+    E,
+    W,
+    X,
+> {
+    ghost use Rattle.std.specs.Prelude.{◌≡◌, ◌⊎◌, ◌+◌, ◌-◌, ◌<◌, ◌↔◌, [], ◌∷◌, ◌++◌, None, false, IfErr, IfOk, IsErr, OnErr, OnOk};
+    ghost use Rattle.frame_ledger.specs.Balance.{IsBlankOf as IsBlank};
+    ghost use Rattle.partition.specs.History.{folded, joined_by, with_room};
+    ghost use Rattle.partition.specs.Legal.{IsPast};
+    ghost use Rattle.partition.specs.Lent.{Records};
+    ghost use Rattle.partition.specs.Outputs.{empty_books};
+    ghost use Rattle.partition.specs.Shelves.{nothing_heard};
+    ghost use Rattle.partition.specs.Step.{limit_of, told as told_of};
+    ghost use Rattle.partition.specs.declared.event.Event.TheVariants.{End, Line};
+    ghost use Rattle.partition.specs.declared.event.Stand.TheVariants.{Alone};
+    ghost use Rattle.house.specs.News.{event_of, kept_at};
+    ghost use Rattle.house.specs.Seats.{after_events, IsBlankOf};
+    ghost use Rattle.house.specs.Views.{AnswersSomewhere, IsFresh, IsRefusedFor, IsSpared, IsUnwritten, Stops, TellsSomewhere, entry, own_in};
+    ghost use Rattle.house.specs.Waiting.{first_for, without_first};
+
+    /// A player of which no seat made an event yet, with the four seats that callers are given.
+    pub(crate) fn open(
+        alloc: Global,
+        blanks: Blanks,
+        partition: Partition,
+    ) -> Result<(Self, CrewShares<E, W, X>), AllocError>
+        requires fresh { IsFresh partition.present }
+        requires seats { IsBlankOf blanks.first A.name A.parts × IsBlankOf blanks.second B.name B.parts × IsBlankOf blanks.third C.name C.parts × IsBlankOf blanks.fourth D.name D.parts }
+        requires books { IsBlank blanks.frames.decoded E.name E.parts × IsBlank blanks.frames.written W.name W.parts × IsBlank blanks.frames.discarded X.name X.parts }
+        ensures held { IfOk result (λ r. r.0 ≡ record { player = partition; waiting = []; books = empty_books; is_settled = false; free = 4 }) }
+        ensures parts { IfOk result (λ r. (r.1.decoded.parts ≡ E.parts) × (r.1.outputs.written.parts ≡ W.parts) × (r.1.outputs.discarded.parts ≡ X.parts)) }
+        ensures amounts { IfOk result (λ r. (r.1.decoded.amount ≡ 0) × (r.1.outputs.written.amount ≡ 0) × (r.1.outputs.discarded.amount ≡ 0)) }
+    {
+        let Blanks {
+            first,
+            second,
+            third,
+            fourth,
+            frames,
+        } = blanks;
+        let mut free = Vec::new(alloc);
+        free.reserve(4)?;
+        let (books, decoded, outputs) = Books::<E, W, X>::open(alloc, frames, MAX_OUTPUTS)?;
+        let seats = SeatBooks::open(first, second, third, fourth, &mut free);
+        let held = Held {
+            alloc,
+            counted: Counted::new(partition, seats),
+            waiting: Vec::new(alloc),
+            books,
+            free,
+            is_settled: false,
+            changes: 0,
+        };
+        Ok((held, CrewShares { decoded, outputs }))
+    }
+
+    /// A seat that made no event yet. It takes no memory.
+    ///
+    /// # Errors
+    ///
+    /// [`NoSeat`] where all four are given.
+    pub fn seat(&mut self) -> Result<Seat<A, B, C, D>, NoSeat>
+        ensures seat { IfOk result (λ s. (s.number < 4) × (s.made ≡ 0)) }
+        ensures err { IsErr result ↔ (self.old.free ≡ 0) }
+        ensures given { OnOk result (self.new ≡ record self.old { free = self.old.free - 1 }) }
+        ensures same { OnErr result (self.new ≡ self.old) }
+    {
+        match self.free.pop() {
+            Some(seat) => Ok(seat),
+            None => Err(NoSeat),
+        }
+    }
+
+    /// The events of the window. The value is a past's, and the books of frames are its numbers; once an output was settled, those of
+    /// written and discarded frames also count what no event told of.
+    pub fn history(&self) -> &[Happened]
+        ensures window { result.now ≡ self.now.player.window }
+        ensures legal { IsPast self.now.player }
+        ensures decoded { self.now.books.decoded ≡ self.now.player.present.shared.books.decoded }
+        ensures books { self.now.is_settled ≡ false → self.now.books ≡ self.now.player.present.shared.books }
+    {
+        let _is_settled = self.is_settled;
+        self.counted.history()
+    }
+
+    /// One line of a client. Its waiting notice is handed out in front of the reply.
+    ///
+    /// # Errors
+    ///
+    /// As [`Partition::apply`]: nothing has changed, but that a full window may have been folded. A notice that waits goes on waiting.
+    pub fn command<S: Shelf>(
+        &mut self,
+        seat: &mut Seat<A, B, C, D>,
+        shelf: &mut S,
+        client: u32,
+        request: Request,
+    ) -> Result<Answered, PartitionFault>
+        // The caller's count is the number of its seat's events, and the value that the lock found is a past's.
+        ensures found { seat.old.number < 4 → own_in seat.old.number self.old.player.present ≡ seat.old.made }
+        ensures legal { IsPast self.old.player }
+
+        // The reply, the world after it and what became of the lent shelf are the one-thread player's.
+        ensures base { OnOk result (self.new.player.base ≡ (with_room self.old.player).base) }
+        ensures limit { self.new.player.limit ≡ self.old.player.limit }
+        ensures ok { IfOk result (λ a. Records S.standing S.failed self.old.player.present self.new.player.present (with_room self.old.player).window self.new.player.window shelf.old shelf.new seat.old.number (Line client Alone request nothing_heard) a.told) }
+
+        // The client's notice is handed out, and those that the event made wait.
+        ensures front { IfOk result (λ a. a.front ≡ first_for client self.old.waiting) }
+        ensures waiting { IfOk result (λ a. self.new.waiting ≡ without_first client self.old.waiting ++ a.told.notices) }
+        ensures kept { OnErr result (self.new.waiting ≡ self.old.waiting) }
+
+        // It is one event more of the seat, and brings no frames.
+        ensures made { OnOk result (seat.new ≡ after_events seat.old 1) }
+        ensures seat { OnErr result (seat.new ≡ seat.old) }
+        ensures books { (self.new.books ≡ self.old.books) × (self.new.is_settled ≡ self.old.is_settled) × (self.new.free ≡ self.old.free) }
+
+        // A fault changes nothing but a fold.
+        ensures refused { IfErr result (λ fault. Stops S.standing S.failed self.old.player self.new.player shelf.old shelf.new seat.old.number (Line client Alone request nothing_heard) fault) }
+        ensures spared { OnErr result (IsSpared self.old.player self.new.player) }
+        ensures unwritten { OnErr result (IsUnwritten S.standing S.failed shelf.old shelf.new) }
+
+        ensures somewhere { IfOk result (λ a. seat.old.number < 4 → AnswersSomewhere S.standing S.failed shelf.old shelf.new seat.old.number seat.old.made (Line client Alone request nothing_heard) a.told.answer) }
+    {
+        let Held {
+            alloc: _alloc,
+            counted,
+            waiting,
+            books: _books,
+            free: _free,
+            is_settled: _is_settled,
+            changes,
+        } = self;
+        let pulse = counted.pulse();
+        let outcome = hear_line(counted, waiting, seat, shelf, client, request)?;
+        let front = take_first(waiting, client);
+        put_all(waiting, outcome.notices());
+        count_change(changes, counted.pulse() != pulse);
+        Ok(Answered { front, outcome })
+    }
+
+    /// A piece of news. The notice of a client that goes is dropped.
+    ///
+    /// # Errors
+    ///
+    /// As [`Held::command`].
+    pub fn notice(
+        &mut self,
+        seat: &mut Seat<A, B, C, D>,
+        news: News,
+    ) -> Result<Reported, PartitionFault>
+        ensures found { seat.old.number < 4 → own_in seat.old.number self.old.player.present ≡ seat.old.made }
+        ensures legal { IsPast self.old.player }
+        ensures told { IfOk result (λ told. told ≡ told_of self.old.player.present (event_of news)) }
+        ensures player { IfOk result (λ told. self.new.player ≡ joined_by self.old.player (entry seat.old.number (event_of news) told)) }
+        ensures within { OnOk result (limit_of seat.old.number self.old.player.present (event_of news) ≡ None) }
+        ensures waiting { IfOk result (λ told. self.new.waiting ≡ kept_at news self.old.waiting ++ told.notices) }
+        ensures kept { OnErr result (self.new.waiting ≡ self.old.waiting) }
+        ensures made { OnOk result (seat.new ≡ after_events seat.old 1) }
+        ensures seat { OnErr result (seat.new ≡ seat.old) }
+        ensures books { (self.new.books ≡ self.old.books) × (self.new.is_settled ≡ self.old.is_settled) × (self.new.free ≡ self.old.free) }
+        ensures refused { IfErr result (λ fault. IsRefusedFor self.old.player seat.old.number (event_of news) fault) }
+        ensures spared { OnErr result (IsSpared self.old.player self.new.player) }
+        ensures somewhere { IfOk result (λ told. seat.old.number < 4 → TellsSomewhere seat.old.number seat.old.made (event_of news) told) }
+    {
+        let Held {
+            alloc,
+            counted,
+            waiting,
+            books: _books,
+            free: _free,
+            is_settled: _is_settled,
+            changes,
+        } = self;
+        let pulse = counted.pulse();
+        let gone = news.gone();
+        let outcome = hear_news(*alloc, counted, waiting, seat, news)?;
+        drop_gone(waiting, gone);
+        put_all(waiting, outcome.notices());
+        count_change(changes, counted.pulse() != pulse);
+        Ok(Reported {
+            outcome,
+            changes: *changes,
+        })
+    }
+
+    /// The end: from now on nothing is decoded and no scan begins.
+    ///
+    /// # Errors
+    ///
+    /// As [`Held::command`].
+    pub fn end(&mut self, seat: &mut Seat<A, B, C, D>) -> Result<(), PartitionFault>
+        ensures found { seat.old.number < 4 → own_in seat.old.number self.old.player.present ≡ seat.old.made }
+        ensures legal { IsPast self.old.player }
+        ensures player { OnOk result (self.new.player ≡ joined_by self.old.player (entry seat.old.number End (told_of self.old.player.present End))) }
+        ensures within { OnOk result (limit_of seat.old.number self.old.player.present End ≡ None) }
+        ensures waiting { OnOk result (self.new.waiting ≡ self.old.waiting ++ (told_of self.old.player.present End).notices) }
+        ensures kept { OnErr result (self.new.waiting ≡ self.old.waiting) }
+        ensures made { OnOk result (seat.new ≡ after_events seat.old 1) }
+        ensures seat { OnErr result (seat.new ≡ seat.old) }
+        ensures books { (self.new.books ≡ self.old.books) × (self.new.is_settled ≡ self.old.is_settled) × (self.new.free ≡ self.old.free) }
+        ensures refused { IfErr result (λ fault. IsRefusedFor self.old.player seat.old.number End fault) }
+        ensures spared { OnErr result (IsSpared self.old.player self.new.player) }
+    {
+        let Held {
+            alloc,
+            counted,
+            waiting,
+            books: _books,
+            free: _free,
+            is_settled: _is_settled,
+            changes,
+        } = self;
+        let outcome = hear_end(*alloc, counted, waiting, seat)?;
+        put_all(waiting, outcome.notices());
+        count_change(changes, true);
+        Ok(())
+    }
+
+    /// Folds the history where the texts of its window take more than 16 MiB. Where there is no memory for that, nothing changes.
+    pub fn lighten(&mut self)
+        ensures player { (self.new.player ≡ self.old.player) ⊎ (self.new.player ≡ folded self.old.player) }
+        ensures waiting { self.new.waiting ≡ self.old.waiting }
+        ensures books { (self.new.books ≡ self.old.books) × (self.new.is_settled ≡ self.old.is_settled) × (self.new.free ≡ self.old.free) }
+    {
+        let Held {
+            alloc: _alloc,
+            counted,
+            waiting: _waiting,
+            books: _books,
+            free: _free,
+            is_settled: _is_settled,
+            changes: _changes,
+        } = self;
+        counted.lighten();
+    }
+
+    /// Whether the daemon has ended.
+    pub fn has_ended(&self) -> bool
+        ensures { result ≡ self.now.player.present.shared.ended }
+    {
+        self.counted.has_ended()
+    }
+
+    /// How often something changed that a thread at rest is woken for.
+    pub(crate) fn changes(&self) -> u64 {
+        self.changes
+    }
+
+    /// Whether a song is being played.
+    pub(crate) fn plays(&self) -> bool {
+        self.counted.plays()
+    }
+
+    /// The song of an entry of the present queue. It is no event.
+    pub fn song(&self, id: u32) -> Result<Option<SharedSong>, AllocError> {
+        self.counted.song(id)
+    }
+
+    /// The client's waiting notice, which is taken out. It is no event and takes no memory.
+    pub fn outbox(&mut self, client: u32) -> Option<Notice>
+        ensures notice { result ≡ first_for client self.old.waiting }
+        ensures waiting { self.new.waiting ≡ without_first client self.old.waiting }
+        ensures player { self.new.player ≡ self.old.player }
+        ensures books { (self.new.books ≡ self.old.books) × (self.new.is_settled ≡ self.old.is_settled) × (self.new.free ≡ self.old.free) }
+    {
+        take_first(&mut self.waiting, client)
+    }
+}

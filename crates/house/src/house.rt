@@ -1,0 +1,307 @@
+//! The house: one lock, which any thread with a seat takes.
+ghost use Rattle.std.specs.Prelude.{◌≡◌, ◌+◌, ◌<◌, ◌↔◌, Err, IfErr, IfOk, IsNone, OnErr, OnOk, length, ℕ};
+ghost use Rattle.frame_ledger.specs.Balance.{Balances, IsBlankOf as IsBlank};
+ghost use Rattle.frame_ledger.specs.declared.settlement.SettleFault.TheVariants.{Unsettled};
+ghost use Rattle.output_ring.specs.Rings.{AreEndsAfter};
+ghost use Rattle.partition.specs.Shelves.{nothing_heard};
+ghost use Rattle.partition.specs.declared.event.Event.TheVariants.{Line};
+ghost use Rattle.partition.specs.declared.event.Stand.TheVariants.{Alone};
+ghost use Rattle.house.specs.Lists.{StopsListSomewhere, TellsListSomewhere};
+ghost use Rattle.house.specs.News.{event_of};
+ghost use Rattle.house.specs.Seats.{after_events, IsBlankOf};
+ghost use Rattle.house.specs.Views.{AnswersSomewhere, IsFresh, IsUnwritten, TellsSomewhere};
+
+use crate::answered::{Answered, AnsweredList, Reported};
+use crate::fed::Fed;
+use crate::held::{Blanks, CrewShares, Held};
+use crate::news::News;
+use crate::seat::{NoSeat, Seat};
+use command_lists::ListForm;
+use frame_ledger::{OutputShares, SettleFault, Settled};
+use mpd_command::Request;
+use output_ring::{Drainer, Fates, FeederEnd};
+use partition::{ListFault, Notice, Partition, PartitionFault};
+use shelf::Shelf;
+use song_db::SharedSong;
+use std::alloc::{AllocError, Global};
+use std::sync::ledger::{Ledger, Share};
+use std::sync::{Condvar, Mutex, Wait};
+use std::time::{Clock, Duration};
+
+/// How long a thread rests at most while nothing is played, in milliseconds.
+const IDLE_REST: u64 = 1_000;
+
+/// A player that any thread may use.
+#[derive(Drop)]
+pub struct House<A: Ledger, B: Ledger, C: Ledger, D: Ledger, E: Ledger, W: Ledger, X: Ledger> {
+    held: Mutex<Held<A, B, C, D, E, W, X>>,
+    /// Rung where something changed that a thread at rest is woken for.
+    bell: Condvar,
+}
+
+impl<A: Ledger, B: Ledger, C: Ledger, D: Ledger, E: Ledger, W: Ledger, X: Ledger> House<
+    A,
+    B,
+    C,
+    D,
+    E,
+    W,
+    X,
+> {
+    /// The house of a player of which no seat made an event yet.
+    pub fn open(
+        alloc: Global,
+        blanks: Blanks,
+        partition: Partition,
+    ) -> Result<(Self, CrewShares<E, W, X>), AllocError>
+        requires fresh { IsFresh partition.present }
+        requires seats { IsBlankOf blanks.first A.name A.parts × IsBlankOf blanks.second B.name B.parts × IsBlankOf blanks.third C.name C.parts × IsBlankOf blanks.fourth D.name D.parts }
+        requires books { IsBlank blanks.frames.decoded E.name E.parts × IsBlank blanks.frames.written W.name W.parts × IsBlank blanks.frames.discarded X.name X.parts }
+        ensures parts { IfOk result (λ r. (r.1.decoded.parts ≡ E.parts) × (r.1.outputs.written.parts ≡ W.parts) × (r.1.outputs.discarded.parts ≡ X.parts)) }
+        ensures amounts { IfOk result (λ r. (r.1.decoded.amount ≡ 0) × (r.1.outputs.written.amount ≡ 0) × (r.1.outputs.discarded.amount ≡ 0)) }
+    {
+        let (held, shares) = Held::open(alloc, blanks, partition)?;
+        Ok((
+            House {
+                held: Mutex::new(held),
+                bell: Condvar::new(),
+            },
+            shares,
+        ))
+    }
+
+    /// A seat that made no event yet. It takes no memory.
+    ///
+    /// # Errors
+    ///
+    /// [`NoSeat`] where all four are given.
+    pub fn seat(&self, rt: &impl Wait) -> Result<Seat<A, B, C, D>, NoSeat>
+        ensures { IfOk result (λ s. (s.number < 4) × (s.made ≡ 0)) }
+    {
+        self.held.lock(rt).seat()
+    }
+
+    /// One line of a client. The reply, the notice in front aside, is the one-thread player's after some past in which the caller's seat
+    /// had made the events that the caller made; the lent shelf answered and changed as that past and the line say.
+    ///
+    /// # Errors
+    ///
+    /// As [`Held::command`].
+    pub fn command<S: Shelf>(
+        &self,
+        rt: &impl Wait,
+        seat: &mut Seat<A, B, C, D>,
+        shelf: &mut S,
+        client: u32,
+        request: Request,
+    ) -> Result<Answered, PartitionFault>
+        ensures made { OnOk result (seat.new ≡ after_events seat.old 1) }
+        ensures fault { OnErr result ((seat.new ≡ seat.old) × IsUnwritten S.standing S.failed shelf.old shelf.new) }
+        ensures somewhere { IfOk result (λ a. seat.old.number < 4 → AnswersSomewhere S.standing S.failed shelf.old shelf.new seat.old.number seat.old.made (Line client Alone request nothing_heard) a.told.answer) }
+    {
+        let (told, rings) = {
+            let mut held = self.held.lock(rt);
+            let before = held.changes();
+            held.lighten();
+            let told = held.command(seat, shelf, client, request);
+            (told, held.changes() != before)
+        };
+        self.ring(rings);
+        told
+    }
+
+    /// The commands of a client's list under one taking of the lock.
+    ///
+    /// # Errors
+    ///
+    /// As [`Held::list`].
+    pub fn list<S: Shelf>(
+        &self,
+        rt: &impl Wait,
+        seat: &mut Seat<A, B, C, D>,
+        shelf: &mut S,
+        client: u32,
+        form: ListForm,
+        requests: Vec<Request>,
+    ) -> Result<AnsweredList, ListFault>
+        ensures made { IfOk result (λ a. seat.new ≡ after_events seat.old (length a.tolds)) }
+        ensures done { IfErr result (λ stop. seat.new ≡ after_events seat.old stop.done) }
+        ensures somewhere { IfOk result (λ a. seat.old.number < 4 → TellsListSomewhere S.standing S.failed shelf.old shelf.new seat.old.number seat.old.made client form requests.items a.tolds) }
+        ensures stopped { IfErr result (λ stop. seat.old.number < 4 → StopsListSomewhere S.standing S.failed shelf.old shelf.new seat.old.number seat.old.made client form requests.items stop) }
+    {
+        let (told, rings) = {
+            let mut held = self.held.lock(rt);
+            let before = held.changes();
+            held.lighten();
+            let told = held.list(seat, shelf, client, form, requests);
+            (told, held.changes() != before)
+        };
+        self.ring(rings);
+        told
+    }
+
+    /// A piece of news.
+    ///
+    /// # Errors
+    ///
+    /// As [`Held::notice`].
+    pub fn notice(
+        &self,
+        rt: &impl Wait,
+        seat: &mut Seat<A, B, C, D>,
+        news: News,
+    ) -> Result<Reported, PartitionFault>
+        ensures made { OnOk result (seat.new ≡ after_events seat.old 1) }
+        ensures fault { OnErr result (seat.new ≡ seat.old) }
+        ensures somewhere { IfOk result (λ told. seat.old.number < 4 → TellsSomewhere seat.old.number seat.old.made (event_of news) told) }
+    {
+        let (told, rings) = {
+            let mut held = self.held.lock(rt);
+            let before = held.changes();
+            held.lighten();
+            let told = held.notice(seat, news);
+            (told, held.changes() != before)
+        };
+        self.ring(rings);
+        told
+    }
+
+    /// The client's waiting notice, which is taken out. It is no event and takes no memory.
+    pub fn outbox(&self, rt: &impl Wait, client: u32) -> Option<Notice> {
+        self.held.lock(rt).outbox(client)
+    }
+
+    /// Frames of a job were decoded.
+    ///
+    /// # Errors
+    ///
+    /// As [`Held::have`].
+    pub fn have(
+        &self,
+        rt: &impl Wait,
+        seat: &mut Seat<A, B, C, D>,
+        number: u64,
+        frames: u64,
+        share: &mut Share<E>,
+    ) -> Result<Fed, PartitionFault>
+        requires { 0 < share.old.parts }
+        ensures made { OnOk result (seat.new ≡ after_events seat.old 1) }
+        ensures parts { share.new.parts ≡ share.old.parts }
+        ensures fault { OnErr result ((seat.new ≡ seat.old) × (share.new ≡ share.old)) }
+    {
+        let (told, rings) = {
+            let mut held = self.held.lock(rt);
+            let before = held.changes();
+            held.lighten();
+            let told = held.have(seat, number, frames, share);
+            (told, held.changes() != before)
+        };
+        self.ring(rings);
+        told
+    }
+
+    /// An output had its turn.
+    ///
+    /// # Errors
+    ///
+    /// As [`Held::turn`].
+    pub fn turn(
+        &self,
+        rt: &impl Wait,
+        seat: &mut Seat<A, B, C, D>,
+        output: usize,
+        fates: Fates,
+        failed: bool,
+        shares: &mut OutputShares<W, X>,
+    ) -> Result<Reported, PartitionFault>
+        requires { (0 < shares.old.written.parts) × (0 < shares.old.discarded.parts) }
+        ensures made { OnOk result (seat.new ≡ after_events seat.old 1) }
+        ensures parts { (shares.new.written.parts ≡ shares.old.written.parts) × (shares.new.discarded.parts ≡ shares.old.discarded.parts) }
+        ensures fault { OnErr result ((seat.new ≡ seat.old) × (shares.new ≡ shares.old)) }
+    {
+        let (told, rings) = {
+            let mut held = self.held.lock(rt);
+            let before = held.changes();
+            held.lighten();
+            let told = held.turn(seat, output, fates, failed, shares);
+            (told, held.changes() != before)
+        };
+        self.ring(rings);
+        told
+    }
+
+    /// Compares the books of an output with its ring.
+    ///
+    /// # Errors
+    ///
+    /// As [`Held::settle`].
+    pub fn settle(
+        &self,
+        rt: &impl Wait,
+        end: FeederEnd,
+        drainer: Drainer,
+        output: usize,
+        shares: &mut OutputShares<W, X>,
+    ) -> Result<Settled, SettleFault>
+        requires ends { AreEndsAfter end drainer }
+        requires output { output < 8 }
+        requires parts { (0 < shares.old.written.parts) × (0 < shares.old.discarded.parts) }
+        ensures balances { IfOk result (λ s. Balances end drainer s) }
+        ensures unsettled { (result ≡ Err Unsettled) ↔ IsNone end.finished }
+        ensures kept { (shares.new.written.parts ≡ shares.old.written.parts) × (shares.new.discarded.parts ≡ shares.old.discarded.parts) }
+    {
+        self.held.lock(rt).settle(end, drainer, output, shares)
+    }
+
+    /// The end: from now on nothing is decoded and no scan begins. Each thread of the house is told of it at its next event.
+    ///
+    /// # Errors
+    ///
+    /// As [`Held::end`].
+    pub fn end(&self, rt: &impl Wait, seat: &mut Seat<A, B, C, D>) -> Result<(), PartitionFault>
+        ensures made { OnOk result (seat.new ≡ after_events seat.old 1) }
+        ensures fault { OnErr result (seat.new ≡ seat.old) }
+    {
+        let ended = self.held.lock(rt).end(seat);
+        self.ring(true);
+        ended
+    }
+
+    /// The song of an entry of the present queue. It is no event.
+    pub fn song(&self, rt: &impl Wait, id: u32) -> Result<Option<SharedSong>, AllocError> {
+        self.held.lock(rt).song(id)
+    }
+
+    /// Whether the daemon has ended.
+    pub fn has_ended(&self, rt: &impl Wait) -> bool {
+        self.held.lock(rt).has_ended()
+    }
+
+    /// Rests until something changed since the house had changed so often; while a song is played, no longer than the time that is
+    /// given, and else a second. Answers how often it has changed by then.
+    ///
+    /// What changes is what a thread has something to do for ([`Reported::changes`](crate::Reported::changes)): whether and what is
+    /// played, which outputs are enabled, which scan runs, and the end. Frames in a ring are no change.
+    pub fn rest<R: Wait + Clock>(&self, rt: &R, seen: u64, while_playing: Duration) -> u64 {
+        let plays = self.held.lock(rt).plays();
+        let most = if plays {
+            while_playing
+        } else {
+            Duration::from_millis(IDLE_REST)
+        };
+        let _waited = self.bell.wait_timeout_while(
+            rt,
+            self.held.lock(rt),
+            most,
+            |held| held.changes() == seen,
+        );
+        self.held.lock(rt).changes()
+    }
+
+    /// Wakes the threads that rest, if they are to be woken.
+    fn ring(&self, rings: bool) {
+        if rings {
+            self.bell.notify_all();
+        }
+    }
+}

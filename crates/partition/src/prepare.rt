@@ -1,0 +1,112 @@
+//! What an event needs that can fail, made ready before anything changes.
+ghost use Rattle.std.specs.Prelude.{◌≡◌, ◌≤◌, [], true, false, count_by, IfErr, IfOk};
+ghost use Rattle.partition.specs.Outputs.{books_after, can_count_all};
+ghost use Rattle.partition.specs.Refusals.{RefusesFrames};
+ghost use Rattle.partition.specs.Rooms.{is_waiting, listed, room_in};
+ghost use Rattle.partition.specs.Settled.{HasRoom};
+ghost use Rattle.partition.specs.Shelves.{is_written};
+ghost use Rattle.partition.specs.Signs.{signs};
+ghost use Rattle.partition.specs.Step.{name_at, raised_by, report_of, stand_of};
+
+use crate::books::Books;
+use crate::clients::waiting;
+use crate::event::Event;
+use crate::notices::Notices;
+use crate::partition::PartitionFault;
+use crate::plan::Plan;
+use crate::refusals::Refusals;
+use crate::signs::Signs;
+use crate::state::{Client, Library, Part};
+use std::alloc::{AllocError, Global};
+
+/// Lists for the notices of an event, one to hand out and one to keep, and what tells whether it changed a part of the player.
+#[derive(Drop)]
+pub(crate) struct Prepared {
+    pub(crate) given: Notices,
+    pub(crate) kept: Notices,
+    pub(crate) before: Signs,
+}
+
+impl Prepared {
+    /// With room for so many notices in each list.
+    fn with_room(
+        alloc: Global,
+        part: &Part,
+        library: &Library,
+        room: usize,
+    ) -> Result<Prepared, AllocError>
+        ensures given { IfOk result (λ prepared. listed prepared.given ≡ []) }
+        ensures kept { IfOk result (λ prepared. listed prepared.kept ≡ []) }
+        ensures given_room { IfOk result (λ prepared. room ≤ room_in prepared.given) }
+        ensures kept_room { IfOk result (λ prepared. room ≤ room_in prepared.kept) }
+        ensures before { IfOk result (λ prepared. prepared.before ≡ signs part.now library.now) }
+    {
+        Ok(Prepared {
+            given: Notices::with_room(alloc, room)?,
+            kept: Notices::with_room(alloc, room)?,
+            before: Signs::of(alloc, part, library)?,
+        })
+    }
+}
+
+/// What a plan needs that writes nothing to the shelf, and the books after it.
+///
+/// A plan is lent, here and below, so that it isn't dropped at each way out: a proof would go through every kind of doing there.
+#[tactic(auto, using(crate::proofs::Settled::more_room))]
+pub(crate) fn prepare_step(
+    alloc: Global,
+    part: &Part,
+    library: &Library,
+    clients: &[Client],
+    books: &Books,
+    plan: &Plan,
+) -> Result<(Prepared, Books), PartitionFault>
+    requires { is_written plan.now.written ≡ false }
+    ensures given { IfOk result (λ made. listed made.0.given ≡ []) }
+    ensures kept { IfOk result (λ made. listed made.0.kept ≡ []) }
+    ensures given_room { IfOk result (λ made. HasRoom (raised_by part.now library.now plan.now) clients.now (room_in made.0.given)) }
+    ensures kept_room { IfOk result (λ made. HasRoom (raised_by part.now library.now plan.now) clients.now (room_in made.0.kept)) }
+    ensures before { IfOk result (λ made. made.0.before ≡ signs part.now library.now) }
+    ensures counted { IfOk result (λ made. can_count_all (books_after books.now part.now.outputs plan.now.doing (report_of part.now library.now plan.now)) ≡ true) }
+    ensures books { IfOk result (λ made. made.1 ≡ books_after books.now part.now.outputs plan.now.doing (report_of part.now library.now plan.now)) }
+    ensures refused { IfErr result (λ fault. RefusesFrames books.now part.now library.now plan.now fault) }
+{
+    let Some(books) = books.after(part, &plan.doing) else {
+        return Err(PartitionFault::AtLimit);
+    };
+    let room = room_wanted(plan, part, library, clients);
+    let prepared = Prepared::with_room(alloc, part, library, room)?;
+    Ok((prepared, books))
+}
+
+/// What an event needs that writes to the shelf, and its answers for each refusal of the shelf.
+pub(crate) fn prepare_write(
+    alloc: Global,
+    part: &Part,
+    library: &Library,
+    clients: &[Client],
+    event: &Event,
+) -> Result<(Prepared, Refusals), AllocError>
+    ensures given { IfOk result (λ made. listed made.0.given ≡ []) }
+    ensures kept { IfOk result (λ made. listed made.0.kept ≡ []) }
+    ensures given_room { IfOk result (λ made. count_by is_waiting clients.now ≤ room_in made.0.given) }
+    ensures kept_room { IfOk result (λ made. count_by is_waiting clients.now ≤ room_in made.0.kept) }
+    ensures before { IfOk result (λ made. made.0.before ≡ signs part.now library.now) }
+    ensures refusals { IfOk result (λ made. made.1 ≡ (stand_of event.now, name_at event.now)) }
+{
+    let prepared = Prepared::with_room(alloc, part, library, waiting(clients))?;
+    let refusals = Refusals::of(alloc, event)?;
+    Ok((prepared, refusals))
+}
+
+/// How many notices a plan can give at most. For one that changes nothing no client is looked at.
+fn room_wanted(plan: &Plan, part: &Part, library: &Library, clients: &[Client]) -> usize
+    requires { is_written plan.now.written ≡ false }
+    ensures { HasRoom (raised_by part.now library.now plan.now) clients.now result }
+{
+    if plan.changes(part, library) {
+        waiting(clients)
+    } else {
+        0
+    }
+}
