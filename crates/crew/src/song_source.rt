@@ -1,0 +1,20 @@
+//! Where the files of songs are had.
+use mpd_text::Media;
+use std::alloc::Global;
+
+/// Why a song's file is not had.
+#[derive(Clone, Copy, Debug, PartialEq, Eq)]
+pub enum SongFault {
+    /// It cannot be opened.
+    Unopened,
+    /// There was no memory.
+    NoMemory,
+}
+
+/// Gives the file of a song.
+pub trait SongSource {
+    type File: Media + Drop;
+
+    /// The file of the song of this URI.
+    fn open(&mut self, alloc: Global, uri: &str) -> Result<Self::File, SongFault>;
+}
