@@ -1,4 +1,5 @@
 pub mod Booked
+pub mod Crosses
 pub mod Eight
 pub mod Few
 pub mod Frameless

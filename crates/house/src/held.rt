@@ -326,6 +326,13 @@ impl<A: Ledger, B: Ledger, C: Ledger, D: Ledger, E: Ledger, W: Ledger, X: Ledger
         self.counted.plays()
     }
 
+    /// Whether a notice waits for a client.
+    pub fn has_notices(&self) -> bool
+        ensures { (result ≡ false) ↔ (self.now.waiting ≡ []) }
+    {
+        !self.waiting.is_empty()
+    }
+
     /// The song of an entry of the present queue. It is no event.
     pub fn song(&self, id: u32) -> Result<Option<SharedSong>, AllocError> {
         self.counted.song(id)

@@ -37,6 +37,15 @@ pub struct House<A: Ledger, B: Ledger, C: Ledger, D: Ledger, E: Ledger, W: Ledge
     held: Mutex<Held<A, B, C, D, E, W, X>>,
     /// Rung where something changed that a thread at rest is woken for.
     bell: Condvar,
+    /// Rung where a notice waits for a client.
+    door: Condvar,
+}
+
+/// Which of the two is rung once the lock is free.
+#[derive(Clone, Copy)]
+struct Rung {
+    bell: bool,
+    door: bool,
 }
 
 impl<A: Ledger, B: Ledger, C: Ledger, D: Ledger, E: Ledger, W: Ledger, X: Ledger> House<
@@ -65,6 +74,7 @@ impl<A: Ledger, B: Ledger, C: Ledger, D: Ledger, E: Ledger, W: Ledger, X: Ledger
             House {
                 held: Mutex::new(held),
                 bell: Condvar::new(),
+                door: Condvar::new(),
             },
             shares,
         ))
@@ -99,14 +109,14 @@ impl<A: Ledger, B: Ledger, C: Ledger, D: Ledger, E: Ledger, W: Ledger, X: Ledger
         ensures fault { OnErr result ((seat.new ≡ seat.old) × IsUnwritten S.standing S.failed shelf.old shelf.new) }
         ensures somewhere { IfOk result (λ a. seat.old.number < 4 → AnswersSomewhere S.standing S.failed shelf.old shelf.new seat.old.number seat.old.made (Line client Alone request nothing_heard) a.told.answer) }
     {
-        let (told, rings) = {
+        let (told, rung) = {
             let mut held = self.held.lock(rt);
             let before = held.changes();
             held.lighten();
             let told = held.command(seat, shelf, client, request);
-            (told, held.changes() != before)
+            (told, rung_since(&*held, before))
         };
-        self.ring(rings);
+        self.ring(rung);
         told
     }
 
@@ -129,14 +139,14 @@ impl<A: Ledger, B: Ledger, C: Ledger, D: Ledger, E: Ledger, W: Ledger, X: Ledger
         ensures somewhere { IfOk result (λ a. seat.old.number < 4 → TellsListSomewhere S.standing S.failed shelf.old shelf.new seat.old.number seat.old.made client form requests.items a.tolds) }
         ensures stopped { IfErr result (λ stop. seat.old.number < 4 → StopsListSomewhere S.standing S.failed shelf.old shelf.new seat.old.number seat.old.made client form requests.items stop) }
     {
-        let (told, rings) = {
+        let (told, rung) = {
             let mut held = self.held.lock(rt);
             let before = held.changes();
             held.lighten();
             let told = held.list(seat, shelf, client, form, requests);
-            (told, held.changes() != before)
+            (told, rung_since(&*held, before))
         };
-        self.ring(rings);
+        self.ring(rung);
         told
     }
 
@@ -155,14 +165,14 @@ impl<A: Ledger, B: Ledger, C: Ledger, D: Ledger, E: Ledger, W: Ledger, X: Ledger
         ensures fault { OnErr result (seat.new ≡ seat.old) }
         ensures somewhere { IfOk result (λ told. seat.old.number < 4 → TellsSomewhere seat.old.number seat.old.made (event_of news) told) }
     {
-        let (told, rings) = {
+        let (told, rung) = {
             let mut held = self.held.lock(rt);
             let before = held.changes();
             held.lighten();
             let told = held.notice(seat, news);
-            (told, held.changes() != before)
+            (told, rung_since(&*held, before))
         };
-        self.ring(rings);
+        self.ring(rung);
         told
     }
 
@@ -189,14 +199,14 @@ impl<A: Ledger, B: Ledger, C: Ledger, D: Ledger, E: Ledger, W: Ledger, X: Ledger
         ensures parts { share.new.parts ≡ share.old.parts }
         ensures fault { OnErr result ((seat.new ≡ seat.old) × (share.new ≡ share.old)) }
     {
-        let (told, rings) = {
+        let (told, rung) = {
             let mut held = self.held.lock(rt);
             let before = held.changes();
             held.lighten();
             let told = held.have(seat, number, frames, share);
-            (told, held.changes() != before)
+            (told, rung_since(&*held, before))
         };
-        self.ring(rings);
+        self.ring(rung);
         told
     }
 
@@ -219,14 +229,14 @@ impl<A: Ledger, B: Ledger, C: Ledger, D: Ledger, E: Ledger, W: Ledger, X: Ledger
         ensures parts { (shares.new.written.parts ≡ shares.old.written.parts) × (shares.new.discarded.parts ≡ shares.old.discarded.parts) }
         ensures fault { OnErr result ((seat.new ≡ seat.old) × (shares.new ≡ shares.old)) }
     {
-        let (told, rings) = {
+        let (told, rung) = {
             let mut held = self.held.lock(rt);
             let before = held.changes();
             held.lighten();
             let told = held.turn(seat, output, fates, failed, shares);
-            (told, held.changes() != before)
+            (told, rung_since(&*held, before))
         };
-        self.ring(rings);
+        self.ring(rung);
         told
     }
 
@@ -263,7 +273,8 @@ impl<A: Ledger, B: Ledger, C: Ledger, D: Ledger, E: Ledger, W: Ledger, X: Ledger
         ensures fault { OnErr result (seat.new ≡ seat.old) }
     {
         let ended = self.held.lock(rt).end(seat);
-        self.ring(true);
+        self.bell.notify_all();
+        self.door.notify_all();
         ended
     }
 
@@ -298,10 +309,35 @@ impl<A: Ledger, B: Ledger, C: Ledger, D: Ledger, E: Ledger, W: Ledger, X: Ledger
         self.held.lock(rt).changes()
     }
 
+    /// Waits until a notice waits for a client, the daemon ends, or the time is up, and says whether a notice waits.
+    pub fn await_notice<R: Wait + Clock>(&self, rt: &R, most: Duration) -> bool {
+        let _waited = self.door.wait_timeout_while(
+            rt,
+            self.held.lock(rt),
+            most,
+            |held| !held.has_notices() && !held.has_ended(),
+        );
+        self.held.lock(rt).has_notices()
+    }
+
     /// Wakes the threads that rest, if they are to be woken.
-    fn ring(&self, rings: bool) {
-        if rings {
+    fn ring(&self, rung: Rung) {
+        if rung.bell {
             self.bell.notify_all();
         }
+        if rung.door {
+            self.door.notify_all();
+        }
+    }
+}
+
+/// What is rung where the house had changed so often before a step.
+fn rung_since<A: Ledger, B: Ledger, C: Ledger, D: Ledger, E: Ledger, W: Ledger, X: Ledger>(
+    held: &Held<A, B, C, D, E, W, X>,
+    before: u64,
+) -> Rung {
+    Rung {
+        bell: held.changes() != before,
+        door: held.has_notices(),
     }
 }

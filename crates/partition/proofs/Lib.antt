@@ -3,6 +3,7 @@ pub mod Asking
 pub mod Booked
 pub mod Chronicles
 pub mod Counts
+pub mod Crosses
 pub mod Whole
 pub mod Flags
 pub mod Frames

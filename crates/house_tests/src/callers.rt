@@ -1,0 +1,172 @@
+//! Two threads add songs to one queue.
+ghost use Rattle.std.specs.Prelude.{◌≡◌, ◌+◌, ◌<◌, IfOk};
+ghost use Rattle.house.specs.Seats.{IsBlankOf};
+
+use crate::rooms::{adds_a_song, blanks, comes, player, says, wants};
+use house::{Blanks, House, Seat};
+use partition::PartitionFault;
+use std::alloc::{AllocError, Global};
+use std::marker::Brand;
+use std::sync::Wait;
+use std::sync::ledger::Ledger;
+use std::test::Fail;
+use std::thread;
+use std::thread::Threads;
+
+/// A client comes, and adds a song a hundred times.
+fn adds<A: Ledger, B: Ledger, C: Ledger, D: Ledger, E: Ledger, W: Ledger, X: Ledger>(
+    rt: &impl Wait,
+    alloc: Global,
+    house: &House<A, B, C, D, E, W, X>,
+    seat: Seat<A, B, C, D>,
+    client: u32,
+) -> Result<Seat<A, B, C, D>, PartitionFault>
+    requires { seat.number < 4 }
+    ensures { IfOk result (λ s. (s.number ≡ seat.number) × (s.made ≡ seat.made + 101)) }
+{
+    let mut seat = seat;
+    comes(rt, house, &mut seat, client)?;
+    for _i in 0..100u32 {
+        adds_a_song(rt, alloc, house, &mut seat, client)?;
+    }
+    Ok(seat)
+}
+
+/// The events of two callers' seats, whether a fifth seat was given, and the last client's status.
+#[derive(Drop)]
+struct Counts {
+    first: u64,
+    second: u64,
+    fifth: bool,
+    status: String,
+}
+
+/// Both clients add their songs, each in a thread of its own.
+fn add_at_once<
+    A: Ledger + Send + Sync,
+    B: Ledger + Send + Sync,
+    C: Ledger + Send + Sync,
+    D: Ledger + Send + Sync,
+    E: Ledger + Send + Sync,
+    W: Ledger + Send + Sync,
+    X: Ledger + Send + Sync,
+    R: Threads + Wait + Sync,
+>(
+    rt: &R,
+    alloc: Global,
+    house: &House<A, B, C, D, E, W, X>,
+    one: Seat<A, B, C, D>,
+    two: Seat<A, B, C, D>,
+) -> (
+    Result<Seat<A, B, C, D>, PartitionFault>,
+    Result<Seat<A, B, C, D>, PartitionFault>,
+)
+    requires one { (one.made ≡ 0) × (one.number < 4) }
+    requires two { (two.made ≡ 0) × (two.number < 4) }
+    ensures { IfOk result.0 (λ s. s.made ≡ 101) × IfOk result.1 (λ s. s.made ≡ 101) }
+{
+    thread::join(
+        rt,
+        move || -> Result<Seat<A, B, C, D>, PartitionFault>
+            requires { (one.made ≡ 0) × (one.number < 4) }
+            ensures { IfOk result (λ s. s.made ≡ 101) }
+        { adds(rt, alloc, house, one, 1) },
+        move || -> Result<Seat<A, B, C, D>, PartitionFault>
+            requires { (two.made ≡ 0) × (two.number < 4) }
+            ensures { IfOk result (λ s. s.made ≡ 101) }
+        { adds(rt, alloc, house, two, 2) },
+    )
+}
+
+fn race<
+    A: Ledger + Send + Sync,
+    B: Ledger + Send + Sync,
+    C: Ledger + Send + Sync,
+    D: Ledger + Send + Sync,
+    E: Ledger + Send + Sync,
+    W: Ledger + Send + Sync,
+    X: Ledger + Send + Sync,
+    R: Threads + Wait + Sync,
+>(rt: &R, alloc: Global, house: &House<A, B, C, D, E, W, X>) -> Result<Counts, PartitionFault>
+    ensures { IfOk result (λ e. (e.first ≡ 101) × (e.second ≡ 101)) }
+{
+    let (Ok(one), Ok(two), Ok(mut three)) = (house.seat(rt), house.seat(rt), house.seat(rt)) else {
+        return Err(PartitionFault::NoMemory);
+    };
+    let (one, two) = add_at_once(rt, alloc, house, one, two);
+    let first = one?.made();
+    let second = two?.made();
+    comes(rt, house, &mut three, 3)?;
+    let status = says(rt, alloc, house, &mut three, 3, "status")?;
+    let _fourth = house.seat(rt);
+    let fifth = house.seat(rt).is_ok();
+    Ok(Counts {
+        first,
+        second,
+        fifth,
+        status,
+    })
+}
+
+fn evening<
+    A: Ledger + Send + Sync,
+    B: Ledger + Send + Sync,
+    C: Ledger + Send + Sync,
+    D: Ledger + Send + Sync,
+    E: Ledger + Send + Sync,
+    W: Ledger + Send + Sync,
+    X: Ledger + Send + Sync,
+    R: Threads + Wait + Sync,
+>(rt: &R, alloc: Global, blanks: Blanks, history: u32) -> Result<Counts, PartitionFault>
+    requires seats { IsBlankOf blanks.first A.name A.parts × IsBlankOf blanks.second B.name B.parts × IsBlankOf blanks.third C.name C.parts × IsBlankOf blanks.fourth D.name D.parts }
+    requires books { IsBlankOf blanks.frames.decoded E.name E.parts × IsBlankOf blanks.frames.written W.name W.parts × IsBlankOf blanks.frames.discarded X.name X.parts }
+    ensures { IfOk result (λ e. (e.first ≡ 101) × (e.second ≡ 101)) }
+{
+    let (house, _shares) = House::<A, B, C, D, E, W, X>::open(
+        alloc,
+        blanks,
+        player(alloc, history)?,
+    )?;
+    race(rt, alloc, &house)
+}
+
+fn told<R: Threads + Wait + Sync>(
+    rt: &R,
+    alloc: Global,
+    history: u32,
+) -> Result<String, PartitionFault> {
+    let counts = evening::<Brand, Brand, Brand, Brand, Brand, Brand, Brand, R>(
+        rt,
+        alloc,
+        blanks(),
+        history,
+    )?;
+    let (first, second, fifth) = (counts.first, counts.second, counts.fifth);
+    let status = counts.status.as_str();
+    Ok(format!(in alloc; "{first} {second} {fifth}\n{status}")?)
+}
+
+const WANTED: &str = "101 101 false
+volume: 100
+repeat: 0
+random: 0
+single: 0
+consume: 0
+partition: default
+playlist: 201
+playlistlength: 200
+state: stop
+OK
+";
+
+#[test]
+fn two_threads_add_songs(rt: HostRuntime) -> Result<(), Fail> {
+    wants(&rt, told(&rt, rt.alloc(), 4096), WANTED);
+    Ok(())
+}
+
+#[test]
+fn a_window_of_three_is_folded(rt: HostRuntime) -> Result<(), Fail> {
+    wants(&rt, told(&rt, rt.alloc(), 3), WANTED);
+    Ok(())
+}

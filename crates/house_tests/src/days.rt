@@ -1,0 +1,139 @@
+//! Clients come and go, a scan is asked for, and lists are run.
+ghost use Rattle.std.specs.Prelude.{◌≡◌};
+ghost use Rattle.frame_ledger.specs.Balance.{IsBlankOf as IsBlank};
+ghost use Rattle.house.specs.Seats.{IsBlankOf};
+
+use crate::rooms::{blanks, comes, lists, opened, says, wants};
+use house::{Blanks, House, News, Seat};
+use partition::{PartitionFault, Report};
+use std::alloc::Global;
+use std::marker::Brand;
+use std::sync::Wait;
+use std::sync::ledger::Ledger;
+use std::test::Fail;
+
+/// What is told at a piece of news: to a client, or to a scanner.
+fn news<A: Ledger, B: Ledger, C: Ledger, D: Ledger, E: Ledger, W: Ledger, X: Ledger>(
+    rt: &impl Wait,
+    alloc: Global,
+    house: &House<A, B, C, D, E, W, X>,
+    seat: &mut Seat<A, B, C, D>,
+    news: News,
+) -> Result<String, PartitionFault> {
+    let told = house.notice(rt, seat, news)?;
+    let mut heard = String::from_str(alloc, told.reply().text())?;
+    match told.report() {
+        Report::ToScan(Some(number)) => heard.push_str(format!(in alloc;
+            "scan {number}\n"
+        )?.as_str())?,
+        Report::ToScan(None) => heard.push_str("no scan\n")?,
+        Report::ScanEnded(true) => heard.push_str("ended\n")?,
+        _ => heard.push_str("heard\n")?,
+    }
+    Ok(heard)
+}
+
+/// What waits in the outbox of a client.
+fn outbox<A: Ledger, B: Ledger, C: Ledger, D: Ledger, E: Ledger, W: Ledger, X: Ledger>(
+    rt: &impl Wait,
+    house: &House<A, B, C, D, E, W, X>,
+    client: u32,
+) -> &'static str {
+    match house.outbox(rt, client) {
+        Some(_) => "a notice\n",
+        None => "none\n",
+    }
+}
+
+/// A client waits, another makes a change in a list, and the first goes before it is told.
+fn goes<A: Ledger, B: Ledger, C: Ledger, D: Ledger, E: Ledger, W: Ledger, X: Ledger>(
+    rt: &impl Wait,
+    alloc: Global,
+    house: &House<A, B, C, D, E, W, X>,
+    seat: &mut Seat<A, B, C, D>,
+) -> Result<String, PartitionFault> {
+    comes(rt, house, seat, 1)?;
+    says(rt, alloc, house, seat, 1, "idle")?;
+    comes(rt, house, seat, 2)?;
+    let mut heard = lists(rt, alloc, house, seat, 2, "setvol 40")?;
+    heard.push_str(news(rt, alloc, house, seat, News::Goes(1))?.as_str())?;
+    heard.push_str(outbox(rt, house, 1))?;
+    Ok(heard)
+}
+
+/// A scan is asked for and fails.
+fn scans<A: Ledger, B: Ledger, C: Ledger, D: Ledger, E: Ledger, W: Ledger, X: Ledger>(
+    rt: &impl Wait,
+    alloc: Global,
+    house: &House<A, B, C, D, E, W, X>,
+    seat: &mut Seat<A, B, C, D>,
+) -> Result<String, PartitionFault> {
+    let mut heard = news(rt, alloc, house, seat, News::AsksToScan)?;
+    heard.push_str(says(rt, alloc, house, seat, 2, "update")?.as_str())?;
+    heard.push_str(news(rt, alloc, house, seat, News::AsksToScan)?.as_str())?;
+    heard.push_str(news(rt, alloc, house, seat, News::Scanned(None))?.as_str())?;
+    Ok(heard)
+}
+
+/// Sixty-three more clients come, and one too many.
+fn crowds<A: Ledger, B: Ledger, C: Ledger, D: Ledger, E: Ledger, W: Ledger, X: Ledger>(
+    rt: &impl Wait,
+    alloc: Global,
+    house: &House<A, B, C, D, E, W, X>,
+    seat: &mut Seat<A, B, C, D>,
+) -> Result<String, PartitionFault> {
+    for client in 3..65u32 {
+        comes(rt, house, seat, client)?;
+    }
+    let mut heard = news(rt, alloc, house, seat, News::Comes(65))?;
+    heard.push_str(news(rt, alloc, house, seat, News::Comes(66))?.as_str())?;
+    heard.push_str(says(rt, alloc, house, seat, 66, "ping")?.as_str())?;
+    Ok(heard)
+}
+
+fn evening<A: Ledger, B: Ledger, C: Ledger, D: Ledger, E: Ledger, W: Ledger, X: Ledger>(
+    rt: &impl Wait,
+    alloc: Global,
+    blanks: Blanks,
+) -> Result<String, PartitionFault>
+    requires seats { IsBlankOf blanks.first A.name A.parts × IsBlankOf blanks.second B.name B.parts × IsBlankOf blanks.third C.name C.parts × IsBlankOf blanks.fourth D.name D.parts }
+    requires books { IsBlank blanks.frames.decoded E.name E.parts × IsBlank blanks.frames.written W.name W.parts × IsBlank blanks.frames.discarded X.name X.parts }
+{
+    let (house, _shares) = opened::<A, B, C, D, E, W, X>(alloc, blanks, 4096)?;
+    let Ok(mut seat) = house.seat(rt) else {
+        return Err(PartitionFault::NoMemory);
+    };
+    let mut heard = goes(rt, alloc, &house, &mut seat)?;
+    heard.push_str(scans(rt, alloc, &house, &mut seat)?.as_str())?;
+    heard.push_str(crowds(rt, alloc, &house, &mut seat)?.as_str())?;
+    let made = format!(in alloc; "{}\n", seat.made())?;
+    heard.push_str(made.as_str())?;
+    Ok(heard)
+}
+
+fn told(rt: &impl Wait, alloc: Global) -> Result<String, PartitionFault> {
+    evening::<Brand, Brand, Brand, Brand, Brand, Brand, Brand>(rt, alloc, blanks())
+}
+
+// Events: 5 until the first client goes, 4 about the scan, and of the crowd 62, 2 and 1.
+#[test]
+fn clients_come_and_go(rt: HostRuntime) -> Result<(), Fail> {
+    wants(
+        &rt,
+        told(&rt, rt.alloc()),
+        "OK
+heard
+none
+no scan
+updating_db: 1
+OK
+scan 1
+ended
+OK MPD 0.23.0
+heard
+heard
+74
+",
+    );
+    Ok(())
+}

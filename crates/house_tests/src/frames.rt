@@ -1,0 +1,235 @@
+//! Frames of a job under the lock: fed, written, and settled.
+ghost use Rattle.std.specs.Prelude.{◌≡◌, ◌<◌, IfOk};
+ghost use Rattle.frame_ledger.specs.Balance.{IsBlankOf as IsBlank};
+ghost use Rattle.house.specs.Seats.{IsBlankOf};
+ghost use Rattle.output_ring.specs.Rings.{AreEndsAfter, SameDrainer};
+
+use crate::rooms::{blanks, comes, opened, says, wants};
+use frame_ledger::OutputShares;
+use house::{Blanks, House, News, Seat};
+use mpd_text::{FailAt, FailurePoint};
+use output_ring::{Cut, Drainer, Fates, FeederEnd, Live, ring};
+use partition::{PartitionFault, Report};
+use std::alloc::Global;
+use std::marker::Brand;
+use std::sync::Wait;
+use std::sync::ledger::{Ledger, Share};
+use std::test::Fail;
+
+/// What a decoder is told: the job's number, its first frame and its frames.
+fn job_told(alloc: Global, report: Report) -> Result<String, PartitionFault> {
+    match report {
+        Report::ToDecode(Some(job)) => {
+            Ok(format!(in alloc; "job {} {} {}\n", job.number, job.from, job.count)?)
+        }
+        _ => Ok(String::from_str(alloc, "no job\n")?),
+    }
+}
+
+/// How frames are fed, and to which of three outputs.
+fn fed_told(
+    alloc: Global,
+    report: Report,
+    outputs: (bool, bool, bool),
+) -> Result<String, PartitionFault> {
+    match report {
+        Report::ToFeed(Some(feed)) => Ok(format!(in alloc;
+            "feed {} {} {} {} {}\n",
+            feed.cut, feed.volume, outputs.0, outputs.1, outputs.2
+        )?),
+        _ => Ok(String::from_str(alloc, "stale\n")?),
+    }
+}
+
+fn live_told(alloc: Global, report: Report) -> Result<String, PartitionFault> {
+    match report {
+        Report::ToPlay(live) => {
+            Ok(format!(in alloc; "live {} {} {}\n", live.cut, live.enabled, live.paused)?)
+        }
+        _ => Ok(String::from_str(alloc, "nothing\n")?),
+    }
+}
+
+/// A decoder asks for a job.
+fn wants_job<A: Ledger, B: Ledger, C: Ledger, D: Ledger, E: Ledger, W: Ledger, X: Ledger>(
+    rt: &impl Wait,
+    alloc: Global,
+    house: &House<A, B, C, D, E, W, X>,
+    seat: &mut Seat<A, B, C, D>,
+) -> Result<String, PartitionFault> {
+    let told = house.notice(rt, seat, News::Wants(false))?;
+    job_told(alloc, told.report())
+}
+
+/// A decoder has frames of a job.
+fn has<A: Ledger, B: Ledger, C: Ledger, D: Ledger, E: Ledger, W: Ledger, X: Ledger>(
+    rt: &impl Wait,
+    alloc: Global,
+    house: &House<A, B, C, D, E, W, X>,
+    seat: &mut Seat<A, B, C, D>,
+    share: &mut Share<E>,
+    number: u64,
+) -> Result<String, PartitionFault>
+    requires { 0 < share.old.parts }
+    ensures { share.new.parts ≡ share.old.parts }
+{
+    let fed = house.have(rt, seat, number, 1024, share)?;
+    let outputs = (fed.is_for(0), fed.is_for(1), fed.is_for(8));
+    fed_told(alloc, fed.report(), outputs)
+}
+
+/// An output has its turn.
+fn turns<A: Ledger, B: Ledger, C: Ledger, D: Ledger, E: Ledger, W: Ledger, X: Ledger>(
+    rt: &impl Wait,
+    alloc: Global,
+    house: &House<A, B, C, D, E, W, X>,
+    seat: &mut Seat<A, B, C, D>,
+    shares: &mut OutputShares<W, X>,
+    output: usize,
+    fates: Fates,
+) -> Result<String, PartitionFault>
+    requires { (0 < shares.old.written.parts) × (0 < shares.old.discarded.parts) }
+    ensures { (shares.new.written.parts ≡ shares.old.written.parts) × (shares.new.discarded.parts ≡ shares.old.discarded.parts) }
+{
+    let told = house.turn(rt, seat, output, fates, false, shares)?;
+    live_told(alloc, told.report())
+}
+
+/// Fills the hand and writes it out at a cut.
+fn writes_out(drainer: &mut Drainer, out: &mut FailAt, cut: u64)
+    ensures { SameDrainer drainer.old drainer.new }
+{
+    let live = Live {
+        cut: Cut { number: cut },
+        enabled: true,
+        paused: false,
+        ended: false,
+    };
+    let _popped = drainer.pop();
+    let _fates = drainer.write_out(out, live);
+}
+
+/// The ends of a ring of which 512 frames were written and told of, and 512 more were discarded since.
+fn ends_told<A: Ledger, B: Ledger, C: Ledger, D: Ledger, E: Ledger, W: Ledger, X: Ledger>(
+    rt: &impl Wait,
+    alloc: Global,
+    house: &House<A, B, C, D, E, W, X>,
+    seat: &mut Seat<A, B, C, D>,
+    shares: &mut OutputShares<W, X>,
+) -> Result<(FeederEnd, Drainer), PartitionFault>
+    requires { (0 < shares.old.written.parts) × (0 < shares.old.discarded.parts) }
+    ensures ends { IfOk result (λ r. AreEndsAfter r.0 r.1) }
+    ensures parts { (shares.new.written.parts ≡ shares.old.written.parts) × (shares.new.discarded.parts ≡ shares.old.discarded.parts) }
+{
+    let mut out = FailAt::new(Vec::new(alloc), FailurePoint::Never);
+    let (mut feeder, mut drainer) = ring(alloc, 8192, 512)?;
+    feeder.take(&[[1, -1]; 1_024], Cut { number: 1 });
+    let _pushed = feeder.push();
+    writes_out(&mut drainer, &mut out, 1);
+    turns(rt, alloc, house, seat, shares, 0, drainer.fates())?;
+    drainer.reported();
+    writes_out(&mut drainer, &mut out, 2);
+    Ok((feeder.finish(), drainer))
+}
+
+/// What an output is settled with: its frames decoded, written, discarded and left.
+fn settled<A: Ledger, B: Ledger, C: Ledger, D: Ledger, E: Ledger, W: Ledger, X: Ledger>(
+    rt: &impl Wait,
+    alloc: Global,
+    house: &House<A, B, C, D, E, W, X>,
+    seat: &mut Seat<A, B, C, D>,
+    shares: &mut OutputShares<W, X>,
+) -> Result<String, PartitionFault>
+    requires { (0 < shares.old.written.parts) × (0 < shares.old.discarded.parts) }
+{
+    let (end, drainer) = ends_told(rt, alloc, house, seat, shares)?;
+    match house.settle(rt, end, drainer, 0, shares) {
+        Ok(s) => {
+            Ok(format!(in alloc; "{} {} {} {}\n", s.decoded, s.written, s.discarded, s.left)?)
+        }
+        Err(_) => Ok(String::from_str(alloc, "not settled\n")?),
+    }
+}
+
+/// A song plays, and its first frames are decoded once.
+fn decoded<A: Ledger, B: Ledger, C: Ledger, D: Ledger, E: Ledger, W: Ledger, X: Ledger>(
+    rt: &impl Wait,
+    alloc: Global,
+    house: &House<A, B, C, D, E, W, X>,
+    seat: &mut Seat<A, B, C, D>,
+    share: &mut Share<E>,
+) -> Result<String, PartitionFault>
+    requires { 0 < share.old.parts }
+    ensures { share.new.parts ≡ share.old.parts }
+{
+    comes(rt, house, seat, 1)?;
+    says(rt, alloc, house, seat, 1, "add a.wav")?;
+    says(rt, alloc, house, seat, 1, "play")?;
+    let mut heard = wants_job(rt, alloc, house, seat)?;
+    heard.push_str(has(rt, alloc, house, seat, share, 1)?.as_str())?;
+    heard.push_str(has(rt, alloc, house, seat, share, 1)?.as_str())?;
+    Ok(heard)
+}
+
+fn evening<A: Ledger, B: Ledger, C: Ledger, D: Ledger, E: Ledger, W: Ledger, X: Ledger>(
+    rt: &impl Wait,
+    alloc: Global,
+    blanks: Blanks,
+) -> Result<String, PartitionFault>
+    requires seats { IsBlankOf blanks.first A.name A.parts × IsBlankOf blanks.second B.name B.parts × IsBlankOf blanks.third C.name C.parts × IsBlankOf blanks.fourth D.name D.parts }
+    requires books { IsBlank blanks.frames.decoded E.name E.parts × IsBlank blanks.frames.written W.name W.parts × IsBlank blanks.frames.discarded X.name X.parts }
+    requires parts { (0 < E.parts) × (0 < W.parts) × (0 < X.parts) }
+{
+    let (house, mut shares) = opened::<A, B, C, D, E, W, X>(alloc, blanks, 64)?;
+    let Ok(mut seat) = house.seat(rt) else {
+        return Err(PartitionFault::NoMemory);
+    };
+    let mut heard = decoded(rt, alloc, &house, &mut seat, &mut shares.decoded)?;
+    let nothing = Fates {
+        written: 0,
+        discarded: 0,
+    };
+    let absent = turns(
+        rt,
+        alloc,
+        &house,
+        &mut seat,
+        &mut shares.outputs,
+        5,
+        nothing,
+    )?;
+    heard.push_str(absent.as_str())?;
+    let live = turns(
+        rt,
+        alloc,
+        &house,
+        &mut seat,
+        &mut shares.outputs,
+        0,
+        nothing,
+    )?;
+    heard.push_str(live.as_str())?;
+    let last = settled(rt, alloc, &house, &mut seat, &mut shares.outputs)?;
+    heard.push_str(last.as_str())?;
+    Ok(heard)
+}
+
+fn told(rt: &impl Wait, alloc: Global) -> Result<String, PartitionFault> {
+    evening::<Brand, Brand, Brand, Brand, Brand, Brand, Brand>(rt, alloc, blanks())
+}
+
+#[test]
+fn frames_are_booked_and_settled(rt: HostRuntime) -> Result<(), Fail> {
+    wants(
+        &rt,
+        told(&rt, rt.alloc()),
+        "job 1 0 1024
+feed 1 100 true false false
+stale
+live 0 false false
+live 1 true false
+1024 512 512 0
+",
+    );
+    Ok(())
+}

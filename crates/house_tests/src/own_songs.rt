@@ -1,0 +1,153 @@
+//! Two threads add songs by turns, and each looks up the id that it was given.
+ghost use Rattle.std.specs.Prelude.{◌≡◌};
+ghost use Rattle.frame_ledger.specs.Balance.{IsBlankOf as IsBlank};
+ghost use Rattle.house.specs.Seats.{IsBlankOf};
+
+use crate::rooms::{blanks, comes, hears, opened, wants};
+use house::{Blanks, House, Seat};
+use mpd_text::number;
+use partition::PartitionFault;
+use std::alloc::Global;
+use std::marker::Brand;
+use std::sync::Wait;
+use std::sync::ledger::Ledger;
+use std::test::Fail;
+use std::thread;
+use std::thread::Threads;
+
+/// How often a thread found its own song by the id that it was given, and these ids.
+#[derive(Drop)]
+struct Found {
+    times: u32,
+    ids: Vec<u32>,
+}
+
+/// The id that an answer to `addid` tells; 0 where it tells none.
+fn id_in(answer: &str) -> u32 {
+    let Some(rest) = answer.strip_prefix("Id: ") else {
+        return 0;
+    };
+    let Some((id, _)) = rest.split_once('\n') else {
+        return 0;
+    };
+    number(id).unwrap_or(0)
+}
+
+/// Who looks up its songs, each by a command or by a list of one command.
+#[derive(Drop)]
+struct Caller<A: Ledger, B: Ledger, C: Ledger, D: Ledger> {
+    seat: Seat<A, B, C, D>,
+    in_list: bool,
+}
+
+/// Adds a song a hundred times, and looks up the id each time.
+fn looks_up<A: Ledger, B: Ledger, C: Ledger, D: Ledger, E: Ledger, W: Ledger, X: Ledger>(
+    rt: &impl Wait,
+    alloc: Global,
+    house: &House<A, B, C, D, E, W, X>,
+    caller: Caller<A, B, C, D>,
+    client: u32,
+    uri: &str,
+) -> Result<Found, PartitionFault> {
+    let Caller { mut seat, in_list } = caller;
+    let mut times = 0u32;
+    let mut ids = Vec::new(alloc);
+    ids.reserve(100)?;
+    comes(rt, house, &mut seat, client)?;
+    for _ in 0..100u32 {
+        let line = format!(in alloc; "addid {uri}")?;
+        let added = hears(rt, alloc, house, &mut seat, client, line.as_str(), in_list)?;
+        let id = id_in(added.as_str());
+        ids.push(id).ok();
+        let line = format!(in alloc; "playlistid {id}")?;
+        let shown = hears(rt, alloc, house, &mut seat, client, line.as_str(), in_list)?;
+        let own = format!(in alloc; "file: {uri}\n")?;
+        if shown.as_str().starts_with(own.as_str()) {
+            times = times.saturating_add(1);
+        }
+    }
+    Ok(Found { times, ids })
+}
+
+/// How many of the ids from 1 to 200 were given once.
+fn given_once(one: &[u32], two: &[u32]) -> u32 {
+    let mut once = 0u32;
+    for id in 1..201u32 {
+        let ones = one.iter().filter(|given| **given == id).count();
+        let twos = two.iter().filter(|given| **given == id).count();
+        if ones.saturating_add(twos) == 1 {
+            once = once.saturating_add(1);
+        }
+    }
+    once
+}
+
+/// Both clients look up their songs, each in a thread of its own.
+fn look_up_at_once<
+    A: Ledger + Send + Sync,
+    B: Ledger + Send + Sync,
+    C: Ledger + Send + Sync,
+    D: Ledger + Send + Sync,
+    E: Ledger + Send + Sync,
+    W: Ledger + Send + Sync,
+    X: Ledger + Send + Sync,
+    R: Threads + Wait + Sync,
+>(
+    rt: &R,
+    alloc: Global,
+    house: &House<A, B, C, D, E, W, X>,
+    one: Seat<A, B, C, D>,
+    two: Seat<A, B, C, D>,
+    in_list: bool,
+) -> (Result<Found, PartitionFault>, Result<Found, PartitionFault>) {
+    let one = Caller { seat: one, in_list };
+    let two = Caller { seat: two, in_list };
+    thread::join(
+        rt,
+        move || looks_up(rt, alloc, house, one, 1, "a.wav"),
+        move || looks_up(rt, alloc, house, two, 2, "b.wav"),
+    )
+}
+
+fn race<
+    A: Ledger + Send + Sync,
+    B: Ledger + Send + Sync,
+    C: Ledger + Send + Sync,
+    D: Ledger + Send + Sync,
+    E: Ledger + Send + Sync,
+    W: Ledger + Send + Sync,
+    X: Ledger + Send + Sync,
+    R: Threads + Wait + Sync,
+>(rt: &R, alloc: Global, blanks: Blanks, in_list: bool) -> Result<String, PartitionFault>
+    requires seats { IsBlankOf blanks.first A.name A.parts × IsBlankOf blanks.second B.name B.parts × IsBlankOf blanks.third C.name C.parts × IsBlankOf blanks.fourth D.name D.parts }
+    requires books { IsBlank blanks.frames.decoded E.name E.parts × IsBlank blanks.frames.written W.name W.parts × IsBlank blanks.frames.discarded X.name X.parts }
+{
+    let (house, _shares) = opened::<A, B, C, D, E, W, X>(alloc, blanks, 4096)?;
+    let (Ok(one), Ok(two)) = (house.seat(rt), house.seat(rt)) else {
+        return Err(PartitionFault::NoMemory);
+    };
+    let (one, two) = look_up_at_once(rt, alloc, &house, one, two, in_list);
+    let (one, two) = (one?, two?);
+    let once = given_once(&one.ids, &two.ids);
+    Ok(format!(in alloc; "{} {} {once}\n", one.times, two.times)?)
+}
+
+fn told<R: Threads + Wait + Sync>(
+    rt: &R,
+    alloc: Global,
+    in_list: bool,
+) -> Result<String, PartitionFault> {
+    race::<Brand, Brand, Brand, Brand, Brand, Brand, Brand, R>(rt, alloc, blanks(), in_list)
+}
+
+#[test]
+fn each_finds_its_own_song(rt: HostRuntime) -> Result<(), Fail> {
+    wants(&rt, told(&rt, rt.alloc(), false), "100 100 200\n");
+    Ok(())
+}
+
+#[test]
+fn each_finds_its_own_song_by_lists(rt: HostRuntime) -> Result<(), Fail> {
+    wants(&rt, told(&rt, rt.alloc(), true), "100 100 200\n");
+    Ok(())
+}

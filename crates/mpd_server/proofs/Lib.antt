@@ -1,0 +1,9 @@
+mod Blame
+mod Gathers
+mod Parts
+mod Outputs
+mod Sending
+mod Pends
+mod Runs
+mod Cuts
+mod Asks

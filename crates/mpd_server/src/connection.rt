@@ -1,0 +1,136 @@
+//! A client's socket with its session.
+use crate::end::{End, SessionFault};
+use crate::inbox::Inbox;
+use crate::session::Session;
+use house::{House, News, Seat};
+use mio::net::TcpStream;
+use mpd_text::{Counting, Failing};
+use shelf::Shelf;
+use std::sync::Wait;
+use std::sync::ledger::Ledger;
+
+/// A client's socket, its session, and what there is to do for it.
+#[derive(Drop)]
+pub(crate) struct Connection {
+    stream: TcpStream,
+    session: Session,
+    /// Whether the socket may have something to be read, or room to be written to.
+    is_ready: bool,
+    /// Whether the peer ends, so that the socket is read to its end.
+    is_ending: bool,
+    /// Whether something was not done for want of memory, which is tried again.
+    is_starved: bool,
+    /// Whether the player knows that the client is gone.
+    is_gone: bool,
+}
+
+/// What becomes of a connection.
+#[derive(Clone, Copy, Debug, PartialEq, Eq)]
+pub(crate) enum After {
+    /// It goes on.
+    Stays,
+    /// It is over.
+    Ends,
+    /// It is over, but the player does not know that its client is gone.
+    Leaves,
+    /// It is over, and so is the daemon.
+    Kills,
+}
+
+impl Connection {
+    pub(crate) fn new(stream: TcpStream, session: Session) -> Connection {
+        Connection {
+            stream,
+            session,
+            is_ready: true,
+            is_ending: false,
+            is_starved: false,
+            is_gone: false,
+        }
+    }
+
+    /// The system tells of the socket; whether the peer ends.
+    pub(crate) fn call(&mut self, is_ending: bool) {
+        self.is_ready = true;
+        self.is_ending = self.is_ending || is_ending;
+    }
+
+    /// Whether there is something to do at once.
+    pub(crate) fn is_ready(&self) -> bool {
+        self.is_ready
+    }
+
+    /// Whether something is tried again that was not done for want of memory.
+    pub(crate) fn is_starved(&self) -> bool {
+        self.is_starved
+    }
+
+    /// Whether the client may have to be told something.
+    pub(crate) fn may_wait(&self) -> bool {
+        self.session.may_wait()
+    }
+
+    /// Gives the session its turn. Where nothing came by the socket, it is not read.
+    pub(crate) fn turn<
+        A: Ledger,
+        B: Ledger,
+        C: Ledger,
+        D: Ledger,
+        E: Ledger,
+        W: Ledger,
+        X: Ledger,
+        S: Shelf,
+        R: Wait,
+    >(
+        &mut self,
+        rt: &R,
+        client: u32,
+        house: &House<A, B, C, D, E, W, X>,
+        seat: &mut Seat<A, B, C, D>,
+        shelf: &mut S,
+    ) -> After {
+        let may_read = self.is_ready || self.is_starved;
+        let mut reader = Counting::new(Inbox::new(&self.stream, may_read));
+        let mut writer = Counting::new(&self.stream);
+        let goes = self
+            .session
+            .turn(rt, &mut reader, &mut writer, house, seat, shelf);
+        let is_drained = !may_read || reader.inner().is_drained();
+        let (has_blocked, has_failed) = (writer.blocked() > 0, writer.failures() > 0);
+        let Some(end) = self.session.end() else {
+            self.is_starved = matches!(goes, Err(SessionFault::NoMemory));
+            self.is_ready = may_read && !self.is_starved && (!is_drained || self.is_ending);
+            return After::Stays;
+        };
+        if end == End::Killed {
+            return After::Kills;
+        }
+        self.is_gone = self.is_gone || tells_gone(rt, client, house, seat, end);
+        self.is_ready = false;
+        self.is_starved = !has_blocked || !self.is_gone;
+        if self.session.has_unsent() && !has_failed && !gives_up(end) {
+            return After::Stays;
+        }
+        if self.is_gone {
+            After::Ends
+        } else {
+            After::Leaves
+        }
+    }
+}
+
+/// Whether what is unsent is not written any more.
+fn gives_up(end: End) -> bool {
+    matches!(end, End::ReadFault | End::WriteFault | End::Unsent)
+}
+
+/// Tells the player that a client is gone, but not where it was the player that closed it. Whether the player knows now.
+fn tells_gone<A: Ledger, B: Ledger, C: Ledger, D: Ledger, E: Ledger, W: Ledger, X: Ledger, R: Wait>(
+    rt: &R,
+    client: u32,
+    house: &House<A, B, C, D, E, W, X>,
+    seat: &mut Seat<A, B, C, D>,
+    end: End,
+) -> bool {
+    end == End::Left || house.notice(rt, seat, News::Goes(client)).is_ok()
+}

@@ -1,0 +1,262 @@
+//! The loop over the sockets.
+use crate::place::Place;
+use house::{House, Seat};
+use mio::net::{TcpListener, TcpStream};
+use mio::{Events, Interest, Poll, Token};
+use shelf::Shelf;
+use std::alloc::{AllocError, Global};
+use std::io::ErrorKind;
+use std::net::{Net, SocketAddr};
+use std::sync::Wait;
+use std::sync::ledger::Ledger;
+use std::time::Duration;
+
+/// The most clients that may be connected.
+const MAX_CLIENTS: u32 = 64;
+
+/// The most clients that are let in between two rounds.
+const MAX_LET_IN: u32 = 64;
+
+/// How long, in milliseconds, the loop sleeps at most while there is something to do of which the system does not tell.
+const SHORT_SLEEP: u64 = 50;
+
+const LISTENER: Token = Token(0);
+
+/// Why nothing is served.
+#[derive(Clone, Copy, Debug, PartialEq, Eq)]
+pub enum ServeFault {
+    /// The address cannot be listened at, or the sockets cannot be waited for.
+    ListenFault,
+    /// There was no memory.
+    NoMemory,
+}
+
+impl From<AllocError> for ServeFault {
+    fn from(_e: AllocError) -> ServeFault {
+        ServeFault::NoMemory
+    }
+}
+
+/// Listens at an address, as `127.0.0.1:6600`.
+pub fn bind<N: Net>(rt: &N, address: &str) -> Result<TcpListener, ServeFault> {
+    let Ok(address) = address.parse::<SocketAddr>() else {
+        return Err(ServeFault::ListenFault);
+    };
+    match TcpListener::bind(rt, address) {
+        Ok(listener) => Ok(listener),
+        Err(fault) if fault.kind() == ErrorKind::OutOfMemory => Err(ServeFault::NoMemory),
+        Err(_) => Err(ServeFault::ListenFault),
+    }
+}
+
+/// Serves clients until one of them ends the daemon.
+///
+/// Each round every client that sent something, or whose socket takes bytes again, has one turn, and what others are to be told is handed
+/// to them. So the lines of one client cost the others one turn's worth, and one that does not read costs them nothing. Between rounds the
+/// loop sleeps until the system tells of a socket.
+pub fn serve<
+    A: Ledger,
+    B: Ledger,
+    C: Ledger,
+    D: Ledger,
+    E: Ledger,
+    W: Ledger,
+    X: Ledger,
+    S: Shelf,
+    R: Wait + Net,
+>(
+    rt: &R,
+    alloc: Global,
+    house: &House<A, B, C, D, E, W, X>,
+    seat: &mut Seat<A, B, C, D>,
+    shelf: &mut S,
+    listener: TcpListener,
+    allow_kill: bool,
+) -> Result<(), ServeFault> {
+    let mut server = Server::open(rt, alloc, listener)?;
+    for _ in rt.forever() {
+        server.sleep()?;
+        server.let_all_in(rt, alloc, house, seat, allow_kill);
+        if server.visit_all(rt, house, seat, shelf) {
+            break;
+        }
+    }
+    Ok(())
+}
+
+/// Who is at the door.
+#[derive(Clone, Copy, Debug, PartialEq, Eq)]
+enum Door {
+    Nobody,
+    /// Perhaps somebody.
+    Somebody,
+    /// Somebody who could not be let in, which is tried again.
+    Later,
+}
+
+/// The sockets, and the places of the clients.
+#[derive(Drop)]
+struct Server {
+    poll: Poll,
+    events: Events,
+    listener: TcpListener,
+    door: Door,
+    places: Vec<Place>,
+}
+
+impl Server {
+    fn open<N: Net>(rt: &N, alloc: Global, listener: TcpListener) -> Result<Server, ServeFault> {
+        let mut listener = listener;
+        let Ok(poll) = Poll::new(rt) else {
+            return Err(ServeFault::ListenFault);
+        };
+        let events = Events::with_capacity(alloc, 128)?;
+        let places = free_places(alloc)?;
+        if poll
+            .registry()
+            .register(&mut listener, LISTENER, Interest::READABLE)
+            .is_err()
+        {
+            return Err(ServeFault::ListenFault);
+        }
+        Ok(Server {
+            poll,
+            events,
+            listener,
+            door: Door::Somebody,
+            places,
+        })
+    }
+
+    /// Sleeps until the system tells of a socket, and marks its client.
+    fn sleep(&mut self) -> Result<(), ServeFault> {
+        let most = self.longest_sleep();
+        if self.poll.poll(&mut self.events, most).is_err() {
+            return Err(ServeFault::ListenFault);
+        }
+        for event in &self.events {
+            let Token(number) = event.token();
+            if number == 0 {
+                self.door = Door::Somebody;
+            } else if let Some(place) = self.places.get_mut(number - 1) {
+                place.call(event.is_read_closed() || event.is_error());
+            }
+        }
+        Ok(())
+    }
+
+    /// How long the loop may sleep; `None` is until the system tells of a socket.
+    fn longest_sleep(&self) -> Option<Duration> {
+        if self.door == Door::Somebody || self.places.iter().any(|place| place.is_ready()) {
+            return Some(Duration::from_millis(0));
+        }
+        if self.door == Door::Later || self.places.iter().any(|place| is_looked_at(place)) {
+            return Some(Duration::from_millis(SHORT_SLEEP));
+        }
+        None
+    }
+
+    /// Lets in who is at the door.
+    fn let_all_in<
+        A: Ledger,
+        B: Ledger,
+        C: Ledger,
+        D: Ledger,
+        E: Ledger,
+        W: Ledger,
+        X: Ledger,
+        R: Wait,
+    >(
+        &mut self,
+        rt: &R,
+        alloc: Global,
+        house: &House<A, B, C, D, E, W, X>,
+        seat: &mut Seat<A, B, C, D>,
+        may_kill: bool,
+    ) {
+        if self.door == Door::Nobody {
+            return;
+        }
+        for _ in 0..MAX_LET_IN {
+            match self.listener.accept() {
+                Ok((stream, _)) => self.let_in(rt, alloc, house, seat, stream, may_kill),
+                Err(fault) => {
+                    self.door = door_after(fault.kind());
+                    return;
+                }
+            }
+        }
+    }
+
+    /// Lets in a client; one that finds no place is closed without a greeting.
+    fn let_in<A: Ledger, B: Ledger, C: Ledger, D: Ledger, E: Ledger, W: Ledger, X: Ledger, R: Wait>(
+        &mut self,
+        rt: &R,
+        alloc: Global,
+        house: &House<A, B, C, D, E, W, X>,
+        seat: &mut Seat<A, B, C, D>,
+        stream: TcpStream,
+        may_kill: bool,
+    ) {
+        let registry = self.poll.registry();
+        if let Some(place) = self.places.iter_mut().find(|place| place.is_free()) {
+            place.take_in(rt, alloc, house, seat, registry, stream, may_kill);
+        }
+    }
+
+    /// Gives each client a turn for which there is something to do, and then hands out what the others are to be told. True where a client
+    /// ends the daemon.
+    fn visit_all<
+        A: Ledger,
+        B: Ledger,
+        C: Ledger,
+        D: Ledger,
+        E: Ledger,
+        W: Ledger,
+        X: Ledger,
+        S: Shelf,
+        R: Wait,
+    >(
+        &mut self,
+        rt: &R,
+        house: &House<A, B, C, D, E, W, X>,
+        seat: &mut Seat<A, B, C, D>,
+        shelf: &mut S,
+    ) -> bool {
+        for place in &mut self.places {
+            if (place.is_ready() || place.is_starved()) && place.visit(rt, house, seat, shelf) {
+                return true;
+            }
+        }
+        for place in &mut self.places {
+            if place.may_wait() && !place.is_ready() && place.visit(rt, house, seat, shelf) {
+                return true;
+            }
+        }
+        false
+    }
+}
+
+/// The places of all clients, which are numbered from 1.
+fn free_places(alloc: Global) -> Result<Vec<Place>, AllocError> {
+    let mut places = Vec::new(alloc);
+    for client in 1..=MAX_CLIENTS {
+        places.push(Place::new(client))?;
+    }
+    Ok(places)
+}
+
+/// Whether a place is looked at again after a short sleep: something is to be tried again, or its client may have to be told of what no
+/// client did.
+fn is_looked_at(place: &Place) -> bool {
+    place.is_starved() || place.may_wait()
+}
+
+/// Who is at the door where a client could not be let in.
+fn door_after(fault: ErrorKind) -> Door {
+    if fault == ErrorKind::WouldBlock {
+        Door::Nobody
+    } else {
+        Door::Later
+    }
+}
