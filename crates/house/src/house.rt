@@ -300,24 +300,24 @@ impl<A: Ledger, B: Ledger, C: Ledger, D: Ledger, E: Ledger, W: Ledger, X: Ledger
         } else {
             Duration::from_millis(IDLE_REST)
         };
-        let _waited = self.bell.wait_timeout_while(
+        let (held, _is_late) = self.bell.wait_timeout_while(
             rt,
             self.held.lock(rt),
             most,
             |held| held.changes() == seen,
         );
-        self.held.lock(rt).changes()
+        held.changes()
     }
 
     /// Waits until a notice waits for a client, the daemon ends, or the time is up, and says whether a notice waits.
     pub fn await_notice<R: Wait + Clock>(&self, rt: &R, most: Duration) -> bool {
-        let _waited = self.door.wait_timeout_while(
+        let (held, _is_late) = self.door.wait_timeout_while(
             rt,
             self.held.lock(rt),
             most,
             |held| !held.has_notices() && !held.has_ended(),
         );
-        self.held.lock(rt).has_notices()
+        held.has_notices()
     }
 
     /// Wakes the threads that rest, if they are to be woken.
