@@ -2,7 +2,8 @@
 ghost use Rattle.std.specs.Prelude.{◌≡◌, ◌+◌, ◌<◌, IfOk};
 ghost use Rattle.house.specs.Seats.{IsBlankOf};
 
-use crate::rooms::{adds_a_song, blanks, comes, player, says, wants};
+use crate::rooms::{adds_a_song, blanks, comes, player, says};
+use crate::wanted::wants;
 use house::{Blanks, House, Seat};
 use partition::PartitionFault;
 use std::alloc::{AllocError, Global};

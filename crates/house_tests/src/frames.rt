@@ -4,7 +4,8 @@ ghost use Rattle.frame_ledger.specs.Balance.{IsBlankOf as IsBlank};
 ghost use Rattle.house.specs.Seats.{IsBlankOf};
 ghost use Rattle.output_ring.specs.Rings.{AreEndsAfter, SameDrainer};
 
-use crate::rooms::{blanks, comes, opened, says, wants};
+use crate::rooms::{blanks, comes, opened, says};
+use crate::wanted::wants;
 use frame_ledger::OutputShares;
 use house::{Blanks, House, News, Seat};
 use mpd_text::{FailAt, FailurePoint};

@@ -12,3 +12,5 @@ mod notices;
 #[cfg(test)]
 mod own_songs;
 pub mod rooms;
+#[cfg(test)]
+mod wanted;

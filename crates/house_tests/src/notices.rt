@@ -3,7 +3,8 @@ ghost use Rattle.std.specs.Prelude.{◌≡◌};
 ghost use Rattle.frame_ledger.specs.Balance.{IsBlankOf as IsBlank};
 ghost use Rattle.house.specs.Seats.{IsBlankOf};
 
-use crate::rooms::{blanks, comes, opened, says, wants};
+use crate::rooms::{blanks, comes, opened, says};
+use crate::wanted::wants;
 use house::{Blanks, House, Seat};
 use partition::PartitionFault;
 use std::alloc::Global;

@@ -13,17 +13,8 @@ use partition::{Library, Limits, Outputs, Partition, PartitionFault, Scan, Setup
 use shelf::MemShelf;
 use song_db::{Db, Rate, SharedDb};
 use std::alloc::{AllocError, Global};
-use std::process::Abort;
 use std::sync::Wait;
 use std::sync::ledger::{Blank, Ledger};
-
-/// Ends the test where what is told is not what is wanted.
-pub fn wants<R: Abort>(rt: &R, told: Result<String, PartitionFault>, wanted: &str) {
-    match told {
-        Ok(text) => assert_eq!(*rt; text.as_str(), wanted),
-        Err(_) => panic!(*rt; "a fault"),
-    }
-}
 
 /// Seven new ledgers of one part.
 pub fn blanks() -> Blanks
