@@ -1,0 +1,85 @@
+//! The decoder's ends of several rings.
+ghost use Rattle.std.specs.Prelude.{◌≡◌, ◌≤◌, [], length, vec_len, vec_capacity};
+ghost use Rattle.output_ring.specs.Rings.{SameFeeder, EndsFeeder};
+ghost use Rattle.crew.specs.Each.{Each};
+
+use house::Fed;
+use output_ring::{Cut, Feeder, FeederEnd};
+use pcm_mix::Frame;
+use std::snapshot::Snapshot;
+use std::thread::Promise;
+
+/// Each end is of the ring of the feeder at its place.
+#[derive(Drop)]
+pub struct OfFeeders(pub Snapshot<Vec<Feeder>>);
+
+impl Promise<Vec<FeederEnd>> for OfFeeders {
+    ghost kept_by = { λ p r. Each EndsFeeder p.0.value.items r.items };
+}
+
+/// What came of moving frames into rings.
+#[derive(Clone, Copy, Debug, PartialEq, Eq)]
+pub struct Pushed {
+    /// Whether some went.
+    pub moves: bool,
+    /// Whether some still wait for room.
+    pub waits: bool,
+}
+
+/// Moves frames into each ring as it has room.
+pub fn push_all(feeders: &mut Vec<Feeder>) -> Pushed
+    ensures { Each SameFeeder feeders.old.items feeders.new.items }
+{
+    let mut moves = false;
+    let mut waits = false;
+    for i in 0..feeders.len() {
+        let pushed = push_one(&mut feeders[i]);
+        moves |= pushed.moves;
+        waits |= pushed.waits;
+    }
+    Pushed { moves, waits }
+}
+
+/// The ring of each output that the frames are for takes them as a block.
+pub fn take_all(feeders: &mut Vec<Feeder>, frames: &[Frame], cut: Cut, fed: &Fed)
+    requires { length frames.now ≤ 1024 }
+    ensures { Each SameFeeder feeders.old.items feeders.new.items }
+{
+    for i in 0..feeders.len() {
+        let is_fed = fed.is_for(i);
+        take_one(&mut feeders[i], frames, cut, is_fed);
+    }
+}
+
+/// A ring that is fed takes a block, if nothing waits for room in it. The player gives none before all rings have nothing that waits.
+fn take_one(feeder: &mut Feeder, frames: &[Frame], cut: Cut, is_fed: bool)
+    requires { length frames.now ≤ 1024 }
+    ensures { SameFeeder feeder.old feeder.new }
+{
+    if is_fed && feeder.owed() == 0 {
+        feeder.take(frames, cut);
+    }
+}
+
+/// Moves frames into a ring as it has room.
+fn push_one(feeder: &mut Feeder) -> Pushed
+    ensures { SameFeeder feeder.old feeder.new }
+{
+    let moved = feeder.push();
+    Pushed {
+        moves: moved > 0,
+        waits: feeder.owed() > 0,
+    }
+}
+
+/// Finishes all feeders. There is room for their ends.
+pub fn finish_all(feeders: Vec<Feeder>, room: Vec<FeederEnd>) -> Vec<FeederEnd>
+    requires { (room.items ≡ []) × (vec_len feeders ≤ vec_capacity room) }
+    ensures { Each EndsFeeder feeders.items result.items }
+{
+    let mut ends = room;
+    for feeder in feeders {
+        ends.push_reserved(feeder.finish());
+    }
+    ends
+}

@@ -1,0 +1,65 @@
+//! The threads of all outputs.
+ghost use Rattle.std.specs.Prelude.{◌≡◌, ◌<◌, map, IfOk, vec_len};
+ghost use Rattle.crew.specs.Rows.{first_of_run, drainer_of_run, feeder_of_station, drainer_of_station};
+
+use crate::output::{Gate, OutputRun};
+use crate::output_start::{Station, start_output};
+use frame_ledger::OutputShares;
+use house::House;
+use mpd_text::Sink;
+use output_ring::Feeder;
+use std::alloc::{AllocError, Global};
+use std::sync::ledger::Ledger;
+use std::sync::{Arc, Wait};
+use std::thread::Threads;
+use std::time::Clock;
+
+/// Starts the thread of each output.
+pub fn start_outputs<
+    A: Ledger + Send + Sync + 'static,
+    B: Ledger + Send + Sync + 'static,
+    C: Ledger + Send + Sync + 'static,
+    D: Ledger + Send + Sync + 'static,
+    E: Ledger + Send + Sync + 'static,
+    W: Ledger + Send + Sync + 'static,
+    X: Ledger + Send + Sync + 'static,
+    O: Sink + Drop + Send + 'static,
+    G: Gate + Drop + Send + Sync + 'static,
+    R: Threads + Wait + Clock + Copy + Send + 'static,
+>(
+    rt: R,
+    alloc: Global,
+    house: &Arc<House<A, B, C, D, E, W, X>, Global>,
+    gate: &Arc<G, Global>,
+    stations: Vec<Station<O>>,
+    shares: OutputShares<W, X>,
+) -> Result<(Vec<OutputRun<W, X>>, Vec<Feeder>), AllocError>
+    requires parts { (vec_len stations < shares.written.parts) × (vec_len stations < shares.discarded.parts) × (shares.written.amount ≡ 0) × (shares.discarded.amount ≡ 0) }
+    ensures runs { IfOk result (λ r. map first_of_run r.0.items ≡ map feeder_of_station stations.items) }
+    ensures drainers { IfOk result (λ r. map drainer_of_run r.0.items ≡ map drainer_of_station stations.items) }
+    ensures feeders { IfOk result (λ r. r.1.items ≡ map feeder_of_station stations.items) }
+    ensures count { IfOk result (λ r. (vec_len r.0 ≡ vec_len stations) × (vec_len r.1 ≡ vec_len stations)) }
+{
+    let OutputShares {
+        mut written,
+        mut discarded,
+    } = shares;
+    let mut runs = Vec::new(alloc);
+    let mut feeders = Vec::new(alloc);
+    for station in stations {
+        let (run, feeder) = start_output(
+            rt,
+            house,
+            gate,
+            runs.len(),
+            station,
+            OutputShares {
+                written: written.split_off(1, 0),
+                discarded: discarded.split_off(1, 0),
+            },
+        )?;
+        runs.push(run)?;
+        feeders.push(feeder)?;
+    }
+    Ok((runs, feeders))
+}

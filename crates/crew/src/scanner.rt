@@ -1,0 +1,182 @@
+//! The thread that scans.
+ghost use Rattle.std.specs.Prelude.{◌≡◌};
+
+use crate::start::Crew;
+use house::{House, News, Seat};
+use partition::Report;
+use song_db::SharedDb;
+use std::alloc::{AllocError, Global};
+use std::sync::ledger::Ledger;
+use std::sync::{Arc, Wait};
+use std::thread;
+use std::thread::{JoinHandle, Threads};
+use std::time::{Clock, Duration};
+
+/// How many milliseconds a scanner rests at most; it is woken where a scan is asked for.
+const LOOK: u64 = 1_000;
+
+/// How many milliseconds it waits after a fault.
+const PAUSE: u64 = 50;
+
+/// Finds the songs of a library anew.
+pub trait Scanner {
+    /// The songs, or none where the scan fails.
+    fn scan(&mut self, alloc: Global) -> Option<SharedDb>;
+}
+
+/// A scanner that runs.
+#[derive(Drop)]
+struct Scanning<
+    'h,
+    A: Ledger,
+    B: Ledger,
+    C: Ledger,
+    D: Ledger,
+    E: Ledger,
+    W: Ledger,
+    X: Ledger,
+    N: Scanner + Drop,
+    R: Wait + Clock,
+> {
+    rt: &'h R,
+    alloc: Global,
+    house: &'h House<A, B, C, D, E, W, X>,
+    seat: Seat<A, B, C, D>,
+    scanner: N,
+}
+
+impl<
+    'h,
+    A: Ledger,
+    B: Ledger,
+    C: Ledger,
+    D: Ledger,
+    E: Ledger,
+    W: Ledger,
+    X: Ledger,
+    N: Scanner + Drop,
+    R: Wait + Clock,
+> Scanning<'h, A, B, C, D, E, W, X, N, R> {
+    /// Scans where that is asked for, until the end.
+    fn run(self) {
+        let mut scanning = self;
+        let rt = scanning.rt;
+        for _ in rt.forever() {
+            if !scanning.scan_once() {
+                return;
+            }
+        }
+    }
+
+    /// Scans if that is asked for. False at the end.
+    fn scan_once(&mut self) -> bool {
+        let Ok(told) = self.house.notice(self.rt, &mut self.seat, News::AsksToScan) else {
+            self.pause();
+            return true;
+        };
+        match told.report() {
+            Report::Ended => return false,
+            Report::ToScan(Some(_)) => {
+                let found = self.scanner.scan(self.alloc);
+                self.tell(found);
+            }
+            _ => {
+                let _ = self
+                    .house
+                    .rest(self.rt, told.changes(), Duration::from_millis(LOOK));
+            }
+        }
+        true
+    }
+
+    /// Tells what a scan found; where that is refused, again after a while.
+    fn tell(&mut self, found: Option<SharedDb>) {
+        let rt = self.rt;
+        for _ in rt.forever() {
+            if self.is_told(&found) {
+                return;
+            }
+            self.pause();
+        }
+    }
+
+    fn is_told(&mut self, found: &Option<SharedDb>) -> bool {
+        let songs = match found {
+            Some(songs) => match songs.clone() {
+                Ok(songs) => Some(songs),
+                Err(_) => return false,
+            },
+            None => None,
+        };
+        self.house
+            .notice(self.rt, &mut self.seat, News::Scanned(songs))
+            .is_ok()
+    }
+
+    fn pause(&self) {
+        thread::sleep(self.rt, Duration::from_millis(PAUSE));
+    }
+}
+
+/// Starts the thread of a scanner.
+fn start_thread<
+    A: Ledger + Send + Sync + 'static,
+    B: Ledger + Send + Sync + 'static,
+    C: Ledger + Send + Sync + 'static,
+    D: Ledger + Send + Sync + 'static,
+    E: Ledger + Send + Sync + 'static,
+    W: Ledger + Send + Sync + 'static,
+    X: Ledger + Send + Sync + 'static,
+    N: Scanner + Drop + Send + 'static,
+    R: Threads + Wait + Clock + Copy + Send + 'static,
+>(
+    rt: R,
+    alloc: Global,
+    house: Arc<House<A, B, C, D, E, W, X>, Global>,
+    scanner: N,
+) -> Result<JoinHandle<()>, AllocError> {
+    let handle = thread::spawn(&rt, move || {
+        let scanning = Scanning {
+            rt: &rt,
+            alloc,
+            house: &*house,
+            seat: Seat::of_crew(9),
+            scanner,
+        };
+        scanning.run();
+    })?;
+    Ok(handle)
+}
+
+/// Starts a thread that scans until the end, and joins the crew. A crew that has a scanner keeps that one alone.
+///
+/// # Errors
+///
+/// Where there is no memory or no thread; the crew goes on without a scanner.
+pub fn start_scanner<
+    A: Ledger + Send + Sync + 'static,
+    B: Ledger + Send + Sync + 'static,
+    C: Ledger + Send + Sync + 'static,
+    D: Ledger + Send + Sync + 'static,
+    E: Ledger + Send + Sync + 'static,
+    W: Ledger + Send + Sync + 'static,
+    X: Ledger + Send + Sync + 'static,
+    N: Scanner + Drop + Send + 'static,
+    R: Threads + Wait + Clock + Copy + Send + 'static,
+>(
+    rt: R,
+    alloc: Global,
+    house: &Arc<House<A, B, C, D, E, W, X>, Global>,
+    crew: &mut Crew<W, X>,
+    scanner: N,
+) -> Result<(), AllocError>
+    ensures { crew.new.outputs ≡ crew.old.outputs }
+{
+    if crew.scanner.is_some() {
+        return Ok(());
+    }
+    let house = Arc::try_clone(house)?;
+    let handle = start_thread(rt, alloc, house, scanner)?;
+    crew.scanner = Some(handle);
+    Ok(())
+}
