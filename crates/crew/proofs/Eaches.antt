@@ -4,7 +4,7 @@ use Rattle.output_ring.specs.declared.feeder.Feeder.{Feeder}
 use Rattle.output_ring.specs.declared.feeder.FeederEnd.{FeederEnd}
 use Rattle.output_ring.specs.Rings.{SameFeeder, EndsFeeder}
 use Rattle.rtrb.specs.Ends.{SameRing}
-use Rattle.crew.specs.Each.{Each}
+use Rattle.crew.specs.Each.{Each, EachAt}
 
 pub each_push : {A B : Type 0} (R : A → B → Type 0) (xs : List A) (ys : List B) (x : A) (y : B) → Each R xs ys → R x y → Each R (xs ++ x ∷ []) (ys ++ y ∷ [])
 each_push R [] [] x y e r = (r, tt)
@@ -49,6 +49,19 @@ pub each_next : {A B : Type 0} (R : A → B → Type 0) (xs : List A) (ys zs : L
 each_next R xs ys zs n m x y rest is e grown each r =
     let taken = next_taken xs n m x rest is e in
     subst (λ l. Each R l zs) (sym taken.0) (subst (λ l. Each R (take n xs ++ x ∷ []) l) (sym grown) (each_push R (take n xs) ys x y each r))
+
+each_push_at : {A B : Type 0} (R : ℕ → A → B → Type 0) (n k : ℕ) (xs : List A) (ys : List B) (x : A) (y : B) → k ≡ n + length ys → EachAt R n xs ys → R k x y → EachAt R n (xs ++ x ∷ []) (ys ++ y ∷ [])
+each_push_at R n k [] [] x y is e r = (subst (λ m. R m x y) (omega (arith, is)) r, tt)
+each_push_at R n k [] (b ∷ ys) x y is e r = absurd e
+each_push_at R n k (a ∷ xs) [] x y is e r = absurd e
+each_push_at R n k (a ∷ xs) (b ∷ ys) x y is e r = (e.0, each_push_at R (n + 1) k xs ys x y (omega (arith, is)) e.1 r)
+
+-- one more pair, at the next place
+pub each_next_at : {A B : Type 0} (R : ℕ → A → B → Type 0) (xs : List A) (ys zs : List B) (n m : ℕ) (x : A) (y : B) (rest : List A) → n ≡ length ys → m ≡ n + 1 → drop n xs ≡ x ∷ rest → zs ≡ ys ++ y ∷ []
+    → EachAt R 0 (take n xs) ys → R n x y → EachAt R 0 (take m xs) zs
+each_next_at R xs ys zs n m x y rest long is e grown each r =
+    let taken = next_taken xs n m x rest is e in
+    subst (λ l. EachAt R 0 l zs) (sym taken.0) (subst (λ l. EachAt R 0 (take n xs ++ x ∷ []) l) (sym grown) (each_push_at R 0 n (take n xs) ys x y (omega (arith, long)) each r))
 
 some_map : {A : Type 0} (o : Option A) (P Q : A → Type 0) → ((x : A) → P x → Q x) → IfSome o P → IfSome o Q
 some_map None P Q f p = tt

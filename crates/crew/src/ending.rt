@@ -1,7 +1,7 @@
 //! The end of all threads.
 ghost use Rattle.std.specs.Prelude.{◌≡◌, IfErr, IfOk, OnOk};
 ghost use Rattle.crew.specs.Closing.{SettlesRun};
-ghost use Rattle.crew.specs.Each.{Each};
+ghost use Rattle.crew.specs.Each.{EachAt};
 ghost use Rattle.house.specs.Seats.{after_events};
 
 use crate::settling::{join_outputs, settle_outputs};
@@ -35,7 +35,7 @@ pub fn close<
 ) -> Result<Vec<Result<Settled, SettleFault>>, (Crew<W, X>, PartitionFault)>
     ensures made { OnOk result (seat.new ≡ after_events seat.old 1) }
     ensures fault { IfErr result (λ e. (e.0 ≡ crew) × (seat.new ≡ seat.old)) }
-    ensures settled { IfOk result (λ results. Each SettlesRun crew.outputs.items results.items) }
+    ensures settled { IfOk result (λ results. EachAt SettlesRun 0 crew.outputs.items results.items) }
 {
     if let Err(fault) = house.end(rt, seat) {
         return Err((crew, fault));

@@ -2,7 +2,7 @@
 ghost use Rattle.std.specs.Prelude.{◌≡◌, ◌<◌, ◌≤◌, [], map, vec_len, vec_capacity};
 ghost use Rattle.output_ring.specs.Rings.{EndsFeeder};
 ghost use Rattle.crew.specs.Closing.{LeavesRun, SettlesLeft};
-ghost use Rattle.crew.specs.Each.{Each};
+ghost use Rattle.crew.specs.Each.{Each, EachAt};
 ghost use Rattle.crew.specs.Rows.{first_of_left};
 
 use crate::output::{OutputEnd, OutputLeft, OutputRun};
@@ -62,7 +62,7 @@ fn settle_output<
 ) -> Result<Settled, SettleFault>
     requires output { output < 8 }
     requires end { EndsFeeder left.first.value end }
-    ensures { SettlesLeft left result }
+    ensures { SettlesLeft output left result }
 {
     let OutputLeft {
         end: OutputEnd { drainer, shares },
@@ -92,7 +92,7 @@ pub(crate) fn settle_outputs<
     requires few { vec_len lefts ≤ 8 }
     requires rings { Each EndsFeeder (map first_of_left lefts.items) ends.items }
     requires room { (room.items ≡ []) × (vec_len lefts ≤ vec_capacity room) }
-    ensures { Each SettlesLeft lefts.items result.items }
+    ensures { EachAt SettlesLeft 0 lefts.items result.items }
 {
     let mut results = room;
     let mut ends = ends.into_iter();

@@ -16,7 +16,7 @@ use Rattle.partition.specs.Outputs.{FrameBooks}
 use Rattle.partition.specs.Refusals.{MayRefuse}
 use Rattle.partition.specs.Step.{hearing, limit_of, next_image, told, turn}
 use Rattle.partition.proofs.Lending.{may_want}
-use Rattle.house.specs.Views.{AnswersSomewhere, IsRefusedFor, IsSpared, IsUnwritten, Stops, TellsSomewhere, entry, own_in}
+use Rattle.house.specs.Views.{AnswersSomewhere, IsRefusedFor, IsSpared, IsUnwritten, Stops, entry, own_in}
 use Rattle.house.proofs.Booked.{HasEight, all_stay, decoded_grows, discarded_grows, few_after, written_grows}
 use Rattle.house.proofs.Frameless.{is_frameless}
 use Rattle.house.proofs.ListEntries.{room_keeps}
@@ -138,8 +138,3 @@ module _ {S : Type 0} (standing : S → Standing) (failed : S → S → Call →
     refused_is (Err fault) (inl none) = inr (subst (MayRefuse (limit_of seat before.present event)) (sym none.0) (may_want (limit_of seat before.present event)))
     refused_is (Err fault) (inr (inl full)) = inl (full.0, full.1.0)
     refused_is (Err fault) (inr (inr roomy)) = inr (subst (λ (e : Event). MayRefuse (limit_of seat before.present e) fault) (plain roomy.1.heard) roomy.1.refused)
-
-    pub somewhere_is : (r : Result Told PartitionFault) (made : ℕ) → IsPast before → (seat < 4 → own_in seat before.present ≡ made) → Joined standing failed before after old new seat event r
-        → IfOk r (λ outcome. seat < 4 → TellsSomewhere seat made event outcome)
-    somewhere_is (Ok outcome) made legal own joined = λ low. (before, legal, own low, joined.told_is ∙ ap (told before.present) (plain joined.heard))
-    somewhere_is (Err fault) made legal own joined = tt

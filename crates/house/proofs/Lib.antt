@@ -11,3 +11,4 @@ pub mod Owns
 pub mod Plain
 pub mod Quiet
 pub mod Same
+pub mod Somewhere

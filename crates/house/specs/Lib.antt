@@ -3,3 +3,4 @@ pub mod Waiting
 pub mod Views
 pub mod News
 pub mod Lists
+pub mod Settling

@@ -1,8 +1,9 @@
 -- What contracts see of what the lock holds, and what a caller learns who cannot see it.
-use Rattle.std.specs.Prelude.{ℕ, ◌≡◌, ◌⊎◌, Bool, true, List, [], ◌∷◌, Option, slice_index_or}
+use Rattle.std.specs.Prelude.{ℕ, ◌≡◌, ◌⊎◌, ◌<◌, Bool, true, false, List, [], ◌∷◌, Option, slice_index_or}
 use Rattle.shelf.specs.Calls.{Call}
 use Rattle.shelf.specs.Maps.{Standing}
 use Rattle.partition.specs.declared.event.Event.{Event}
+use Rattle.partition.specs.declared.event.Event.TheVariants.{Have}
 use Rattle.partition.specs.declared.event.Happened.{Happened}
 use Rattle.partition.specs.declared.event.Notice.{Notice}
 use Rattle.partition.specs.declared.partition.PartitionFault.{PartitionFault}
@@ -13,10 +14,11 @@ use Rattle.partition.specs.History.{Chronicle, is_full, with_room}
 use Rattle.partition.specs.Image.{Image, no_events}
 use Rattle.partition.specs.Legal.{IsPast}
 use Rattle.partition.specs.Lent.{Refuses, question, writing}
-use Rattle.partition.specs.Outputs.{FrameBooks, empty_books}
+use Rattle.partition.specs.Outputs.{FrameBooks, empty_books, is_enabled}
 use Rattle.partition.specs.Refusals.{MayRefuse}
 use Rattle.partition.specs.Shelves.{Serves, Spares}
 use Rattle.partition.specs.Step.{hearing, limit_of, told}
+use Rattle.house.specs.Seats.{Place}
 
 -- the player with its history; the notices that wait to be handed out; the books of frames; whether an output was settled, whose
 -- last fates then stand in the books of written and discarded frames, though no event told of them; and how many seats are free
@@ -61,9 +63,20 @@ IsSpared before after = (after ≡ before) ⊎ (after ≡ with_room before)
 abbrev pub IsRefusedFor : Chronicle → ℕ → Event → PartitionFault → Type 0
 IsRefusedFor before seat event fault = ((fault ≡ HistoryFull) × (is_full before ≡ true)) ⊎ MayRefuse (limit_of seat before.present event) fault
 
--- What the player of one thread tells at the event after some past in which the seat made so many events.
-abbrev pub TellsSomewhere : ℕ → ℕ → Event → Told → Type 0
-TellsSomewhere seat made event outcome = (past : Chronicle) × IsPast past × (own_in seat past.present ≡ made) × (outcome ≡ told past.present event)
+-- A past that a caller may find, who made so many events: one in which its seat made just these. Events of the house's own threads are
+-- not counted in their seats.
+abbrev pub MayFind : Place → Chronicle → Type 0
+MayFind seat past = IsPast past × (seat.number < 4 → own_in seat.number past.present ≡ seat.made)
+
+-- what the player of one thread tells at the event after some past that the caller may find
+abbrev pub TellsSomewhere : Place → Event → Told → Type 0
+TellsSomewhere seat event outcome = (past : Chronicle) × MayFind seat past × (outcome ≡ told past.present event)
+
+-- what the player of one thread tells of frames that were decoded, and which outputs were enabled there
+abbrev pub FeedsSomewhere : Place → ℕ → ℕ → FedData → Type 0
+FeedsSomewhere seat number frames fed =
+    (past : Chronicle) × MayFind seat past × (fed.told ≡ told past.present (Have number frames))
+    × ((output : ℕ) → output < 8 → slice_index_or fed.outputs output false ≡ is_enabled past.present.part.outputs output)
 
 module _ {S : Type 0} (standing : S → Standing) (failed : S → S → Call → Type 0) where
   -- An answer that the player of one thread gives to the event after some past in which the seat made so many events, by what the lent

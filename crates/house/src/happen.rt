@@ -104,7 +104,7 @@ pub(crate) fn hear_news<A: Ledger, B: Ledger, C: Ledger, D: Ledger>(
     ensures books { counted.new.present.shared.books ≡ counted.old.present.shared.books }
     ensures waiting { waiting.new.items ≡ waiting.old.items }
     ensures room { IfOk result (λ outcome. vec_len waiting.new + length outcome.notices ≤ vec_capacity waiting.new) }
-    ensures somewhere { IfOk result (λ outcome. seat.old.number < 4 → TellsSomewhere seat.old.number seat.old.made (event_of news) outcome) }
+    ensures somewhere { IfOk result (λ outcome. TellsSomewhere seat.old (event_of news) outcome) }
 {
     let mut shelf = MemShelf::new(alloc);
     happen(counted, waiting, seat, &mut shelf, news.into_event())

@@ -235,7 +235,7 @@ impl<A: Ledger, B: Ledger, C: Ledger, D: Ledger, E: Ledger, W: Ledger, X: Ledger
         ensures books { (self.new.books ≡ self.old.books) × (self.new.is_settled ≡ self.old.is_settled) × (self.new.free ≡ self.old.free) }
         ensures refused { IfErr result (λ fault. IsRefusedFor self.old.player seat.old.number (event_of news) fault) }
         ensures spared { OnErr result (IsSpared self.old.player self.new.player) }
-        ensures somewhere { IfOk result (λ told. seat.old.number < 4 → TellsSomewhere seat.old.number seat.old.made (event_of news) told) }
+        ensures somewhere { IfOk result (λ told. TellsSomewhere seat.old (event_of news) told) }
     {
         let Held {
             alloc,

@@ -1,15 +1,15 @@
 //! The house: one lock, which any thread with a seat takes.
-ghost use Rattle.std.specs.Prelude.{◌≡◌, ◌+◌, ◌<◌, ◌↔◌, Err, IfErr, IfOk, IsNone, OnErr, OnOk, length, ℕ};
-ghost use Rattle.frame_ledger.specs.Balance.{Balances, IsBlankOf as IsBlank};
-ghost use Rattle.frame_ledger.specs.declared.settlement.SettleFault.TheVariants.{Unsettled};
+ghost use Rattle.std.specs.Prelude.{◌≡◌, ◌+◌, ◌<◌, IfErr, IfOk, OnErr, OnOk, length, ℕ};
+ghost use Rattle.frame_ledger.specs.Balance.{IsBlankOf as IsBlank};
 ghost use Rattle.output_ring.specs.Rings.{AreEndsAfter};
 ghost use Rattle.partition.specs.Shelves.{nothing_heard};
-ghost use Rattle.partition.specs.declared.event.Event.TheVariants.{Line};
+ghost use Rattle.partition.specs.declared.event.Event.TheVariants.{Line, OutputTurn};
 ghost use Rattle.partition.specs.declared.event.Stand.TheVariants.{Alone};
 ghost use Rattle.house.specs.Lists.{StopsListSomewhere, TellsListSomewhere};
 ghost use Rattle.house.specs.News.{event_of};
 ghost use Rattle.house.specs.Seats.{after_events, IsBlankOf};
-ghost use Rattle.house.specs.Views.{AnswersSomewhere, IsFresh, IsUnwritten, TellsSomewhere};
+ghost use Rattle.house.specs.Settling.{SettlesSomewhere};
+ghost use Rattle.house.specs.Views.{AnswersSomewhere, FeedsSomewhere, IsFresh, IsUnwritten, TellsSomewhere};
 
 use crate::answered::{Answered, AnsweredList, Reported};
 use crate::fed::Fed;
@@ -163,7 +163,7 @@ impl<A: Ledger, B: Ledger, C: Ledger, D: Ledger, E: Ledger, W: Ledger, X: Ledger
     ) -> Result<Reported, PartitionFault>
         ensures made { OnOk result (seat.new ≡ after_events seat.old 1) }
         ensures fault { OnErr result (seat.new ≡ seat.old) }
-        ensures somewhere { IfOk result (λ told. seat.old.number < 4 → TellsSomewhere seat.old.number seat.old.made (event_of news) told) }
+        ensures somewhere { IfOk result (λ told. TellsSomewhere seat.old (event_of news) told) }
     {
         let (told, rung) = {
             let mut held = self.held.lock(rt);
@@ -196,6 +196,7 @@ impl<A: Ledger, B: Ledger, C: Ledger, D: Ledger, E: Ledger, W: Ledger, X: Ledger
     ) -> Result<Fed, PartitionFault>
         requires { 0 < share.old.parts }
         ensures made { OnOk result (seat.new ≡ after_events seat.old 1) }
+        ensures somewhere { IfOk result (λ fed. FeedsSomewhere seat.old number frames fed) }
         ensures parts { share.new.parts ≡ share.old.parts }
         ensures fault { OnErr result ((seat.new ≡ seat.old) × (share.new ≡ share.old)) }
     {
@@ -226,6 +227,7 @@ impl<A: Ledger, B: Ledger, C: Ledger, D: Ledger, E: Ledger, W: Ledger, X: Ledger
     ) -> Result<Reported, PartitionFault>
         requires { (0 < shares.old.written.parts) × (0 < shares.old.discarded.parts) }
         ensures made { OnOk result (seat.new ≡ after_events seat.old 1) }
+        ensures somewhere { IfOk result (λ told. TellsSomewhere seat.old (OutputTurn output fates.written fates.discarded failed) told) }
         ensures parts { (shares.new.written.parts ≡ shares.old.written.parts) × (shares.new.discarded.parts ≡ shares.old.discarded.parts) }
         ensures fault { OnErr result ((seat.new ≡ seat.old) × (shares.new ≡ shares.old)) }
     {
@@ -256,8 +258,7 @@ impl<A: Ledger, B: Ledger, C: Ledger, D: Ledger, E: Ledger, W: Ledger, X: Ledger
         requires ends { AreEndsAfter end drainer }
         requires output { output < 8 }
         requires parts { (0 < shares.old.written.parts) × (0 < shares.old.discarded.parts) }
-        ensures balances { IfOk result (λ s. Balances end drainer s) }
-        ensures unsettled { (result ≡ Err Unsettled) ↔ IsNone end.finished }
+        ensures somewhere { SettlesSomewhere end drainer output result }
         ensures kept { (shares.new.written.parts ≡ shares.old.written.parts) × (shares.new.discarded.parts ≡ shares.old.discarded.parts) }
     {
         self.held.lock(rt).settle(end, drainer, output, shares)

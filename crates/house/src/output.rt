@@ -162,6 +162,9 @@ impl<A: Ledger, B: Ledger, C: Ledger, D: Ledger, E: Ledger, W: Ledger, X: Ledger
         requires ends { AreEndsAfter end drainer }
         requires output { output < 8 }
         requires parts { (0 < shares.old.written.parts) × (0 < shares.old.discarded.parts) }
+        ensures legal { IsPast self.old.player }
+        ensures given { self.old.books.decoded ≡ self.old.player.present.shared.books.decoded }
+        ensures told { self.old.is_settled ≡ false → self.old.books ≡ self.old.player.present.shared.books }
         ensures player { self.new.player ≡ self.old.player }
         ensures waiting { self.new.waiting ≡ self.old.waiting }
         ensures settled { (self.new.is_settled ≡ true) × (self.new.free ≡ self.old.free) }
@@ -179,6 +182,8 @@ impl<A: Ledger, B: Ledger, C: Ledger, D: Ledger, E: Ledger, W: Ledger, X: Ledger
             × (shares.new.discarded.amount ≡ shares.old.discarded.amount + (if has_room self.old.books.written self.old.books.discarded (unreported_of drainer) then (unreported_of drainer).discarded else 0)) }
         ensures kept { (shares.new.written.parts ≡ shares.old.written.parts) × (shares.new.discarded.parts ≡ shares.old.discarded.parts) }
     {
+        // What the lock found is a past's, with its numbers.
+        let _window = self.history();
         let Held {
             alloc: _alloc,
             counted: _counted,

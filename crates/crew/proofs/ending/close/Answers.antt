@@ -17,4 +17,4 @@ pub settle_outputs-requires-clause-room : goal.settle_outputs-requires-clause-ro
 settle_outputs-requires-clause-room g c = let e = each_length LeavesRun _ _ c.join_outputs-lefts.ensures in search rules
 
 pub returns-clause-settled : goal.returns-clause-settled
-returns-clause-settled g c = each_settles _ _ _ c.join_outputs-lefts.ensures c.settle_outputs.ensures
+returns-clause-settled g c = each_settles 0 _ _ _ c.join_outputs-lefts.ensures c.settle_outputs.ensures

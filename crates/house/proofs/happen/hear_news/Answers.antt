@@ -1,7 +1,8 @@
 use Rattle.std.proofs.Common.{subst}
 use Rattle.partition.specs.declared.event.Event.{Event}
 use Rattle.house.proofs.Booked.{has_eight}
-use Rattle.house.proofs.Heard.{Joined, Stopped, books_stay, player_is, refused_is, somewhere_is, spared, told_is, within_is}
+use Rattle.house.proofs.Heard.{Joined, Stopped, books_stay, player_is, refused_is, spared, told_is, within_is}
+use Rattle.house.proofs.Somewhere.{tells}
 use Rattle.house.proofs.Plain.{kept, never, news_brings_none, news_plain}
 use Rattle.house.specs.News.{event_of}
 use Rattle.house.proofs.happen.hear_news.Goals as goal
@@ -40,6 +41,4 @@ returns-clause-books g c =
 
 pub returns-clause-somewhere : goal.returns-clause-somewhere
 returns-clause-somewhere g c =
-    somewhere_is kept never c.args.counted.now c.happen.new.counted c.new-shelf.result c.happen.new.shelf c.args.seat.now.number (event_of c.args.news) (news_plain c.args.news) c.happen.result
-    c.args.seat.now.made c.happen.ensures.legal c.happen.ensures.found
-    (subst (λ (e : Event). Joined kept never c.args.counted.now c.happen.new.counted c.new-shelf.result c.happen.new.shelf c.args.seat.now.number e c.happen.result) c.into_event.ensures c.happen.ensures.ok)
+    tells c.args.counted.now c.args.seat.now c.happen.ensures.legal c.happen.ensures.found (event_of c.args.news) c.happen.result (returns-clause-told g c)
