@@ -1,0 +1,180 @@
+//! An output that stands in a write delays no caller and no other output, and what it is not yet rid of is left at the end.
+use crate::door::behind_a_door;
+use crate::tunes::{Tone, Tune, listed, tune_of};
+use crate::wanted::wants;
+use crate::wire::{right_lines, right_to_the_hall};
+use partition::PartitionFault;
+use std::alloc::{AllocError, Global};
+use std::sync::Wait;
+use std::test::Fail;
+use std::thread::Threads;
+use std::time::Clock;
+
+/// One song of so many frames.
+fn saw(alloc: Global, frames: i32) -> Result<Vec<Tune>, AllocError> {
+    let song = tune_of(
+        alloc,
+        "a.wav",
+        u64::from(frames.unsigned_abs()),
+        frames,
+        Tone::Saw,
+    )?;
+    listed(alloc, song, None)
+}
+
+fn write_told<R: Threads + Wait + Clock + Copy + Drop + Send + Sync + 'static>(
+    rt: R,
+    alloc: Global,
+) -> Result<String, PartitionFault> {
+    let script = "add a.wav
+play
+~ an output stands in its write
+ping
+setvol 100
+~ attic 8000
+ping
+~ the door opens
+~ hall 8000";
+    let (day, mut rooms) = behind_a_door(rt, alloc, saw(alloc, 8_000)?, 0, 20_000, script)?;
+    let mut told = day.told(alloc)?;
+    told.push_str(right_lines(alloc, &mut rooms.wires, Tone::Saw)?.as_str())?;
+    Ok(told)
+}
+
+// The song has fewer frames than a ring, so that the attic gets all of them though the hall takes none.
+#[test]
+fn a_write_without_the_lock(rt: HostRuntime) -> Result<(), Fail> {
+    wants(
+        &rt,
+        write_told(rt, rt.alloc()),
+        "OK
+OK
+an output stands in its write: true
+OK
+OK
+attic 8000: true
+OK
+the door opens: true
+hall 8000: true
+files opened: 1
+8000 8000 0 0 0
+8000 8000 0 0 0
+8000 8000
+",
+    );
+    Ok(())
+}
+
+fn pause_told<R: Threads + Wait + Clock + Copy + Drop + Send + Sync + 'static>(
+    rt: R,
+    alloc: Global,
+) -> Result<String, PartitionFault> {
+    let script = "add a.wav
+play
+~ an output stands in its write
+~ attic 10240
+~ only 10240
+pause 1
+~ the door opens";
+    let (day, _rooms) = behind_a_door(rt, alloc, saw(alloc, 20_000)?, 0, 20_000, script)?;
+    day.told(alloc)
+}
+
+// The hall has 1,024 frames in its hand and 8,192 in its ring, and 1,024 are owed to it, so nothing more is decoded. It writes its hand,
+// and at the pause it keeps the rest.
+#[test]
+fn frames_are_left_at_the_end(rt: HostRuntime) -> Result<(), Fail> {
+    wants(
+        &rt,
+        pause_told(rt, rt.alloc()),
+        "OK
+OK
+an output stands in its write: true
+attic 10240: true
+only 10240: true
+OK
+the door opens: true
+files opened: 1
+10240 1024 0 9216 0
+10240 10240 0 0 0
+",
+    );
+    Ok(())
+}
+
+fn late_told<R: Threads + Wait + Clock + Copy + Drop + Send + Sync + 'static>(
+    rt: R,
+    alloc: Global,
+) -> Result<String, PartitionFault> {
+    let script = "add a.wav
+play
+~ hall 3000
+~ an output stands in its write";
+    let (day, _rooms) = behind_a_door(rt, alloc, saw(alloc, 3_000)?, 1, 2_000, script)?;
+    let mut told = String::from_str(alloc, day.heard.as_str())?;
+    told.push_str(day.balance(alloc, 0)?.as_str())?;
+    told.push_str(day.rest(alloc, 1)?.as_str())?;
+    Ok(told)
+}
+
+// The attic has its last turn long after the hall has ended.
+#[test]
+fn a_late_output_is_settled(rt: HostRuntime) -> Result<(), Fail> {
+    wants(
+        &rt,
+        late_told(rt, rt.alloc()),
+        "OK
+OK
+hall 3000: true
+an output stands in its write: true
+written 3000 torn 0 balanced true
+left true balanced true
+",
+    );
+    Ok(())
+}
+
+fn stop_told<R: Threads + Wait + Clock + Copy + Drop + Send + Sync + 'static>(
+    rt: R,
+    alloc: Global,
+) -> Result<String, PartitionFault> {
+    let first = tune_of(alloc, "a.wav", 20_000, 20_000, Tone::Saw)?;
+    let second = tune_of(alloc, "b.wav", 3_000, 3_000, Tone::Steps)?;
+    let tunes = listed(alloc, first, Some(second))?;
+    let script = "add a.wav
+add b.wav
+play
+~ an output stands in its write
+~ attic 8192
+stop
+play 1
+~ the door opens
+~ hall 4024";
+    let (day, mut rooms) = behind_a_door(rt, alloc, tunes, 0, 20_000, script)?;
+    let mut told = String::from_str(alloc, day.heard.as_str())?;
+    told.push_str(day.balance(alloc, 0)?.as_str())?;
+    told.push_str(right_to_the_hall(alloc, &mut rooms.wires, Tone::HandThenSteps)?.as_str())?;
+    Ok(told)
+}
+
+// The hall was in the write of its first hand of 1,024 frames. All else of the first song is of an old cut, and is discarded.
+#[test]
+fn frames_of_an_old_cut(rt: HostRuntime) -> Result<(), Fail> {
+    wants(
+        &rt,
+        stop_told(rt, rt.alloc()),
+        "OK
+OK
+OK
+an output stands in its write: true
+attic 8192: true
+OK
+OK
+the door opens: true
+hall 4024: true
+written 4024 torn 0 balanced true
+4024
+",
+    );
+    Ok(())
+}

@@ -1,0 +1,109 @@
+//! Songs whose files are not there, or are shorter than the library says.
+use crate::rooms::{Blind, Stage, one_day, shared};
+use crate::tunes::{Tone, Tune, listed, lost_tune, tune_of};
+use crate::wanted::wants;
+use crate::wire::{right_lines, two_wires};
+use crew::Open;
+use partition::PartitionFault;
+use std::alloc::Global;
+use std::sync::{Arc, Wait};
+use std::test::Fail;
+use std::thread::Threads;
+use std::time::Clock;
+
+fn told<R: Threads + Wait + Clock + Copy + Send + Sync + 'static>(
+    rt: R,
+    alloc: Global,
+    first: Tune,
+    second: Tune,
+    script: &str,
+    tone: Tone,
+) -> Result<String, PartitionFault> {
+    let (writers, mut wires) = two_wires(alloc, 100_000, 100_000)?;
+    let tunes = listed(alloc, first, Some(second))?;
+    let gate = shared(alloc, Open)?;
+    let stage = Stage {
+        tunes,
+        writers,
+        gate,
+        scanner: Blind,
+    };
+    let day = one_day(rt, alloc, stage, script, &mut wires)?;
+    let mut told = day.told(alloc)?;
+    told.push_str(right_lines(alloc, &mut wires, tone)?.as_str())?;
+    Ok(told)
+}
+
+fn after_a_lost_song<R: Threads + Wait + Clock + Copy + Send + Sync + 'static>(
+    rt: R,
+    alloc: Global,
+) -> Result<String, PartitionFault> {
+    let lost = lost_tune(alloc, "a.wav", 12_000);
+    let next = tune_of(alloc, "b.wav", 3_000, 3_000, Tone::Steps)?;
+    let script = "add a.wav
+add b.wav
+play
+status ~ error: Failed to decode a.wav
+play 1
+~ hall 3000
+~ attic 3000";
+    told(rt, alloc, lost, next, script, Tone::Steps)
+}
+
+#[test]
+fn a_missing_file(rt: HostRuntime) -> Result<(), Fail> {
+    wants(
+        &rt,
+        after_a_lost_song(rt, rt.alloc()),
+        "OK
+OK
+OK
+error: Failed to decode a.wav: true
+OK
+hall 3000: true
+attic 3000: true
+files opened: 1
+3000 3000 0 0 0
+3000 3000 0 0 0
+3000 3000
+",
+    );
+    Ok(())
+}
+
+fn into_a_short_partner<R: Threads + Wait + Clock + Copy + Send + Sync + 'static>(
+    rt: R,
+    alloc: Global,
+) -> Result<String, PartitionFault> {
+    let first = tune_of(alloc, "a.wav", 12_000, 12_000, Tone::Saw)?;
+    let short = tune_of(alloc, "b.wav", 10_000, 100, Tone::Steps)?;
+    let script = "crossfade 1
+add a.wav
+add b.wav
+play
+~ hall 12100
+~ attic 12100";
+    told(rt, alloc, first, short, script, Tone::SawThenSteps)
+}
+
+// The partner has 100 frames of the 8,000 of its fade, so the first song is played to its end alone, and then what there is of the
+// second, whose file is opened once more.
+#[test]
+fn a_partner_that_fails(rt: HostRuntime) -> Result<(), Fail> {
+    wants(
+        &rt,
+        into_a_short_partner(rt, rt.alloc()),
+        "OK
+OK
+OK
+OK
+hall 12100: true
+attic 12100: true
+files opened: 3
+12100 12100 0 0 0
+12100 12100 0 0 0
+12100 12100
+",
+    );
+    Ok(())
+}

@@ -1,0 +1,131 @@
+//! An output whose writer stands before a door.
+use crate::rooms::{Blind, Day, Stage, Watch, one_day, shared};
+use crate::tunes::Tune;
+use crate::wire::{Wire, Wires, two_wires};
+use crew::Open;
+use mpd_text::Counting;
+use partition::PartitionFault;
+use std::alloc::{AllocError, Global};
+use std::io::Write;
+use std::sync::atomic::{AtomicU32, Ordering};
+use std::sync::{Arc, Wait};
+use std::thread::Threads;
+use std::time::{Clock, Duration};
+use std::{io, thread};
+
+/// A door that a writer stands before until the test opens it.
+#[derive(Drop)]
+struct Door {
+    stands: AtomicU32,
+    open: AtomicU32,
+    gave_up: AtomicU32,
+}
+
+/// Waits so many milliseconds at most until a flag is up. Whether it is.
+fn is_raised<R: Clock>(rt: &R, flag: &AtomicU32, most: u32) -> bool {
+    for _ in 0..most {
+        if flag.load(Ordering::SeqCst) == 1 {
+            return true;
+        }
+        thread::sleep(rt, Duration::from_millis(1));
+    }
+    false
+}
+
+/// A wire that may be behind a door: then its writes go on once the door is open, or after so many milliseconds.
+#[derive(Drop)]
+struct Behind<R: Clock + Drop> {
+    rt: R,
+    door: Option<Arc<Door, Global>>,
+    patience: u32,
+    wire: Counting<Wire>,
+}
+
+impl<R: Clock + Drop> Write for Behind<R> {
+    fn write(&mut self, buf: &[u8]) -> io::Result<usize> {
+        if let Some(door) = &self.door {
+            door.stands.store(1, Ordering::SeqCst);
+            if !is_raised(&self.rt, &door.open, self.patience) {
+                door.gave_up.store(1, Ordering::SeqCst);
+            }
+        }
+        self.wire.write(buf)
+    }
+
+    fn flush(&mut self) -> io::Result<()> {
+        Ok(())
+    }
+}
+
+/// The test's ends of the wires, and the door.
+#[derive(Drop)]
+pub(crate) struct Rooms {
+    pub(crate) wires: Wires,
+    door: Arc<Door, Global>,
+}
+
+impl<R: Clock> Watch<R> for Rooms {
+    fn does(&mut self, rt: &R, step: &str) -> bool {
+        match step {
+            "an output stands in its write" => is_raised(rt, &self.door.stands, 10_000),
+            "the door opens" => {
+                self.door.open.store(1, Ordering::SeqCst);
+                self.door.gave_up.load(Ordering::SeqCst) == 0
+            }
+            _ => self.wires.does(rt, step),
+        }
+    }
+}
+
+/// Two outputs, of which the one with this number is behind a door that is shut. Its writer goes on after so many milliseconds.
+fn writers_of<R: Clock + Copy + Drop>(
+    rt: R,
+    alloc: Global,
+    output: usize,
+    patience: u32,
+) -> Result<(Vec<Counting<Behind<R>>>, Rooms), AllocError> {
+    let (wired, wires) = two_wires(alloc, 100_000, 100_000)?;
+    let door = shared(
+        alloc,
+        Door {
+            stands: AtomicU32::new(0),
+            open: AtomicU32::new(0),
+            gave_up: AtomicU32::new(0),
+        },
+    )?;
+    let mut writers = Vec::new(alloc);
+    for wire in wired {
+        let theirs = if writers.len() == output {
+            Some(Arc::try_clone(&door)?)
+        } else {
+            None
+        };
+        writers.push(Counting::new(Behind {
+            rt,
+            door: theirs,
+            patience,
+            wire,
+        }))?;
+    }
+    Ok((writers, Rooms { wires, door }))
+}
+
+/// Songs are played into two outputs, of which one is behind a door, as a script says.
+pub(crate) fn behind_a_door<R: Threads + Wait + Clock + Copy + Drop + Send + Sync + 'static>(
+    rt: R,
+    alloc: Global,
+    tunes: Vec<Tune>,
+    output: usize,
+    patience: u32,
+    script: &str,
+) -> Result<(Day, Rooms), PartitionFault> {
+    let (writers, mut rooms) = writers_of(rt, alloc, output, patience)?;
+    let stage = Stage {
+        tunes,
+        writers,
+        gate: shared(alloc, Open)?,
+        scanner: Blind,
+    };
+    let day = one_day(rt, alloc, stage, script, &mut rooms)?;
+    Ok((day, rooms))
+}

@@ -1,0 +1,92 @@
+//! Two outputs run at once: each one's first asking waits for the other's.
+use crate::rooms::{Blind, Stage, one_day, shared};
+use crate::tunes::{Tone, listed, tune_of};
+use crate::wanted::wants;
+use crate::wire::{right_lines, two_wires};
+use crew::Gate;
+use partition::PartitionFault;
+use std::alloc::Global;
+use std::sync::atomic::{AtomicU32, Ordering};
+use std::sync::{Arc, Wait};
+use std::test::Fail;
+use std::thread;
+use std::thread::Threads;
+use std::time::Clock;
+
+/// Lets an output go on once the other has asked too. An output gives up after a million looks.
+#[derive(Drop)]
+struct Meeting {
+    hall: AtomicU32,
+    attic: AtomicU32,
+    missed: AtomicU32,
+}
+
+impl Gate for Meeting {
+    fn ask(&self, output: usize) -> bool {
+        let (mine, other) = if output == 0 {
+            (&self.hall, &self.attic)
+        } else {
+            (&self.attic, &self.hall)
+        };
+        mine.store(1, Ordering::SeqCst);
+        for _ in 0..1_000_000u32 {
+            if other.load(Ordering::SeqCst) == 1 {
+                return true;
+            }
+            thread::yield_now();
+        }
+        self.missed.store(1, Ordering::SeqCst);
+        true
+    }
+}
+
+fn told<R: Threads + Wait + Clock + Copy + Send + Sync + 'static>(
+    rt: R,
+    alloc: Global,
+) -> Result<String, PartitionFault> {
+    let (writers, mut wires) = two_wires(alloc, 20_000, 20_000)?;
+    let tunes = listed(
+        alloc,
+        tune_of(alloc, "a.wav", 3_000, 3_000, Tone::Saw)?,
+        None,
+    )?;
+    let meeting = Meeting {
+        hall: AtomicU32::new(0),
+        attic: AtomicU32::new(0),
+        missed: AtomicU32::new(0),
+    };
+    let gate = shared(alloc, meeting)?;
+    let stage = Stage {
+        tunes,
+        writers,
+        gate: Arc::try_clone(&gate)?,
+        scanner: Blind,
+    };
+    let script = "add a.wav\nplay\n~ hall 3000\n~ attic 3000";
+    let day = one_day(rt, alloc, stage, script, &mut wires)?;
+    let mut told = day.told(alloc)?;
+    told.push_str(right_lines(alloc, &mut wires, Tone::Saw)?.as_str())?;
+    if gate.missed.load(Ordering::SeqCst) == 0 {
+        told.push_str("both met\n")?;
+    }
+    Ok(told)
+}
+
+#[test]
+fn outputs_run_at_once(rt: HostRuntime) -> Result<(), Fail> {
+    wants(
+        &rt,
+        told(rt, rt.alloc()),
+        "OK
+OK
+hall 3000: true
+attic 3000: true
+files opened: 1
+3000 3000 0 0 0
+3000 3000 0 0 0
+3000 3000
+both met
+",
+    );
+    Ok(())
+}

@@ -1,0 +1,138 @@
+//! A scan that is made while a song is played.
+use crate::rooms::{Stage, Watch, one_day, shared};
+use crate::tunes::{Tone, listed, songs, tune_of};
+use crate::wanted::wants;
+use crate::wire::{Wires, right_lines, two_wires};
+use crew::{Open, Scanner};
+use partition::PartitionFault;
+use song_db::SharedDb;
+use std::alloc::Global;
+use std::sync::atomic::{AtomicU32, Ordering};
+use std::sync::{Arc, Wait};
+use std::test::Fail;
+use std::thread;
+use std::thread::Threads;
+use std::time::{Clock, Duration};
+
+const SCRIPT: &str = "add a.wav
+update
+update
+~ the scan has begun
+play
+~ hall 12000
+~ attic 12000
+lsinfo
+~ the scan may end
+lsinfo ~ file: new.wav
+lsinfo
+update";
+
+/// Finds one song more than the library has, once it may end.
+#[derive(Drop)]
+struct Slow<R: Clock + Drop> {
+    rt: R,
+    begun: Arc<AtomicU32, Global>,
+    may_end: Arc<AtomicU32, Global>,
+}
+
+impl<R: Clock + Drop> Scanner for Slow<R> {
+    fn scan(&mut self, alloc: Global) -> Option<SharedDb> {
+        self.begun.store(1, Ordering::SeqCst);
+        let _ended = is_raised(&self.rt, &self.may_end);
+        songs(alloc, &[], Some("new.wav")).ok()
+    }
+}
+
+fn is_raised<R: Clock>(rt: &R, flag: &AtomicU32) -> bool {
+    for _ in 0..10_000u32 {
+        if flag.load(Ordering::SeqCst) == 1 {
+            return true;
+        }
+        thread::sleep(rt, Duration::from_millis(1));
+    }
+    false
+}
+
+#[derive(Drop)]
+struct Scans {
+    wires: Wires,
+    begun: Arc<AtomicU32, Global>,
+    may_end: Arc<AtomicU32, Global>,
+}
+
+impl<R: Clock> Watch<R> for Scans {
+    fn does(&mut self, rt: &R, step: &str) -> bool {
+        match step {
+            "the scan has begun" => is_raised(rt, &self.begun),
+            "the scan may end" => {
+                self.may_end.store(1, Ordering::SeqCst);
+                true
+            }
+            _ => self.wires.does(rt, step),
+        }
+    }
+}
+
+fn told<R: Threads + Wait + Clock + Copy + Drop + Send + Sync + 'static>(
+    rt: R,
+    alloc: Global,
+) -> Result<String, PartitionFault> {
+    let (writers, wires) = two_wires(alloc, 100_000, 100_000)?;
+    let begun = shared(alloc, AtomicU32::new(0))?;
+    let may_end = shared(alloc, AtomicU32::new(0))?;
+    let mut scans = Scans {
+        wires,
+        begun: Arc::try_clone(&begun)?,
+        may_end: Arc::try_clone(&may_end)?,
+    };
+    let tunes = listed(
+        alloc,
+        tune_of(alloc, "a.wav", 12_000, 12_000, Tone::Saw)?,
+        None,
+    )?;
+    let gate = shared(alloc, Open)?;
+    let stage = Stage {
+        tunes,
+        writers,
+        gate,
+        scanner: Slow { rt, begun, may_end },
+    };
+    let day = one_day(rt, alloc, stage, SCRIPT, &mut scans)?;
+    let mut told = day.told(alloc)?;
+    told.push_str(right_lines(alloc, &mut scans.wires, Tone::Saw)?.as_str())?;
+    Ok(told)
+}
+
+#[test]
+fn an_update_while_a_song_is_played(rt: HostRuntime) -> Result<(), Fail> {
+    wants(
+        &rt,
+        told(rt, rt.alloc()),
+        "OK
+updating_db: 1
+OK
+ACK [54@0] {update} already updating
+the scan has begun: true
+OK
+hall 12000: true
+attic 12000: true
+file: a.wav
+Time: 2
+duration: 1.500
+OK
+the scan may end: true
+file: new.wav: true
+file: new.wav
+Time: 1
+duration: 1.000
+OK
+updating_db: 2
+OK
+files opened: 1
+12000 12000 0 0 0
+12000 12000 0 0 0
+12000 12000
+",
+    );
+    Ok(())
+}
