@@ -8,6 +8,10 @@ use mpd_text::{Counting, Failing};
 use shelf::Shelf;
 use std::sync::Wait;
 use std::sync::ledger::Ledger;
+use std::time::{Clock, Duration, Instant};
+
+/// How long, in seconds, a client that is closed may take to read its last answers.
+const LAST_READ: u64 = 10;
 
 /// A client's socket, its session, and what there is to do for it.
 #[derive(Drop)]
@@ -22,6 +26,8 @@ pub(crate) struct Connection {
     is_starved: bool,
     /// Whether the player knows that the client is gone.
     is_gone: bool,
+    /// Until when a client that is closed may read its last answers.
+    leaves_by: Option<Instant>,
 }
 
 /// What becomes of a connection.
@@ -46,6 +52,7 @@ impl Connection {
             is_ending: false,
             is_starved: false,
             is_gone: false,
+            leaves_by: None,
         }
     }
 
@@ -65,6 +72,11 @@ impl Connection {
         self.is_starved
     }
 
+    /// Whether its client is closed, and did not read its last answers yet.
+    pub(crate) fn is_leaving(&self) -> bool {
+        self.leaves_by.is_some()
+    }
+
     /// Whether the client may have to be told something.
     pub(crate) fn may_wait(&self) -> bool {
         self.session.may_wait()
@@ -80,7 +92,7 @@ impl Connection {
         W: Ledger,
         X: Ledger,
         S: Shelf,
-        R: Wait,
+        R: Wait + Clock,
     >(
         &mut self,
         rt: &R,
@@ -108,13 +120,27 @@ impl Connection {
         self.is_gone = self.is_gone || tells_gone(rt, client, house, seat, end);
         self.is_ready = false;
         self.is_starved = !has_blocked || !self.is_gone;
-        if self.session.has_unsent() && !has_failed && !gives_up(end) {
+        if self.session.has_unsent() && !has_failed && !gives_up(end) && !self.is_late(rt) {
             return After::Stays;
         }
         if self.is_gone {
             After::Ends
         } else {
             After::Leaves
+        }
+    }
+
+    /// Whether a client that is closed had its time to read its last answers. Where no clock can be read, it had.
+    fn is_late<K: Clock>(&mut self, clock: &K) -> bool {
+        let Ok(now) = Instant::now(clock) else {
+            return true;
+        };
+        match self.leaves_by {
+            Some(last) => last < now,
+            None => {
+                self.leaves_by = now.checked_add(Duration::from_secs(LAST_READ));
+                self.leaves_by.is_none()
+            }
         }
     }
 }

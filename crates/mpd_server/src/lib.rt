@@ -14,6 +14,7 @@ mod place;
 mod session;
 mod sockets;
 mod unsent;
+mod waking;
 
 pub use asker::{Asker, Sequel};
 pub use end::{End, Goes, SessionFault};
@@ -21,4 +22,5 @@ pub use laws::{
     any_cut_of_bytes, any_cut_of_lines, lines_ask_for, outputs_join, outputs_join_over, turns_join,
 };
 pub use session::Session;
-pub use sockets::{ServeFault, bind, serve};
+pub use sockets::{ServeFault, Server, bind};
+pub use waking::start_waker;

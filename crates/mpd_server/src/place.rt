@@ -10,6 +10,7 @@ use shelf::Shelf;
 use std::alloc::Global;
 use std::sync::Wait;
 use std::sync::ledger::Ledger;
+use std::time::Clock;
 
 /// A place for one client at a time, which has the place's number.
 #[derive(Drop)]
@@ -60,6 +61,14 @@ impl Place {
             Tenant::Client(connection) => connection.is_starved(),
             Tenant::Gone => true,
             Tenant::Nobody => false,
+        }
+    }
+
+    /// Whether its client is closed, and did not read its last answers yet.
+    pub(crate) fn is_leaving(&self) -> bool {
+        match &self.tenant {
+            Tenant::Client(connection) => connection.is_leaving(),
+            Tenant::Nobody | Tenant::Gone => false,
         }
     }
 
@@ -127,7 +136,7 @@ impl Place {
         W: Ledger,
         X: Ledger,
         S: Shelf,
-        R: Wait,
+        R: Wait + Clock,
     >(
         &mut self,
         rt: &R,

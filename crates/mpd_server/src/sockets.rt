@@ -2,14 +2,14 @@
 use crate::place::Place;
 use house::{House, Seat};
 use mio::net::{TcpListener, TcpStream};
-use mio::{Events, Interest, Poll, Token};
+use mio::{Events, Interest, Poll, Token, Waker};
 use shelf::Shelf;
 use std::alloc::{AllocError, Global};
 use std::io::ErrorKind;
 use std::net::{Net, SocketAddr};
 use std::sync::Wait;
 use std::sync::ledger::Ledger;
-use std::time::Duration;
+use std::time::{Clock, Duration};
 
 /// The most clients that may be connected.
 const MAX_CLIENTS: u32 = 64;
@@ -21,6 +21,9 @@ const MAX_LET_IN: u32 = 64;
 const SHORT_SLEEP: u64 = 50;
 
 const LISTENER: Token = Token(0);
+
+/// Behind those of the clients, which are their numbers.
+const WAKER: Token = Token(65);
 
 /// Why nothing is served.
 #[derive(Clone, Copy, Debug, PartialEq, Eq)]
@@ -49,41 +52,6 @@ pub fn bind<N: Net>(rt: &N, address: &str) -> Result<TcpListener, ServeFault> {
     }
 }
 
-/// Serves clients until one of them ends the daemon.
-///
-/// Each round every client that sent something, or whose socket takes bytes again, has one turn, and what others are to be told is handed
-/// to them. So the lines of one client cost the others one turn's worth, and one that does not read costs them nothing. Between rounds the
-/// loop sleeps until the system tells of a socket.
-pub fn serve<
-    A: Ledger,
-    B: Ledger,
-    C: Ledger,
-    D: Ledger,
-    E: Ledger,
-    W: Ledger,
-    X: Ledger,
-    S: Shelf,
-    R: Wait + Net,
->(
-    rt: &R,
-    alloc: Global,
-    house: &House<A, B, C, D, E, W, X>,
-    seat: &mut Seat<A, B, C, D>,
-    shelf: &mut S,
-    listener: TcpListener,
-    allow_kill: bool,
-) -> Result<(), ServeFault> {
-    let mut server = Server::open(rt, alloc, listener)?;
-    for _ in rt.forever() {
-        server.sleep()?;
-        server.let_all_in(rt, alloc, house, seat, allow_kill);
-        if server.visit_all(rt, house, seat, shelf) {
-            break;
-        }
-    }
-    Ok(())
-}
-
 /// Who is at the door.
 #[derive(Clone, Copy, Debug, PartialEq, Eq)]
 enum Door {
@@ -96,16 +64,23 @@ enum Door {
 
 /// The sockets, and the places of the clients.
 #[derive(Drop)]
-struct Server {
+pub struct Server {
     poll: Poll,
     events: Events,
     listener: TcpListener,
     door: Door,
     places: Vec<Place>,
+    /// Whether another thread wakes the loop where a notice waits.
+    is_woken: bool,
 }
 
 impl Server {
-    fn open<N: Net>(rt: &N, alloc: Global, listener: TcpListener) -> Result<Server, ServeFault> {
+    /// A server that listens, and serves nobody yet.
+    pub fn open<N: Net>(
+        rt: &N,
+        alloc: Global,
+        listener: TcpListener,
+    ) -> Result<Server, ServeFault> {
         let mut listener = listener;
         let Ok(poll) = Poll::new(rt) else {
             return Err(ServeFault::ListenFault);
@@ -125,7 +100,57 @@ impl Server {
             listener,
             door: Door::Somebody,
             places,
+            is_woken: false,
         })
+    }
+
+    /// What another thread wakes the loop with. From then on the loop does not look for notices by itself.
+    pub(crate) fn waker(&mut self) -> Result<Waker, ServeFault> {
+        let Ok(waker) = Waker::new(self.poll.registry(), WAKER) else {
+            return Err(ServeFault::ListenFault);
+        };
+        self.is_woken = true;
+        Ok(waker)
+    }
+
+    /// The thread that was to wake the loop is not there.
+    pub(crate) fn look_itself(&mut self) {
+        self.is_woken = false;
+    }
+
+    /// Serves clients until one of them ends the daemon.
+    ///
+    /// Each round every client that sent something, or whose socket takes bytes again, has one turn, and what others are to be told is
+    /// handed to them. So the lines of one client cost the others one turn's worth, and one that does not read costs them nothing. Between
+    /// rounds the loop sleeps until the system tells of a socket, or a thread wakes it ([`start_waker`](crate::start_waker)); without such
+    /// a thread, 50 ms at most while a client idles.
+    pub fn serve<
+        A: Ledger,
+        B: Ledger,
+        C: Ledger,
+        D: Ledger,
+        E: Ledger,
+        W: Ledger,
+        X: Ledger,
+        S: Shelf,
+        R: Wait + Clock,
+    >(
+        &mut self,
+        rt: &R,
+        alloc: Global,
+        house: &House<A, B, C, D, E, W, X>,
+        seat: &mut Seat<A, B, C, D>,
+        shelf: &mut S,
+        may_kill: bool,
+    ) -> Result<(), ServeFault> {
+        for _ in rt.forever() {
+            self.sleep()?;
+            self.let_all_in(rt, alloc, house, seat, may_kill);
+            if self.visit_all(rt, house, seat, shelf) {
+                break;
+            }
+        }
+        Ok(())
     }
 
     /// Sleeps until the system tells of a socket, and marks its client.
@@ -150,7 +175,8 @@ impl Server {
         if self.door == Door::Somebody || self.places.iter().any(|place| place.is_ready()) {
             return Some(Duration::from_millis(0));
         }
-        if self.door == Door::Later || self.places.iter().any(|place| is_looked_at(place)) {
+        let looks = !self.is_woken;
+        if self.door == Door::Later || self.places.iter().any(|place| is_looked_at(place, looks)) {
             return Some(Duration::from_millis(SHORT_SLEEP));
         }
         None
@@ -215,7 +241,7 @@ impl Server {
         W: Ledger,
         X: Ledger,
         S: Shelf,
-        R: Wait,
+        R: Wait + Clock,
     >(
         &mut self,
         rt: &R,
@@ -224,7 +250,7 @@ impl Server {
         shelf: &mut S,
     ) -> bool {
         for place in &mut self.places {
-            if (place.is_ready() || place.is_starved()) && place.visit(rt, house, seat, shelf) {
+            if has_turn(place) && place.visit(rt, house, seat, shelf) {
                 return true;
             }
         }
@@ -246,10 +272,15 @@ fn free_places(alloc: Global) -> Result<Vec<Place>, AllocError> {
     Ok(places)
 }
 
-/// Whether a place is looked at again after a short sleep: something is to be tried again, or its client may have to be told of what no
-/// client did.
-fn is_looked_at(place: &Place) -> bool {
-    place.is_starved() || place.may_wait()
+/// Whether there is something to do for a client, or it is looked whether there is.
+fn has_turn(place: &Place) -> bool {
+    place.is_ready() || place.is_starved() || place.is_leaving()
+}
+
+/// Whether a place is looked at again after a short sleep: something is to be tried again, or its client leaves, or, where the loop looks
+/// for notices, it may have to be told of what no client did.
+fn is_looked_at(place: &Place, looks: bool) -> bool {
+    place.is_starved() || place.is_leaving() || looks && place.may_wait()
 }
 
 /// Who is at the door where a client could not be let in.

@@ -1,0 +1,88 @@
+//! The thread that wakes the loop over the sockets where a notice waits.
+use crate::sockets::{ServeFault, Server};
+use house::House;
+use mio::Waker;
+use std::alloc::{AllocError, Global};
+use std::sync::ledger::Ledger;
+use std::sync::{Arc, Wait};
+use std::thread;
+use std::thread::{JoinHandle, Threads};
+use std::time::{Clock, Duration};
+
+/// How long, in milliseconds, the thread waits at most before it looks whether the daemon has ended.
+const LONGEST_WAIT: u64 = 1_000;
+
+/// How long, in milliseconds, the loop has to hand out the notices that it was woken for, before it is woken again.
+const HAND_OUT: u64 = 5;
+
+/// Wakes the loop where a notice waits, until the daemon has ended.
+fn wake<
+    A: Ledger,
+    B: Ledger,
+    C: Ledger,
+    D: Ledger,
+    E: Ledger,
+    W: Ledger,
+    X: Ledger,
+    R: Wait + Clock,
+>(rt: &R, house: &House<A, B, C, D, E, W, X>, waker: &Waker) {
+    for _ in rt.forever() {
+        let waits = house.await_notice(rt, Duration::from_millis(LONGEST_WAIT));
+        if house.has_ended(rt) {
+            return;
+        }
+        if waits {
+            // Where the system refuses it, it is asked again while the notice waits.
+            let _woken = waker.wake();
+            thread::sleep(rt, Duration::from_millis(HAND_OUT));
+        }
+    }
+}
+
+/// Starts a thread that wakes a server as soon as a notice waits in the house, and that ends with the daemon: it is joined behind the close.
+///
+/// # Errors
+///
+/// Where there is no memory, no thread or no descriptor; the server then looks for notices by itself.
+pub fn start_waker<
+    A: Ledger + Send + Sync + 'static,
+    B: Ledger + Send + Sync + 'static,
+    C: Ledger + Send + Sync + 'static,
+    D: Ledger + Send + Sync + 'static,
+    E: Ledger + Send + Sync + 'static,
+    W: Ledger + Send + Sync + 'static,
+    X: Ledger + Send + Sync + 'static,
+    R: Threads + Wait + Clock + Copy + Send + 'static,
+>(
+    rt: R,
+    house: &Arc<House<A, B, C, D, E, W, X>, Global>,
+    server: &mut Server,
+) -> Result<JoinHandle<()>, ServeFault> {
+    let house = Arc::try_clone(house)?;
+    let waker = server.waker()?;
+    match start_thread(rt, house, waker) {
+        Ok(handle) => Ok(handle),
+        Err(_) => {
+            server.look_itself();
+            Err(ServeFault::NoMemory)
+        }
+    }
+}
+
+fn start_thread<
+    A: Ledger + Send + Sync + 'static,
+    B: Ledger + Send + Sync + 'static,
+    C: Ledger + Send + Sync + 'static,
+    D: Ledger + Send + Sync + 'static,
+    E: Ledger + Send + Sync + 'static,
+    W: Ledger + Send + Sync + 'static,
+    X: Ledger + Send + Sync + 'static,
+    R: Threads + Wait + Clock + Copy + Send + 'static,
+>(
+    rt: R,
+    house: Arc<House<A, B, C, D, E, W, X>, Global>,
+    waker: Waker,
+) -> Result<JoinHandle<()>, AllocError> {
+    let handle = thread::spawn(&rt, move || wake(&rt, &*house, &waker))?;
+    Ok(handle)
+}

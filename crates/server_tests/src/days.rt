@@ -1,0 +1,204 @@
+//! Sessions of a few clients in one house, told as steps.
+ghost use Rattle.std.specs.Prelude.{◌≡◌};
+ghost use Rattle.frame_ledger.specs.Balance.{IsBlankOf as IsBlank};
+ghost use Rattle.house.specs.Seats.{IsBlankOf};
+
+use crate::wires::{Feed, Pipe, Takes, Then};
+use house::{Blanks, House, News, Seat};
+use house_tests::rooms::{blanks, opened};
+use mpd_server::{Asker, End, Goes, Session, SessionFault};
+use mpd_text::Counting;
+use partition::PartitionFault;
+use shelf::MemShelf;
+use std::alloc::{AllocError, Global};
+use std::marker::Brand;
+use std::sync::Wait;
+use std::sync::ledger::Ledger;
+
+/// A step of a day.
+#[derive(Clone, Copy)]
+pub(crate) enum Step<'a> {
+    /// A client comes, whose socket takes bytes so.
+    Comes(u32, Takes),
+    /// A client says some bytes, which its session reads in as many turns as it takes.
+    Says(u32, &'a [u8]),
+    /// A client's session has a turn in which there is nothing to read.
+    Waits(u32),
+    /// A client sends no more.
+    Ends(u32),
+    /// A client's socket fails to be read.
+    Fails(u32),
+}
+
+/// A client with its session, and what its session wrote.
+#[derive(Drop)]
+struct Guest {
+    client: u32,
+    session: Session,
+    wire: Counting<Pipe>,
+}
+
+fn comes<A: Ledger, B: Ledger, C: Ledger, D: Ledger, E: Ledger, W: Ledger, X: Ledger>(
+    rt: &impl Wait,
+    alloc: Global,
+    house: &House<A, B, C, D, E, W, X>,
+    seat: &mut Seat<A, B, C, D>,
+    client: u32,
+    takes: Takes,
+    may_kill: bool,
+) -> Result<Guest, PartitionFault> {
+    let _greeted = house.notice(rt, seat, News::Comes(client))?;
+    let session = Session::new(alloc, Asker { client, may_kill })?;
+    Ok(Guest {
+        client,
+        session,
+        wire: Counting::new(Pipe::new(Vec::new(alloc), takes)),
+    })
+}
+
+/// Gives a session turns until all bytes are read, or it is closed.
+fn reads<A: Ledger, B: Ledger, C: Ledger, D: Ledger, E: Ledger, W: Ledger, X: Ledger>(
+    rt: &impl Wait,
+    alloc: Global,
+    house: &House<A, B, C, D, E, W, X>,
+    seat: &mut Seat<A, B, C, D>,
+    shelf: &mut MemShelf,
+    guest: &mut Guest,
+    bytes: &[u8],
+    then: Then,
+) -> Option<SessionFault> {
+    let mut feed = Counting::new(Feed::new(bytes, then));
+    for _ in 0..1_000_000u32 {
+        let goes = guest
+            .session
+            .turn(rt, &mut feed, &mut guest.wire, house, seat, shelf);
+        match goes {
+            Ok(Goes::On) if !feed.inner().is_empty() => {}
+            Ok(_) => return None,
+            Err(fault) => return Some(fault),
+        }
+    }
+    None
+}
+
+/// The name of what a session is.
+fn state(session: &Session) -> &'static str {
+    match session.end() {
+        None => "open",
+        Some(End::Left) => "left",
+        Some(End::Killed) => "killed",
+        Some(End::LongLine) => "long line",
+        Some(End::LargeList) => "large list",
+        Some(End::Unsent) => "unsent",
+        Some(End::NoPeer) => "no peer",
+        Some(End::ReadFault) => "read fault",
+        Some(End::WriteFault) => "write fault",
+    }
+}
+
+fn fault_name(fault: SessionFault) -> &'static str {
+    match fault {
+        SessionFault::ReadFault => "read fault answered\n",
+        SessionFault::WriteFault => "write fault answered\n",
+        SessionFault::NoMemory => "no memory answered\n",
+    }
+}
+
+fn steps_of<A: Ledger, B: Ledger, C: Ledger, D: Ledger, E: Ledger, W: Ledger, X: Ledger>(
+    rt: &impl Wait,
+    alloc: Global,
+    house: &House<A, B, C, D, E, W, X>,
+    seat: &mut Seat<A, B, C, D>,
+    steps: &[Step<'_>],
+    may_kill: bool,
+) -> Result<String, PartitionFault> {
+    let mut shelf = MemShelf::new(alloc);
+    let mut guests: Vec<Guest> = Vec::new(alloc);
+    let mut told = String::new(alloc);
+    for step in steps {
+        let (client, bytes, then) = match *step {
+            Step::Comes(client, takes) => {
+                guests.reserve(1)?;
+                guests.push_reserved(comes(rt, alloc, house, seat, client, takes, may_kill)?);
+                continue;
+            }
+            Step::Says(client, bytes) => (client, bytes, Then::Blocks),
+            Step::Waits(client) => (client, b"".as_slice(), Then::Blocks),
+            Step::Ends(client) => (client, b"".as_slice(), Then::Ends),
+            Step::Fails(client) => (client, b"".as_slice(), Then::Fails),
+        };
+        for guest in &mut guests {
+            if guest.client == client {
+                if let Some(fault) = reads(rt, alloc, house, seat, &mut shelf, guest, bytes, then) {
+                    told.push_str(fault_name(fault))?;
+                }
+            }
+        }
+    }
+    for guest in &guests {
+        let heading = format!(in alloc; "{} {}\n", guest.client, state(&guest.session))?;
+        told.push_str(heading.as_str())?;
+        told.push_str(str::from_utf8(guest.wire.inner().bytes()).unwrap_or("no text\n"))?;
+    }
+    Ok(told)
+}
+
+fn day<A: Ledger, B: Ledger, C: Ledger, D: Ledger, E: Ledger, W: Ledger, X: Ledger>(
+    rt: &impl Wait,
+    alloc: Global,
+    blanks: Blanks,
+    steps: &[Step<'_>],
+    may_kill: bool,
+) -> Result<String, PartitionFault>
+    requires seats { IsBlankOf blanks.first A.name A.parts × IsBlankOf blanks.second B.name B.parts × IsBlankOf blanks.third C.name C.parts × IsBlankOf blanks.fourth D.name D.parts }
+    requires books { IsBlank blanks.frames.decoded E.name E.parts × IsBlank blanks.frames.written W.name W.parts × IsBlank blanks.frames.discarded X.name X.parts }
+{
+    let (house, _shares) = opened::<A, B, C, D, E, W, X>(alloc, blanks, 4096)?;
+    let Ok(mut seat) = house.seat(rt) else {
+        return Err(PartitionFault::NoMemory);
+    };
+    steps_of(rt, alloc, &house, &mut seat, steps, may_kill)
+}
+
+/// What the sessions of a day wrote, each behind its client's number and whether it is closed.
+pub(crate) fn told<R: Wait>(
+    rt: &R,
+    alloc: Global,
+    steps: &[Step<'_>],
+) -> Result<String, PartitionFault> {
+    day::<Brand, Brand, Brand, Brand, Brand, Brand, Brand>(rt, alloc, blanks(), steps, false)
+}
+
+/// The same where clients may end the daemon.
+pub(crate) fn told_with_kill<R: Wait>(
+    rt: &R,
+    alloc: Global,
+    steps: &[Step<'_>],
+) -> Result<String, PartitionFault> {
+    day::<Brand, Brand, Brand, Brand, Brand, Brand, Brand>(rt, alloc, blanks(), steps, true)
+}
+
+/// A client comes and says some pieces.
+fn steps_of_pieces<'a>(
+    alloc: Global,
+    takes: Takes,
+    pieces: &[&'a [u8]],
+) -> Result<Vec<Step<'a>>, AllocError> {
+    let mut steps = Vec::new(alloc);
+    steps.push(Step::Comes(1, takes))?;
+    for piece in pieces {
+        steps.push(Step::Says(1, piece))?;
+    }
+    Ok(steps)
+}
+
+/// What the session of one client wrote that says some pieces.
+pub(crate) fn told_of_pieces<R: Wait>(
+    rt: &R,
+    alloc: Global,
+    takes: Takes,
+    pieces: &[&[u8]],
+) -> Result<String, PartitionFault> {
+    let steps = steps_of_pieces(alloc, takes, pieces)?;
+    told(rt, alloc, &steps)
+}

@@ -1,0 +1,23 @@
+//! Tests of sessions and of the loop over the sockets.
+#![tactic(auto)]
+
+#[cfg(test)]
+mod closes;
+#[cfg(test)]
+mod days;
+#[cfg(test)]
+mod devices;
+#[cfg(test)]
+mod lines;
+#[cfg(test)]
+mod lists;
+#[cfg(test)]
+mod loopback;
+#[cfg(test)]
+mod notices;
+#[cfg(test)]
+mod scanner;
+#[cfg(test)]
+mod wanted;
+#[cfg(test)]
+mod wires;

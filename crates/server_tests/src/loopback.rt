@@ -1,0 +1,373 @@
+//! Clients over the loopback, beside a server on another thread.
+ghost use Rattle.std.specs.Prelude.{◌≡◌};
+ghost use Rattle.frame_ledger.specs.Balance.{IsBlankOf as IsBlank};
+ghost use Rattle.house.specs.Seats.{IsBlankOf};
+
+use crate::scanner::start_scanner;
+use house::{Blanks, House};
+use house_tests::rooms::{blanks, opened};
+use mio::net::TcpListener as Door;
+use mpd_server::{ServeFault, Server, bind, start_waker};
+use shelf::MemShelf;
+use std::alloc::Global;
+use std::io::{Read, Write};
+use std::marker::Brand;
+use std::net::{Net, SocketAddr, TcpListener, TcpStream};
+use std::sync::ledger::Ledger;
+use std::sync::{Arc, Wait};
+use std::test::Fail;
+use std::thread::Threads;
+use std::time::Clock;
+use std::{io, thread};
+
+const GREETING: &[u8] = b"OK MPD 0.23.0\n";
+
+/// What clients do.
+#[derive(Clone, Copy)]
+enum Party {
+    /// One pings.
+    One,
+    /// More come than there are places for, and another comes once one has gone.
+    Many,
+    /// One asks for much and does not read it, while another pings.
+    SlowReader,
+    /// One waits while another changes something.
+    Idle,
+    /// One sends a line without end, while another pings.
+    LongLine,
+    /// One goes with an open list and with a line begun, and its place is another's.
+    Leaves,
+    /// One waits for the end of a scan, which no client's line makes.
+    Scan,
+}
+
+/// A house is served until a client ends the daemon, by a loop that another thread wakes, and a third makes the scans.
+fn serves_in<
+    A: Ledger + Send + Sync + 'static,
+    B: Ledger + Send + Sync + 'static,
+    C: Ledger + Send + Sync + 'static,
+    D: Ledger + Send + Sync + 'static,
+    E: Ledger + Send + Sync + 'static,
+    W: Ledger + Send + Sync + 'static,
+    X: Ledger + Send + Sync + 'static,
+    R: Threads + Wait + Net + Clock + Copy + Send + 'static,
+>(
+    rt: R,
+    alloc: Global,
+    house: &Arc<House<A, B, C, D, E, W, X>, Global>,
+    door: Door,
+) -> Result<(), ServeFault> {
+    let Ok(mut seat) = house.seat(&rt) else {
+        return Err(ServeFault::NoMemory);
+    };
+    let mut shelf = MemShelf::new(alloc);
+    let mut server = Server::open(&rt, alloc, door)?;
+    let waking = start_waker(rt, house, &mut server)?;
+    let scanning = start_scanner(rt, alloc, house);
+    let served = match &scanning {
+        Ok(_) => server.serve(&rt, alloc, &**house, &mut seat, &mut shelf, true),
+        Err(_) => Err(ServeFault::NoMemory),
+    };
+    let _ended = house.end(&rt, &mut seat);
+    waking.join(&rt);
+    if let Ok(scanning) = scanning {
+        scanning.join(&rt);
+    }
+    served
+}
+
+/// The same with a new house.
+fn serves<
+    A: Ledger + Send + Sync + 'static,
+    B: Ledger + Send + Sync + 'static,
+    C: Ledger + Send + Sync + 'static,
+    D: Ledger + Send + Sync + 'static,
+    E: Ledger + Send + Sync + 'static,
+    W: Ledger + Send + Sync + 'static,
+    X: Ledger + Send + Sync + 'static,
+    R: Threads + Wait + Net + Clock + Copy + Send + 'static,
+>(rt: R, alloc: Global, blanks: Blanks, door: Door) -> Result<(), ServeFault>
+    requires seats { IsBlankOf blanks.first A.name A.parts × IsBlankOf blanks.second B.name B.parts × IsBlankOf blanks.third C.name C.parts × IsBlankOf blanks.fourth D.name D.parts }
+    requires books { IsBlank blanks.frames.decoded E.name E.parts × IsBlank blanks.frames.written W.name W.parts × IsBlank blanks.frames.discarded X.name X.parts }
+{
+    let Ok((house, _shares)) = opened::<A, B, C, D, E, W, X>(alloc, blanks, 4096) else {
+        return Err(ServeFault::NoMemory);
+    };
+    let Ok(house) = Arc::new(alloc, house) else {
+        return Err(ServeFault::NoMemory);
+    };
+    serves_in(rt, alloc, &house, door)
+}
+
+fn serves_at_brand<R: Threads + Wait + Net + Clock + Copy + Send + 'static>(
+    rt: R,
+    alloc: Global,
+    door: Door,
+) -> Result<(), ServeFault> {
+    serves::<Brand, Brand, Brand, Brand, Brand, Brand, Brand, R>(rt, alloc, blanks(), door)
+}
+
+/// A client that has been greeted.
+fn comes<R: Net<Listener = TcpListener, Stream = TcpStream>>(
+    rt: &R,
+    alloc: Global,
+    address: SocketAddr,
+) -> io::Result<TcpStream> {
+    let mut client = TcpStream::connect(rt, address)?;
+    hears(alloc, &mut client, GREETING)?;
+    Ok(client)
+}
+
+/// A client hears just these bytes next.
+fn hears(alloc: Global, client: &mut TcpStream, wanted: &[u8]) -> io::Result<()> {
+    let mut bytes = Vec::from_elem(alloc, 0u8, wanted.len())?;
+    client.read_exact(bytes.as_mut_slice())?;
+    if bytes.as_slice() == wanted {
+        Ok(())
+    } else {
+        Err(io::Error::from(io::ErrorKind::InvalidData))
+    }
+}
+
+/// A client says some bytes, and hears just these.
+fn says(alloc: Global, client: &mut TcpStream, bytes: &[u8], wanted: &[u8]) -> io::Result<()> {
+    client.write_all(bytes)?;
+    hears(alloc, client, wanted)
+}
+
+/// A client hears no more.
+fn hears_the_end(client: &mut TcpStream) -> bool {
+    let mut bytes = [0u8; 16];
+    matches!(client.read(&mut bytes), Ok(0) | Err(_))
+}
+
+fn many_come<R: Net<Listener = TcpListener, Stream = TcpStream>>(
+    rt: &R,
+    alloc: Global,
+    address: SocketAddr,
+    first: &mut TcpStream,
+) -> io::Result<()> {
+    let mut clients = Vec::new(alloc);
+    for _client in 1..64u32 {
+        clients.push(comes(rt, alloc, address)?)?;
+    }
+    let mut late = TcpStream::connect(rt, address)?;
+    if !hears_the_end(&mut late) {
+        return Err(io::Error::from(io::ErrorKind::InvalidData));
+    }
+    if let Some(mut last) = clients.pop() {
+        last.write_all(b"close\n")?;
+        if !hears_the_end(&mut last) {
+            return Err(io::Error::from(io::ErrorKind::InvalidData));
+        }
+    }
+    let mut next = comes(rt, alloc, address)?;
+    says(alloc, &mut next, b"ping\n", b"OK\n")?;
+    says(alloc, first, b"ping\n", b"OK\n")
+}
+
+/// The length of the answer to `commands`.
+fn length_of_commands(alloc: Global, client: &mut TcpStream) -> io::Result<usize> {
+    client.write_all(b"commands\n")?;
+    let mut heard = Vec::new(alloc);
+    let mut byte = [0u8; 1];
+    for _ in 0..100_000u32 {
+        client.read_exact(&mut byte)?;
+        heard.extend_from_slice(&byte)?;
+        if heard.as_slice().ends_with(b"\nOK\n") {
+            break;
+        }
+    }
+    Ok(heard.len())
+}
+
+fn one_reads_slowly<R: Net<Listener = TcpListener, Stream = TcpStream>>(
+    rt: &R,
+    alloc: Global,
+    address: SocketAddr,
+    first: &mut TcpStream,
+) -> io::Result<()> {
+    let mut slow = comes(rt, alloc, address)?;
+    let length = length_of_commands(alloc, &mut slow)?;
+    for _question in 0..4_000u32 {
+        slow.write_all(b"commands\n")?;
+    }
+    for _ping in 0..100u32 {
+        says(alloc, first, b"ping\n", b"OK\n")?;
+    }
+    let mut answer = Vec::from_elem(alloc, 0u8, length)?;
+    for _question in 0..4_000u32 {
+        slow.read_exact(answer.as_mut_slice())?;
+        if !answer.as_slice().ends_with(b"\nOK\n") {
+            return Err(io::Error::from(io::ErrorKind::InvalidData));
+        }
+    }
+    Ok(())
+}
+
+fn one_waits<R: Net<Listener = TcpListener, Stream = TcpStream>>(
+    rt: &R,
+    alloc: Global,
+    address: SocketAddr,
+    first: &mut TcpStream,
+) -> io::Result<()> {
+    let mut waiting = comes(rt, alloc, address)?;
+    for _change in 0..50u32 {
+        waiting.write_all(b"idle options\n")?;
+        says(alloc, first, b"repeat 1\n", b"OK\n")?;
+        hears(alloc, &mut waiting, b"changed: options\nOK\n")?;
+        says(alloc, &mut waiting, b"repeat 0\n", b"OK\n")?;
+        says(
+            alloc,
+            &mut waiting,
+            b"idle options\n",
+            b"changed: options\nOK\n",
+        )?;
+    }
+    Ok(())
+}
+
+fn one_line_is_long<R: Net<Listener = TcpListener, Stream = TcpStream>>(
+    rt: &R,
+    alloc: Global,
+    address: SocketAddr,
+    first: &mut TcpStream,
+) -> io::Result<()> {
+    let mut long = comes(rt, alloc, address)?;
+    let bytes = Vec::from_elem(alloc, b'x', 100_000)?;
+    let _refused = long.write_all(bytes.as_slice());
+    says(alloc, first, b"ping\n", b"OK\n")?;
+    if hears_the_end(&mut long) {
+        Ok(())
+    } else {
+        Err(io::Error::from(io::ErrorKind::InvalidData))
+    }
+}
+
+fn one_leaves<R: Net<Listener = TcpListener, Stream = TcpStream>>(
+    rt: &R,
+    alloc: Global,
+    address: SocketAddr,
+    first: &mut TcpStream,
+) -> io::Result<()> {
+    for _time in 0..200u32 {
+        let mut client = comes(rt, alloc, address)?;
+        says(alloc, &mut client, b"ping\n", b"OK\n")?;
+        client.write_all(b"command_list_begin\nadd a.wav\nadd b.wav\ncommand_list_")?;
+    }
+    says(alloc, first, b"plchangesposid 0\n", b"OK\n")
+}
+
+/// The client asks for a scan and waits for its end, of which no client tells the loop.
+fn one_waits_for_a_scan(alloc: Global, first: &mut TcpStream) -> io::Result<()> {
+    says(alloc, first, b"update\n", b"updating_db: 1\nOK\n")?;
+    says(alloc, first, b"idle database\n", b"changed: database\nOK\n")
+}
+
+fn acts<R: Net<Listener = TcpListener, Stream = TcpStream>>(
+    rt: &R,
+    alloc: Global,
+    address: SocketAddr,
+    first: &mut TcpStream,
+    party: Party,
+) -> io::Result<()> {
+    match party {
+        Party::One => says(alloc, first, b"ping\n", b"OK\n"),
+        Party::Many => many_come(rt, alloc, address, first),
+        Party::SlowReader => one_reads_slowly(rt, alloc, address, first),
+        Party::Idle => one_waits(rt, alloc, address, first),
+        Party::LongLine => one_line_is_long(rt, alloc, address, first),
+        Party::Leaves => one_leaves(rt, alloc, address, first),
+        Party::Scan => one_waits_for_a_scan(alloc, first),
+    }
+}
+
+/// What clients do, and then one of them ends the daemon.
+fn visits<R: Net<Listener = TcpListener, Stream = TcpStream>>(
+    rt: &R,
+    alloc: Global,
+    address: SocketAddr,
+    guests: Party,
+) -> io::Result<bool> {
+    let mut first = comes(rt, alloc, address)?;
+    let went_well = acts(rt, alloc, address, &mut first, guests);
+    first.write_all(b"kill\n")?;
+    Ok(hears_the_end(&mut first) && went_well.is_ok())
+}
+
+fn goes_well<
+    R: Threads
+        + Wait
+        + Net<Listener = TcpListener, Stream = TcpStream>
+        + Clock
+        + Copy
+        + Send
+        + Sync
+        + 'static,
+>(rt: R, alloc: Global, guests: Party) -> io::Result<bool> {
+    let Ok(door) = bind(&rt, "127.0.0.1:0") else {
+        return Ok(false);
+    };
+    let address = door.local_addr()?;
+    let (served, visited) = thread::join(
+        &rt,
+        move || serves_at_brand(rt, alloc, door),
+        move || visits(&rt, alloc, address, guests),
+    );
+    Ok(served.is_ok() && visited?)
+}
+
+#[test]
+fn one_client(rt: HostRuntime) -> Result<(), Fail> {
+    assert!(rt; goes_well(rt, rt.alloc(), Party::One)?);
+    Ok(())
+}
+
+#[test]
+fn more_clients_than_places(rt: HostRuntime) -> Result<(), Fail> {
+    assert!(rt; goes_well(rt, rt.alloc(), Party::Many)?);
+    Ok(())
+}
+
+#[test]
+fn a_slow_reader(rt: HostRuntime) -> Result<(), Fail> {
+    assert!(rt; goes_well(rt, rt.alloc(), Party::SlowReader)?);
+    Ok(())
+}
+
+#[test]
+fn a_client_that_waits(rt: HostRuntime) -> Result<(), Fail> {
+    assert!(rt; goes_well(rt, rt.alloc(), Party::Idle)?);
+    Ok(())
+}
+
+#[test]
+fn a_line_without_end(rt: HostRuntime) -> Result<(), Fail> {
+    assert!(rt; goes_well(rt, rt.alloc(), Party::LongLine)?);
+    Ok(())
+}
+
+#[test]
+fn clients_that_leave(rt: HostRuntime) -> Result<(), Fail> {
+    assert!(rt; goes_well(rt, rt.alloc(), Party::Leaves)?);
+    Ok(())
+}
+
+/// The loop sleeps, and the thread that wakes it is told of the notice that a scanner makes.
+#[test]
+fn a_scan_that_ends(rt: HostRuntime) -> Result<(), Fail> {
+    assert!(rt; goes_well(rt, rt.alloc(), Party::Scan)?);
+    Ok(())
+}
+
+#[test]
+fn an_address_is_listened_at(rt: HostRuntime) -> Result<(), Fail> {
+    assert!(rt; bind(&rt, "127.0.0.1:0").is_ok());
+    assert!(rt; bind(&rt, "nowhere").is_err());
+    let taken = bind(&rt, "127.0.0.1:0");
+    if let Ok(door) = &taken {
+        let address = format!(in rt.alloc(); "{}", door.local_addr()?)?;
+        assert!(rt; bind(&rt, address.as_str()).is_err());
+    }
+    Ok(())
+}
