@@ -5,10 +5,10 @@
  *
  * The environment says what fails; N counts from 1, and nothing fails where it is absent or 0.
  *   FAULTY_ALLOCATION=N  the Nth malloc or realloc finds no memory (ENOMEM)
- *   FAULTY_READ=N        the Nth read fails (EIO)
- *   FAULTY_WRITE=N       the Nth write fails (EIO); those to standard error neither fail nor count
+ *   FAULTY_READ=N        the Nth read or pread fails (EIO)
+ *   FAULTY_WRITE=N       the Nth write or pwrite fails (EIO); those to standard error neither fail nor count
  *   FAULTY_PIECE=N       no read and no such write moves more than N bytes
- *   FAULTY_REPORT=FILE   at exit FILE gets a line 'NAME COUNT' for each count and for the peak memory
+ *   FAULTY_REPORT=FILE   at exit or _exit FILE gets a line 'NAME COUNT' for each count and for the peak memory
  */
 #define _GNU_SOURCE
 #include <dlfcn.h>
@@ -27,6 +27,8 @@ static void *(*real_malloc)(size_t);
 static void *(*real_realloc)(void *, size_t);
 static ssize_t (*real_read)(int, void *, size_t);
 static ssize_t (*real_write)(int, const void *, size_t);
+static ssize_t (*real_pread)(int, void *, size_t, off_t);
+static ssize_t (*real_pwrite)(int, const void *, size_t, off_t);
 
 /* The C library may allocate before `begin` has run, so this may be called first from there. */
 static void find_real_calls(void) {
@@ -34,6 +36,8 @@ static void find_real_calls(void) {
     real_realloc = dlsym(RTLD_NEXT, "realloc");
     real_read = dlsym(RTLD_NEXT, "read");
     real_write = dlsym(RTLD_NEXT, "write");
+    real_pread = dlsym(RTLD_NEXT, "pread");
+    real_pwrite = dlsym(RTLD_NEXT, "pwrite");
 }
 
 static long number_in(const char *variable) {
@@ -76,6 +80,20 @@ ssize_t write(int file, const void *from, size_t size) {
     return real_write(file, from, cut(size));
 }
 
+ssize_t pread(int file, void *into, size_t size, off_t at) {
+    if (!real_pread) find_real_calls();
+    if (is_due(&reads, failing_read)) { errno = EIO; return -1; }
+    ssize_t got = real_pread(file, into, cut(size), at);
+    if (got > 0) atomic_fetch_add(&bytes_read, got);
+    return got;
+}
+
+ssize_t pwrite(int file, const void *from, size_t size, off_t at) {
+    if (!real_pwrite) find_real_calls();
+    if (is_due(&writes, failing_write)) { errno = EIO; return -1; }
+    return real_pwrite(file, from, cut(size), at);
+}
+
 /* The most memory that the process held, in KiB, or 0 where the system does not say. */
 static long peak_memory(void) {
     char text[4096];
@@ -96,6 +114,13 @@ static void report(void) {
     if (file < 0) return;
     if (real_write(file, text, size) != size) unlink(getenv("FAULTY_REPORT"));
     close(file);
+}
+
+/* A program with threads ends by this call, and what is to be done at its exit is then not done. */
+void _exit(int status) {
+    if (getenv("FAULTY_REPORT")) report();
+    void (*real_exit)(int) __attribute__((noreturn)) = dlsym(RTLD_NEXT, "_exit");
+    real_exit(status);
 }
 
 __attribute__((constructor)) static void begin(void) {

@@ -4,15 +4,17 @@ import os
 import re
 
 LAUNCHER = os.path.join(os.path.dirname(os.path.dirname(os.path.abspath(__file__))), 'music_daemon')
-TEXTS = {'help': ('--help',), 'help_scan': ('scan', '--help'), 'help_script': ('script', '--help')}
+TEXTS = {'help': ('--help',), 'help_serve': ('serve', '--help'), 'help_scan': ('scan', '--help'), 'help_script': ('script', '--help')}
 
 SUCCESS, SHOWN, REFUSED = range(3)
 
 WANTED = [
     (('script',), SUCCESS),
     (('--help',), SHOWN), (('-h',), SHOWN), (('help',), SHOWN), (('help', 'scan'), SHOWN), (('scan', '--help'), SHOWN),
-    (('script', '-h'), SHOWN), (('--version',), SHOWN), (('-V',), SHOWN),
-    ((), REFUSED), (('nosuch',), REFUSED), (('script', 'x'), REFUSED), (('',), REFUSED), ((b'\xff',), REFUSED), (('serve',), REFUSED),
+    (('help', 'serve'), SHOWN), (('serve', '--help'), SHOWN), (('script', '-h'), SHOWN), (('--version',), SHOWN), (('-V',), SHOWN),
+    ((), REFUSED), (('nosuch',), REFUSED), (('script', 'x'), REFUSED), (('',), REFUSED), ((b'\xff',), REFUSED),
+    (('serve',), REFUSED), (('serve', 'x'), REFUSED), (('serve', '--config'), REFUSED), (('serve', '--config', 'x', 'y'), REFUSED),
+    (('serve', '--config', 'x', '--config', 'x'), REFUSED), (('--config', 'x', 'serve'), REFUSED),
     (('scan',), REFUSED), (('scan', 'a', 'b'), REFUSED), (('scan', '--rate', '7999', '.'), REFUSED), (('scan', '--rate', '192001', '.'), REFUSED),
     (('scan', '--rate', 'x', '.'), REFUSED), (('scan', '--rate', '-8000', '.'), REFUSED), (('scan', '--rate', '8000'), REFUSED),
     (('scan', '.', '--rate'), REFUSED), (('scan', '--rate', '8000', '--rate', '9000', '.'), REFUSED),

@@ -3,7 +3,7 @@ use Rattle.std.proofs.Common.{◌≡◌, ◌==◌, ℕ, Bool, cond, true, false,
 use Rattle.clap.specs.Walk.{Text}
 use Rattle.clap.specs.declared.error.kind.ErrorKind.TheVariants.{UnknownArgument, ValueValidation}
 use Rattle.clap.proofs.OnLiterals.{clap_on_literals}
-use Rattle.command_line.specs.Readings.{AsksScan, IsPlain, Readings, Refuses}
+use Rattle.command_line.specs.Readings.{AsksScan, AsksServe, IsPlain, Readings, Refuses}
 
 -- a word that does not begin with a hyphen: it is empty, or its first byte is another
 plain_word : (P : Text → Type 0) → P [] → ((x : ℕ) (xs : Text) → (x == 45) ≡ false → P (x ∷ xs)) → (word : Text) → IsPlain word → P word
@@ -13,6 +13,15 @@ plain_word P none some (x ∷ xs) is = some x xs (go (x == 45) is)
     go : (b : Bool) → cond b (Some xs) None ≡ None → b ≡ false
     go true e = cc
     go false e = refl
+
+serve : (name file : Text) → IsPlain file → AsksServe (name ∷ codes "serve" ∷ codes "--config" ∷ file ∷ []) file
+unfolding clap_on_literals
+serve name file is = plain_word (λ w. AsksServe (name ∷ codes "serve" ∷ codes "--config" ∷ w ∷ []) w)
+    (record { taken = refl; read = (_, refl, (refl, refl)) }) (λ x xs e. record { taken = simp e refl; read = simp e (_, refl, (refl, refl)) }) file is
+
+plain_file : (name file : Text) → IsPlain file → Refuses (name ∷ codes "serve" ∷ file ∷ []) (UnknownArgument ∷ [])
+unfolding clap_on_literals
+plain_file name file is = plain_word (λ w. Refuses (name ∷ codes "serve" ∷ w ∷ []) (UnknownArgument ∷ [])) refl (λ x xs e. simp e refl) file is
 
 scan : (name folder : Text) → IsPlain folder → AsksScan (name ∷ codes "scan" ∷ folder ∷ []) 44100 folder
 unfolding clap_on_literals
@@ -44,6 +53,10 @@ one_more name word is = plain_word (λ w. Refuses (name ∷ codes "script" ∷ w
 pub all : Readings
 unfolding clap_on_literals
 all = record {
+  serve = serve;
+  no_config = λ name. refl;
+  no_file = λ name. refl;
+  plain_file = plain_file;
   scan = scan;
   least = least;
   most = most;
@@ -53,7 +66,7 @@ all = record {
   script = λ name. record { taken = refl; read = (_, refl, refl) };
   one_more = one_more;
   no_word = λ name. refl;
-  serve = λ name. refl;
+  no_command = λ name. refl;
   help = λ name. refl;
   version = λ name. refl;
 }

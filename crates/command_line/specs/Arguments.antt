@@ -5,6 +5,14 @@ use Rattle.clap.specs.Words.{App, Rule, new_app, new_rule, with_rule, with_subco
 use Rattle.clap.specs.declared.builder.ArgAction.TheVariants.{Set}
 use Rattle.clap.specs.declared.builder.value_parser.ValueParser.TheVariants as parser
 
+-- `--config FILE`, which may not be left out
+abbrev pub config : Rule
+config = record (new_rule (codes "config")) { long = Some (codes "config"); required = true; action = Some Set; value_names = 1 }
+
+-- `serve --config FILE`
+abbrev pub serve : App
+serve = with_rule (new_app (codes "serve")) config
+
 -- `--rate N`: from 8,000 to 192,000, and 44,100 where it is left out
 abbrev pub rate : Rule
 rate = record (new_rule (codes "rate")) {
@@ -33,4 +41,4 @@ bare = let app = new_app (codes "music_daemon") in record app { top = record app
 
 -- the whole command line
 abbrev pub daemon : App
-daemon = with_subcommand (with_subcommand bare scan.top) script.top
+daemon = with_subcommand (with_subcommand (with_subcommand bare serve.top) scan.top) script.top

@@ -8,18 +8,23 @@ use Rattle.command_line.specs.Arguments.{daemon}
 use Rattle.command_line.specs.declared.program.LineFault.{LineFault}
 use Rattle.command_line.specs.declared.program.LineFault.TheVariants.{Refused, NoMemory}
 use Rattle.command_line.specs.declared.program.Program.{Program}
-use Rattle.command_line.specs.declared.program.Program.TheVariants.{Scan, Script}
+use Rattle.command_line.specs.declared.program.Program.TheVariants.{Serve, Scan, Script}
 
 -- the number that a text of decimal digits says; a plus may stand before them
 abbrev pub number_of : Text → ℕ
 number_of text = digits_value 10 (without_leading_plus text)
 
--- a command's name, and what was read of its arguments, are those of a scan at this rate of this folder
+-- a command's name, and what was read of its arguments, are those of a daemon with this file of settings
+abbrev pub IsServe : Text × List Row → Text → Type 0
+IsServe p file = (p.0 ≡ codes "serve") × (first_of (codes "config") p.1 ≡ Some file)
+
+-- they are those of a scan at this rate of this folder
 abbrev pub IsScan : Text × List Row → ℕ → Text → Type 0
 IsScan p rate folder = (p.0 ≡ codes "scan") × (option_map number_of (one_of (codes "rate") p.1) ≡ Some rate) × (first_of (codes "folder") p.1 ≡ Some folder)
 
 -- they are those of this program
 abbrev pub Says : Text × List Row → Program → Type 0
+Says p (Serve file) = IsServe p file.now
 Says p (Scan rate folder) = IsScan p rate folder.now
 Says p Script = p.0 ≡ codes "script"
 

@@ -2,13 +2,18 @@
 use Rattle.std.specs.Prelude.{◌≡◌, ℕ, List, [], ◌∷◌, None, Some, codes}
 use Rattle.clap.specs.Lexer.{strip_byte}
 use Rattle.clap.specs.Words.{Kinds, Row, Text, fault_of, subcommand_of}
-use Rattle.clap.specs.declared.error.kind.ErrorKind.TheVariants.{DisplayHelp, DisplayVersion, InvalidSubcommand, MissingRequiredArgument, MissingSubcommand, UnknownArgument, ValueValidation}
+use Rattle.clap.specs.declared.error.kind.ErrorKind.TheVariants.{DisplayHelp, DisplayVersion, InvalidSubcommand, InvalidValue, MissingRequiredArgument, MissingSubcommand, UnknownArgument, ValueValidation}
 use Rattle.command_line.specs.Arguments.{daemon}
-use Rattle.command_line.specs.Programs.{IsScan}
+use Rattle.command_line.specs.Programs.{IsScan, IsServe}
 
 -- a word that does not begin with a hyphen
 abbrev pub IsPlain : Text → Type 0
 IsPlain word = strip_byte 45 word ≡ None
+
+-- the words are taken, and ask for a daemon with this file of settings
+pub record AsksServe (words : List Text) (file : Text) : Type 0 where
+  pub taken : fault_of daemon words ≡ []
+  pub read : (p : Text × List Row) × (subcommand_of daemon words ≡ Some p) × IsServe p file
 
 -- the words are taken, and ask for a scan at this rate of this folder
 pub record AsksScan (words : List Text) (rate : ℕ) (folder : Text) : Type 0 where
@@ -25,6 +30,11 @@ abbrev pub Refuses : List Text → Kinds → Type 0
 Refuses words kinds = fault_of daemon words ≡ kinds
 
 pub record Readings : Type 0 where
+  -- `serve --config FILE`, which may not be left out
+  pub serve : (name file : Text) → IsPlain file → AsksServe (name ∷ codes "serve" ∷ codes "--config" ∷ file ∷ []) file
+  pub no_config : (name : Text) → Refuses (name ∷ codes "serve" ∷ []) (MissingRequiredArgument ∷ [])
+  pub no_file : (name : Text) → Refuses (name ∷ codes "serve" ∷ codes "--config" ∷ []) (InvalidValue ∷ [])
+  pub plain_file : (name file : Text) → IsPlain file → Refuses (name ∷ codes "serve" ∷ file ∷ []) (UnknownArgument ∷ [])
   -- `scan DIR`, at 44,100 a second
   pub scan : (name folder : Text) → IsPlain folder → AsksScan (name ∷ codes "scan" ∷ folder ∷ []) 44100 folder
   -- `scan --rate N DIR`, from 8,000 to 192,000
@@ -39,7 +49,7 @@ pub record Readings : Type 0 where
   pub one_more : (name word : Text) → IsPlain word → Refuses (name ∷ codes "script" ∷ word ∷ []) (UnknownArgument ∷ [])
   -- no word, and one that names no command
   pub no_word : (name : Text) → Refuses (name ∷ []) (MissingSubcommand ∷ [])
-  pub serve : (name : Text) → Refuses (name ∷ codes "serve" ∷ []) (UnknownArgument ∷ InvalidSubcommand ∷ [])
+  pub no_command : (name : Text) → Refuses (name ∷ codes "play" ∷ []) (UnknownArgument ∷ InvalidSubcommand ∷ [])
   -- help and the version
   pub help : (name : Text) → Refuses (name ∷ codes "--help" ∷ []) (DisplayHelp ∷ [])
   pub version : (name : Text) → Refuses (name ∷ codes "--version" ∷ []) (DisplayVersion ∷ [])

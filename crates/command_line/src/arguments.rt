@@ -11,9 +11,13 @@ use std::alloc::{AllocError, Global};
 pub(crate) fn daemon<'a>(alloc: Global) -> Result<Command<'a>, AllocError>
     ensures { IfOk result (λ command. app_of command ≡ arguments.daemon) }
 {
+    let serve = serve(alloc)?;
     let scan = scan(alloc)?;
     let script = script(alloc);
-    bare(alloc).subcommand(scan)?.subcommand(script)
+    bare(alloc)
+        .subcommand(serve)?
+        .subcommand(scan)?
+        .subcommand(script)
 }
 
 fn bare<'a>(alloc: Global) -> Command<'a>
@@ -23,6 +27,15 @@ fn bare<'a>(alloc: Global) -> Command<'a>
         .about("A Music Player Daemon for PCM libraries")
         .version("MPD protocol 0.23.0")
         .subcommand_required(true)
+}
+
+fn serve<'a>(alloc: Global) -> Result<Command<'a>, AllocError>
+    ensures shape { IfOk result (λ command. app_of command ≡ arguments.serve) }
+    ensures local { IfOk result (λ command. (fields_of command).has_globals ≡ false) }
+{
+    Command::new(alloc, "serve")
+        .about("Serves clients and plays to outputs, as a file of settings says")
+        .arg(config(alloc))
 }
 
 fn scan<'a>(alloc: Global) -> Result<Command<'a>, AllocError>
@@ -40,6 +53,18 @@ fn script<'a>(alloc: Global) -> Command<'a>
     ensures local { (fields_of result).has_globals ≡ false }
 {
     Command::new(alloc, "script").about("Runs standard input as a script")
+}
+
+fn config<'a>(alloc: Global) -> Arg<'a>
+    ensures rule { rule_of result ≡ arguments.config }
+    ensures local { result.global ≡ false }
+{
+    Arg::new(alloc, "config")
+        .long("config")
+        .value_name("FILE")
+        .help("The file of settings")
+        .required(true)
+        .action(ArgAction::Set)
 }
 
 fn rate<'a>(alloc: Global) -> Arg<'a>

@@ -3,7 +3,7 @@ ghost use Rattle.std.specs.Prelude.{◌≡◌, [], IfErr, IfOk, IfSome, codes, m
 ghost use Rattle.clap.specs.Words.{HasKind, Kinds, Text, fault_of, found_of, rows_of, subcommand_rows_of};
 ghost use Rattle.command_line.specs.Arguments as arguments;
 ghost use Rattle.command_line.specs.Programs.{Asks, IsRefusedBy, Says};
-ghost use Rattle.command_line.specs.Known.{HasProgram, HasScan};
+ghost use Rattle.command_line.specs.Known.{HasProgram, HasScan, HasServe};
 
 use crate::arguments::daemon;
 use crate::program::{LineFault, Program};
@@ -37,11 +37,24 @@ fn program_in<'a>(matches: &ArgMatches<'a>) -> Program<'a>
     let Some((name, inner)) = matches.subcommand() else {
         unreachable!()
     };
-    if name == "scan" {
+    if name == "serve" {
+        serve_in(inner)
+    } else if name == "scan" {
         scan_in(inner)
     } else {
         Program::Script
     }
+}
+
+/// The daemon that words ask for which were taken.
+fn serve_in<'a>(matches: &ArgMatches<'a>) -> Program<'a>
+    requires { HasServe (rows_of (found_of matches.now)) }
+    ensures { (name : Text) → name ≡ codes "serve" → Says (name, rows_of (found_of matches.now)) result }
+{
+    let Some(file) = matches.get_str("config") else {
+        unreachable!()
+    };
+    Program::Serve(file)
 }
 
 /// The scan that words ask for which were taken.

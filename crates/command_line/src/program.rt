@@ -9,6 +9,8 @@ use song_db::Rate;
 /// What the words ask for.
 #[derive(Drop)]
 pub enum Program<'a> {
+    /// Serves clients and plays to outputs, as this file of settings says.
+    Serve(&'a str),
     /// Prints the songs of this folder at this rate.
     Scan(Rate, &'a str),
     /// Runs standard input as a script.

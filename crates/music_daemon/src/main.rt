@@ -1,6 +1,14 @@
 //! The program: what its words ask for, done with standard input, standard output and the files of the system.
 #![tactic(auto)]
 
+mod fault;
+mod folder;
+mod output_file;
+mod player;
+mod serving;
+mod shelf_file;
+mod summary;
+
 use command_line::{LineFault, Program, command_line};
 use daemon_script::{ScriptFault, run_script};
 use library_scan::{ScanFault, scan};
@@ -19,6 +27,13 @@ fn main(rt: HostRuntime) -> io::Result<ExitCode> {
         Err(_) => return refuse_bytes(&rt),
     };
     match command_line(rt.alloc(), &words) {
+        Ok(Program::Serve(file)) => match serving::serve_by_file(rt, rt, file) {
+            Ok(()) => Ok(ExitCode::SUCCESS),
+            Err(fault) => {
+                eprintln!(rt; "music_daemon: {fault}")?;
+                Ok(ExitCode::FAILURE)
+            }
+        },
         Ok(Program::Scan(rate, folder)) => print_scan(&rt, folder, &rate),
         Ok(Program::Script) => run_input(&rt),
         Err(fault) => refuse(&rt, &fault),

@@ -22,6 +22,7 @@ fn words_of<R: Abort>(rt: &R, alloc: Global, line: &str) -> Vec<String> {
 fn told<R: Abort>(rt: &R, alloc: Global, line: &str) -> String {
     let words = words_of(rt, alloc, line);
     match command_line(alloc, &words) {
+        Ok(Program::Serve(file)) => format!(in alloc; "Serve({file})").expect(rt, "no memory"),
         Ok(Program::Scan(rate, folder)) => {
             let frames = rate.frames();
             format!(in alloc; "Scan({frames}, {folder})").expect(rt, "no memory")
@@ -44,7 +45,36 @@ fn refused<R: Abort>(rt: &R, alloc: Global, fault: &LineFault) -> String {
 }
 
 /// Lines, each with what it is to come to.
-const LINES: [(&str, &str); 18] = [
+const LINES: [(&str, &str); 29] = [
+    ("serve --config FILE", "Serve(FILE)"),
+    ("serve --config=FILE", "Serve(FILE)"),
+    ("serve --config -", "Serve(-)"),
+    ("serve --config=", "Serve()"),
+    (
+        "serve",
+        "2: error: the following required arguments were not provided:",
+    ),
+    (
+        "serve --config",
+        "2: error: a value is required for '--config <FILE>' but none was supplied",
+    ),
+    ("serve FILE", "2: error: unexpected argument 'FILE' found"),
+    (
+        "serve --config FILE more",
+        "2: error: unexpected argument 'more' found",
+    ),
+    (
+        "serve --config FILE --config FILE",
+        "2: error: the argument '--config <FILE>' cannot be used multiple times",
+    ),
+    (
+        "--config FILE serve",
+        "2: error: unexpected argument '--config' found",
+    ),
+    (
+        "help serve",
+        "0: Serves clients and plays to outputs, as a file of settings says",
+    ),
     ("script", "Script"),
     ("scan DIR", "Scan(44100, DIR)"),
     ("scan --rate 8000 DIR", "Scan(8000, DIR)"),

@@ -1,6 +1,6 @@
 use Rattle.clap.specs.Words.{app_of, subcommand_rows_of}
 use Rattle.std.proofs.Common.{map, string_bytes}
-use Rattle.command_line.proofs.Scans.{asked, known}
+use Rattle.command_line.proofs.Commands.{asked, known}
 use Rattle.command_line.proofs.line.command_line.Goals as goal
 
 pub program_in-requires : goal.program_in-requires

@@ -1,0 +1,234 @@
+#!/usr/bin/env python3
+"""The daemon beside MPD on the same folder: round trips, long answers, lists, notices, memory, processor time.
+
+    checks/serve/beside_mpd.py [PROGRAM] [--rounds N]
+
+It needs Debian's package mpd. Each figure is the best of a few goes, taken by turns on both. It prints both figures and their
+ratio, and asserts that no answer waited 40 ms for a delayed acknowledgement. Its own part of each round trip, in Python, is the
+same for both; the first line shows it, by an echo of a line through a bare socket.
+"""
+import argparse
+import os
+import selectors
+import shutil
+import socket
+import statistics
+import sys
+import tempfile
+import threading
+import time
+
+sys.dont_write_bytecode = True
+
+from daemon import Client, Daemon, Mpd, Table, program_of, put_songs
+
+LATE = 0.040   # a delayed acknowledgement
+ENTRIES = 16_000
+
+
+class Echo(threading.Thread):
+    """A server that answers each line with `OK`, as the least that a round trip costs here."""
+
+    def __init__(self):
+        super().__init__(daemon=True)
+        self.door = socket.create_server(('127.0.0.1', 0))
+        self.port = self.door.getsockname()[1]
+        self.start()
+
+    def run(self):
+        line, _ = self.door.accept()
+        line.setsockopt(socket.IPPROTO_TCP, socket.TCP_NODELAY, 1)
+        line.sendall(b'OK echo\n')
+        while line.recv(4096):
+            line.sendall(b'OK\n')
+
+
+def round_trips(client, text, count):
+    """The median round trip in microseconds, and the slowest."""
+    times = []
+    for _ in range(count):
+        start = time.perf_counter()
+        client.must(text)
+        times.append(time.perf_counter() - start)
+    return statistics.median(times) * 1e6, max(times)
+
+
+def side_by_side(port, clients, count):
+    """Microseconds of a ping where so many clients ask at once, each after its answer; and the slowest."""
+    all_of_them = [Client(port) for _ in range(clients)]
+    slowest, answers, since = 0.0, 0, {}
+    with selectors.DefaultSelector() as ready:
+        for client in all_of_them:
+            ready.register(client.socket, selectors.EVENT_READ, client)
+            since[client] = time.perf_counter()
+            client.socket.sendall(b'ping\n')
+        begin = time.perf_counter()
+        while answers < count:
+            for key, _ in ready.select(5):
+                key.data.socket.recv(4096)
+                now = time.perf_counter()
+                slowest, answers = max(slowest, now - since[key.data]), answers + 1
+                since[key.data] = now
+                key.data.socket.sendall(b'ping\n')
+        passed = time.perf_counter() - begin
+    for client in all_of_them:
+        client.close()
+    return passed / answers * 1e6, slowest
+
+
+def in_flight(client, depth, count):
+    """Microseconds of a ping where so many are under way on one connection; and the longest wait of a bunch."""
+    slowest, begin = 0.0, time.perf_counter()
+    for _ in range(count // depth):
+        start = time.perf_counter()
+        client.socket.sendall(b'ping\n' * depth)
+        for _ in range(depth):
+            client.line()
+        slowest = max(slowest, time.perf_counter() - start)
+    return (time.perf_counter() - begin) / (count // depth * depth) * 1e6, slowest
+
+
+def in_one_piece(client, text, count):
+    """Milliseconds until the whole of a long answer is there, and its bytes."""
+    best, size = float('inf'), 0
+    for _ in range(count):
+        start = time.perf_counter()
+        client.send(text)
+        held = bytearray()
+        while not held.endswith(b'\nOK\n'):
+            held += client.socket.recv(1 << 20)
+        best, size = min(best, time.perf_counter() - start), len(held)
+    return best * 1e3, size
+
+
+def list_of_adds(client, uri, count):
+    """Milliseconds of a command list of so many adds."""
+    text = 'command_list_begin\n' + ('add "%s"\n' % uri) * count + 'command_list_end'
+    start = time.perf_counter()
+    client.must(text)
+    return (time.perf_counter() - start) * 1e3
+
+
+def notices(port, clients, count):
+    """Microseconds from a change until the last of so many waiting clients is told; the slowest."""
+    changer = Client(port)
+    waiting = [Client(port) for _ in range(clients)]
+    times = []
+    changer.must('repeat 1')
+    for number in range(count):
+        for client in waiting:
+            client.send('idle options')
+        # An answer of each must not come before the change does.
+        time.sleep(0.02)
+        start = time.perf_counter()
+        changer.send('repeat %d' % (number % 2))
+        for client in waiting:
+            client.answer()
+        times.append(time.perf_counter() - start)
+        changer.answer()
+    for client in waiting + [changer]:
+        client.close()
+    return statistics.median(times) * 1e6, max(times)
+
+
+def one_round(server, songs, found):
+    """Measures a server once, and keeps the better of each figure: a number, its unit, and the slowest answer where one is told."""
+    def keep(name, unit, figure, slowest=None):
+        if name not in found or figure < found[name][0]:
+            found[name] = (figure, unit, slowest)
+    client = server.client()
+    client.must('consume 0')
+    client.must('clear')
+    keep('ping, 1 client', 'us', *round_trips(client, 'ping', 2000))
+    keep('ping, 16 clients', 'us', *side_by_side(server.port, 16, 8000))
+    keep('ping, 64 in flight', 'us', *in_flight(client, 64, 12800))
+    keep('status', 'us', *round_trips(client, 'status', 1000))
+    keep('a list of 1,000 adds', 'ms', list_of_adds(client, songs[0], 1000))
+    client.must('delete 100:')
+    keep('playlistinfo, 100 entries', 'ms', in_one_piece(client, 'playlistinfo', 20)[0])
+    keep('an idle notice, 1 client', 'us', *notices(server.port, 1, 30))
+    keep('an idle notice, 60 clients', 'us', *notices(server.port, 60, 30))
+    client.must('clear')
+    fill(client, songs)
+    keep('playlistinfo, 16,000 entries', 'ms', in_one_piece(client, 'playlistinfo', 3)[0])
+    keep('status, 16,000 entries', 'us', *round_trips(client, 'status', 500))
+    keep('memory, 16,000 entries', 'MB', server.memory())
+    client.close()
+
+
+def idle_time(server):
+    """The processor time in ten seconds in which ten clients wait, in milliseconds."""
+    waiting = [server.client() for _ in range(10)]
+    for one in waiting:
+        one.send('idle')
+    before = server.seconds()
+    time.sleep(10)
+    used = (server.seconds() - before) * 1000
+    for one in waiting:
+        one.close()
+    return used
+
+
+def measure(servers, songs, rounds):
+    """All figures of each server by name. They are measured by turns, so that what else the machine does falls on both."""
+    found = {name: {} for name in servers}
+    for _ in range(rounds):
+        for name, server in servers.items():
+            one_round(server, songs, found[name])
+    for name, server in servers.items():
+        found[name]['processor time in 10 idle seconds'] = (idle_time(server), 'ms', None)
+    return found
+
+
+def fill(client, songs):
+    """Fills the queue with 16,000 entries, in lists of 1,000."""
+    for start in range(0, ENTRIES, 1000):
+        lines = ['add "%s"' % songs[(start + number) % len(songs)] for number in range(1000)]
+        client.must('\n'.join(['command_list_begin', *lines, 'command_list_end']))
+
+
+def shown(figure, unit):
+    return '%.0f %s' % (figure, unit) if figure >= 100 else '%.1f %s' % (figure, unit) if figure >= 1 else '%.3f %s' % (figure, unit)
+
+
+def main():
+    parser = argparse.ArgumentParser(description='The daemon beside MPD.')
+    parser.add_argument('program', nargs='?')
+    parser.add_argument('--rounds', type=int, default=3)
+    given = parser.parse_args()
+    program = program_of(given.program)
+    if not shutil.which('mpd'):
+        print('mpd is missing: install the package mpd (Debian: apt-get install mpd); the daemon alone is measured')
+    with tempfile.TemporaryDirectory() as folder:
+        music = os.path.join(folder, 'music')
+        put_songs(music, 1000, 441)
+        own = os.path.join(folder, 'own')
+        os.mkdir(own)
+        servers = {'music_daemon': Daemon(program, own, music, ['/dev/null'])}
+        if shutil.which('mpd'):
+            servers['mpd'] = Mpd(folder, music)
+        echo = Client(Echo().port)
+        print('The least round trip here: %.1f us' % round_trips(echo, 'ping', 2000)[0])
+        table = Table('Beside MPD (the least of %d rounds; of round trips the median)' % given.rounds, 36, -14, -14, -8, -16)
+        table.row('', *servers, 'ratio', 'slowest answer')
+        client = servers['music_daemon'].client()
+        songs = sorted(line[6:] for line in client.must('listall') if line.startswith('file: '))
+        client.close()
+        found = measure(servers, songs, given.rounds)
+        for name, (figure, unit, slowest) in found['music_daemon'].items():
+            cells = [shown(figure, unit)]
+            if 'mpd' in found:
+                other = found['mpd'][name][0]
+                cells += [shown(other, unit), '%.2f' % (figure / other) if other else '-']
+            else:
+                cells += ['', '']
+            late = slowest is not None and slowest >= LATE
+            table.row(name, *cells, '' if slowest is None else '%.1f ms' % (slowest * 1e3), right=not late)
+        for server in servers.values():
+            server.kill()
+    print('\n%d failed' % table.failed)
+    return 1 if table.failed else 0
+
+
+if __name__ == '__main__':
+    sys.exit(main())

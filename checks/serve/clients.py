@@ -1,0 +1,397 @@
+#!/usr/bin/env python3
+"""Real clients against a served folder of music: mpc, python3-mpd, ncmpc and ncmpcpp (both under tmux), from Debian.
+
+    checks/serve/clients.py [PROGRAM]
+
+Each step says what the client did and whether the daemon then was in the state that was wanted. All go through a proxy here that
+keeps the requests which the daemon refused, so a step that fails for want of a command that the daemon leaves out is told as such.
+The exit status is 1 where a step fails that is to work; clients that are not installed are named and left out.
+"""
+import os
+import shutil
+import socket
+import subprocess
+import sys
+import tempfile
+import threading
+import time
+
+sys.dont_write_bytecode = True
+
+from daemon import Daemon, Pacer, Table, program_of, wave
+
+# What the daemon leaves out (README, "What is not there"): a client that sends such a request is refused there.
+LEFT_OUT = ('addtagid', 'albumart', 'binarylimit', 'clearmounts', 'cleartagid', 'config', 'decoders', 'getfingerprint', 'list album',
+            'listallinfo', 'listfiles', 'listmounts', 'listneighbors', 'listpartitions', 'mixrampdb', 'outputset', 'password', 'playlistfind',
+            'playlistsearch', 'rangeid', 'readcomments', 'readpicture', 'replay_gain_status', 'searchaddpl', 'stats', 'tagtypes ', 'urlhandlers', 'volume')
+
+
+class Proxy(threading.Thread):
+    """Hands lines on between clients and the daemon, and keeps each request that was refused with its answer."""
+
+    def __init__(self, port):
+        super().__init__(daemon=True)
+        self.daemon_port, self.refused = port, []
+        self.door = socket.create_server(('127.0.0.1', 0))
+        self.port = self.door.getsockname()[1]
+        self.start()
+
+    def run(self):
+        while True:
+            client, _ = self.door.accept()
+            threading.Thread(target=self.serve, args=(client,), daemon=True).start()
+
+    def serve(self, client):
+        server = socket.create_connection(('127.0.0.1', self.daemon_port))
+        waiting = []
+        threading.Thread(target=self.back, args=(server, client, waiting), daemon=True).start()
+        try:
+            for line in client.makefile('rb'):
+                waiting.append(line.decode(errors='replace').strip())
+                server.sendall(line)
+        except OSError:
+            pass
+        self.shut(server)
+
+    def back(self, server, client, waiting):
+        try:
+            for line in server.makefile('rb'):
+                if line.startswith(b'ACK '):
+                    self.refused.append((self.cause(line.decode(), waiting), line.decode().strip()))
+                client.sendall(line)
+        except OSError:
+            pass
+        self.shut(client)
+
+    @staticmethod
+    def cause(line, waiting):
+        """The request that an ACK speaks of: of a list the one at its place, else the last that names the command."""
+        begins = [place for place, text in enumerate(waiting) if text.startswith('command_list')]
+        place = int(line.partition('@')[2].partition(']')[0])
+        if len(begins) > 1 and waiting[-1] == 'command_list_end' and begins[-2] + 1 + place < len(waiting):
+            return waiting[begins[-2] + 1 + place]
+        return next((text for text in reversed(waiting) if text.split(' ')[0].strip('"') in line), waiting[-1] if waiting else '')
+
+    @staticmethod
+    def shut(line):
+        try:
+            line.shutdown(socket.SHUT_RDWR)
+        except OSError:
+            pass
+
+    def refusals(self):
+        """The refusals since this was last asked."""
+        found, self.refused = self.refused, []
+        return found
+
+
+def is_left_out(request):
+    return request.replace('"', '').startswith(LEFT_OUT)
+
+
+def named_in(output):
+    """What is left out and named in a client's own words."""
+    name = output.partition('unknown command "')[2].partition('"')[0]
+    return [name] if name and is_left_out(name) else []
+
+
+class Steps:
+    """The steps of the clients, told in a table."""
+
+    def __init__(self, table, daemon, proxy):
+        self.table, self.proxy, self.client, self.before = table, proxy, daemon.client(), {}
+
+    def step(self, client, what, works, output='', lacks=None):
+        """A step of a client. It may fail where the client then, or earlier, asked for what is left out, or where the status lacks a
+        field that is left out."""
+        refusals = self.proxy.refusals()
+        left_out = sorted({request for request, _ in refusals if is_left_out(request)} | set(named_in(output)))
+        earlier = self.before.setdefault(client, set())
+        if works:
+            told = 'works' + (', though refused: ' + '; '.join(left_out[:2]) if left_out else '')
+        elif left_out:
+            told = 'FAILS for want of: ' + '; '.join(left_out[:3])
+        elif lacks and self.status(lacks) is None:
+            told = 'FAILS for want of: the status field "%s"' % lacks
+        elif earlier and not refusals:
+            told = 'FAILS; refused to this client before: ' + '; '.join(sorted(earlier)[:3])
+        else:
+            told = 'FAILS: ' + ('; '.join('%s -> %s' % pair for pair in refusals) or repr(output[-100:]))
+        self.table.row(client, what, told[:150], right=works or not told.startswith('FAILS: '))
+        earlier.update(left_out)
+
+    def status(self, key):
+        return self.client.value('status', key)
+
+    def becomes(self, key, *wanted):
+        """Whether a value of the status becomes one of these within a few seconds."""
+        for _ in range(60):
+            if self.status(key) in wanted:
+                return True
+            time.sleep(0.05)
+        return False
+
+
+def put_music(folder):
+    songs = [('Air', 'Ann', 'First'), ('Bee', 'Ann', 'First'), ('Sea', 'Bob', 'Second'), ('Dew', 'Zoë', 'Second')]
+    for number, (title, artist, album) in enumerate(songs):
+        below = os.path.join(folder, album)
+        os.makedirs(below, exist_ok=True)
+        frames = [((number * 37 + i) % 200,) for i in range(441_00 * 2)]
+        with open(os.path.join(below, '%d.wav' % number), 'wb') as file:
+            file.write(wave(frames * 10, 1, 8, tags=[(b'INAM', title), (b'IART', artist), (b'IPRD', album), (b'ICRD', '2026'), (b'IGNR', 'Test')]))
+
+
+def run_mpc(steps, port):
+    """mpc: each step is one run, with what it is to print or what the daemon is to be then."""
+    def mpc(*words):
+        run = subprocess.run(['mpc', '-p', str(port), *words], capture_output=True, text=True, timeout=20)
+        return run.returncode, run.stdout + run.stderr
+
+    def step(words, holds, lacks=None):
+        status, output = mpc(*words)
+        steps.step('mpc', ' '.join(words), status == 0 and holds(output), output, lacks)
+
+    step(['version'], lambda told: '0.23' in told)
+    step(['status'], lambda told: 'volume:100%' in told.replace(' ', ''))
+    step(['update', '--wait'], lambda told: 'MPD error' not in told)
+    step(['listall'], lambda told: told.split() == ['First/0.wav', 'First/1.wav', 'Second/2.wav', 'Second/3.wav'])
+    step(['ls'], lambda told: told.split() == ['First', 'Second'])
+    step(['ls', 'First'], lambda told: '0.wav' in told or 'Air' in told)
+    step(['search', 'title', 'ee'], lambda told: 'First/1.wav' in told)
+    step(['find', 'artist', 'Ann'], lambda told: 'First/0.wav' in told)
+    step(['search', '(title contains "EA")'], lambda told: 'Second/2.wav' in told)
+    step(['list', 'artist'], lambda told: told.split() == ['Ann', 'Bob', 'Zoë'])
+    step(['list', 'album', 'artist', 'Ann'], lambda told: told.split() == ['First'])
+    step(['add', 'First'], lambda told: steps.becomes('playlistlength', '2'))
+    step(['insert', 'Second/2.wav'], lambda told: steps.becomes('playlistlength', '3'))
+    step(['findadd', 'title', 'Dew'], lambda told: steps.becomes('playlistlength', '4'))
+    step(['playlist'], lambda told: 'Air' in told)
+    step(['play', '2'], lambda told: steps.becomes('state', 'play') and steps.becomes('song', '1'))
+    step(['current'], lambda told: steps.client.value('currentsong', 'Title') in told)
+    step(['status'], lambda told: '/0:20' in told, lacks='time')
+    step(['pause'], lambda told: steps.becomes('state', 'pause'))
+    step(['toggle'], lambda told: steps.becomes('state', 'play'))
+    step(['seek', '0:05'], lambda told: float(steps.status('elapsed')) >= 5)
+    step(['seek', '+00:00:02'], lambda told: float(steps.status('elapsed')) >= 7)
+    step(['next'], lambda told: steps.becomes('song', '2'))
+    step(['prev'], lambda told: steps.becomes('song', '1'))
+    step(['volume', '40'], lambda told: steps.becomes('volume', '40'))
+    step(['volume', '+5'], lambda told: steps.becomes('volume', '45'))
+    step(['repeat', 'on'], lambda told: steps.becomes('repeat', '1'))
+    step(['random', 'on'], lambda told: steps.becomes('random', '1'))
+    step(['single', 'once'], lambda told: steps.becomes('single', 'oneshot'))
+    step(['consume', 'off'], lambda told: steps.becomes('consume', '0'))
+    step(['crossfade', '2'], lambda told: steps.becomes('xfade', '2'))
+    step(['move', '1', '3'], lambda told: 'error' not in told)
+    step(['shuffle'], lambda told: 'error' not in told)
+    step(['prio', '5', '1'], lambda told: 'error' not in told)
+    step(['save', 'evening'], lambda told: steps.client.must('listplaylists') == ['playlist: evening'])
+    step(['lsplaylists'], lambda told: 'evening' in told)
+    step(['load', 'evening'], lambda told: steps.becomes('playlistlength', '8'))
+    step(['rm', 'evening'], lambda told: steps.client.must('listplaylists') == [])
+    step(['del', '8'], lambda told: steps.becomes('playlistlength', '7'))
+    step(['crop'], lambda told: steps.becomes('playlistlength', '1'))
+    step(['sticker', 'First/0.wav', 'set', 'rating', '5'], lambda told: 'error' not in told)
+    step(['sticker', 'First/0.wav', 'get', 'rating'], lambda told: '5' in told)
+    step(['outputs'], lambda told: 'out0' in told and 'enabled' in told)
+    step(['disable', '1'], lambda told: 'disabled' in told)
+    step(['enable', '1'], lambda told: 'enabled' in told)
+    step(['channels'], lambda told: 'error' not in told)
+    step(['stats'], lambda told: 'Artists' in told)
+    step(['stop'], lambda told: steps.becomes('state', 'stop'))
+    step(['clear'], lambda told: steps.becomes('playlistlength', '0'))
+    waiting = subprocess.Popen(['mpc', '-p', str(port), 'idle'], stdout=subprocess.PIPE, text=True)
+    time.sleep(0.3)
+    start = time.monotonic()
+    steps.client.must('setvol 33')
+    told, _ = waiting.communicate(timeout=20)
+    steps.step('mpc', 'idle (%.0f ms after a change)' % ((time.monotonic() - start) * 1e3), told.strip() == 'mixer', told)
+
+
+LIBRARY = r'''
+import sys, mpd
+port, song = int(sys.argv[1]), 'First/0.wav'
+client = mpd.MPDClient()
+client.connect('127.0.0.1', port)
+def step(what, call, holds):
+    try:
+        found = call()
+        print(what, 'yes' if holds(found) else 'no', repr(found)[:120], sep='\t', flush=True)
+    except mpd.MPDError as fault:
+        print(what, 'no', fault, sep='\t', flush=True)
+step('version', lambda: client.mpd_version, lambda found: found == '0.23.0')
+step('add, addid', lambda: (client.add('Second'), client.addid(song, 0))[1], lambda found: int(found) > 0)
+step('playlistinfo', client.playlistinfo, lambda found: [entry['pos'] for entry in found] == ['0', '1', '2'] and found[0]['title'] == 'Air')
+step('play, status', lambda: (client.play(0), client.status())[1], lambda found: found['state'] == 'play')
+step('seekcur', lambda: (client.seekcur('3'), client.status())[1], lambda found: float(found['elapsed']) >= 3)
+step('a command list', lambda: (client.command_list_ok_begin(), client.ping(), client.status(), client.command_list_end())[3], lambda found: len(found) == 2)
+step('find, search', lambda: client.search('artist', 'zoë'), lambda found: [entry['file'] for entry in found] == ['Second/3.wav'])
+step('find by an expression', lambda: client.find("(Artist == 'Ann')"), lambda found: len(found) == 2)
+step('list', lambda: client.list('album'), lambda found: [entry['album'] for entry in found] == ['First', 'Second'])
+step('count', lambda: client.count('artist', 'Ann'), lambda found: found['songs'] == '2')
+step('lsinfo', client.lsinfo, lambda found: [entry['directory'] for entry in found] == ['First', 'Second'])
+step('plchanges', lambda: client.plchanges(0), lambda found: len(found) == 3)
+step('save, listplaylistinfo', lambda: (client.save('x'), client.listplaylistinfo('x'))[1], lambda found: found[0]['title'] == 'Air')
+step('rm', lambda: (client.rm('x'), client.listplaylists())[1], lambda found: found == [])
+step('sticker_set, sticker_get', lambda: (client.sticker_set('song', song, 'n', 'v'), client.sticker_get('song', song, 'n'))[1], lambda found: found == 'v')
+step('subscribe, sendmessage, readmessages', lambda: (client.subscribe('c'), client.sendmessage('c', 'hi'), client.readmessages())[2], lambda found: found == [{'channel': 'c', 'message': 'hi'}])
+step('idle', lambda: (client.setvol(12), client.idle('mixer'))[1], lambda found: found == ['mixer'])
+step('outputs', client.outputs, lambda found: found[0]['outputname'] == 'out0')
+step('commands', client.commands, lambda found: 'playlistinfo' in found)
+step('an error', lambda: client.play(99), lambda found: False)
+step('stats', client.stats, lambda found: 'songs' in found)
+step('stop, clear', lambda: (client.stop(), client.clear(), client.status())[2], lambda found: found['playlistlength'] == '0')
+'''
+
+
+def run_library(steps, port):
+    """python3-mpd: an own process of Debian's Python, since the module is installed for it."""
+    run = subprocess.run(['/usr/bin/python3', '-c', LIBRARY, str(port)], capture_output=True, text=True, timeout=60)
+    for line in run.stdout.splitlines():
+        what, works, told = line.split('\t', 2)
+        if what == 'an error':
+            steps.step('python3-mpd', 'a refused command raises', works == 'no' and 'bad song index' in told, told)
+        else:
+            steps.step('python3-mpd', what, works == 'yes', told)
+    steps.step('python3-mpd', 'all steps were run', run.returncode == 0, run.stderr)
+
+
+class Screen:
+    """A program on a terminal of tmux."""
+
+    def __init__(self, name, words, folder):
+        self.socket = os.path.join(folder, name + '.tmux')
+        self.tmux('-f', '/dev/null', 'new-session', '-d', '-s', name, '-x', '110', '-y', '30', ' '.join(words))
+        time.sleep(1.5)
+
+    def tmux(self, *words):
+        return subprocess.run(['tmux', '-S', self.socket, *words], capture_output=True, text=True).stdout
+
+    def press(self, *keys):
+        for key in keys:
+            self.tmux('send-keys', key)
+            time.sleep(0.3)
+
+    def shows(self, *texts):
+        """Whether the screen shows all these within a few seconds."""
+        for _ in range(30):
+            self.text = self.tmux('capture-pane', '-p')
+            if all(text in self.text for text in texts):
+                return True
+            time.sleep(0.1)
+        return False
+
+    def end(self):
+        self.tmux('kill-server')
+
+
+def run_ncmpc(steps, port, folder):
+    steps.client.must('clear')
+    steps.client.must('add First')
+    screen = Screen('ncmpc', ['env', 'TERM=screen', 'HOME=' + folder, 'LANG=C.UTF-8', 'ncmpc', '-h', '127.0.0.1', '-p', str(port)], folder)
+    try:
+        steps.step('ncmpc', 'connects and shows the queue', screen.shows('Air', 'Bee'), screen.text)
+        screen.press('Enter')
+        steps.step('ncmpc', 'plays', steps.becomes('state', 'play'), screen.text)
+        screen.press('P')
+        steps.step('ncmpc', 'pauses', steps.becomes('state', 'pause'), screen.text)
+        screen.press('P', '>')
+        steps.step('ncmpc', 'the next song', steps.becomes('song', '1'), screen.text)
+        before = steps.status('volume')
+        screen.press('-')
+        steps.step('ncmpc', 'the volume', steps.status('volume') != before, screen.text)
+        screen.press('f', 'f', 'f', 'f')
+        time.sleep(1)
+        steps.step('ncmpc', 'seeks', float(steps.status('elapsed') or 0) >= 6, screen.text, lacks='time')
+        screen.press('3')
+        steps.step('ncmpc', 'browses', screen.shows('First', 'Second'), screen.text)
+        screen.press('Down', 'Space')
+        steps.step('ncmpc', 'adds a folder', steps.becomes('playlistlength', '4'), screen.text)
+        steps.client.must('add Second/2.wav')
+        screen.press('2')
+        steps.step('ncmpc', "hears of another client's change", screen.shows('Sea'), screen.text)
+        screen.press('S', 'n', 'i', 'g', 'h', 't', 'Enter')
+        time.sleep(0.5)
+        steps.step('ncmpc', 'saves the queue', 'playlist: night' in steps.client.must('listplaylists'), screen.text)
+        screen.press('s')
+        steps.step('ncmpc', 'stops', steps.becomes('state', 'stop'), screen.text)
+    finally:
+        screen.end()
+
+
+def run_ncmpcpp(steps, port, folder):
+    steps.client.must('clear')
+    steps.client.must('add First')
+    config = os.path.join(folder, 'ncmpcpp')
+    os.makedirs(config, exist_ok=True)
+    with open(os.path.join(config, 'config'), 'w') as file:
+        file.write('ncmpcpp_directory = %s\nlyrics_directory = %s\nmpd_crossfade_time = 2\n' % (config, config))
+    words = ['env', 'TERM=screen', 'HOME=' + folder, 'LANG=C.UTF-8', 'ncmpcpp', '-q', '-h', '127.0.0.1', '-p', str(port), '-c', os.path.join(config, 'config')]
+    screen = Screen('ncmpcpp', words, folder)
+    try:
+        steps.step('ncmpcpp', 'connects and shows the queue', screen.shows('Air', 'Bee'), screen.text)
+        screen.press('Enter')
+        steps.step('ncmpcpp', 'plays', steps.becomes('state', 'play'), screen.text)
+        screen.press('p')
+        steps.step('ncmpcpp', 'pauses', steps.becomes('state', 'pause'), screen.text)
+        screen.press('p', '>')
+        steps.step('ncmpcpp', 'the next song', steps.becomes('song', '1'), screen.text)
+        before = steps.status('volume')
+        screen.press('-')
+        steps.step('ncmpcpp', 'the volume', steps.status('volume') != before, screen.text)
+        screen.press('f', 'f', 'f', 'f', 'f')
+        time.sleep(1)
+        steps.step('ncmpcpp', 'seeks', float(steps.status('elapsed') or 0) >= 6, screen.text)
+        screen.press('2')
+        steps.step('ncmpcpp', 'browses', screen.shows('First', 'Second'), screen.text)
+        screen.press('Down', 'Space')
+        steps.step('ncmpcpp', 'adds a folder', steps.becomes('playlistlength', '4'), screen.text)
+        steps.client.must('add Second/2.wav')
+        screen.press('1')
+        steps.step('ncmpcpp', "hears of another client's change", screen.shows('Sea'), screen.text)
+        screen.press('4')
+        steps.step('ncmpcpp', 'the media library', screen.shows('Ann', 'Bob'), screen.text)
+        screen.press('3')
+        for _ in range(11):
+            screen.press('Down')
+        steps.step('ncmpcpp', 'the search screen', screen.shows('Search'), screen.text)
+        screen.press('1', 'S')
+        screen.press('d', 'a', 'w', 'n', 'Enter')
+        time.sleep(0.5)
+        steps.step('ncmpcpp', 'saves the queue', 'playlist: dawn' in steps.client.must('listplaylists'), screen.text)
+        screen.press('s')
+        steps.step('ncmpcpp', 'stops', steps.becomes('state', 'stop'), screen.text)
+    finally:
+        screen.end()
+
+
+def main():
+    program = program_of(sys.argv[1] if len(sys.argv) > 1 else None)
+    table = Table('Real clients', 12, 38, 120)
+    table.row('client', 'step', 'outcome')
+    with tempfile.TemporaryDirectory() as folder:
+        music = os.path.join(folder, 'music')
+        put_music(music)
+        pacer = Pacer(os.path.join(folder, 'fifo'))
+        daemon = Daemon(program, folder, music, [pacer.path], shelf=os.path.join(folder, 'shelf.db'))
+        proxy = Proxy(daemon.port)
+        steps = Steps(table, daemon, proxy)
+        try:
+            for needed, run in [(['mpc'], lambda: run_mpc(steps, proxy.port)), (['/usr/lib/python3/dist-packages/mpd'], lambda: run_library(steps, proxy.port)),
+                                (['ncmpc', 'tmux'], lambda: run_ncmpc(steps, proxy.port, folder)),
+                                (['ncmpcpp', 'tmux'], lambda: run_ncmpcpp(steps, proxy.port, folder))]:
+                missing = [name for name in needed if not (shutil.which(name) or os.path.exists(name))]
+                if missing:
+                    table.row(os.path.basename(needed[0]), 'left out', 'not installed: %s' % ', '.join(missing))
+                else:
+                    run()
+        finally:
+            daemon.kill()
+            pacer.close()
+    print('\n%d failed' % table.failed)
+    return 1 if table.failed else 0
+
+
+if __name__ == '__main__':
+    sys.exit(main())

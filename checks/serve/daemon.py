@@ -1,0 +1,238 @@
+"""A daemon that runs for a check, the clients that ask it, and the songs that it plays."""
+import os
+import socket
+import struct
+import subprocess
+import sys
+import time
+
+HERE = os.path.dirname(os.path.abspath(__file__))
+ROOT = os.path.dirname(os.path.dirname(HERE))
+BUILT = os.path.join(ROOT, 'crates', 'music_daemon', 'out', 'music_daemon')
+START = 30     # the seconds within which a daemon is to listen
+ANSWER = 30    # the seconds within which an answer is to come
+END = 30       # the seconds within which a daemon that was told to end is to end
+
+
+def program_of(path):
+    """The program at a path, or the one that the repository built."""
+    path = os.path.abspath(path or BUILT)
+    if not os.access(path, os.X_OK):
+        sys.exit('%s: no program; build it first' % path)
+    return path
+
+
+def free_port():
+    with socket.socket() as door:
+        door.bind(('127.0.0.1', 0))
+        return door.getsockname()[1]
+
+
+def wave(frames, channels=2, bits=16, rate=44100, extensible=False, tags=()):
+    """The bytes of a WAVE file; a frame is a tuple of whole numbers, unsigned for 8 bits."""
+    width = bits // 8
+    form = struct.pack('<HHIIHH', 0xfffe if extensible else 1, channels, rate, rate * channels * width, channels * width, bits)
+    if extensible:
+        form += struct.pack('<HHI', 22, bits, 0) + bytes.fromhex('0100000000001000800000aa00389b71')
+    data = b''.join(sample.to_bytes(width, 'little', signed=bits > 8) for frame in frames for sample in frame)
+    info = b'INFO' + b''.join(chunk(name, text.encode() + b'\0') for name, text in tags)
+    parts = b'WAVE' + chunk(b'fmt ', form) + (chunk(b'LIST', info) if tags else b'') + chunk(b'data', data)
+    return b'RIFF' + struct.pack('<I', len(parts)) + parts
+
+
+def chunk(name, content):
+    return name + struct.pack('<I', len(content)) + content + bytes(len(content) % 2)
+
+
+def put_songs(folder, count, frames, rate=44100):
+    """So many songs of silence with tags, ten in a folder. Each has so many frames of 8 bits and one channel."""
+    for number in range(count):
+        below = os.path.join(folder, 'album %02d' % (number // 10))
+        os.makedirs(below, exist_ok=True)
+        tags = [(b'INAM', 'Song %d' % number), (b'IART', 'Artist %d' % (number % 7)), (b'IPRD', 'Album %d' % (number // 10))]
+        with open(os.path.join(below, '%04d.wav' % number), 'wb') as file:
+            head = wave([], 1, 8, rate, tags=tags)
+            file.write(head[:-4] + struct.pack('<I', frames) + b'\x80' * frames)
+
+
+class Client:
+    """A client that sends lines and reads answers."""
+
+    def __init__(self, port, greeted=True):
+        self.socket = socket.create_connection(('127.0.0.1', port), ANSWER)
+        self.socket.setsockopt(socket.IPPROTO_TCP, socket.TCP_NODELAY, 1)
+        self.held = b''
+        if greeted:
+            self.greeting = self.line()
+
+    def line(self):
+        """The next line; an empty text where the daemon closed the connection."""
+        while b'\n' not in self.held:
+            piece = self.socket.recv(1 << 20)
+            if not piece:
+                return ''
+            self.held += piece
+        line, _, self.held = self.held.partition(b'\n')
+        return line.decode()
+
+    def send(self, text):
+        self.socket.sendall(text.encode() + b'\n')
+
+    def answer(self):
+        """The lines of an answer, `OK` or `ACK` last."""
+        lines = []
+        while True:
+            lines.append(self.line())
+            if lines[-1] in ('', 'OK') or lines[-1].startswith('ACK '):
+                return lines
+
+    def ask(self, text):
+        self.send(text)
+        return self.answer()
+
+    def must(self, text):
+        """An answer that is to be a success."""
+        lines = self.ask(text)
+        if lines[-1] != 'OK':
+            raise AssertionError('%s: %s' % (text, lines[-1] or 'the connection was closed'))
+        return lines[:-1]
+
+    def value(self, text, key):
+        """The value of a key in an answer, or None."""
+        for line in self.must(text):
+            if line.startswith(key + ': '):
+                return line[len(key) + 2:]
+        return None
+
+    def close(self):
+        self.socket.close()
+
+
+class Process:
+    """A server that runs, and what the system says of it."""
+
+    def __init__(self, words, port, folder, wait=True):
+        self.port = port
+        self.told = open(os.path.join(folder, 'told'), 'w+b')
+        self.faults = open(os.path.join(folder, 'faults'), 'w+b')
+        self.process = subprocess.Popen(words, stdin=subprocess.DEVNULL, stdout=self.told, stderr=self.faults)
+        if wait:
+            self.wait_for_port()
+
+    def wait_for_port(self):
+        end = time.monotonic() + START
+        while time.monotonic() < end:
+            if self.process.poll() is not None:
+                raise AssertionError('it ended with status %d: %s' % (self.process.returncode, self.errors()))
+            try:
+                Client(self.port).close()
+                return
+            except OSError:
+                time.sleep(0.02)
+        raise AssertionError('it does not listen')
+
+    def client(self):
+        return Client(self.port)
+
+    def errors(self):
+        self.faults.seek(0)
+        return self.faults.read().decode(errors='replace').strip()
+
+    def output(self):
+        self.told.seek(0)
+        return self.told.read().decode(errors='replace')
+
+    def memory(self):
+        """Its memory in MB."""
+        with open('/proc/%d/status' % self.process.pid) as status:
+            return next(int(line.split()[1]) for line in status if line.startswith('VmRSS')) / 1000
+
+    def seconds(self):
+        """The processor time that it used."""
+        with open('/proc/%d/stat' % self.process.pid) as stat:
+            fields = stat.read().rpartition(')')[2].split()
+        return (int(fields[11]) + int(fields[12])) / os.sysconf('SC_CLK_TCK')
+
+    def files(self):
+        return len(os.listdir('/proc/%d/fd' % self.process.pid))
+
+    def kill(self):
+        self.process.kill()
+        self.process.wait()
+
+
+class Daemon(Process):
+    """music_daemon with settings of its own."""
+
+    def __init__(self, program, folder, music, outputs=(), shelf=None, kill=True, rate=44100, more='', wait=True):
+        self.settings = os.path.join(folder, 'settings.toml')
+        port = free_port()
+        lines = ['music = "%s"' % music, 'listen = "127.0.0.1:%d"' % port, 'rate = %d' % rate, 'kill = %s' % ('true' if kill else 'false')]
+        if shelf:
+            lines.append('shelf = "%s"' % shelf)
+        lines.append(more)
+        for number, output in enumerate(outputs):
+            path, enabled = output if isinstance(output, tuple) else (output, True)
+            lines += ['[[output]]', 'name = "out%d"' % number, 'path = "%s"' % path, 'enabled = %s' % ('true' if enabled else 'false')]
+        with open(self.settings, 'w') as file:
+            file.write('\n'.join(lines) + '\n')
+        super().__init__([program, 'serve', '--config', self.settings], port, folder, wait)
+
+    def end(self):
+        """Ends it by `kill`: its status and its summary."""
+        client = self.client()
+        client.send('kill')
+        client.close()
+        status = self.process.wait(END)
+        return status, self.output().splitlines()
+
+
+class Mpd(Process):
+    """Debian's MPD on the same folder."""
+
+    def __init__(self, folder, music, clients=100):
+        port = free_port()
+        own = os.path.join(folder, 'mpd')
+        os.makedirs(os.path.join(own, 'lists'), exist_ok=True)
+        conf = os.path.join(own, 'mpd.conf')
+        with open(conf, 'w') as file:
+            file.write('\n'.join([
+                'music_directory "%s"' % music, 'playlist_directory "%s/lists"' % own, 'db_file "%s/database"' % own,
+                'sticker_file "%s/stickers"' % own, 'log_file "%s/log"' % own, 'bind_to_address "127.0.0.1"', 'port "%d"' % port,
+                'max_connections "%d"' % clients, 'audio_output {', 'type "null"', 'name "out0"', '}']) + '\n')
+        super().__init__(['mpd', '--no-daemon', conf], port, own)
+        client = self.client()
+        client.must('update')
+        while client.value('status', 'updating_db'):
+            time.sleep(0.05)
+        client.close()
+
+
+class Pacer:
+    """A FIFO with a reader that takes so many frames a second, as a sound card does."""
+
+    CODE = 'import sys, time\nfile = open(sys.argv[1], "rb", 0)\nrate = int(sys.argv[2])\nstart = time.monotonic()\ndone = 0\n' \
+        'while True:\n    piece = file.read(4096)\n    if not piece:\n        break\n    done += len(piece)\n' \
+        '    time.sleep(max(0, start + done / (4 * rate) - time.monotonic()))\n'
+
+    def __init__(self, path, rate=44100):
+        os.mkfifo(path)
+        self.path = path
+        self.process = subprocess.Popen([sys.executable, '-c', self.CODE, path, str(rate)])
+
+    def close(self):
+        self.process.kill()
+        self.process.wait()
+
+
+class Table:
+    """Lines that are printed as they come, and how many of them were wrong."""
+
+    def __init__(self, title, *widths):
+        self.widths, self.failed = widths, 0
+        print(title)
+
+    def row(self, *cells, right=True):
+        shown = [str(cell).rjust(-width) if width < 0 else str(cell).ljust(width) for cell, width in zip(cells, self.widths)]
+        print('  ' + '  '.join(shown).rstrip() + ('' if right else '  FAILED'), flush=True)
+        self.failed += not right

@@ -1,0 +1,133 @@
+#!/usr/bin/env python3
+"""kill -9 while clients save: at the next start the shelf is that before or after the change that was under way.
+
+    checks/serve/killed.py [PROGRAM] [--times N]      (100 if left out)
+
+Two clients save lists, change them and set stickers, as fast as they are answered; the daemon is killed at a random moment and
+started again on the same file, and both ask for all that they made. What was answered is there, whole; of the one change that
+was not answered, all or nothing.
+"""
+import argparse
+import os
+import random
+import sys
+import tempfile
+import threading
+import time
+
+sys.dont_write_bytecode = True
+
+from daemon import Daemon, Table, program_of, put_songs
+
+LONGEST = 0.15  # the seconds that clients have at most before the kill
+
+
+class Saver(threading.Thread):
+    """A client with lists and stickers of its own: what it knows to be kept, and what the change under way would make of it."""
+
+    def __init__(self, daemon, number, songs, seed, lists, stickers):
+        super().__init__()
+        self.client, self.number, self.songs, self.draw = daemon.client(), number, songs, random.Random(seed)
+        self.lists, self.stickers, self.under_way, self.made = lists, stickers, None, 0
+
+    def change(self):
+        """A change: its line, and the lists and stickers after it."""
+        lists, stickers = dict(self.lists), dict(self.stickers)
+        name = 'list %d %d' % (self.number, self.draw.randrange(6))
+        song = self.draw.choice(self.songs)
+        kind = self.draw.randrange(5)
+        if kind == 0 and name in lists:
+            del lists[name]
+            return 'rm "%s"' % name, lists, stickers
+        if kind == 1 and name in lists and name + ' old' not in lists:
+            lists[name + ' old'] = lists.pop(name)
+            return 'rename "%s" "%s old"' % (name, name), lists, stickers
+        if kind == 2:
+            value = str(self.draw.randrange(1000))
+            stickers[song, 'mark %d' % self.number] = value
+            return 'sticker set song "%s" "mark %d" %s' % (song, self.number, value), lists, stickers
+        if kind == 3 and name not in lists:
+            lists[name] = list(self.songs)
+            return 'save "%s"' % name, lists, stickers
+        lists[name] = lists.get(name, []) + [song]
+        return 'playlistadd "%s" "%s"' % (name, song), lists, stickers
+
+    def run(self):
+        try:
+            while True:
+                line, lists, stickers = self.change()
+                self.under_way = (lists, stickers)
+                if self.client.ask(line) != ['OK']:
+                    return
+                self.lists, self.stickers, self.under_way = lists, stickers, None
+                self.made += 1
+        except OSError:
+            pass
+
+    def kept(self, client):
+        """The lists and stickers of this client, as the daemon has them now."""
+        names = [line[10:] for line in client.must('listplaylists') if line.startswith('playlist: list %d ' % self.number)]
+        lists = {name: [line[6:] for line in client.must('listplaylist "%s"' % name)] for name in names}
+        stickers, name = {}, 'mark %d' % self.number
+        for line in client.must('sticker find song "" "%s"' % name):
+            key, _, value = line.partition(': ')
+            if key == 'file':
+                song = value
+            else:
+                stickers[song, name] = value.partition('=')[2]
+        return lists, stickers
+
+
+def main():
+    parser = argparse.ArgumentParser(description='kill -9 while clients save.')
+    parser.add_argument('program', nargs='?')
+    parser.add_argument('--times', type=int, default=100)
+    given = parser.parse_args()
+    program = program_of(given.program)
+    draw = random.Random(7)
+    table = Table('kill -9 while clients save', 40, 60)
+    counts = {'before': 0, 'after': 0, 'nothing under way': 0, 'WRONG': 0}
+    made = 0
+    with tempfile.TemporaryDirectory() as folder:
+        music, shelf = os.path.join(folder, 'music'), os.path.join(folder, 'shelf.db')
+        put_songs(music, 40, 100)
+        known = [({}, {}), ({}, {})]
+        for time_number in range(given.times + 1):
+            daemon = Daemon(program, folder, music, shelf=shelf)
+            client = daemon.client()
+            if time_number > 0:
+                for number, saver in enumerate(savers):
+                    found = saver.kept(client)
+                    answered = (saver.lists, saver.stickers)
+                    if found == answered:
+                        counts['before' if saver.under_way else 'nothing under way'] += 1
+                    elif found == saver.under_way:
+                        counts['after'] += 1
+                    else:
+                        counts['WRONG'] += 1
+                    known[number] = found
+            if time_number == given.times:
+                break
+            songs = sorted(line[6:] for line in client.must('listall'))
+            client.must('add ""')
+            savers = [Saver(daemon, number, songs, 100 * time_number + number, *known[number]) for number in range(2)]
+            for saver in savers:
+                saver.start()
+            time.sleep(draw.random() * LONGEST)
+            daemon.kill()
+            for saver in savers:
+                saver.join()
+            made += sum(saver.made for saver in savers)
+        status, _ = daemon.end()
+    table.row('times killed', given.times)
+    table.row('changes that were answered', made, right=made > 0)
+    for name, count in counts.items():
+        table.row('the shelf was as ' + name if name != 'WRONG' else 'the shelf was anything else', count, right=name != 'WRONG' or count == 0)
+    table.row('a change was under way at a kill', counts['before'] + counts['after'], right=counts['before'] + counts['after'] > 0)
+    table.row('the last start ended with status', status, right=status == 0)
+    print('\n%d failed' % table.failed)
+    return 1 if table.failed else 0
+
+
+if __name__ == '__main__':
+    sys.exit(main())

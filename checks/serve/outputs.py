@@ -1,0 +1,138 @@
+#!/usr/bin/env python3
+"""What becomes of outputs whose path or reader fails, while clients are served.
+
+    checks/serve/outputs.py [PROGRAM]
+"""
+import os
+import subprocess
+import sys
+import tempfile
+import time
+
+sys.dont_write_bytecode = True
+
+from daemon import Daemon, Pacer, Table, program_of, put_songs
+
+RATE = 44100
+READ = 100_000  # the bytes that a reader takes before it goes away
+
+
+def enabled(client):
+    return [line[15:] for line in client.must('outputs') if line.startswith('outputenabled: ')]
+
+
+def becomes(asked, wanted, seconds=10):
+    """Whether what is asked becomes what is wanted in time; and what it was last."""
+    end = time.monotonic() + seconds
+    while time.monotonic() < end:
+        found = asked()
+        if found == wanted:
+            return True, found
+        time.sleep(0.05)
+    return False, found
+
+
+def slowest_ping(client, count=200):
+    slowest = 0.0
+    for _ in range(count):
+        start = time.monotonic()
+        client.must('ping')
+        slowest = max(slowest, time.monotonic() - start)
+    return slowest
+
+
+def playing(program, folder, music, outputs):
+    daemon = Daemon(program, folder, music, outputs)
+    client = daemon.client()
+    for line in ['add ""', 'repeat 1', 'play']:
+        client.must(line)
+    return daemon, client
+
+
+def check_no_path(table, program, folder, music):
+    """A path that cannot be opened: its output is off, the other goes on, and it cannot be turned on again."""
+    daemon, client = playing(program, folder, music, [os.path.join(folder, 'nosuch', 'file'), '/dev/null'])
+    right, found = becomes(lambda: enabled(client), ['0', '1'])
+    table.row('a path in a folder that is not there', 'enabled: %s' % ' '.join(found), right=right)
+    refused = client.ask('enableoutput 0')[-1]
+    table.row('', refused, right=refused == 'ACK [52@0] {enableoutput} output has failed')
+    client.must('stop')
+    status, summary = daemon.end()
+    table.row('', summary[0], right=status == 0 and 'unsettled' not in summary[0] and ' written 0 ' in summary[0])
+
+
+def check_reader_goes(table, program, folder, music):
+    """A FIFO whose reader goes away: its output is off, and the other, a paced one, plays on."""
+    gone, pacer = os.path.join(folder, 'gone'), Pacer(os.path.join(folder, 'paced'))
+    os.mkfifo(gone)
+    reader = subprocess.Popen([sys.executable, '-c', 'import sys; open(sys.argv[1], "rb").read(%d)' % READ, gone])
+    daemon, client = playing(program, folder, music, [pacer.path, gone])
+    reader.wait()
+    right, found = becomes(lambda: enabled(client), ['1', '0'])
+    table.row('a reader that goes away', 'enabled: %s' % ' '.join(found), right=right)
+    before = float(client.value('status', 'elapsed'))
+    time.sleep(1)
+    after = float(client.value('status', 'elapsed'))
+    table.row('', 'the other goes on: elapsed %.3f, a second later %.3f' % (before, after), right=after != before)
+    client.must('stop')
+    time.sleep(2)
+    status, summary = daemon.end()
+    pacer.close()
+    table.row('', summary[1], right=status == 0 and 'unsettled' not in ''.join(summary))
+
+
+def check_no_reader(table, program, folder, music):
+    """A FIFO without a reader: nothing plays, clients are served, and all goes on once there is a reader."""
+    alone = os.path.join(folder, 'alone')
+    os.mkfifo(alone)
+    daemon, client = playing(program, folder, music, [alone, '/dev/null'])
+    time.sleep(0.5)
+    before = client.value('status', 'elapsed')
+    slowest, used = slowest_ping(client), daemon.seconds()
+    time.sleep(1)
+    used = daemon.seconds() - used
+    after = client.value('status', 'elapsed')
+    table.row('a FIFO without a reader', 'elapsed %s, a second later %s; slowest ping %.1f ms; %.0f ms of processor' % (before, after, slowest * 1e3, used * 1e3),
+              right=before == after and slowest < 0.5 and used < 0.3)
+    reader = subprocess.Popen(['cat', alone], stdout=subprocess.DEVNULL)
+    right, _ = becomes(lambda: client.value('status', 'elapsed') != after, True)
+    table.row('', 'a reader came: it plays' if right else 'a reader came: it does not play', right=right)
+    client.must('stop')
+    status, summary = daemon.end()
+    reader.wait(20)
+    table.row('', '%s; %s' % tuple(summary), right=status == 0 and 'unsettled' not in ''.join(summary))
+
+
+def check_slow_reader(table, program, folder, music):
+    """A reader that stops reading: clients are served, and the end waits for it until it is gone."""
+    slow = os.path.join(folder, 'slow')
+    os.mkfifo(slow)
+    reader = subprocess.Popen([sys.executable, '-c', 'import sys, time; file = open(sys.argv[1], "rb", 0); file.read(4096); time.sleep(1000)', slow])
+    daemon, client = playing(program, folder, music, [slow])
+    time.sleep(1)
+    slowest = slowest_ping(client)
+    table.row('a reader that stops', 'slowest ping %.1f ms' % (slowest * 1e3), right=slowest < 0.5)
+    client.send('kill')
+    time.sleep(0.5)
+    waits = daemon.process.poll() is None
+    reader.kill()
+    reader.wait()
+    status = daemon.process.wait(20)
+    table.row('', 'kill waits for it: %s; then status %d, %s' % ('yes' if waits else 'no', status, daemon.output().strip()),
+              right=status == 0 and 'unsettled' not in daemon.output())
+
+
+def main():
+    program = program_of(sys.argv[1] if len(sys.argv) > 1 else None)
+    table = Table('Outputs that fail', 38, 110)
+    for check in (check_no_path, check_reader_goes, check_no_reader, check_slow_reader):
+        with tempfile.TemporaryDirectory() as folder:
+            music = os.path.join(folder, 'music')
+            put_songs(music, 3, 20 * RATE)
+            check(table, program, folder, music)
+    print('\n%d failed' % table.failed)
+    return 1 if table.failed else 0
+
+
+if __name__ == '__main__':
+    sys.exit(main())

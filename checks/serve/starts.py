@@ -1,0 +1,122 @@
+#!/usr/bin/env python3
+"""Starts that fail: the one line on standard error and the status 1, in the order in which the causes are looked for.
+
+    checks/serve/starts.py [PROGRAM]
+"""
+import os
+import socket
+import sqlite3
+import subprocess
+import sys
+import tempfile
+
+sys.dont_write_bytecode = True
+
+from daemon import Daemon, Table, program_of, put_songs
+
+GOOD = 'music = "%(music)s"\nlisten = "127.0.0.1:%(taken)d"\n'
+# What is wrong, the settings (None: there are none), and the line.
+CASES = [
+    ('no file of settings', None, 'cannot read %(settings)s'),
+    ('settings that are no text', b'\xff\xfe', 'cannot read %(settings)s'),
+    ('settings that are not TOML', 'music', 'bad setting '),
+    ('an unknown key', GOOD + 'port = 1', 'bad setting port'),
+    ('a bad key before an absent one', 'rate = 1', 'bad setting rate'),
+    ('no listen', 'music = "%(music)s"', 'bad setting listen'),
+    ('no music', 'listen = ""', 'bad setting music'),
+    ('history of 0', GOOD + 'history = 0', 'bad setting history'),
+    ('an output without its path', GOOD + '[[output]]\nname = "a"', 'bad setting output'),
+    ('bad settings before a bad shelf', GOOD + 'shelf = "/nosuch/shelf"\nring = 1', 'bad setting ring'),
+    ('a shelf in a folder that is not there', GOOD + 'shelf = "/nosuch/shelf"', 'cannot open shelf'),
+    ('a shelf that is a folder', GOOD + 'shelf = "%(music)s"', 'cannot open shelf'),
+    ('a shelf that is no database', GOOD + 'shelf = "%(settings)s"', 'cannot open shelf'),
+    ('a database with other tables', GOOD + 'shelf = "%(other)s"', 'cannot open shelf'),
+    ('a shelf of another profile', GOOD + 'shelf = "%(ninth)s"', 'cannot open shelf'),
+    ('a bad shelf before a bad folder', 'music = "/nosuch"\nlisten = ""\nshelf = "/nosuch/shelf"', 'cannot open shelf'),
+    ('a folder that is not there', 'music = "/nosuch"\nlisten = ""', 'cannot read folder /nosuch'),
+    ('a file for a folder', 'music = "%(settings)s"\nlisten = ""', 'cannot read folder %(settings)s'),
+    ('no address', 'music = "%(music)s"\nlisten = "here"', 'cannot listen'),
+    ('a name for an address', 'music = "%(music)s"\nlisten = "localhost:6600"', 'cannot listen'),
+    ('an address of another machine', 'music = "%(music)s"\nlisten = "192.0.2.1:6600"', 'cannot listen'),
+    ('a port that is taken', GOOD, 'cannot listen'),
+]
+
+
+def databases(folder):
+    """A database with a table of its own, and a shelf of profile 9."""
+    other, ninth = os.path.join(folder, 'other.db'), os.path.join(folder, 'ninth.db')
+    with sqlite3.connect(other) as store:
+        store.execute('CREATE TABLE note (text TEXT)')
+    with sqlite3.connect(ninth) as store:
+        store.execute('CREATE TABLE profile (one INTEGER PRIMARY KEY CHECK (one = 1), number INTEGER NOT NULL)')
+        store.execute('CREATE TABLE list (name TEXT NOT NULL PRIMARY KEY, uris TEXT NOT NULL)')
+        store.execute('CREATE TABLE sticker (uri TEXT NOT NULL, name TEXT NOT NULL, value TEXT NOT NULL, PRIMARY KEY (uri, name))')
+        store.execute('INSERT INTO profile VALUES (1, 9)')
+    return {'other': other, 'ninth': ninth}
+
+
+def check_faults(program, folder, music):
+    table = Table('Starts that fail', 40, 8, 60)
+    table.row('what is wrong', 'status', 'standard error')
+    names = dict(databases(folder), music=music, settings=os.path.join(folder, 'faulty.toml'))
+    with socket.socket() as door:
+        door.bind(('127.0.0.1', 0))
+        door.listen()
+        names['taken'] = door.getsockname()[1]
+        for case, text, wanted in CASES:
+            if os.path.exists(names['settings']):
+                os.remove(names['settings'])
+            if text is not None:
+                with open(names['settings'], 'wb') as file:
+                    file.write(text if isinstance(text, bytes) else (text % names).encode() + b'\n')
+            run = subprocess.run([program, 'serve', '--config', names['settings']], capture_output=True, stdin=subprocess.DEVNULL, timeout=60)
+            line = ('music_daemon: ' + wanted % names + '\n').encode()
+            shown = run.stderr.decode(errors='replace').replace(folder, '..').rstrip('\n')
+            table.row(case, run.returncode, shown, right=run.returncode == 1 and run.stderr == line and not run.stdout)
+    return table.failed
+
+
+def check_one_start(program, folder, music):
+    """A start with one idle output, its shelf and its summary; a second daemon on the same shelf; a start after it."""
+    table = Table('\nA start and its end', 40, 60)
+    shelf, path = os.path.join(folder, 'shelf.db'), os.path.join(folder, 'never written')
+    daemon = Daemon(program, folder, music, [path], shelf=shelf)
+    client = daemon.client()
+    table.row('ping', ' '.join(client.ask('ping')))
+    second = subprocess.run([program, 'serve', '--config', daemon.settings], capture_output=True, timeout=60)
+    table.row('a second daemon on the same shelf', second.stderr.decode().strip(), right=(second.returncode, second.stderr) == (1, b'music_daemon: cannot open shelf\n'))
+    client.must('add ""')
+    client.must('save one')
+    status, summary = daemon.end()
+    table.row('the status, and the summary', '%d, %s' % (status, ' '.join(summary)), right=(status, summary) == (0, ['output 0: decoded 0 written 0 discarded 0 left 0']))
+    table.row('an output that never played', 'no file' if not os.path.exists(path) else 'a file', right=not os.path.exists(path))
+    alone = os.path.join(folder, 'copy.db')
+    with open(shelf, 'rb') as file, open(alone, 'wb') as copy:
+        copy.write(file.read())
+    with sqlite3.connect(alone) as store:
+        found = store.execute('SELECT name FROM list').fetchall()
+    table.row("the shelf's one file, read by sqlite3", found, right=found == [('one',)])
+    daemon = Daemon(program, folder, music, shelf=shelf, kill=False)
+    client = daemon.client()
+    lists = client.must('listplaylists')
+    table.row('the next start has its lists', ' '.join(lists), right=lists == ['playlist: one'])
+    refused = client.ask('kill')[-1]
+    table.row('kill without the setting', refused, right=refused == 'ACK [4@0] {kill} no permission for "kill"')
+    daemon.process.terminate()
+    status = daemon.process.wait(30)
+    table.row('a signal ends it', 'status %d' % status, right=status == -15)
+    return table.failed
+
+
+def main():
+    program = program_of(sys.argv[1] if len(sys.argv) > 1 else None)
+    with tempfile.TemporaryDirectory() as folder:
+        music = os.path.join(folder, 'music')
+        put_songs(music, 12, 100)
+        failed = check_faults(program, folder, music) + check_one_start(program, folder, music)
+    print('\n%d failed' % failed)
+    return 1 if failed else 0
+
+
+if __name__ == '__main__':
+    sys.exit(main())
