@@ -1,5 +1,5 @@
 //! The thread that scans.
-ghost use Rattle.std.specs.Prelude.{◌≡◌};
+ghost use Rattle.std.specs.Prelude.{◌≡◌, IsSome, OnOk};
 
 use crate::start::Crew;
 use house::{House, News, Seat};
@@ -170,7 +170,8 @@ pub fn start_scanner<
     crew: &mut Crew<W, X>,
     scanner: N,
 ) -> Result<(), AllocError>
-    ensures { crew.new.outputs ≡ crew.old.outputs }
+    ensures outputs { crew.new.outputs ≡ crew.old.outputs }
+    ensures runs { OnOk result (IsSome crew.new.scanner) }
 {
     if crew.scanner.is_some() {
         return Ok(());
