@@ -6,8 +6,7 @@ ghost use Rattle.house.specs.Seats.{after_events};
 
 use crate::settling::{join_outputs, settle_outputs};
 use crate::start::Crew;
-use frame_ledger::{SettleFault, Settled};
-use house::{House, Seat};
+use house::{House, Seat, Settlement};
 use partition::PartitionFault;
 use std::sync::Wait;
 use std::sync::ledger::Ledger;
@@ -31,8 +30,8 @@ pub fn close<
     rt: &R,
     house: &House<A, B, C, D, E, W, X>,
     seat: &mut Seat<A, B, C, D>,
-    crew: Crew<W, X>,
-) -> Result<Vec<Result<Settled, SettleFault>>, (Crew<W, X>, PartitionFault)>
+    crew: Crew<E, W, X>,
+) -> Result<Vec<Settlement<E, W, X>>, (Crew<E, W, X>, PartitionFault)>
     ensures made { OnOk result (seat.new ≡ after_events seat.old 1) }
     ensures fault { IfErr result (λ e. (e.0 ≡ crew) × (seat.new ≡ seat.old)) }
     ensures settled { IfOk result (λ results. EachAt SettlesRun 0 crew.outputs.items results.items) }

@@ -167,7 +167,7 @@ pub fn start_scanner<
     rt: R,
     alloc: Global,
     house: &Arc<House<A, B, C, D, E, W, X>, Global>,
-    crew: &mut Crew<W, X>,
+    crew: &mut Crew<E, W, X>,
     scanner: N,
 ) -> Result<(), AllocError>
     ensures outputs { crew.new.outputs ≡ crew.old.outputs }

@@ -1,13 +1,13 @@
 //! The end of the outputs: their threads are joined, and what they leave is settled.
 ghost use Rattle.std.specs.Prelude.{◌≡◌, ◌<◌, ◌≤◌, [], map, vec_len, vec_capacity};
-ghost use Rattle.output_ring.specs.Rings.{EndsFeeder};
+ghost use Rattle.output_ring.specs.Rings.{EndsFeeder, SameDrainer};
+ghost use Rattle.house.specs.Settling.{AreOfSomePast, Settles, numbers_in};
 ghost use Rattle.crew.specs.Closing.{LeavesRun, SettlesLeft};
 ghost use Rattle.crew.specs.Each.{Each, EachAt};
 ghost use Rattle.crew.specs.Rows.{first_of_left};
 
 use crate::output::{OutputEnd, OutputLeft, OutputRun};
-use frame_ledger::{SettleFault, Settled};
-use house::House;
+use house::{House, Settlement};
 use output_ring::FeederEnd;
 use std::sync::Wait;
 use std::sync::ledger::Ledger;
@@ -59,10 +59,12 @@ fn settle_output<
     output: usize,
     left: OutputLeft<W, X>,
     end: FeederEnd,
-) -> Result<Settled, SettleFault>
+) -> Settlement<E, W, X>
     requires output { output < 8 }
     requires end { EndsFeeder left.first.value end }
-    ensures { SettlesLeft output left result }
+    ensures ends { EndsFeeder left.first.value result.end.value × SameDrainer left.end.drainer result.drainer.value }
+    ensures given { AreOfSomePast (numbers_in result.books.value) }
+    ensures settles { Settles result.end.value result.drainer.value output (numbers_in result.books.value) result.result }
 {
     let OutputLeft {
         end: OutputEnd { drainer, shares },
@@ -87,8 +89,8 @@ pub(crate) fn settle_outputs<
     house: &House<A, B, C, D, E, W, X>,
     lefts: Vec<OutputLeft<W, X>>,
     ends: Vec<FeederEnd>,
-    room: Vec<Result<Settled, SettleFault>>,
-) -> Vec<Result<Settled, SettleFault>>
+    room: Vec<Settlement<E, W, X>>,
+) -> Vec<Settlement<E, W, X>>
     requires few { vec_len lefts ≤ 8 }
     requires rings { Each EndsFeeder (map first_of_left lefts.items) ends.items }
     requires room { (room.items ≡ []) × (vec_len lefts ≤ vec_capacity room) }

@@ -8,8 +8,7 @@ use crate::decoder::Decoder;
 use crate::feeders::OfFeeders;
 use crate::output::{OutputLeft, OutputRun};
 use crate::song_source::SongSource;
-use frame_ledger::{SettleFault, Settled};
-use house::House;
+use house::{House, Settlement};
 use mpd_text::Media;
 use output_ring::{Feeder, FeederEnd};
 use std::alloc::{AllocError, Global};
@@ -22,13 +21,13 @@ use std::time::Clock;
 
 /// The decoder and the outputs that run. The feeder at each place is of the ring of the output there.
 #[derive(Drop)]
-pub struct Crew<W: Ledger, X: Ledger> {
+pub struct Crew<E: Ledger, W: Ledger, X: Ledger> {
     pub(crate) decoder: PromisedHandle<Vec<FeederEnd>, OfFeeders>,
     pub(crate) outputs: Vec<OutputRun<W, X>>,
     pub(crate) scanner: Option<JoinHandle<()>>,
     /// Room for what the outputs leave, and for what they are settled with, so that nothing can fail behind the end.
     pub(crate) lefts: Vec<OutputLeft<W, X>>,
-    pub(crate) results: Vec<Result<Settled, SettleFault>>,
+    pub(crate) results: Vec<Settlement<E, W, X>>,
     ghost rings: { map first_of_run outputs.items ≡ decoder.promise.0.value.items },
     ghost few: { vec_len outputs ≤ 8 },
     ghost places: { (lefts.items ≡ []) × (vec_len outputs ≤ vec_capacity lefts) },
@@ -139,7 +138,7 @@ pub fn start_decoder<
     outputs: Vec<OutputRun<W, X>>,
     feeders: Vec<Feeder>,
     share: Share<E>,
-) -> Result<Crew<W, X>, AllocError>
+) -> Result<Crew<E, W, X>, AllocError>
     requires part { 0 < share.parts }
     requires few { vec_len outputs ≤ 8 }
     requires rings { map first_of_run outputs.items ≡ feeders.items }

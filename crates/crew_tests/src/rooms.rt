@@ -254,11 +254,17 @@ fn run_day<
     start_scanner(rt, alloc, &house, &mut crew, scanner)?;
     let heard = plays(&rt, alloc, &house, &mut seat, script.as_str(), watch);
     match close(&rt, &house, &mut seat, crew) {
-        Ok(settled) => Ok(Day {
-            heard: heard?,
-            opened: opened.load(Ordering::SeqCst),
-            settled,
-        }),
+        Ok(settlements) => {
+            let mut settled = Vec::new(alloc);
+            for settlement in &settlements {
+                settled.push(settlement.result)?;
+            }
+            Ok(Day {
+                heard: heard?,
+                opened: opened.load(Ordering::SeqCst),
+                settled,
+            })
+        }
         Err((_crew, fault)) => Err(fault),
     }
 }

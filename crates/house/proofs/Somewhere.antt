@@ -1,5 +1,5 @@
 -- What a caller learns who cannot see what the lock found: the value that was found is the witness.
-use Rattle.std.proofs.Common.{◌≡◌, ◌<◌, ◌↔◌, ℕ, List, Result, Ok, Err, IfOk, IsNone, IsOk, IsSome, slice_index, slice_index_or, false, refl, sym, ap, ◌∙◌}
+use Rattle.std.proofs.Common.{◌≡◌, ◌<◌, ◌↔◌, ℕ, List, Result, Ok, Err, IfOk, IsNone, IsOk, IsSome, slice_index, refl, sym, ap, ◌∙◌}
 use Rattle.frame_ledger.specs.Balance.{Agrees, Balances}
 use Rattle.frame_ledger.specs.declared.settlement.SettleFault.{SettleFault}
 use Rattle.frame_ledger.specs.declared.settlement.SettleFault.TheVariants.{Unsettled}
@@ -8,27 +8,20 @@ use Rattle.output_ring.specs.declared.drainer.Drainer.{Drainer}
 use Rattle.output_ring.specs.declared.feeder.FeederEnd.{FeederEnd}
 use Rattle.output_ring.specs.declared.frames.CutFrame.{CutFrame}
 use Rattle.partition.specs.declared.event.Event.{Event}
-use Rattle.partition.specs.declared.event.Event.TheVariants.{Have}
 use Rattle.partition.specs.declared.partition.PartitionFault.{PartitionFault}
 use Rattle.partition.specs.Answers.{Told}
 use Rattle.partition.specs.History.{Chronicle}
 use Rattle.partition.specs.Legal.{IsPast}
-use Rattle.partition.specs.Outputs.{FrameBooks, is_enabled}
+use Rattle.partition.specs.Outputs.{FrameBooks}
 use Rattle.partition.specs.Step.{told}
 use Rattle.house.specs.Seats.{Place}
 use Rattle.house.specs.Settling.{AreNumbers, Settles, with_fates}
-use Rattle.house.specs.Views.{FedData, FeedsSomewhere, TellsSomewhere, own_in}
+use Rattle.house.specs.Views.{TellsSomewhere, own_in}
 
 module _ (past : Chronicle) (seat : Place) (legal : IsPast past) (own : seat.number < 4 → own_in seat.number past.present ≡ seat.made) where
   pub tells : (event : Event) (r : Result Told PartitionFault) → IfOk r (λ outcome. outcome ≡ told past.present event) → IfOk r (λ outcome. TellsSomewhere seat event outcome)
   tells event (Ok outcome) is = (past, (legal, own), is)
   tells event (Err fault) is = tt
-
-  pub feeds : (number frames : ℕ) (r : Result FedData PartitionFault) → IfOk r (λ fed. fed.told ≡ told past.present (Have number frames))
-      → IfOk r (λ fed. (output : ℕ) → output < 8 → slice_index_or fed.outputs output false ≡ is_enabled past.present.part.outputs output)
-      → IfOk r (λ fed. FeedsSomewhere seat number frames fed)
-  feeds number frames (Ok fed) is for = (past, (legal, own), is, for)
-  feeds number frames (Err fault) is for = tt
 
 module _ (end : FeederEnd) (drainer : Drainer) (output : ℕ) (old new : FrameBooks) (decoded : new.decoded ≡ old.decoded)
     (written : new.written ≡ (with_fates drainer output old).written) (discarded : new.discarded ≡ (with_fates drainer output old).discarded) where

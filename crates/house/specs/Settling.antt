@@ -1,6 +1,7 @@
 -- What a settlement of an output answers.
 use Rattle.std.specs.Prelude.{ℕ, ◌≡◌, ◌↔◌, List, Result, Err, IfOk, IsNone, IsOk, IsSome, slice_index, if◌then◌else◌}
 use Rattle.frame_ledger.specs.Balance.{Agrees, Balances, has_room, raised}
+use Rattle.frame_ledger.specs.declared.books.Books.{Books}
 use Rattle.frame_ledger.specs.declared.settlement.SettleFault.{SettleFault}
 use Rattle.frame_ledger.specs.declared.settlement.SettleFault.TheVariants.{Unsettled}
 use Rattle.frame_ledger.specs.declared.settlement.Settled.{Settled}
@@ -33,7 +34,10 @@ pub record Settles (end : FeederEnd) (drainer : Drainer) (output : ℕ) (books :
   pub unsettled : (result ≡ Err Unsettled) ↔ IsNone end.finished
   pub agrees : (taken : List CutFrame) → IsSome end.finished → Agrees end drainer books.decoded books.written books.discarded output taken → IsOk result
 
--- What is answered where the lock was free: by books whose decoded frames are those of some past.
-abbrev pub SettlesSomewhere : FeederEnd → Drainer → ℕ → Result Settled SettleFault → Type 0
-SettlesSomewhere end drainer output result =
-    (past : Chronicle) × (books : FrameBooks) × IsPast past × (books.decoded ≡ past.present.shared.books.decoded) × Settles end drainer output books result
+-- the numbers that the books have of each output
+abbrev pub numbers_in : {E W X : Type 0} → Books E W X → FrameBooks
+numbers_in books = record { decoded = books.decoded; written = books.written; discarded = books.discarded }
+
+-- the decoded frames are those of some past
+abbrev pub AreOfSomePast : FrameBooks → Type 0
+AreOfSomePast books = (past : Chronicle) × IsPast past × (books.decoded ≡ past.present.shared.books.decoded)

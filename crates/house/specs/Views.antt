@@ -1,5 +1,5 @@
 -- What contracts see of what the lock holds, and what a caller learns who cannot see it.
-use Rattle.std.specs.Prelude.{ℕ, ◌≡◌, ◌⊎◌, ◌<◌, Bool, true, false, List, [], ◌∷◌, Option, slice_index_or}
+use Rattle.std.specs.Prelude.{ℕ, ◌≡◌, ◌⊎◌, ◌+◌, ◌<◌, Bool, true, false, List, [], ◌∷◌, Option, slice_index_or, sum}
 use Rattle.shelf.specs.Calls.{Call}
 use Rattle.shelf.specs.Maps.{Standing}
 use Rattle.partition.specs.declared.event.Event.{Event}
@@ -17,7 +17,7 @@ use Rattle.partition.specs.Lent.{Refuses, question, writing}
 use Rattle.partition.specs.Outputs.{FrameBooks, empty_books, is_enabled}
 use Rattle.partition.specs.Refusals.{MayRefuse}
 use Rattle.partition.specs.Shelves.{Serves, Spares}
-use Rattle.partition.specs.Step.{hearing, limit_of, told}
+use Rattle.partition.specs.Step.{hearing, limit_of, next_image, told}
 use Rattle.house.specs.Seats.{Place}
 
 -- the player with its history; the notices that wait to be handed out; the books of frames; whether an output was settled, whose
@@ -72,11 +72,17 @@ MayFind seat past = IsPast past × (seat.number < 4 → own_in seat.number past.
 abbrev pub TellsSomewhere : Place → Event → Told → Type 0
 TellsSomewhere seat event outcome = (past : Chronicle) × MayFind seat past × (outcome ≡ told past.present event)
 
--- what the player of one thread tells of frames that were decoded, and which outputs were enabled there
-abbrev pub FeedsSomewhere : Place → ℕ → ℕ → FedData → Type 0
-FeedsSomewhere seat number frames fed =
+-- why the event may be refused after some past that the caller may find
+abbrev pub RefusesSomewhere : Place → Event → PartitionFault → Type 0
+RefusesSomewhere seat event fault = (past : Chronicle) × MayFind seat past × IsRefusedFor past seat.number event fault
+
+-- what the player of one thread tells of frames that were decoded, which outputs were enabled there, and that the share of decoded frames
+-- grows by what all outputs are given
+abbrev pub FeedsSomewhere : Place → ℕ → ℕ → FedData → ℕ → ℕ → Type 0
+FeedsSomewhere seat number frames fed share_before share_after =
     (past : Chronicle) × MayFind seat past × (fed.told ≡ told past.present (Have number frames))
     × ((output : ℕ) → output < 8 → slice_index_or fed.outputs output false ≡ is_enabled past.present.part.outputs output)
+    × (share_after + sum past.present.shared.books.decoded ≡ share_before + sum (next_image seat.number past.present (Have number frames)).shared.books.decoded)
 
 module _ {S : Type 0} (standing : S → Standing) (failed : S → S → Call → Type 0) where
   -- An answer that the player of one thread gives to the event after some past in which the seat made so many events, by what the lent
@@ -91,6 +97,11 @@ module _ {S : Type 0} (standing : S → Standing) (failed : S → S → Call →
   abbrev pub Stops : Chronicle → Chronicle → S → S → ℕ → Event → PartitionFault → Type 0
   Stops before after old new seat event fault =
       ((fault ≡ NoMemory) × ((after ≡ before) × (new ≡ old))) ⊎ Refuses standing failed before after old new seat event fault
+
+  -- why the event may be refused after some past in which the seat made so many events, and what that leaves of the lent shelf
+  abbrev pub StopsSomewhere : S → S → ℕ → ℕ → Event → PartitionFault → Type 0
+  StopsSomewhere old new seat made event fault =
+      (past : Chronicle) × IsPast past × (own_in seat past.present ≡ made) × ((after : Chronicle) × Stops past after old new seat event fault)
 
   -- nothing was written to the lent shelf
   abbrev pub IsUnwritten : S → S → Type 0

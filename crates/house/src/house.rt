@@ -3,21 +3,22 @@ ghost use Rattle.std.specs.Prelude.{◌≡◌, ◌+◌, ◌<◌, IfErr, IfOk, On
 ghost use Rattle.frame_ledger.specs.Balance.{IsBlankOf as IsBlank};
 ghost use Rattle.output_ring.specs.Rings.{AreEndsAfter};
 ghost use Rattle.partition.specs.Shelves.{nothing_heard};
-ghost use Rattle.partition.specs.declared.event.Event.TheVariants.{Line, OutputTurn};
+ghost use Rattle.partition.specs.declared.event.Event.TheVariants.{End, Have, Line, OutputTurn};
 ghost use Rattle.partition.specs.declared.event.Stand.TheVariants.{Alone};
 ghost use Rattle.house.specs.Lists.{StopsListSomewhere, TellsListSomewhere};
 ghost use Rattle.house.specs.News.{event_of};
 ghost use Rattle.house.specs.Seats.{after_events, IsBlankOf};
-ghost use Rattle.house.specs.Settling.{SettlesSomewhere};
-ghost use Rattle.house.specs.Views.{AnswersSomewhere, FeedsSomewhere, IsFresh, IsUnwritten, TellsSomewhere};
+ghost use Rattle.house.specs.Settling.{AreOfSomePast, Settles, numbers_in};
+ghost use Rattle.house.specs.Views.{AnswersSomewhere, FeedsSomewhere, IsFresh, IsUnwritten, RefusesSomewhere, StopsSomewhere, TellsSomewhere};
 
 use crate::answered::{Answered, AnsweredList, Reported};
 use crate::fed::Fed;
 use crate::held::{Blanks, CrewShares, Held};
 use crate::news::News;
 use crate::seat::{NoSeat, Seat};
+use crate::settlement::Settlement;
 use command_lists::ListForm;
-use frame_ledger::{OutputShares, SettleFault, Settled};
+use frame_ledger::OutputShares;
 use mpd_command::Request;
 use output_ring::{Drainer, Fates, FeederEnd};
 use partition::{ListFault, Notice, Partition, PartitionFault};
@@ -107,6 +108,7 @@ impl<A: Ledger, B: Ledger, C: Ledger, D: Ledger, E: Ledger, W: Ledger, X: Ledger
     ) -> Result<Answered, PartitionFault>
         ensures made { OnOk result (seat.new ≡ after_events seat.old 1) }
         ensures fault { OnErr result ((seat.new ≡ seat.old) × IsUnwritten S.standing S.failed shelf.old shelf.new) }
+        ensures refused { IfErr result (λ fault. seat.old.number < 4 → StopsSomewhere S.standing S.failed shelf.old shelf.new seat.old.number seat.old.made (Line client Alone request nothing_heard) fault) }
         ensures somewhere { IfOk result (λ a. seat.old.number < 4 → AnswersSomewhere S.standing S.failed shelf.old shelf.new seat.old.number seat.old.made (Line client Alone request nothing_heard) a.told.answer) }
     {
         let (told, rung) = {
@@ -163,6 +165,7 @@ impl<A: Ledger, B: Ledger, C: Ledger, D: Ledger, E: Ledger, W: Ledger, X: Ledger
     ) -> Result<Reported, PartitionFault>
         ensures made { OnOk result (seat.new ≡ after_events seat.old 1) }
         ensures fault { OnErr result (seat.new ≡ seat.old) }
+        ensures refused { IfErr result (λ fault. RefusesSomewhere seat.old (event_of news) fault) }
         ensures somewhere { IfOk result (λ told. TellsSomewhere seat.old (event_of news) told) }
     {
         let (told, rung) = {
@@ -196,7 +199,8 @@ impl<A: Ledger, B: Ledger, C: Ledger, D: Ledger, E: Ledger, W: Ledger, X: Ledger
     ) -> Result<Fed, PartitionFault>
         requires { 0 < share.old.parts }
         ensures made { OnOk result (seat.new ≡ after_events seat.old 1) }
-        ensures somewhere { IfOk result (λ fed. FeedsSomewhere seat.old number frames fed) }
+        ensures refused { IfErr result (λ fault. RefusesSomewhere seat.old (Have number frames) fault) }
+        ensures somewhere { IfOk result (λ fed. FeedsSomewhere seat.old number frames fed share.old.amount share.new.amount) }
         ensures parts { share.new.parts ≡ share.old.parts }
         ensures fault { OnErr result ((seat.new ≡ seat.old) × (share.new ≡ share.old)) }
     {
@@ -227,6 +231,7 @@ impl<A: Ledger, B: Ledger, C: Ledger, D: Ledger, E: Ledger, W: Ledger, X: Ledger
     ) -> Result<Reported, PartitionFault>
         requires { (0 < shares.old.written.parts) × (0 < shares.old.discarded.parts) }
         ensures made { OnOk result (seat.new ≡ after_events seat.old 1) }
+        ensures refused { IfErr result (λ fault. RefusesSomewhere seat.old (OutputTurn output fates.written fates.discarded failed) fault) }
         ensures somewhere { IfOk result (λ told. TellsSomewhere seat.old (OutputTurn output fates.written fates.discarded failed) told) }
         ensures parts { (shares.new.written.parts ≡ shares.old.written.parts) × (shares.new.discarded.parts ≡ shares.old.discarded.parts) }
         ensures fault { OnErr result ((seat.new ≡ seat.old) × (shares.new ≡ shares.old)) }
@@ -242,11 +247,7 @@ impl<A: Ledger, B: Ledger, C: Ledger, D: Ledger, E: Ledger, W: Ledger, X: Ledger
         told
     }
 
-    /// Compares the books of an output with its ring.
-    ///
-    /// # Errors
-    ///
-    /// As [`Held::settle`].
+    /// Compares the books of an output with its ring. What it answers is as [`Held::settle`] answers.
     pub fn settle(
         &self,
         rt: &impl Wait,
@@ -254,14 +255,16 @@ impl<A: Ledger, B: Ledger, C: Ledger, D: Ledger, E: Ledger, W: Ledger, X: Ledger
         drainer: Drainer,
         output: usize,
         shares: &mut OutputShares<W, X>,
-    ) -> Result<Settled, SettleFault>
+    ) -> Settlement<E, W, X>
         requires ends { AreEndsAfter end drainer }
         requires output { output < 8 }
         requires parts { (0 < shares.old.written.parts) × (0 < shares.old.discarded.parts) }
-        ensures somewhere { SettlesSomewhere end drainer output result }
+        ensures ends { (result.end.value ≡ end) × (result.drainer.value ≡ drainer) }
+        ensures settles { Settles end drainer output (numbers_in result.books.value) result.result }
+        ensures given { AreOfSomePast (numbers_in result.books.value) }
         ensures kept { (shares.new.written.parts ≡ shares.old.written.parts) × (shares.new.discarded.parts ≡ shares.old.discarded.parts) }
     {
-        self.held.lock(rt).settle(end, drainer, output, shares)
+        self.held.lock(rt).settlement(end, drainer, output, shares)
     }
 
     /// The end: from now on nothing is decoded and no scan begins. Each thread of the house is told of it at its next event.
@@ -272,6 +275,7 @@ impl<A: Ledger, B: Ledger, C: Ledger, D: Ledger, E: Ledger, W: Ledger, X: Ledger
     pub fn end(&self, rt: &impl Wait, seat: &mut Seat<A, B, C, D>) -> Result<(), PartitionFault>
         ensures made { OnOk result (seat.new ≡ after_events seat.old 1) }
         ensures fault { OnErr result (seat.new ≡ seat.old) }
+        ensures refused { IfErr result (λ fault. RefusesSomewhere seat.old End fault) }
     {
         let ended = self.held.lock(rt).end(seat);
         self.bell.notify_all();

@@ -15,6 +15,7 @@ mod news;
 mod output;
 mod pulse;
 mod seat;
+mod settlement;
 mod waiting;
 
 pub use answered::{Answered, AnsweredList, Reported};
@@ -23,3 +24,4 @@ pub use held::{Blanks, CrewShares, Held};
 pub use house::House;
 pub use news::News;
 pub use seat::{NoSeat, Seat};
+pub use settlement::Settlement;

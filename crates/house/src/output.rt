@@ -6,10 +6,12 @@ use crate::happen::{hear_frames, hear_turn};
 use crate::held::Held;
 use crate::pulse::count_change;
 use crate::seat::Seat;
+use crate::settlement::Settlement;
 use crate::waiting::put_all;
 use frame_ledger::{OutputShares, SettleFault, Settled, settle};
 use output_ring::{Drainer, Fates, FeederEnd};
 use partition::PartitionFault;
+use std::snapshot::Snapshot;
 use std::sync::ledger::{Ledger, Share};
 
 impl<A: Ledger, B: Ledger, C: Ledger, D: Ledger, E: Ledger, W: Ledger, X: Ledger> Held<
@@ -32,6 +34,7 @@ impl<A: Ledger, B: Ledger, C: Ledger, D: Ledger, E: Ledger, W: Ledger, X: Ledger
     ghost use Rattle.partition.specs.Step.{limit_of, told as told_of};
     ghost use Rattle.partition.specs.declared.event.Event.TheVariants.{Have, OutputTurn};
     ghost use Rattle.house.specs.Seats.{after_events};
+    ghost use Rattle.house.specs.Settling.{AreOfSomePast, Settles, numbers_in};
     ghost use Rattle.house.specs.Views.{IsRefusedFor, IsSpared, entry, own_in};
 
     /// Frames of a job were decoded. Where they are not stale, they are for each output that is enabled: its book and the share grow by
@@ -59,6 +62,7 @@ impl<A: Ledger, B: Ledger, C: Ledger, D: Ledger, E: Ledger, W: Ledger, X: Ledger
         ensures made { OnOk result (seat.new ≡ after_events seat.old 1) }
         ensures seat { OnErr result (seat.new ≡ seat.old) }
         // The book of frames given is the player's, and what it grew by is in the share.
+        ensures given { self.old.books.decoded ≡ self.old.player.present.shared.books.decoded }
         ensures decoded { self.new.books.decoded ≡ self.new.player.present.shared.books.decoded }
         ensures fates { (self.new.books.written ≡ self.old.books.written) × (self.new.books.discarded ≡ self.old.books.discarded) × (self.new.is_settled ≡ self.old.is_settled) × (self.new.free ≡ self.old.free) }
         ensures share { share.new.amount + sum self.old.books.decoded ≡ share.old.amount + sum self.new.books.decoded }
@@ -195,5 +199,32 @@ impl<A: Ledger, B: Ledger, C: Ledger, D: Ledger, E: Ledger, W: Ledger, X: Ledger
         } = self;
         *is_settled = true;
         settle(end, drainer, books, output, shares)
+    }
+
+    /// Likewise, and hands out what it compared.
+    pub(crate) fn settlement(
+        &mut self,
+        end: FeederEnd,
+        drainer: Drainer,
+        output: usize,
+        shares: &mut OutputShares<W, X>,
+    ) -> Settlement<E, W, X>
+        requires ends { AreEndsAfter end drainer }
+        requires output { output < 8 }
+        requires parts { (0 < shares.old.written.parts) × (0 < shares.old.discarded.parts) }
+        ensures ends { (result.end.value ≡ end) × (result.drainer.value ≡ drainer) }
+        ensures settles { Settles end drainer output (numbers_in result.books.value) result.result }
+        ensures given { AreOfSomePast (numbers_in result.books.value) }
+        ensures kept { (shares.new.written.parts ≡ shares.old.written.parts) × (shares.new.discarded.parts ≡ shares.old.discarded.parts) }
+    {
+        let books = Snapshot::of(&self.books);
+        let (seen_end, seen_drainer) = (Snapshot::of(&end), Snapshot::of(&drainer));
+        let result = self.settle(end, drainer, output, shares);
+        Settlement {
+            result,
+            end: seen_end,
+            drainer: seen_drainer,
+            books,
+        }
     }
 }

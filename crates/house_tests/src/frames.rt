@@ -144,7 +144,7 @@ fn settled<A: Ledger, B: Ledger, C: Ledger, D: Ledger, E: Ledger, W: Ledger, X: 
     requires { (0 < shares.old.written.parts) × (0 < shares.old.discarded.parts) }
 {
     let (end, drainer) = ends_told(rt, alloc, house, seat, shares)?;
-    match house.settle(rt, end, drainer, 0, shares) {
+    match house.settle(rt, end, drainer, 0, shares).result {
         Ok(s) => {
             Ok(format!(in alloc; "{} {} {} {}\n", s.decoded, s.written, s.discarded, s.left)?)
         }

@@ -11,7 +11,7 @@ use crate::player::{player_of, same_rate};
 use crate::shelf_file::{close_shelf, open_shelf};
 use crate::summary::print_summary;
 use crew::{Crew, Folder, Open, close, start_decoder, start_outputs, start_scanner, stations};
-use frame_ledger::{Blanks as FrameBlanks, SettleFault, Settled};
+use frame_ledger::Blanks as FrameBlanks;
 use house::{Blanks, CrewShares, House};
 use mio::net::TcpListener;
 use mpd_server::{ServeFault, Server, bind, start_waker};
@@ -68,7 +68,7 @@ fn serve_with<S: Shelf, R: Threads + Wait + Clock + Net + Copy + Send + Sync + '
 {
     let songs = songs_of(&host, settings.music.as_str(), &settings.rate)?;
     let listener = bind(&rt, settings.listen.as_str())?;
-    let settled = run::<Brand, Brand, Brand, Brand, Brand, Brand, Brand, S, R>(
+    run::<Brand, Brand, Brand, Brand, Brand, Brand, Brand, S, R>(
         rt,
         host,
         blanks(),
@@ -76,8 +76,7 @@ fn serve_with<S: Shelf, R: Threads + Wait + Clock + Net + Copy + Send + Sync + '
         songs,
         listener,
         shelf,
-    )?;
-    print_summary(&host, &settled)
+    )
 }
 
 /// Seven new ledgers; those of written and discarded frames have a part for each output, and one more.
@@ -119,7 +118,7 @@ fn start_crew<
     house: &Arc<House<A, B, C, D, E, W, X>, Global>,
     settings: &Settings,
     shares: CrewShares<E, W, X>,
-) -> Result<Crew<W, X>, AllocError>
+) -> Result<Crew<E, W, X>, AllocError>
     requires settings { AreWithin settings.now }
     requires decoded { 0 < shares.decoded.parts }
     requires written { (8 < shares.outputs.written.parts) × (shares.outputs.written.amount ≡ 0) }
@@ -162,7 +161,7 @@ fn run<
     songs: SharedDb,
     listener: TcpListener,
     shelf: &mut S,
-) -> Result<Vec<Result<Settled, SettleFault>>, DaemonFault>
+) -> Result<(), DaemonFault>
     requires settings { AreWithin settings.now }
     requires seats { IsBlankOf blanks.first A.name A.parts × IsBlankOf blanks.second B.name B.parts × IsBlankOf blanks.third C.name C.parts × IsBlankOf blanks.fourth D.name D.parts }
     requires books { IsBlank blanks.frames.decoded E.name E.parts × IsBlank blanks.frames.written W.name W.parts × IsBlank blanks.frames.discarded X.name X.parts }
@@ -191,7 +190,7 @@ fn run<
                 waking.join(&rt);
             }
             served?;
-            Ok(settled)
+            print_summary(&host, &settled)
         }
         Err((_crew, fault)) => Err(DaemonFault::Player(fault)),
     }

@@ -1,5 +1,9 @@
-use Rattle.crew.proofs.Closes.{closes}
+use Rattle.std.proofs.Common.{sym, subst}
+use Rattle.output_ring.specs.Rings.{EndsFeeder, SameDrainer}
+use Rattle.crew.proofs.Closes.{drainer_same}
 use Rattle.crew.proofs.settling.settle_output.Goals as goal
 
-pub returns : goal.returns
-returns g c = closes c.args.left.first.value c.args.left.end.drainer c.args.end c.args.output c.settle.result c.requires.end c.settle.ensures.somewhere
+pub returns-clause-ends : goal.returns-clause-ends
+returns-clause-ends g c = (
+    subst (λ e. EndsFeeder c.args.left.first.value e) (sym c.settle.ensures.ends.0) c.requires.end,
+    subst (λ d. SameDrainer c.args.left.end.drainer d) (sym c.settle.ensures.ends.1) (drainer_same c.args.left.end.drainer))
