@@ -142,7 +142,7 @@ fn start_crew<
     )
 }
 
-/// Starts the threads, serves until a client ends the daemon, and gives what became of each output's frames.
+/// Starts the threads, serves until a client ends the daemon, and prints what became of each output's frames.
 fn run<
     A: Ledger + Send + Sync + 'static,
     B: Ledger + Send + Sync + 'static,
@@ -189,8 +189,9 @@ fn run<
             if let Some(waking) = waking {
                 waking.join(&rt);
             }
+            let printed = print_summary(&host, &settled);
             served?;
-            print_summary(&host, &settled)
+            printed
         }
         Err((_crew, fault)) => Err(DaemonFault::Player(fault)),
     }
