@@ -3,6 +3,8 @@ ghost use Rattle.std.specs.Prelude.{◌≡◌, IfErr, IfOk, OnOk};
 ghost use Rattle.crew.specs.Closing.{SettlesRun};
 ghost use Rattle.crew.specs.Each.{EachAt};
 ghost use Rattle.house.specs.Seats.{after_events};
+ghost use Rattle.house.specs.Views.{RefusesSomewhere};
+ghost use Rattle.partition.specs.declared.event.Event.TheVariants.{End};
 
 use crate::settling::{join_outputs, settle_outputs};
 use crate::start::Crew;
@@ -34,6 +36,7 @@ pub fn close<
 ) -> Result<Vec<Settlement<E, W, X>>, (Crew<E, W, X>, PartitionFault)>
     ensures made { OnOk result (seat.new ≡ after_events seat.old 1) }
     ensures fault { IfErr result (λ e. (e.0 ≡ crew) × (seat.new ≡ seat.old)) }
+    ensures refused { IfErr result (λ e. RefusesSomewhere seat.old End e.1) }
     ensures settled { IfOk result (λ results. EachAt SettlesRun 0 crew.outputs.items results.items) }
 {
     if let Err(fault) = house.end(rt, seat) {
