@@ -3,8 +3,8 @@
 
     checks/serve/load.py [PROGRAM] [--seconds N] [--connections N]
 
-N seconds of 64 clients that ping, edit and wait (60), then one client that never reads, one that sends 10 MB without a newline,
-one that sends random bytes, and so many connections that are opened and closed (10,000). Memory, answers a second and times are
+N seconds of 64 clients that ping, edit and wait (60), then one client that never reads, one that is closed and does not read, one that
+sends 10 MB without a newline, one that sends random bytes, and so many connections that are opened and closed (10,000). Memory, answers a second and times are
 printed; the exit status is 1 where a client got no answer or another one than it was to get, where an answer took a second or
 longer, or where the daemon kept open files or memory that it had not before.
 """
@@ -25,6 +25,7 @@ from daemon import Client, Daemon, Pacer, Table, program_of, put_songs
 SLOWEST = 1.0       # the seconds within which each answer is to come
 GROWTH = 80         # the megabytes by which the daemon may grow: unsent answers, and the window
 SENT = 10_000_000   # the bytes of a line without end
+LAST_READ = 10      # the seconds that a client which is closed has for its last answers
 # The refusals that an edit may meet: a place that the queue no longer has, a song that is not there, and a queue of 16,384 entries.
 REFUSED = (b'ACK [2@0]', b'ACK [50@0]', b'ACK [51@0] {add} playlist is full', b'ACK [51@0] {addid} playlist is full')
 
@@ -177,6 +178,21 @@ def never_reads(port):
     return 'it was never closed', False
 
 
+def closed_and_never_reads(daemon):
+    def misbehave(port):
+        """Asks for more than the system's buffers hold, says `close`, and reads nothing: it has its place for ten seconds, and no longer."""
+        before = daemon.files()
+        client = Client(port)
+        client.socket.sendall(b'playlistinfo\n' * 40 + b'close\n')
+        time.sleep(LAST_READ / 2)
+        held = daemon.files() - before
+        time.sleep(LAST_READ)
+        freed = daemon.files() == before
+        client.close()
+        return '%d place held after %d s, %s after %d' % (held, LAST_READ / 2, 'none' if freed else 'still', 1.5 * LAST_READ), held == 1 and freed
+    return misbehave
+
+
 def no_newline(port):
     """Sends 10 MB without a newline: it is closed at byte 16,385."""
     client = Client(port)
@@ -232,6 +248,7 @@ def many_connections(count):
 
 def check_misbehaviour(table, daemon, connections):
     beside(table, daemon, 'never reads', never_reads)
+    beside(table, daemon, 'closed and never reads', closed_and_never_reads(daemon))
     beside(table, daemon, '10 MB without a newline', no_newline)
     beside(table, daemon, 'random bytes', random_bytes)
     beside(table, daemon, 'connections', many_connections(connections))
