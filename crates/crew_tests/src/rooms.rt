@@ -257,7 +257,10 @@ fn run_day<
         Ok(settlements) => {
             let mut settled = Vec::new(alloc);
             for settlement in &settlements {
-                settled.push(settlement.result)?;
+                match settled.push(settlement.result) {
+                    Ok(()) => {}
+                    Err(refused) => return Err(AllocError::from(refused).into()),
+                }
             }
             Ok(Day {
                 heard: heard?,
