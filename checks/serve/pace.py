@@ -4,13 +4,15 @@
     checks/serve/pace.py [PROGRAM] [--seconds N]
 
 With 0, 1, 3 and 8 outputs that are read as fast as they are heard: processor time in percent of one processor, memory, and whether the
-books settle. Then frames a second through one and three outputs that take all (/dev/null). A daemon that is stopped or paused may use half
+books settle. Then frames a second through one and three outputs that take all (/dev/null), and microseconds of a ping alone, beside three
+more clients, and beside the decoder and three such outputs, which take the lock for each block. A daemon that is stopped or paused may use half
 a percent of one processor.
 """
 import argparse
 import os
 import re
 import struct
+import subprocess
 import sys
 import tempfile
 import time
@@ -22,6 +24,9 @@ from daemon import Daemon, Pacer, Table, program_of, put_songs, wave
 RATE = 44100
 LONG = 10_000_000  # frames of 16 bits and two channels
 IDLE = 0.5
+PINGS = 64  # in flight
+FLOOD = 'import socket, sys\nclient = socket.create_connection(("127.0.0.1", int(sys.argv[1])))\nclient.recv(100)\n' \
+    'while True:\n    client.sendall(b"ping\\n" * 64)\n    held = 0\n    while held < 192:\n        held += len(client.recv(4096))\n'
 
 
 def used(daemon, seconds):
@@ -69,15 +74,19 @@ def check_idle(table, program, count, seconds):
                   'settled' if right else summary, right=right)
 
 
+def put_long_song(music):
+    os.mkdir(music)
+    head = wave([])
+    with open(os.path.join(music, 'long.wav'), 'wb') as file:
+        file.write(head[:-4] + struct.pack('<I', 4 * LONG))
+        for _ in range(LONG // 100_000):
+            file.write(os.urandom(400_000))
+
+
 def check_speed(table, program, count, seconds):
     with tempfile.TemporaryDirectory() as folder:
         music = os.path.join(folder, 'music')
-        os.mkdir(music)
-        head = wave([])
-        with open(os.path.join(music, 'long.wav'), 'wb') as file:
-            file.write(head[:-4] + struct.pack('<I', 4 * LONG))
-            for _ in range(LONG // 100_000):
-                file.write(os.urandom(400_000))
+        put_long_song(music)
         daemon = Daemon(program, folder, music, ['/dev/null'] * count)
         client = daemon.client()
         client.must('add ""')
@@ -94,6 +103,44 @@ def check_speed(table, program, count, seconds):
         table.row(count, '%.1f million' % (max(it[0] for it in numbers) / passed / 1e6), '%.0f %%' % (100 * processor / passed), right=right)
 
 
+def ping_time(client, seconds):
+    """Microseconds of a ping where 64 are in flight."""
+    count, start = 0, time.monotonic()
+    while time.monotonic() - start < seconds:
+        client.socket.sendall(b'ping\n' * PINGS)
+        held = b''
+        while len(held) < 3 * PINGS:
+            held += client.socket.recv(4096)
+        if held != b'OK\n' * PINGS:
+            raise AssertionError(held)
+        count += PINGS
+    return 1e6 * (time.monotonic() - start) / count
+
+
+def check_callers(table, program, seconds):
+    with tempfile.TemporaryDirectory() as folder:
+        music = os.path.join(folder, 'music')
+        put_long_song(music)
+        daemon = Daemon(program, folder, music, ['/dev/null'] * 3)
+        client = daemon.client()
+        client.must('add ""')
+        client.must('repeat 1')
+        alone = ping_time(client, seconds)
+        others = [subprocess.Popen([sys.executable, '-c', FLOOD, str(daemon.port)]) for _ in range(3)]
+        time.sleep(1)
+        beside_clients = ping_time(client, seconds)
+        for one in others:
+            one.kill()
+            one.wait()
+        client.must('play')
+        beside_outputs = ping_time(client, seconds)
+        client.must('stop')
+        client.close()
+        status, summary = daemon.end()
+        numbers, right = settled(summary)
+        table.row(*['%.2f us' % it for it in (alone, beside_clients, beside_outputs)], right=right and status == 0 and numbers[0][0] > 0)
+
+
 def main():
     parser = argparse.ArgumentParser(description='What the daemon costs, and how fast it decodes.')
     parser.add_argument('program', nargs='?')
@@ -106,8 +153,11 @@ def main():
     speed = Table('\nFrames a second into /dev/null\n  outputs  frames          processor', 7, 14, 10)
     for count in (1, 3):
         check_speed(speed, program, count, given.seconds)
-    print('\n%d failed' % (idle.failed + speed.failed))
-    return 1 if idle.failed + speed.failed else 0
+    pings = Table('\nA ping, 64 in flight\n  alone     3 clients  3 outputs', 8, 9, 9)
+    check_callers(pings, program, given.seconds / 2)
+    failed = idle.failed + speed.failed + pings.failed
+    print('\n%d failed' % failed)
+    return 1 if failed else 0
 
 
 if __name__ == '__main__':
