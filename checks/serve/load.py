@@ -183,7 +183,7 @@ def closed_and_never_reads(daemon):
         """Asks for more than the system's buffers hold, says `close`, and reads nothing: it has its place for ten seconds, and no longer."""
         before = daemon.files()
         client = Client(port)
-        client.socket.sendall(b'playlistinfo\n' * 40 + b'close\n')
+        client.socket.sendall(b'playlistinfo 0:1000\n' * 40 + b'close\n')
         time.sleep(LAST_READ / 2)
         held = daemon.files() - before
         time.sleep(LAST_READ)
