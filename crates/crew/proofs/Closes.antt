@@ -1,7 +1,5 @@
 -- A settlement of what came back, and of what was left of the outputs.
 use Rattle.std.proofs.Common.{ℕ, ◌+◌, ◌≡◌, ◌∙◌, List, [], ◌∷◌, map, refl, subst}
-use Rattle.output_ring.specs.declared.feeder.Feeder.{Feeder}
-use Rattle.output_ring.specs.declared.feeder.FeederEnd.{FeederEnd}
 use Rattle.output_ring.specs.declared.drainer.Drainer.{Drainer}
 use Rattle.output_ring.specs.Rings.{EndsFeeder, SameDrainer}
 use Rattle.house.specs.declared.settlement.Settlement.{Settlement}

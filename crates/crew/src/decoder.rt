@@ -1,7 +1,8 @@
 //! The thread that decodes.
-ghost use Rattle.std.specs.Prelude.{◌≡◌, ◌<◌, ◌≤◌, [], vec_len, vec_capacity};
+ghost use Rattle.std.specs.Prelude.{◌≡◌, ◌<◌, ◌≤◌, [], All, vec_len, vec_capacity};
 ghost use Rattle.output_ring.specs.Rings.{EndsFeeder, SameFeeder};
-ghost use Rattle.crew.specs.Each.{Each};
+ghost use Rattle.crew.specs.Each.{Each, EachAt};
+ghost use Rattle.crew.specs.Feeding.{OwesNothing, TakesItsOwn, TakesNone, feed_in, feed_told, handed, outputs_in};
 
 use crate::feeders::{finish_all, push_all, take_all};
 use crate::mixing::mix_block;
@@ -10,7 +11,7 @@ use crate::songs::{JobFrames, NoFrames, Songs};
 use house::{Fed, House, News, Seat};
 use mpd_text::Media;
 use output_ring::{Cut, Feeder, FeederEnd};
-use partition::Report;
+use partition::{Feed, Report};
 use player_core::Job;
 use std::alloc::Global;
 use std::sync::Wait;
@@ -84,9 +85,12 @@ impl<
     M: Media + Drop,
     R: Wait + Clock,
 > Decoder<'h, A, B, C, D, E, W, X, S, M, R> {
-    ghost use Rattle.std.specs.Prelude.{◌≡◌, ◌<◌, ◌≤◌, [], vec_len, vec_capacity};
+    ghost use Rattle.std.specs.Prelude.{◌≡◌, ◌<◌, ◌≤◌, [], All, false, vec_len, vec_capacity};
     ghost use Rattle.output_ring.specs.Rings.{EndsFeeder, SameFeeder};
+    ghost use Rattle.player_core.specs.declared.state.Job.{Job};
     ghost use Rattle.crew.specs.Each.{Each};
+    ghost use Rattle.crew.specs.Feeding.{OwesNothing, TakesNone};
+    ghost use Rattle.crew.specs.declared.decoder.Next.TheVariants.{Decodes};
 
     /// A decoder of songs of this rate.
     pub(crate) fn new(
@@ -137,7 +141,7 @@ impl<
     }
 
     /// Moves what waits into the rings, and decodes one job if there is one. False at the end.
-    #[tactic(auto, using(crate::proofs::Eaches::each_same, crate::proofs::Eaches::each_unchanged))]
+    #[tactic(auto, using(crate::proofs::Eaches::each_same, crate::proofs::Pushes::each_kept))]
     fn decode_once(&mut self, feeders: &mut Vec<Feeder>) -> bool
         ensures { Each SameFeeder feeders.old.items feeders.new.items }
     {
@@ -152,8 +156,11 @@ impl<
         }
     }
 
-    /// Asks for a job. Where there is none it rests, and where there is no answer it waits a while.
-    fn ask(&mut self, owes: bool) -> Next {
+    /// Asks for a job. Where there is none it rests, and where there is no answer it waits a while. There is none while a ring owes frames.
+    #[tactic(auto, using(crate::proofs::Wanted::owes_none))]
+    fn ask(&mut self, owes: bool) -> Next
+        ensures { (job : Job) → result ≡ Decodes job → owes ≡ false }
+    {
         let wanted = self
             .house
             .notice(self.rt, &mut self.seat, News::Wants(owes));
@@ -173,7 +180,8 @@ impl<
 
     /// Moves frames into the rings, and says whether some still wait.
     fn push(&mut self, feeders: &mut Vec<Feeder>) -> bool
-        ensures { Each SameFeeder feeders.old.items feeders.new.items }
+        ensures kept { Each TakesNone feeders.old.items feeders.new.items }
+        ensures owes { result ≡ false → All OwesNothing feeders.new.items }
     {
         let looks = if self.streak > 1 { LOOKS } else { 1 };
         for _ in 0..looks {
@@ -190,8 +198,9 @@ impl<
     }
 
     /// Decodes a job, and hands its frames to the outputs that they are for.
-    #[tactic(auto, using(crate::proofs::Eaches::each_same, crate::proofs::Eaches::each_unchanged))]
+    #[tactic(auto, using(crate::proofs::Eaches::each_unchanged, crate::proofs::Pushes::each_fed))]
     fn decode(&mut self, feeders: &mut Vec<Feeder>, job: &Job)
+        requires { All OwesNothing feeders.old.items }
         ensures { Each SameFeeder feeders.old.items feeders.new.items }
     {
         self.streak = self.streak.saturating_add(1);
@@ -292,18 +301,29 @@ impl<
     }
 }
 
-/// Mixes the frames of a job that was accepted, and hands them to the outputs that they are for.
-#[tactic(auto, using(crate::proofs::Eaches::each_same, crate::proofs::Eaches::each_unchanged))]
+/// Mixes the frames of a job that was accepted, and hands them to the outputs that they are for. Nothing waits for room in their rings.
+#[tactic(auto, using(crate::proofs::Pushes::none_fed))]
 fn hand_out(feeders: &mut Vec<Feeder>, job: &Job, read: JobFrames, fed: &Option<Fed>)
-    ensures { Each SameFeeder feeders.old.items feeders.new.items }
+    requires { All OwesNothing feeders.old.items }
+    ensures { EachAt (TakesItsOwn (outputs_in fed.now) (handed (feed_in fed.now) job.now.fade read.others.items read.frames.items)) 0 feeders.old.items feeders.new.items }
 {
     let Some(fed) = fed else {
         return;
     };
-    let Report::ToFeed(Some(feed)) = fed.report() else {
+    let Some(feed) = feed_of(fed) else {
         return;
     };
     let JobFrames { mut frames, others } = read;
     mix_block(&mut frames, &others, job.fade, feed.volume);
     take_all(feeders, &frames, Cut { number: feed.cut }, fed);
+}
+
+/// What decoded frames are fed with, unless they are stale.
+fn feed_of(fed: &Fed) -> Option<Feed>
+    ensures { result ≡ feed_told fed.now.told.report }
+{
+    match fed.report() {
+        Report::ToFeed(feed) => feed,
+        _ => None,
+    }
 }

@@ -1,12 +1,16 @@
 //! What the thread of an output does.
-ghost use Rattle.std.specs.Prelude.{◌≡◌, ◌<◌};
-ghost use Rattle.output_ring.specs.Rings.{SameDrainer};
+ghost use Rattle.std.specs.Prelude.{◌≡◌, ◌<◌, ◌||◌, List, IfSome};
+ghost use Rattle.output_ring.specs.Rings.{SameDrainer, hand_of, has_failed, popped_of};
+ghost use Rattle.output_ring.specs.declared.frames.CutFrame.{CutFrame};
+ghost use Rattle.partition.specs.declared.event.Event.TheVariants.{OutputTurn};
+ghost use Rattle.house.specs.Views.{TellsSomewhere};
+ghost use Rattle.crew.specs.Turns.{Drains, Plays, Pops};
 
 use crate::output::{Gate, OutputEnd};
 use frame_ledger::OutputShares;
-use house::{House, Seat};
+use house::{House, Reported, Seat};
 use mpd_text::Sink;
-use output_ring::{Cut, Drainer, Live};
+use output_ring::{Cut, Drainer, Fates, Live};
 use partition::Report;
 use std::sync::Wait;
 use std::sync::ledger::Ledger;
@@ -72,8 +76,12 @@ impl<
     G: Gate,
     R: Wait + Clock,
 > Draining<'h, A, B, C, D, E, W, X, O, G, R> {
-    ghost use Rattle.std.specs.Prelude.{◌≡◌, ◌<◌};
-    ghost use Rattle.output_ring.specs.Rings.{SameDrainer};
+    ghost use Rattle.std.specs.Prelude.{◌≡◌, ◌<◌, ◌||◌, List, IfSome};
+    ghost use Rattle.output_ring.specs.Rings.{SameDrainer, hand_of, has_failed, popped_of};
+    ghost use Rattle.output_ring.specs.declared.frames.CutFrame.{CutFrame};
+    ghost use Rattle.partition.specs.declared.event.Event.TheVariants.{OutputTurn};
+    ghost use Rattle.house.specs.Views.{TellsSomewhere};
+    ghost use Rattle.crew.specs.Turns.{Drains, Plays, Pops};
 
     /// The output of this number.
     pub(crate) fn new(
@@ -121,16 +129,49 @@ impl<
         }
     }
 
-    /// Where the gate lets it, pops frames, has a turn, and writes the frames out. False at the end.
+    /// Where the gate lets it, pops frames, has a turn, and writes the frames out as it was told. False at the end.
+    #[tactic(auto, using(crate::proofs::Turns::idle))]
     fn drain_once(&mut self, drainer: &mut Drainer) -> bool
-        ensures { SameDrainer drainer.old drainer.new }
+        ensures ring { SameDrainer drainer.old drainer.new }
+        ensures drains { Drains O.contents self.old.seat self.old.output self.old.failed drainer.old self.old.writer drainer.new self.new.writer }
+        ensures failed { self.old.failed ≡ has_failed drainer.old → self.new.failed ≡ has_failed drainer.new }
     {
         if !self.gate.ask(self.output) {
             self.pause();
             return true;
         }
-        let popped = self.pop(drainer);
-        let fates = drainer.fates();
+        let popped = fill(drainer, if self.streak > 1 { LOOKS } else { 1 });
+        let Some(told) = self.tell(drainer.fates()) else {
+            self.pause();
+            return true;
+        };
+        drainer.reported();
+        let Report::ToPlay(live) = told.report() else {
+            return false;
+        };
+        let wrote = write_hand(drainer, &mut self.writer, live);
+        self.go_on(popped, wrote, told.changes(), live.enabled);
+        true
+    }
+
+    /// Rests where no frame came and none got its fate. Once the writer has failed, the output is switched off at its next turn.
+    fn go_on(&mut self, popped: usize, wrote: Wrote, changes: u64, enabled: bool)
+        ensures writer { self.new.writer ≡ self.old.writer }
+        ensures failed { self.new.failed ≡ (self.old.failed || wrote.failed) }
+    {
+        self.failed = self.failed || wrote.failed;
+        if popped > 0 {
+            self.streak = self.streak.saturating_add(1);
+        } else if !wrote.some {
+            self.rest(changes, enabled);
+        }
+    }
+
+    /// Tells which fates frames got since the last turn. `None` where the turn was refused.
+    fn tell(&mut self, fates: Fates) -> Option<Reported>
+        ensures writer { (self.new.writer ≡ self.old.writer) × (self.new.failed ≡ self.old.failed) }
+        ensures told { IfSome result (λ told. TellsSomewhere self.old.seat (OutputTurn self.old.output fates.written fates.discarded self.old.failed) told) }
+    {
         let turn = self.house.turn(
             self.rt,
             &mut self.seat,
@@ -139,56 +180,16 @@ impl<
             self.failed,
             &mut self.shares,
         );
-        let Ok(told) = turn else {
-            self.pause();
-            return true;
-        };
-        drainer.reported();
-        let Report::ToPlay(live) = told.report() else {
-            return false;
-        };
-        let wrote = self.write(drainer, live);
-        if popped == 0 && !wrote {
-            self.rest(told.changes(), live.enabled);
+        match turn {
+            Ok(told) => Some(told),
+            Err(_) => None,
         }
-        true
-    }
-
-    /// Fills the hand from the ring, and says by how many frames.
-    fn pop(&mut self, drainer: &mut Drainer) -> usize
-        ensures { SameDrainer drainer.old drainer.new }
-    {
-        let looks = if self.streak > 1 { LOOKS } else { 1 };
-        for _ in 0..looks {
-            let popped = drainer.pop();
-            if popped > 0 {
-                self.streak = self.streak.saturating_add(1);
-                return popped;
-            }
-            thread::yield_now();
-        }
-        0
-    }
-
-    /// Gives the hand its fates, and says whether any frame got one. Once its writer fails the output is switched off at its next turn.
-    fn write(&mut self, drainer: &mut Drainer, live: player_core::Live) -> bool
-        ensures { SameDrainer drainer.old drainer.new }
-    {
-        let live = Live {
-            cut: Cut { number: live.cut },
-            enabled: live.enabled,
-            paused: live.paused,
-            ended: false,
-        };
-        let before = drainer.held();
-        if drainer.write_out(&mut self.writer, live).is_err() {
-            self.failed = true;
-        }
-        drainer.held() < before
     }
 
     /// Rests until something changes. It is woken before new frames are in its ring, so after a change it looks once more soon.
-    fn rest(&mut self, changes: u64, enabled: bool) {
+    fn rest(&mut self, changes: u64, enabled: bool)
+        ensures { (self.new.writer ≡ self.old.writer) × (self.new.failed ≡ self.old.failed) }
+    {
         self.streak = 0;
         if enabled && self.seen != changes {
             self.seen = changes;
@@ -222,5 +223,49 @@ impl<
             streak: _streak,
         } = self;
         OutputEnd { drainer, shares }
+    }
+}
+
+/// Fills the hand from the ring, and says by how many frames. It looks so often before it gives up.
+fn fill(drainer: &mut Drainer, looks: u32) -> usize
+    ensures { (came : List CutFrame) × Pops drainer.old drainer.new came }
+{
+    for _ in 0..looks {
+        let popped = drainer.pop();
+        if popped > 0 {
+            return popped;
+        }
+        thread::yield_now();
+    }
+    0
+}
+
+/// What came of writing a hand out.
+#[derive(Clone, Copy)]
+struct Wrote {
+    /// Whether a frame got its fate.
+    some: bool,
+    /// Whether the writer failed.
+    failed: bool,
+}
+
+/// Gives the frames of the hand their fates.
+fn write_hand<O: Sink>(drainer: &mut Drainer, writer: &mut O, live: player_core::Live) -> Wrote
+    ensures plays { Plays O.contents live (hand_of drainer.old) (has_failed drainer.old) writer.old drainer.new writer.new }
+    ensures failed { has_failed drainer.new ≡ (has_failed drainer.old || result.failed) }
+    ensures popped { popped_of drainer.new ≡ popped_of drainer.old }
+    ensures ring { SameDrainer drainer.old drainer.new }
+{
+    let before = drainer.held();
+    let live = Live {
+        cut: Cut { number: live.cut },
+        enabled: live.enabled,
+        paused: live.paused,
+        ended: false,
+    };
+    let failed = drainer.write_out(writer, live).is_err();
+    Wrote {
+        some: drainer.held() < before,
+        failed,
     }
 }

@@ -1,7 +1,9 @@
 //! The decoder's ends of several rings.
-ghost use Rattle.std.specs.Prelude.{◌≡◌, ◌≤◌, [], length, vec_len, vec_capacity};
-ghost use Rattle.output_ring.specs.Rings.{SameFeeder, EndsFeeder};
-ghost use Rattle.crew.specs.Each.{Each};
+ghost use Rattle.std.specs.Prelude.{◌≡◌, ◌≤◌, [], All, false, length, vec_len, vec_capacity};
+ghost use Rattle.output_ring.specs.Frames.{with_cut};
+ghost use Rattle.output_ring.specs.Rings.{EndsFeeder};
+ghost use Rattle.crew.specs.Each.{Each, EachAt};
+ghost use Rattle.crew.specs.Feeding.{OwesNothing, TakesIf, TakesItsOwn, TakesNone};
 
 use house::Fed;
 use output_ring::{Cut, Feeder, FeederEnd};
@@ -28,7 +30,8 @@ pub struct Pushed {
 
 /// Moves frames into each ring as it has room.
 pub fn push_all(feeders: &mut Vec<Feeder>) -> Pushed
-    ensures { Each SameFeeder feeders.old.items feeders.new.items }
+    ensures kept { Each TakesNone feeders.old.items feeders.new.items }
+    ensures waits { result.waits ≡ false → All OwesNothing feeders.new.items }
 {
     let mut moves = false;
     let mut waits = false;
@@ -40,10 +43,11 @@ pub fn push_all(feeders: &mut Vec<Feeder>) -> Pushed
     Pushed { moves, waits }
 }
 
-/// The ring of each output that the frames are for takes them as a block.
+/// The ring of each output that the frames are for takes them as a block. Nothing waits for room in any.
 pub fn take_all(feeders: &mut Vec<Feeder>, frames: &[Frame], cut: Cut, fed: &Fed)
-    requires { length frames.now ≤ 1024 }
-    ensures { Each SameFeeder feeders.old.items feeders.new.items }
+    requires most { length frames.now ≤ 1024 }
+    requires idle { All OwesNothing feeders.old.items }
+    ensures { EachAt (TakesItsOwn fed.now.outputs (with_cut cut frames.now)) 0 feeders.old.items feeders.new.items }
 {
     for i in 0..feeders.len() {
         let is_fed = fed.is_for(i);
@@ -51,19 +55,21 @@ pub fn take_all(feeders: &mut Vec<Feeder>, frames: &[Frame], cut: Cut, fed: &Fed
     }
 }
 
-/// A ring that is fed takes a block, if nothing waits for room in it. The player gives none before all rings have nothing that waits.
+/// A ring that is fed takes a block. Nothing waits for room in it.
 fn take_one(feeder: &mut Feeder, frames: &[Frame], cut: Cut, is_fed: bool)
-    requires { length frames.now ≤ 1024 }
-    ensures { SameFeeder feeder.old feeder.new }
+    requires most { length frames.now ≤ 1024 }
+    requires idle { OwesNothing feeder.old }
+    ensures { TakesIf is_fed (with_cut cut frames.now) feeder.old feeder.new }
 {
-    if is_fed && feeder.owed() == 0 {
+    if is_fed {
         feeder.take(frames, cut);
     }
 }
 
 /// Moves frames into a ring as it has room.
 fn push_one(feeder: &mut Feeder) -> Pushed
-    ensures { SameFeeder feeder.old feeder.new }
+    ensures kept { TakesNone feeder.old feeder.new }
+    ensures waits { result.waits ≡ false → OwesNothing feeder.new }
 {
     let moved = feeder.push();
     Pushed {

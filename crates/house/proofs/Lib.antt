@@ -12,3 +12,4 @@ pub mod Plain
 pub mod Quiet
 pub mod Same
 pub mod Somewhere
+pub mod Songs

@@ -1,5 +1,5 @@
 -- What a caller learns who cannot see what the lock found: the value that was found is the witness.
-use Rattle.std.proofs.Common.{◌≡◌, ◌<◌, ◌↔◌, ℕ, List, Result, Ok, Err, IfOk, IsNone, IsOk, IsSome, slice_index, refl, sym, ap, ◌∙◌}
+use Rattle.std.proofs.Common.{◌≡◌, ◌<◌, ◌↔◌, ℕ, List, Result, Ok, Err, IfOk, IsNone, IsOk, IsSome, slice_index, sym, ap, ◌∙◌}
 use Rattle.frame_ledger.specs.Balance.{Agrees, Balances}
 use Rattle.frame_ledger.specs.declared.settlement.SettleFault.{SettleFault}
 use Rattle.frame_ledger.specs.declared.settlement.SettleFault.TheVariants.{Unsettled}

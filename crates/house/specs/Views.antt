@@ -1,5 +1,6 @@
 -- What contracts see of what the lock holds, and what a caller learns who cannot see it.
-use Rattle.std.specs.Prelude.{ℕ, ◌≡◌, ◌⊎◌, ◌+◌, ◌<◌, Bool, true, false, List, [], ◌∷◌, Option, slice_index_or, sum}
+use Rattle.std.specs.Prelude.{ℕ, ◌≡◌, ◌⊎◌, ◌+◌, ◌<◌, Bool, true, false, List, [], ◌∷◌, Option, Some, None, ◌==◌, if◌then◌else◌, slice_index_or, sum}
+use Rattle.mpd_text.specs.Songs.Song.{SongData}
 use Rattle.shelf.specs.Calls.{Call}
 use Rattle.shelf.specs.Maps.{Standing}
 use Rattle.partition.specs.declared.event.Event.{Event}
@@ -18,6 +19,7 @@ use Rattle.partition.specs.Outputs.{FrameBooks, empty_books, is_enabled}
 use Rattle.partition.specs.Refusals.{MayRefuse}
 use Rattle.partition.specs.Shelves.{Serves, Spares}
 use Rattle.partition.specs.Step.{hearing, limit_of, next_image, told}
+use Rattle.song_queue.specs.declared.entry.Entry.{Entry}
 use Rattle.house.specs.Seats.{Place}
 
 -- the player with its history; the notices that wait to be handed out; the books of frames; whether an output was settled, whose
@@ -46,6 +48,11 @@ own_in seat i = slice_index_or i.shared.made seat 0
 -- the counts of the four seats of callers
 abbrev pub owns : List ℕ → List ℕ
 owns made = slice_index_or made 0 0 ∷ slice_index_or made 1 0 ∷ slice_index_or made 2 0 ∷ slice_index_or made 3 0 ∷ []
+
+-- the song of the entry that has this id, if one has it
+abbrev pub song_of : ℕ → List Entry → Option SongData
+song_of id [] = None
+song_of id (e ∷ es) = if e.id == id then Some e.song else song_of id es
 
 -- a player of which no seat made an event, and whose outputs have no frames
 abbrev pub IsFresh : Image → Type 0

@@ -1,6 +1,8 @@
 //! The player, with the books that count each seat's events.
-ghost use Rattle.std.specs.Prelude.{◌≡◌};
+ghost use Rattle.std.specs.Prelude.{◌≡◌, IfOk};
+ghost use Rattle.song_queue.specs.State.{queue_of};
 ghost use Rattle.house.specs.Lists.{done_in};
+ghost use Rattle.house.specs.Views.{song_of};
 
 use crate::frames::{decoded_in, discarded_in, enabled_in, written_in};
 use crate::pulse::Pulse;
@@ -13,6 +15,7 @@ use partition::{
 use player_core::Playback;
 use shelf::Shelf;
 use song_db::SharedSong;
+use song_queue::Queue;
 use std::alloc::AllocError;
 use std::marker::Model;
 use std::sync::ledger::Ledger;
@@ -54,7 +57,8 @@ impl<A: Ledger, B: Ledger, C: Ledger, D: Ledger> Counted<A, B, C, D> {
     ghost use Rattle.partition.specs.Outputs.{is_enabled};
     ghost use Rattle.house.specs.Lists.{done_in};
     ghost use Rattle.house.specs.Seats.{after_events};
-    ghost use Rattle.house.specs.Views.{AnswersSomewhere, IsFresh, own_in};
+    ghost use Rattle.house.specs.Views.{AnswersSomewhere, IsFresh, own_in, song_of};
+    ghost use Rattle.song_queue.specs.State.{queue_of};
 
     /// A player of which no seat made an event yet.
     pub(crate) fn new(partition: Partition, seats: SeatBooks<A, B, C, D>) -> Self
@@ -151,8 +155,10 @@ impl<A: Ledger, B: Ledger, C: Ledger, D: Ledger> Counted<A, B, C, D> {
 
     /// Whether the daemon has ended.
     pub(crate) fn has_ended(&self) -> bool
-        ensures { result ≡ self.now.present.shared.ended }
+        ensures ended { result ≡ self.now.present.shared.ended }
+        ensures legal { IsPast self.now }
     {
+        let _past = self.partition.history();
         self.partition.has_ended()
     }
 
@@ -162,15 +168,12 @@ impl<A: Ledger, B: Ledger, C: Ledger, D: Ledger> Counted<A, B, C, D> {
     }
 
     /// The song of an entry of the present queue.
-    pub(crate) fn song(&self, id: u32) -> Result<Option<SharedSong>, AllocError> {
-        let queue = self.partition.queue();
-        let Some(place) = queue.position_of(id) else {
-            return Ok(None);
-        };
-        match queue.get(place) {
-            Some(entry) => Ok(Some(entry.song.clone()?)),
-            None => Ok(None),
-        }
+    pub(crate) fn song(&self, id: u32) -> Result<Option<SharedSong>, AllocError>
+        ensures song { IfOk result (λ song. song ≡ song_of id (queue_of self.now.present.part.queue)) }
+        ensures legal { IsPast self.now }
+    {
+        let _past = self.partition.history();
+        song_in(self.partition.queue(), id)
     }
 
     /// The clients that are connected.
@@ -219,5 +222,19 @@ fn done_of(end: &Result<ListOutcome, ListFault>) -> usize
     match end {
         Ok(outcome) => outcome.outcomes().len(),
         Err(fault) => fault.done,
+    }
+}
+
+/// The song of the entry of a queue that has this id.
+#[tactic(auto, using(crate::proofs::Songs::no_place, crate::proofs::Songs::no_entry, crate::proofs::Songs::entry_song))]
+fn song_in(queue: &Queue, id: u32) -> Result<Option<SharedSong>, AllocError>
+    ensures { IfOk result (λ song. song ≡ song_of id (queue_of queue.now)) }
+{
+    let Some(place) = queue.position_of(id) else {
+        return Ok(None);
+    };
+    match queue.get(place) {
+        Some(entry) => Ok(Some(entry.song.clone()?)),
+        None => Ok(None),
     }
 }

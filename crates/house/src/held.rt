@@ -78,7 +78,7 @@ impl<A: Ledger, B: Ledger, C: Ledger, D: Ledger, E: Ledger, W: Ledger, X: Ledger
     W,
     X,
 > {
-    ghost use Rattle.std.specs.Prelude.{◌≡◌, ◌⊎◌, ◌+◌, ◌-◌, ◌<◌, ◌↔◌, [], ◌∷◌, ◌++◌, None, false, IfErr, IfOk, IsErr, OnErr, OnOk};
+    ghost use Rattle.std.specs.Prelude.{◌≡◌, ◌⊎◌, ◌+◌, ◌-◌, ◌<◌, ◌↔◌, [], ◌∷◌, ◌++◌, None, false, IfErr, IfOk, IfSome, IsErr, OnErr, OnOk};
     ghost use Rattle.frame_ledger.specs.Balance.{IsBlankOf as IsBlank};
     ghost use Rattle.partition.specs.History.{folded, joined_by, with_room};
     ghost use Rattle.partition.specs.Legal.{IsPast};
@@ -90,7 +90,8 @@ impl<A: Ledger, B: Ledger, C: Ledger, D: Ledger, E: Ledger, W: Ledger, X: Ledger
     ghost use Rattle.partition.specs.declared.event.Stand.TheVariants.{Alone};
     ghost use Rattle.house.specs.News.{event_of, kept_at};
     ghost use Rattle.house.specs.Seats.{after_events, IsBlankOf};
-    ghost use Rattle.house.specs.Views.{AnswersSomewhere, IsFresh, IsRefusedFor, IsSpared, IsUnwritten, Stops, TellsSomewhere, entry, own_in};
+    ghost use Rattle.house.specs.Views.{AnswersSomewhere, IsFresh, IsRefusedFor, IsSpared, IsUnwritten, Stops, TellsSomewhere, entry, own_in, song_of};
+    ghost use Rattle.song_queue.specs.State.{queue_of};
     ghost use Rattle.house.specs.Waiting.{first_for, without_first};
 
     /// A player of which no seat made an event yet, with the four seats that callers are given.
@@ -181,6 +182,7 @@ impl<A: Ledger, B: Ledger, C: Ledger, D: Ledger, E: Ledger, W: Ledger, X: Ledger
 
         // The client's notice is handed out, and those that the event made wait.
         ensures front { IfOk result (λ a. a.front ≡ first_for client self.old.waiting) }
+        ensures own { IfOk result (λ a. IfSome a.front (λ notice. notice.client ≡ client)) }
         ensures waiting { IfOk result (λ a. self.new.waiting ≡ without_first client self.old.waiting ++ a.told.notices) }
         ensures kept { OnErr result (self.new.waiting ≡ self.old.waiting) }
 
@@ -311,7 +313,8 @@ impl<A: Ledger, B: Ledger, C: Ledger, D: Ledger, E: Ledger, W: Ledger, X: Ledger
 
     /// Whether the daemon has ended.
     pub fn has_ended(&self) -> bool
-        ensures { result ≡ self.now.player.present.shared.ended }
+        ensures ended { result ≡ self.now.player.present.shared.ended }
+        ensures legal { IsPast self.now.player }
     {
         self.counted.has_ended()
     }
@@ -333,14 +336,18 @@ impl<A: Ledger, B: Ledger, C: Ledger, D: Ledger, E: Ledger, W: Ledger, X: Ledger
         !self.waiting.is_empty()
     }
 
-    /// The song of an entry of the present queue. It is no event.
-    pub fn song(&self, id: u32) -> Result<Option<SharedSong>, AllocError> {
+    /// The song of the entry of the present queue that has this id. It is no event.
+    pub fn song(&self, id: u32) -> Result<Option<SharedSong>, AllocError>
+        ensures song { IfOk result (λ song. song ≡ song_of id (queue_of self.now.player.present.part.queue)) }
+        ensures legal { IsPast self.now.player }
+    {
         self.counted.song(id)
     }
 
     /// The client's waiting notice, which is taken out. It is no event and takes no memory.
     pub fn outbox(&mut self, client: u32) -> Option<Notice>
         ensures notice { result ≡ first_for client self.old.waiting }
+        ensures own { IfSome result (λ notice. notice.client ≡ client) }
         ensures waiting { self.new.waiting ≡ without_first client self.old.waiting }
         ensures player { self.new.player ≡ self.old.player }
         ensures books { (self.new.books ≡ self.old.books) × (self.new.is_settled ≡ self.old.is_settled) × (self.new.free ≡ self.old.free) }

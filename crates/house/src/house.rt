@@ -1,7 +1,9 @@
 //! The house: one lock, which any thread with a seat takes.
-ghost use Rattle.std.specs.Prelude.{◌≡◌, ◌+◌, ◌<◌, IfErr, IfOk, OnErr, OnOk, length, ℕ};
+ghost use Rattle.std.specs.Prelude.{◌≡◌, ◌+◌, ◌<◌, IfErr, IfOk, IfSome, OnErr, OnOk, length, ℕ};
 ghost use Rattle.frame_ledger.specs.Balance.{IsBlankOf as IsBlank};
 ghost use Rattle.output_ring.specs.Rings.{AreEndsAfter};
+ghost use Rattle.partition.specs.History.{Chronicle};
+ghost use Rattle.partition.specs.Legal.{IsPast};
 ghost use Rattle.partition.specs.Shelves.{nothing_heard};
 ghost use Rattle.partition.specs.declared.event.Event.TheVariants.{End, Have, Line, OutputTurn};
 ghost use Rattle.partition.specs.declared.event.Stand.TheVariants.{Alone};
@@ -9,7 +11,8 @@ ghost use Rattle.house.specs.Lists.{StopsListSomewhere, TellsListSomewhere};
 ghost use Rattle.house.specs.News.{event_of};
 ghost use Rattle.house.specs.Seats.{after_events, IsBlankOf};
 ghost use Rattle.house.specs.Settling.{AreOfSomePast, Settles, numbers_in};
-ghost use Rattle.house.specs.Views.{AnswersSomewhere, FeedsSomewhere, IsFresh, IsUnwritten, RefusesSomewhere, StopsSomewhere, TellsSomewhere};
+ghost use Rattle.house.specs.Views.{AnswersSomewhere, FeedsSomewhere, IsFresh, IsUnwritten, RefusesSomewhere, StopsSomewhere, TellsSomewhere, song_of};
+ghost use Rattle.song_queue.specs.State.{queue_of};
 
 use crate::answered::{Answered, AnsweredList, Reported};
 use crate::fed::Fed;
@@ -110,6 +113,7 @@ impl<A: Ledger, B: Ledger, C: Ledger, D: Ledger, E: Ledger, W: Ledger, X: Ledger
         ensures fault { OnErr result ((seat.new ≡ seat.old) × IsUnwritten S.standing S.failed shelf.old shelf.new) }
         ensures refused { IfErr result (λ fault. seat.old.number < 4 → StopsSomewhere S.standing S.failed shelf.old shelf.new seat.old.number seat.old.made (Line client Alone request nothing_heard) fault) }
         ensures somewhere { IfOk result (λ a. seat.old.number < 4 → AnswersSomewhere S.standing S.failed shelf.old shelf.new seat.old.number seat.old.made (Line client Alone request nothing_heard) a.told.answer) }
+        ensures front { IfOk result (λ a. IfSome a.front (λ notice. notice.client ≡ client)) }
     {
         let (told, rung) = {
             let mut held = self.held.lock(rt);
@@ -139,6 +143,7 @@ impl<A: Ledger, B: Ledger, C: Ledger, D: Ledger, E: Ledger, W: Ledger, X: Ledger
         ensures made { IfOk result (λ a. seat.new ≡ after_events seat.old (length a.tolds)) }
         ensures done { IfErr result (λ stop. seat.new ≡ after_events seat.old stop.done) }
         ensures somewhere { IfOk result (λ a. seat.old.number < 4 → TellsListSomewhere S.standing S.failed shelf.old shelf.new seat.old.number seat.old.made client form requests.items a.tolds) }
+        ensures front { IfOk result (λ a. IfSome a.front (λ notice. notice.client ≡ client)) }
         ensures stopped { IfErr result (λ stop. seat.old.number < 4 → StopsListSomewhere S.standing S.failed shelf.old shelf.new seat.old.number seat.old.made client form requests.items stop) }
     {
         let (told, rung) = {
@@ -180,7 +185,9 @@ impl<A: Ledger, B: Ledger, C: Ledger, D: Ledger, E: Ledger, W: Ledger, X: Ledger
     }
 
     /// The client's waiting notice, which is taken out. It is no event and takes no memory.
-    pub fn outbox(&self, rt: &impl Wait, client: u32) -> Option<Notice> {
+    pub fn outbox(&self, rt: &impl Wait, client: u32) -> Option<Notice>
+        ensures { IfSome result (λ notice. notice.client ≡ client) }
+    {
         self.held.lock(rt).outbox(client)
     }
 
@@ -283,13 +290,17 @@ impl<A: Ledger, B: Ledger, C: Ledger, D: Ledger, E: Ledger, W: Ledger, X: Ledger
         ended
     }
 
-    /// The song of an entry of the present queue. It is no event.
-    pub fn song(&self, rt: &impl Wait, id: u32) -> Result<Option<SharedSong>, AllocError> {
+    /// The song of the entry of the present queue that has this id. It is no event.
+    pub fn song(&self, rt: &impl Wait, id: u32) -> Result<Option<SharedSong>, AllocError>
+        ensures { IfOk result (λ song. (past : Chronicle) × IsPast past × (song ≡ song_of id (queue_of past.present.part.queue))) }
+    {
         self.held.lock(rt).song(id)
     }
 
     /// Whether the daemon has ended.
-    pub fn has_ended(&self, rt: &impl Wait) -> bool {
+    pub fn has_ended(&self, rt: &impl Wait) -> bool
+        ensures { (past : Chronicle) × IsPast past × (result ≡ past.present.shared.ended) }
+    {
         self.held.lock(rt).has_ended()
     }
 

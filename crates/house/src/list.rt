@@ -20,7 +20,7 @@ impl<A: Ledger, B: Ledger, C: Ledger, D: Ledger, E: Ledger, W: Ledger, X: Ledger
     W,
     X,
 > {
-    ghost use Rattle.std.specs.Prelude.{◌≡◌, ◌<◌, ◌++◌, length, IfErr, IfOk};
+    ghost use Rattle.std.specs.Prelude.{◌≡◌, ◌<◌, ◌++◌, length, IfErr, IfOk, IfSome};
     ghost use Rattle.partition.specs.Legal.{IsPast};
     ghost use Rattle.partition.specs.Lists.{RunsList};
     ghost use Rattle.house.specs.Lists.{StopsHere, StopsListSomewhere, TellsListSomewhere, notices_in};
@@ -47,6 +47,7 @@ impl<A: Ledger, B: Ledger, C: Ledger, D: Ledger, E: Ledger, W: Ledger, X: Ledger
         ensures ok { IfOk result (λ a. RunsList S.standing S.failed self.old.player self.new.player shelf.old shelf.new seat.old.number client form requests.items a.tolds) }
         ensures err { IfErr result (λ stop. StopsHere S.standing S.failed self.old.player self.new.player shelf.old shelf.new seat.old.number client form requests.items stop) }
         ensures front { IfOk result (λ a. a.front ≡ first_for client self.old.waiting) }
+        ensures own { IfOk result (λ a. IfSome a.front (λ notice. notice.client ≡ client)) }
         ensures waiting { IfOk result (λ a. self.new.waiting ≡ without_first client self.old.waiting ++ notices_in a.tolds) }
         ensures kept { IfErr result (λ stop. self.new.waiting ≡ self.old.waiting ++ notices_in stop.tolds) }
         ensures made { IfOk result (λ a. seat.new ≡ after_events seat.old (length a.tolds)) }

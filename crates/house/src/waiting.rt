@@ -1,5 +1,5 @@
 //! The notices that wait to be handed out.
-ghost use Rattle.std.specs.Prelude.{◌≡◌, ◌+◌, ◌≤◌, ◌++◌, length, vec_len, vec_capacity};
+ghost use Rattle.std.specs.Prelude.{◌≡◌, ◌+◌, ◌≤◌, ◌++◌, IfSome, length, vec_len, vec_capacity};
 ghost use Rattle.house.specs.Lists.{notices_in};
 ghost use Rattle.house.specs.News.{kept_without};
 ghost use Rattle.house.specs.Waiting.{first_for, without_first, of_others};
@@ -9,6 +9,7 @@ use partition::{Notice, Outcome};
 /// Takes out the first notice of the client.
 pub(crate) fn take_first(notices: &mut Vec<Notice>, client: u32) -> Option<Notice>
     ensures first { result ≡ first_for client notices.old.items }
+    ensures own { IfSome result (λ notice. notice.client ≡ client) }
     ensures others { notices.new.items ≡ without_first client notices.old.items }
     ensures room { (vec_capacity notices.new ≡ vec_capacity notices.old) × (vec_len notices.new ≤ vec_len notices.old) }
 {

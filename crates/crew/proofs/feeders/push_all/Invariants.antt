@@ -1,6 +1,10 @@
-use Rattle.output_ring.specs.Rings.{SameFeeder}
+use Rattle.std.proofs.Common.{◌≡◌, All, false, take}
 use Rattle.crew.specs.Each.{Each}
+use Rattle.crew.specs.Feeding.{OwesNothing, TakesNone}
 use Rattle.crew.proofs.feeders.push_all.Given as goal
 
 abbrev pub invariant-loop-i : goal.invariant-loop-i
-invariant-loop-i l = Each SameFeeder l.initial.feeders.items l.feeders.items
+invariant-loop-i l = record {
+  kept : Each TakesNone l.initial.feeders.items l.feeders.items;
+  waits : l.waits ≡ false → All OwesNothing (take l.i l.feeders.items);
+}
