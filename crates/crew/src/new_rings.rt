@@ -1,5 +1,7 @@
 //! The rings of the outputs.
 ghost use Rattle.std.specs.Prelude.{◌≡◌, ◌≤◌, IfOk, vec_len};
+ghost use Rattle.crew.specs.Each.{Each};
+ghost use Rattle.crew.specs.Rows.{IsStationOf};
 
 use crate::output_start::Station;
 use output_ring::ring;
@@ -11,17 +13,26 @@ pub fn stations<O: Drop>(
     frames: usize,
     writers: Vec<O>,
 ) -> Result<Vec<Station<O>>, AllocError>
-    ensures { IfOk result (λ stations. vec_len stations ≡ vec_len writers) }
+    ensures count { IfOk result (λ stations. vec_len stations ≡ vec_len writers) }
+    ensures stations { IfOk result (λ stations. Each (IsStationOf frames) writers.items stations.items) }
 {
     let mut stations = Vec::new(alloc);
     stations.reserve(writers.len())?;
     for writer in writers {
-        let (feeder, drainer) = ring(alloc, frames, 1_024)?;
-        stations.push_reserved(Station {
-            feeder,
-            drainer,
-            writer,
-        });
+        let station = station(alloc, frames, writer)?;
+        stations.push_reserved(station);
     }
     Ok(stations)
+}
+
+/// A writer's ring.
+fn station<O: Drop>(alloc: Global, frames: usize, writer: O) -> Result<Station<O>, AllocError>
+    ensures { IfOk result (λ s. IsStationOf frames writer s) }
+{
+    let (feeder, drainer) = ring(alloc, frames, 1_024)?;
+    Ok(Station {
+        feeder,
+        drainer,
+        writer,
+    })
 }

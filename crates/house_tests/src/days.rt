@@ -92,6 +92,49 @@ fn crowds<A: Ledger, B: Ledger, C: Ledger, D: Ledger, E: Ledger, W: Ledger, X: L
     Ok(heard)
 }
 
+/// The URI of the song that an entry of the queue has.
+fn song<A: Ledger, B: Ledger, C: Ledger, D: Ledger, E: Ledger, W: Ledger, X: Ledger>(
+    rt: &impl Wait,
+    alloc: Global,
+    house: &House<A, B, C, D, E, W, X>,
+    id: u32,
+) -> Result<String, PartitionFault> {
+    match house.song(rt, id)? {
+        Some(song) => Ok(format!(in alloc; "{}\n", song.song().uri())?),
+        None => Ok(String::from_str(alloc, "no song\n")?),
+    }
+}
+
+/// Whether the daemon has ended.
+fn ended<A: Ledger, B: Ledger, C: Ledger, D: Ledger, E: Ledger, W: Ledger, X: Ledger>(
+    rt: &impl Wait,
+    house: &House<A, B, C, D, E, W, X>,
+) -> &'static str {
+    if house.has_ended(rt) {
+        "ended\n"
+    } else {
+        "goes on\n"
+    }
+}
+
+/// Two songs are added, of which the first leaves, and the daemon ends.
+fn ends<A: Ledger, B: Ledger, C: Ledger, D: Ledger, E: Ledger, W: Ledger, X: Ledger>(
+    rt: &impl Wait,
+    alloc: Global,
+    house: &House<A, B, C, D, E, W, X>,
+    seat: &mut Seat<A, B, C, D>,
+) -> Result<String, PartitionFault> {
+    let mut heard = says(rt, alloc, house, seat, 2, "addid a.wav")?;
+    heard.push_str(says(rt, alloc, house, seat, 2, "addid b.wav")?.as_str())?;
+    heard.push_str(says(rt, alloc, house, seat, 2, "delete 0")?.as_str())?;
+    heard.push_str(song(rt, alloc, house, 1)?.as_str())?;
+    heard.push_str(song(rt, alloc, house, 2)?.as_str())?;
+    heard.push_str(ended(rt, house))?;
+    house.end(rt, seat)?;
+    heard.push_str(ended(rt, house))?;
+    Ok(heard)
+}
+
 fn evening<A: Ledger, B: Ledger, C: Ledger, D: Ledger, E: Ledger, W: Ledger, X: Ledger>(
     rt: &impl Wait,
     alloc: Global,
@@ -107,6 +150,7 @@ fn evening<A: Ledger, B: Ledger, C: Ledger, D: Ledger, E: Ledger, W: Ledger, X: 
     let mut heard = goes(rt, alloc, &house, &mut seat)?;
     heard.push_str(scans(rt, alloc, &house, &mut seat)?.as_str())?;
     heard.push_str(crowds(rt, alloc, &house, &mut seat)?.as_str())?;
+    heard.push_str(ends(rt, alloc, &house, &mut seat)?.as_str())?;
     let made = format!(in alloc; "{}\n", seat.made())?;
     heard.push_str(made.as_str())?;
     Ok(heard)
@@ -116,7 +160,7 @@ fn told(rt: &impl Wait, alloc: Global) -> Result<String, PartitionFault> {
     evening::<Brand, Brand, Brand, Brand, Brand, Brand, Brand>(rt, alloc, blanks())
 }
 
-// Events: 5 until the first client goes, 4 about the scan, and of the crowd 62, 2 and 1.
+// Events: 5 until the first client goes, 4 about the scan, of the crowd 62, 2 and 1, and 4 at the end.
 #[test]
 fn clients_come_and_go(rt: HostRuntime) -> Result<(), Fail> {
     wants(
@@ -133,7 +177,16 @@ ended
 OK MPD 0.23.0
 heard
 heard
-74
+Id: 1
+OK
+Id: 2
+OK
+OK
+no song
+b.wav
+goes on
+ended
+78
 ",
     );
     Ok(())
