@@ -2,13 +2,14 @@
 use crate::answered::{Answered, Reported};
 use crate::counted::Counted;
 use crate::happen::{hear_end, hear_line, hear_news};
+use crate::new_books::{NewBooks, let_go, new_books};
 use crate::news::News;
 use crate::pulse::count_change;
-use crate::seat::{NoSeat, Seat, SeatBooks};
+use crate::seat::{NoSeat, Seat};
 use crate::waiting::{drop_gone, put_all, take_first};
 use frame_ledger::{Blanks as FrameBlanks, Books, OutputShares};
 use mpd_command::Request;
-use partition::{Happened, MAX_OUTPUTS, Notice, Partition, PartitionFault};
+use partition::{Happened, Notice, Partition, PartitionFault};
 use shelf::Shelf;
 use song_db::SharedSong;
 use std::alloc::{AllocError, Global};
@@ -107,17 +108,19 @@ impl<A: Ledger, B: Ledger, C: Ledger, D: Ledger, E: Ledger, W: Ledger, X: Ledger
         ensures parts { IfOk result (λ r. (r.1.decoded.parts ≡ E.parts) × (r.1.outputs.written.parts ≡ W.parts) × (r.1.outputs.discarded.parts ≡ X.parts)) }
         ensures amounts { IfOk result (λ r. (r.1.decoded.amount ≡ 0) × (r.1.outputs.written.amount ≡ 0) × (r.1.outputs.discarded.amount ≡ 0)) }
     {
-        let Blanks {
-            first,
-            second,
-            third,
-            fourth,
-            frames,
-        } = blanks;
-        let mut free = Vec::new(alloc);
-        free.reserve(4)?;
-        let (books, decoded, outputs) = Books::<E, W, X>::open(alloc, frames, MAX_OUTPUTS)?;
-        let seats = SeatBooks::open(first, second, third, fourth, &mut free);
+        let opened = match new_books::<A, B, C, D, E, W, X>(alloc, blanks) {
+            Ok(opened) => opened,
+            Err(fault) => {
+                let_go(partition);
+                return Err(fault);
+            }
+        };
+        let NewBooks {
+            seats,
+            free,
+            books,
+            shares,
+        } = opened;
         let held = Held {
             alloc,
             counted: Counted::new(partition, seats),
@@ -127,7 +130,7 @@ impl<A: Ledger, B: Ledger, C: Ledger, D: Ledger, E: Ledger, W: Ledger, X: Ledger
             is_settled: false,
             changes: 0,
         };
-        Ok((held, CrewShares { decoded, outputs }))
+        Ok((held, shares))
     }
 
     /// A seat that made no event yet. It takes no memory.

@@ -11,6 +11,7 @@ mod house;
 mod list;
 mod listed;
 mod mark;
+mod new_books;
 mod news;
 mod output;
 mod pulse;

@@ -1,12 +1,11 @@
 use Rattle.std.proofs.Common.{◌≡◌, ◌∙◌, ap, length, sym}
 use Rattle.partition.specs.History.{Chronicle}
 use Rattle.partition.specs.Outputs.{FrameBooks, empty_books}
-use Rattle.house.proofs.Opening.{free_seats}
 use Rattle.house.proofs.held.Held.open.Goals as goal
 
 pub invariant_of-held : goal.invariant_of-held
 invariant_of-held g c =
-    let books = c.in_ok-books.ensures.books in
+    let books = c.in-Ok.ensures.books in
     let empty : c.new.result.present.shared.books ≡ empty_books = ap (λ (h : Chronicle). h.present.shared.books) c.new.ensures ∙ c.requires.fresh.1 in (
       books.0 ∙ sym (ap (λ (b : FrameBooks). b.decoded) empty),
       (λ e. books.1 ∙ sym (ap (λ (b : FrameBooks). b.written) empty)),
@@ -14,5 +13,5 @@ invariant_of-held g c =
       ap length books.0,
       ap length books.1,
       ap length books.2,
-      free_seats c.open-seats.new.free.items c.reserve.new.self.items (c.reserve.ensures.items ∙ c.new-free.ensures.items) c.open-seats.ensures.free,
+      c.in-Ok.ensures.free.0,
     )
