@@ -113,6 +113,37 @@ fn start_thread<
     Ok(handle)
 }
 
+/// Room for what the threads leave.
+#[derive(Drop)]
+struct Rooms<E: Ledger, W: Ledger, X: Ledger> {
+    lefts: Vec<OutputLeft<W, X>>,
+    results: Vec<Settlement<E, W, X>>,
+    ends: Vec<FeederEnd>,
+}
+
+/// Room for so many outputs, and for the ends of so many feeders.
+fn make_rooms<E: Ledger, W: Ledger, X: Ledger>(
+    alloc: Global,
+    outputs: usize,
+    feeders: usize,
+) -> Result<Rooms<E, W, X>, AllocError>
+    ensures lefts { IfOk result (λ r. (r.lefts.items ≡ []) × (outputs ≤ vec_capacity r.lefts)) }
+    ensures results { IfOk result (λ r. (r.results.items ≡ []) × (outputs ≤ vec_capacity r.results)) }
+    ensures ends { IfOk result (λ r. (r.ends.items ≡ []) × (feeders ≤ vec_capacity r.ends)) }
+{
+    let mut lefts = Vec::new(alloc);
+    lefts.reserve(outputs)?;
+    let mut results = Vec::new(alloc);
+    results.reserve(outputs)?;
+    let mut ends = Vec::new(alloc);
+    ends.reserve(feeders)?;
+    Ok(Rooms {
+        lefts,
+        results,
+        ends,
+    })
+}
+
 /// Starts the decoder, which reads songs of this rate from a source and feeds these outputs.
 ///
 /// # Errors
@@ -144,12 +175,11 @@ pub fn start_decoder<
     requires rings { map first_of_run outputs.items ≡ feeders.items }
     ensures { IfOk result (λ crew. crew.outputs ≡ outputs) }
 {
-    let mut lefts = Vec::new(alloc);
-    lefts.reserve(outputs.len())?;
-    let mut results = Vec::new(alloc);
-    results.reserve(outputs.len())?;
-    let mut room = Vec::new(alloc);
-    room.reserve(feeders.len())?;
+    let Rooms {
+        lefts,
+        results,
+        ends: room,
+    } = make_rooms(alloc, outputs.len(), feeders.len())?;
     let house = Arc::try_clone(house)?;
     let bench = Bench {
         alloc,

@@ -120,10 +120,16 @@ impl Place {
             client: self.client,
             may_kill,
         };
-        self.tenant = match Session::new(alloc, asker) {
+        let tenant = match Session::new(alloc, asker) {
             Ok(session) => Tenant::Client(Connection::new(stream, session)),
             Err(_) => Tenant::Gone,
         };
+        self.let_to(tenant);
+    }
+
+    /// Gives the place to another. It is a function of its own so that the proofs of others do not go through all that a client has.
+    fn let_to(&mut self, tenant: Tenant) {
+        self.tenant = tenant;
     }
 
     /// Gives its client a turn, or tells the player that it is gone. True where the client ends the daemon.
@@ -157,8 +163,8 @@ impl Place {
         };
         match after {
             After::Stays => {}
-            After::Ends => self.tenant = Tenant::Nobody,
-            After::Leaves => self.tenant = Tenant::Gone,
+            After::Ends => self.let_to(Tenant::Nobody),
+            After::Leaves => self.let_to(Tenant::Gone),
             After::Kills => return true,
         }
         false
