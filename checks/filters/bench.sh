@@ -7,18 +7,7 @@ here=$(cd "$(dirname "$0")" && pwd)
 root=$(cd "${1:-$here/../..}" && pwd)
 work=$(mktemp -d)
 trap 'rm -rf "$work"' EXIT
-mkdir "$work/crates"
-for crate in mpd_text filters; do
-    cp -a "$root/crates/$crate" "$work/crates/$crate"
-done
-cp -r "$here/filter_bench" "$work/crates/filter_bench"
-mv "$work/crates/filter_bench/src/main.rt.txt" "$work/crates/filter_bench/src/main.rt"
-cp "$root/HANDLES" "$work/HANDLES"
-cat > "$work/crates.txt" <<END
-mpd_text:
-filters: mpd_text caseless
-filter_bench: mpd_text filters
-END
+python3 "$here/../crates.py" "$root" filters mpd_text --for "$here/filter_bench" "$work"
 (cd "$work/crates/filter_bench" && rt run > "$work/ours.log" 2>&1) || { cat "$work/ours.log"; exit 1; }
 grep -E '^[a-z_]+ [0-9]+ [0-9]+ [0-9]+ [0-9]+$' "$work/ours.log" | awk '
     BEGIN { printf "%-18s %14s %18s %14s %8s\n", "", "filters/s", "ms a filter", "wanted, ms", "songs" }

@@ -7,19 +7,7 @@ here=$(cd "$(dirname "$0")" && pwd)
 root=$(cd "${1:-$here/../..}" && pwd)
 work=$(mktemp -d)
 trap 'rm -rf "$work"' EXIT
-mkdir "$work/crates"
-for crate in mpd_text pcm_mix output_ring; do
-    cp -a "$root/crates/$crate" "$work/crates/$crate"
-done
-cp -r "$here/frame_bench" "$work/crates/frame_bench"
-mv "$work/crates/frame_bench/src/main.rt.txt" "$work/crates/frame_bench/src/main.rt"
-cp "$root/HANDLES" "$work/HANDLES"
-cat > "$work/crates.txt" <<END
-mpd_text:
-pcm_mix:
-output_ring: mpd_text pcm_mix rtrb
-frame_bench: mpd_text pcm_mix output_ring
-END
+python3 "$here/../crates.py" "$root" output_ring pcm_mix counted_devices --for "$here/frame_bench" "$work"
 gcc -O2 -o "$work/kernels" "$here/kernels.c"
 (cd "$work/crates/frame_bench" && rt run > "$work/ours.log" 2>&1) || { cat "$work/ours.log"; exit 1; }
 "$work/kernels" > "$work/c.txt"

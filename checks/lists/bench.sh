@@ -9,16 +9,7 @@ here=$(cd "$(dirname "$0")" && pwd)
 root=$(cd "${1:-$here/../..}" && pwd)
 work=$(mktemp -d)
 trap 'rm -rf "$work"' EXIT
-mkdir "$work/crates"
-crates='mpd_text command_lists song_db filters song_search song_queue play_order player_core idle_notes mpd_command shelf shelf_contents partition'
-for crate in $crates; do
-    cp -a "$root/crates/$crate" "$work/crates/$crate"
-done
-cp -r "$here/list_bench" "$work/crates/list_bench"
-mv "$work/crates/list_bench/src/main.rt.txt" "$work/crates/list_bench/src/main.rt"
-cp "$root/HANDLES" "$work/HANDLES"
-grep -E "^($(echo "$crates" | tr ' ' '|')):" "$root/crates.txt" > "$work/crates.txt"
-echo 'list_bench: partition shelf_contents shelf mpd_command song_db mpd_text' >> "$work/crates.txt"
+python3 "$here/../crates.py" "$root" partition command_plan player_state shelf_contents shelf mpd_command song_db mpd_text --for "$here/list_bench" "$work"
 (cd "$work/crates/list_bench" && rt run > "$work/ours.log" 2>&1) || { cat "$work/ours.log"; exit 1; }
 grep -E '^lists [a-z_]+ [0-9]+ [0-9]+ (yes|NO)$' "$work/ours.log" | awk '
     {

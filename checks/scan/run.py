@@ -17,8 +17,13 @@ import sys
 import tempfile
 import time
 
+sys.dont_write_bytecode = True
+
 HERE = os.path.dirname(os.path.abspath(__file__))
-CRATES = ['mpd_text', 'pcm_mix', 'wave', 'song_db', 'library_scan']
+sys.path.insert(0, os.path.dirname(HERE))
+
+from crates import copy_below
+
 NOBODY = 65534
 FILES, SIZE = 5000, 100000
 
@@ -30,15 +35,7 @@ def wave(size, rate=8000):
 
 
 def build(root, work):
-    os.mkdir(os.path.join(work, 'crates'))
-    for crate in CRATES:
-        shutil.copytree(os.path.join(root, 'crates', crate), os.path.join(work, 'crates', crate), symlinks=True)
-    show = os.path.join(work, 'crates', 'scan_show')
-    shutil.copytree(os.path.join(HERE, 'scan_show'), show)
-    os.rename(os.path.join(show, 'src', 'main.rt.txt'), os.path.join(show, 'src', 'main.rt'))
-    shutil.copy(os.path.join(root, 'HANDLES'), work)
-    with open(os.path.join(work, 'crates.txt'), 'w') as table:
-        table.write('mpd_text:\npcm_mix:\nwave: mpd_text pcm_mix\nsong_db: mpd_text\nlibrary_scan: song_db wave mpd_text\nscan_show: library_scan song_db mpd_text\n')
+    show = copy_below(root, ['library_scan', 'song_db'], os.path.join(HERE, 'scan_show'), work)
     log = subprocess.run(['rt', 'run'], cwd=show, capture_output=True, text=True)
     program = os.path.join(show, 'out', 'scan_show')
     if not os.path.exists(program):

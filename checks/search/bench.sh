@@ -8,15 +8,7 @@ here=$(cd "$(dirname "$0")" && pwd)
 root=$(cd "${1:-$here/../..}" && pwd)
 work=$(mktemp -d)
 trap 'rm -rf "$work"' EXIT
-mkdir "$work/crates"
-for crate in mpd_text song_db filters song_search; do
-    cp -a "$root/crates/$crate" "$work/crates/$crate"
-done
-cp -r "$here/search_bench" "$work/crates/search_bench"
-mv "$work/crates/search_bench/src/main.rt.txt" "$work/crates/search_bench/src/main.rt"
-cp "$root/HANDLES" "$work/HANDLES"
-grep -E '^(mpd_text|song_db|filters|song_search):' "$root/crates.txt" > "$work/crates.txt"
-echo 'search_bench: song_search song_db filters mpd_text' >> "$work/crates.txt"
+python3 "$here/../crates.py" "$root" song_search song_db filters mpd_text --for "$here/search_bench" "$work"
 (cd "$work/crates/search_bench" && rt run > "$work/log" 2>&1) || true
 [ -x "$work/crates/search_bench/out/search_bench" ] || { cat "$work/log"; exit 1; }
 python3 - "$work/crates/search_bench/out/search_bench" > "$work/told" <<'END'

@@ -6,13 +6,5 @@ here=$(cd "$(dirname "$0")" && pwd)
 root=$1
 work=$2
 command -v sqlite3 > /dev/null || { echo 'sqlite3 is missing: install the package sqlite3 (Debian: apt-get install sqlite3)'; exit 1; }
-mkdir "$work/crates"
-for crate in shelf shelf_database; do
-    cp -a "$root/crates/$crate" "$work/crates/$crate"
-done
-cp -r "$here/shelf_bench" "$work/crates/shelf_bench"
-mv "$work/crates/shelf_bench/src/main.rt.txt" "$work/crates/shelf_bench/src/main.rt"
-cp "$root/HANDLES" "$work/HANDLES"
-grep -E '^(shelf|shelf_database):' "$root/crates.txt" > "$work/crates.txt"
-echo 'shelf_bench: shelf shelf_database sqlite' >> "$work/crates.txt"
+python3 "$here/../crates.py" "$root" shelf_database shelf sqlite --for "$here/shelf_bench" "$work"
 (cd "$work/crates/shelf_bench" && rt run -- list memory 1 > "$work/log" 2>&1) || { cat "$work/log"; exit 1; }

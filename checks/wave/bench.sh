@@ -7,19 +7,7 @@ here=$(cd "$(dirname "$0")" && pwd)
 root=$(cd "${1:-$here/../..}" && pwd)
 work=$(mktemp -d)
 trap 'rm -rf "$work"' EXIT
-mkdir "$work/crates"
-for crate in mpd_text pcm_mix wave; do
-    cp -a "$root/crates/$crate" "$work/crates/$crate"
-done
-cp -r "$here/wave_bench" "$work/crates/wave_bench"
-mv "$work/crates/wave_bench/src/main.rt.txt" "$work/crates/wave_bench/src/main.rt"
-cp "$root/HANDLES" "$work/HANDLES"
-cat > "$work/crates.txt" <<END
-mpd_text:
-pcm_mix:
-wave: mpd_text pcm_mix
-wave_bench: mpd_text wave
-END
+python3 "$here/../crates.py" "$root" wave counted_devices --for "$here/wave_bench" "$work"
 (cd "$work/crates/wave_bench" && rt run > "$work/log" 2>&1) || { cat "$work/log"; exit 1; }
 grep -E '^[a-z]+ [0-9]+ [0-9]+ [0-9]+$' "$work/log" | awk '
     NR == 1 { copy = $3 / $2; printf "%-10s %16s %14s\n", "", "million frames/s", "time to memcpy" }

@@ -7,19 +7,7 @@ here=$(cd "$(dirname "$0")" && pwd)
 root=$(cd "${1:-$here/../..}" && pwd)
 work=$(mktemp -d)
 trap 'rm -rf "$work"' EXIT
-mkdir "$work/crates"
-for crate in mpd_text pcm_mix wave; do
-    cp -a "$root/crates/$crate" "$work/crates/$crate"
-done
-cp -r "$here/wave_show" "$work/crates/wave_show"
-mv "$work/crates/wave_show/src/main.rt.txt" "$work/crates/wave_show/src/main.rt"
-cp "$root/HANDLES" "$work/HANDLES"
-cat > "$work/crates.txt" <<END
-mpd_text:
-pcm_mix:
-wave: mpd_text pcm_mix
-wave_show: mpd_text wave
-END
+python3 "$here/../crates.py" "$root" wave counted_devices --for "$here/wave_show" "$work"
 gcc -shared -fPIC -O2 -o "$work/faulty.so" "$root/checks/faulty.c" -ldl
 # the first run finds no file: it is there to prove and build the program
 (cd "$work/crates/wave_show" && rt run > "$work/log" 2>&1) || true

@@ -1,39 +1,35 @@
 //! The threads of all outputs.
 ghost use Rattle.std.specs.Prelude.{◌≡◌, ◌<◌, map, IfOk, vec_len};
-ghost use Rattle.crew.specs.Rows.{first_of_run, drainer_of_run, feeder_of_station, drainer_of_station};
+ghost use Rattle.crew.specs.Rows.{first_of_run, drainer_of_run};
+ghost use Rattle.crew_steps.specs.Stations.{feeder_of_station, drainer_of_station};
 
-use crate::output::{Gate, OutputRun};
-use crate::output_start::{Station, start_output};
+use crate::output::OutputRun;
+use crate::output_start::start_output;
+use counted_devices::Sink;
+use counted_player::{Discarded, Ledgers, Written};
+use crew_steps::{Gate, Station};
 use frame_ledger::OutputShares;
 use house::House;
-use mpd_text::Sink;
 use output_ring::Feeder;
 use std::alloc::{AllocError, Global};
-use std::sync::ledger::Ledger;
 use std::sync::{Arc, Wait};
 use std::thread::Threads;
 use std::time::Clock;
 
 /// Starts the thread of each output.
 pub fn start_outputs<
-    A: Ledger + Send + Sync + 'static,
-    B: Ledger + Send + Sync + 'static,
-    C: Ledger + Send + Sync + 'static,
-    D: Ledger + Send + Sync + 'static,
-    E: Ledger + Send + Sync + 'static,
-    W: Ledger + Send + Sync + 'static,
-    X: Ledger + Send + Sync + 'static,
+    L: Ledgers + Send + Sync + 'static,
     O: Sink + Drop + Send + 'static,
     G: Gate + Drop + Send + Sync + 'static,
     R: Threads + Wait + Clock + Copy + Send + 'static,
 >(
     rt: R,
     alloc: Global,
-    house: &Arc<House<A, B, C, D, E, W, X>, Global>,
+    house: &Arc<House<L>, Global>,
     gate: &Arc<G, Global>,
     stations: Vec<Station<O>>,
-    shares: OutputShares<W, X>,
-) -> Result<(Vec<OutputRun<W, X>>, Vec<Feeder>), AllocError>
+    shares: OutputShares<Written<L>, Discarded<L>>,
+) -> Result<(Vec<OutputRun<L>>, Vec<Feeder>), AllocError>
     requires parts { (vec_len stations < shares.written.parts) × (vec_len stations < shares.discarded.parts) × (shares.written.amount ≡ 0) × (shares.discarded.amount ≡ 0) }
     ensures runs { IfOk result (λ r. map first_of_run r.0.items ≡ map feeder_of_station stations.items) }
     ensures drainers { IfOk result (λ r. map drainer_of_run r.0.items ≡ map drainer_of_station stations.items) }

@@ -2,11 +2,12 @@
 ghost use Rattle.std.specs.Prelude.{◌≡◌, IsSome, OnOk};
 
 use crate::start::Crew;
-use house::{House, News, Seat};
-use partition::Report;
+use counted_player::{Ledgers, Seat};
+use held_player::News;
+use house::House;
+use player_state::Report;
 use song_db::SharedDb;
 use std::alloc::{AllocError, Global};
-use std::sync::ledger::Ledger;
 use std::sync::{Arc, Wait};
 use std::thread;
 use std::thread::{JoinHandle, Threads};
@@ -26,37 +27,15 @@ pub trait Scanner {
 
 /// A scanner that runs.
 #[derive(Drop)]
-struct Scanning<
-    'h,
-    A: Ledger,
-    B: Ledger,
-    C: Ledger,
-    D: Ledger,
-    E: Ledger,
-    W: Ledger,
-    X: Ledger,
-    N: Scanner + Drop,
-    R: Wait + Clock,
-> {
+struct Scanning<'h, L: Ledgers, N: Scanner + Drop, R: Wait + Clock> {
     rt: &'h R,
     alloc: Global,
-    house: &'h House<A, B, C, D, E, W, X>,
-    seat: Seat<A, B, C, D>,
+    house: &'h House<L>,
+    seat: Seat<L>,
     scanner: N,
 }
 
-impl<
-    'h,
-    A: Ledger,
-    B: Ledger,
-    C: Ledger,
-    D: Ledger,
-    E: Ledger,
-    W: Ledger,
-    X: Ledger,
-    N: Scanner + Drop,
-    R: Wait + Clock,
-> Scanning<'h, A, B, C, D, E, W, X, N, R> {
+impl<'h, L: Ledgers, N: Scanner + Drop, R: Wait + Clock> Scanning<'h, L, N, R> {
     /// Scans where that is asked for, until the end.
     fn run(self) {
         let mut scanning = self;
@@ -120,19 +99,13 @@ impl<
 
 /// Starts the thread of a scanner.
 fn start_thread<
-    A: Ledger + Send + Sync + 'static,
-    B: Ledger + Send + Sync + 'static,
-    C: Ledger + Send + Sync + 'static,
-    D: Ledger + Send + Sync + 'static,
-    E: Ledger + Send + Sync + 'static,
-    W: Ledger + Send + Sync + 'static,
-    X: Ledger + Send + Sync + 'static,
+    L: Ledgers + Send + Sync + 'static,
     N: Scanner + Drop + Send + 'static,
     R: Threads + Wait + Clock + Copy + Send + 'static,
 >(
     rt: R,
     alloc: Global,
-    house: Arc<House<A, B, C, D, E, W, X>, Global>,
+    house: Arc<House<L>, Global>,
     scanner: N,
 ) -> Result<JoinHandle<()>, AllocError> {
     let handle = thread::spawn(&rt, move || {
@@ -154,20 +127,14 @@ fn start_thread<
 ///
 /// Where there is no memory or no thread; the crew goes on without a scanner.
 pub fn start_scanner<
-    A: Ledger + Send + Sync + 'static,
-    B: Ledger + Send + Sync + 'static,
-    C: Ledger + Send + Sync + 'static,
-    D: Ledger + Send + Sync + 'static,
-    E: Ledger + Send + Sync + 'static,
-    W: Ledger + Send + Sync + 'static,
-    X: Ledger + Send + Sync + 'static,
+    L: Ledgers + Send + Sync + 'static,
     N: Scanner + Drop + Send + 'static,
     R: Threads + Wait + Clock + Copy + Send + 'static,
 >(
     rt: R,
     alloc: Global,
-    house: &Arc<House<A, B, C, D, E, W, X>, Global>,
-    crew: &mut Crew<E, W, X>,
+    house: &Arc<House<L>, Global>,
+    crew: &mut Crew<L>,
     scanner: N,
 ) -> Result<(), AllocError>
     ensures outputs { crew.new.outputs ≡ crew.old.outputs }

@@ -1,23 +1,22 @@
 //! The end of the outputs: their threads are joined, and what they leave is settled.
 ghost use Rattle.std.specs.Prelude.{◌≡◌, ◌<◌, ◌≤◌, [], map, vec_len, vec_capacity};
 ghost use Rattle.output_ring.specs.Rings.{EndsFeeder, SameDrainer};
-ghost use Rattle.house.specs.Settling.{AreOfSomePast, Settles, numbers_in};
+ghost use Rattle.held_player.specs.Settling.{AreOfSomePast, Settles, numbers_in};
 ghost use Rattle.crew.specs.Closing.{LeavesRun, SettlesLeft};
-ghost use Rattle.crew.specs.Each.{Each, EachAt};
+ghost use Rattle.crew_steps.specs.Each.{Each, EachAt};
 ghost use Rattle.crew.specs.Rows.{first_of_left};
 
-use crate::output::{OutputEnd, OutputLeft, OutputRun};
-use house::{House, Settlement};
+use crate::output::{OutputLeft, OutputRun};
+use counted_player::Ledgers;
+use crew_steps::OutputEnd;
+use held_player::Settlement;
+use house::House;
 use output_ring::FeederEnd;
 use std::sync::Wait;
-use std::sync::ledger::Ledger;
 use std::thread::Threads;
 
 /// Joins the thread of an output.
-fn join_output<W: Ledger, X: Ledger, R: Threads + Wait>(
-    rt: &R,
-    run: OutputRun<W, X>,
-) -> OutputLeft<W, X>
+fn join_output<L: Ledgers, R: Threads + Wait>(rt: &R, run: OutputRun<L>) -> OutputLeft<L>
     ensures { LeavesRun run result }
 {
     let OutputRun { handle, first } = run;
@@ -28,11 +27,11 @@ fn join_output<W: Ledger, X: Ledger, R: Threads + Wait>(
 }
 
 /// Joins the threads of all outputs. There is room for what they leave.
-pub(crate) fn join_outputs<W: Ledger, X: Ledger, R: Threads + Wait>(
+pub(crate) fn join_outputs<L: Ledgers, R: Threads + Wait>(
     rt: &R,
-    outputs: Vec<OutputRun<W, X>>,
-    room: Vec<OutputLeft<W, X>>,
-) -> Vec<OutputLeft<W, X>>
+    outputs: Vec<OutputRun<L>>,
+    room: Vec<OutputLeft<L>>,
+) -> Vec<OutputLeft<L>>
     requires { (room.items ≡ []) × (vec_len outputs ≤ vec_capacity room) }
     ensures { Each LeavesRun outputs.items result.items }
 {
@@ -44,22 +43,13 @@ pub(crate) fn join_outputs<W: Ledger, X: Ledger, R: Threads + Wait>(
 }
 
 /// Settles an output.
-fn settle_output<
-    A: Ledger,
-    B: Ledger,
-    C: Ledger,
-    D: Ledger,
-    E: Ledger,
-    W: Ledger,
-    X: Ledger,
-    R: Wait,
->(
+fn settle_output<L: Ledgers, R: Wait>(
     rt: &R,
-    house: &House<A, B, C, D, E, W, X>,
+    house: &House<L>,
     output: usize,
-    left: OutputLeft<W, X>,
+    left: OutputLeft<L>,
     end: FeederEnd,
-) -> Settlement<E, W, X>
+) -> Settlement<L>
     requires output { output < 8 }
     requires end { EndsFeeder left.first.value end }
     ensures ends { EndsFeeder left.first.value result.end.value × SameDrainer left.end.drainer result.drainer.value }
@@ -75,22 +65,13 @@ fn settle_output<
 }
 
 /// Settles each output. There is room for the results.
-pub(crate) fn settle_outputs<
-    A: Ledger,
-    B: Ledger,
-    C: Ledger,
-    D: Ledger,
-    E: Ledger,
-    W: Ledger,
-    X: Ledger,
-    R: Wait,
->(
+pub(crate) fn settle_outputs<L: Ledgers, R: Wait>(
     rt: &R,
-    house: &House<A, B, C, D, E, W, X>,
-    lefts: Vec<OutputLeft<W, X>>,
+    house: &House<L>,
+    lefts: Vec<OutputLeft<L>>,
     ends: Vec<FeederEnd>,
-    room: Vec<Settlement<E, W, X>>,
-) -> Vec<Settlement<E, W, X>>
+    room: Vec<Settlement<L>>,
+) -> Vec<Settlement<L>>
     requires few { vec_len lefts ≤ 8 }
     requires rings { Each EndsFeeder (map first_of_left lefts.items) ends.items }
     requires room { (room.items ≡ []) × (vec_len lefts ≤ vec_capacity room) }

@@ -2,8 +2,8 @@
 use crate::rooms::{Blind, Day, Stage, Watch, one_day, shared};
 use crate::tunes::Tune;
 use crate::wire::{Wire, Wires, two_wires};
-use crew::Open;
-use mpd_text::Counting;
+use counted_devices::Counting;
+use crew_steps::Open;
 use partition::PartitionFault;
 use std::alloc::{AllocError, Global};
 use std::io::Write;

@@ -3,7 +3,7 @@ use crate::rooms::{Blind, Stage, one_day, shared};
 use crate::tunes::{Tone, listed, tune_of};
 use crate::wanted::wants;
 use crate::wire::{right_lines, two_wires};
-use crew::Open;
+use crew_steps::Open;
 use partition::PartitionFault;
 use std::alloc::Global;
 use std::sync::{Arc, Wait};

@@ -1,21 +1,24 @@
 //! A house whose threads run, and a client who says the lines of a script in it.
 ghost use Rattle.std.specs.Prelude.{◌≡◌, ◌<◌, IfOk};
-ghost use Rattle.frame_ledger.specs.Balance.{IsBlankOf as IsBlank};
-ghost use Rattle.house.specs.Seats.{IsBlankOf};
-ghost use Rattle.house.specs.Views.{IsFresh};
+ghost use Rattle.held_player.specs.Blanks.{AreFor};
+ghost use Rattle.counted_player.specs.Counts.{IsFresh};
 
 use crate::tunes::{Files, Tune, library};
-use crew::{Gate, Scanner, close, start_decoder, start_outputs, start_scanner, stations};
-use frame_ledger::{Blanks as FrameBlanks, SettleFault, Settled};
-use house::{Blanks, House, Seat};
-use house_tests::rooms::{comes, says};
-use mpd_text::{SharedText, Sink};
-use partition::{Library, Limits, Outputs, Partition, PartitionFault, Setup};
+use counted_devices::Sink;
+use counted_player::{Ledgers, Seat};
+use crew::{Scanner, close, start_decoder, start_outputs, start_scanner};
+use crew_steps::{Gate, stations};
+use frame_ledger::{SettleFault, Settled};
+use held_player::Blanks;
+use house::House;
+use house_tests::rooms::{blanks, comes, says};
+use mpd_text::SharedText;
+use partition::{Limits, Partition, PartitionFault, Setup};
+use player_state::{Library, Outputs};
 use song_db::SharedDb;
 use std::alloc::{AllocError, Global};
 use std::marker::Brand;
 use std::sync::atomic::{AtomicU32, Ordering};
-use std::sync::ledger::{Blank, Ledger};
 use std::sync::{Arc, Wait};
 use std::thread;
 use std::thread::Threads;
@@ -131,20 +134,11 @@ fn player(alloc: Global, library: Library) -> Result<Partition, AllocError>
 }
 
 /// Says a line again and again until its answer has a text, ten seconds at most.
-fn says_until<
-    A: Ledger,
-    B: Ledger,
-    C: Ledger,
-    D: Ledger,
-    E: Ledger,
-    W: Ledger,
-    X: Ledger,
-    R: Wait + Clock,
->(
+fn says_until<L: Ledgers, R: Wait + Clock>(
     rt: &R,
     alloc: Global,
-    house: &House<A, B, C, D, E, W, X>,
-    seat: &mut Seat<A, B, C, D>,
+    house: &House<L>,
+    seat: &mut Seat<L>,
     line: &str,
     text: &str,
 ) -> Result<bool, PartitionFault> {
@@ -159,21 +153,11 @@ fn says_until<
 
 /// Goes through a script: a line `~ STEP` is a step of the test's own, `LINE ~ TEXT` is said until its answer has the text, and any
 /// other line is said once. What was heard, and for each wait whether what it is for came.
-fn plays<
-    A: Ledger,
-    B: Ledger,
-    C: Ledger,
-    D: Ledger,
-    E: Ledger,
-    W: Ledger,
-    X: Ledger,
-    V: Watch<R>,
-    R: Wait + Clock,
->(
+fn plays<L: Ledgers, V: Watch<R>, R: Wait + Clock>(
     rt: &R,
     alloc: Global,
-    house: &House<A, B, C, D, E, W, X>,
-    seat: &mut Seat<A, B, C, D>,
+    house: &House<L>,
+    seat: &mut Seat<L>,
     script: &str,
     watch: &mut V,
 ) -> Result<String, PartitionFault> {
@@ -194,13 +178,7 @@ fn plays<
 }
 
 fn run_day<
-    A: Ledger + Send + Sync + 'static,
-    B: Ledger + Send + Sync + 'static,
-    C: Ledger + Send + Sync + 'static,
-    D: Ledger + Send + Sync + 'static,
-    E: Ledger + Send + Sync + 'static,
-    W: Ledger + Send + Sync + 'static,
-    X: Ledger + Send + Sync + 'static,
+    L: Ledgers + Send + Sync + 'static,
     O: Sink + Drop + Send + 'static,
     G: Gate + Drop + Send + Sync + 'static,
     N: Scanner + Drop + Send + 'static,
@@ -214,9 +192,7 @@ fn run_day<
     script: &String,
     watch: &mut V,
 ) -> Result<Day, PartitionFault>
-    requires seats { IsBlankOf blanks.first A.name A.parts × IsBlankOf blanks.second B.name B.parts × IsBlankOf blanks.third C.name C.parts × IsBlankOf blanks.fourth D.name D.parts }
-    requires books { IsBlank blanks.frames.decoded E.name E.parts × IsBlank blanks.frames.written W.name W.parts × IsBlank blanks.frames.discarded X.name X.parts }
-    requires parts { (0 < E.parts) × (2 < W.parts) × (2 < X.parts) }
+    requires blanks { AreFor L.names blanks }
 {
     let Stage {
         tunes,
@@ -225,11 +201,11 @@ fn run_day<
         scanner,
     } = stage;
     let player = player(alloc, library(alloc, &tunes)?)?;
-    let (house, shares) = House::<A, B, C, D, E, W, X>::open(alloc, blanks, player)?;
+    let (house, shares) = House::<L>::open(alloc, blanks, player)?;
     let house = shared(alloc, house)?;
     let stations = stations(alloc, 8_192, writers)?;
-    // There are two, and a part of each book for them.
-    if stations.len() > 2 {
+    // There are two, and a part of each book for eight.
+    if stations.len() > 8 {
         return Err(PartitionFault::NoMemory);
     }
     let Ok(mut seat) = house.seat(&rt) else {
@@ -272,24 +248,6 @@ fn run_day<
     }
 }
 
-/// Seven new ledgers; those of written and discarded frames have a part for each output, and one more.
-fn blanks() -> Blanks
-    ensures seats { (result.first.parts ≡ 1) × (result.second.parts ≡ 1) × (result.third.parts ≡ 1) × (result.fourth.parts ≡ 1) }
-    ensures frames { (result.frames.decoded.parts ≡ 1) × (result.frames.written.parts ≡ 3) × (result.frames.discarded.parts ≡ 3) }
-{
-    Blanks {
-        first: Blank::new(1),
-        second: Blank::new(1),
-        third: Blank::new(1),
-        fourth: Blank::new(1),
-        frames: FrameBlanks {
-            decoded: Blank::new(1),
-            written: Blank::new(3),
-            discarded: Blank::new(3),
-        },
-    }
-}
-
 /// Opens a house, goes through a script in it, and closes it.
 pub(crate) fn one_day<
     O: Sink + Drop + Send + 'static,
@@ -306,12 +264,5 @@ pub(crate) fn one_day<
 ) -> Result<Day, PartitionFault> {
     // Ghost members cannot be picked at a call with a `&str`.
     let script = String::from_str(alloc, script)?;
-    run_day::<Brand, Brand, Brand, Brand, Brand, Brand, Brand, O, G, N, V, R>(
-        rt,
-        alloc,
-        blanks(),
-        stage,
-        &script,
-        watch,
-    )
+    run_day::<Brand, O, G, N, V, R>(rt, alloc, blanks(), stage, &script, watch)
 }

@@ -1,7 +1,8 @@
 //! Songs whose frames are those of formulas.
-use crew::{SongFault, SongSource};
-use mpd_text::{FailAt, FailurePoint, Song};
-use partition::{Library, Scan};
+use counted_devices::{FailAt, FailurePoint};
+use crew_steps::{SongFault, SongSource};
+use mpd_text::Song;
+use player_state::{Library, Scan};
 use song_db::{Db, Rate, SharedDb};
 use std::alloc::{AllocError, Global};
 use std::sync::Arc;

@@ -1,7 +1,7 @@
 //! A wire from an output to a test.
 use crate::rooms::Watch;
 use crate::tunes::Tone;
-use mpd_text::Counting;
+use counted_devices::Counting;
 use rtrb::{Consumer, Producer, RingBuffer};
 use std::alloc::{AllocError, Global};
 use std::io::{ErrorKind, Write};

@@ -15,21 +15,21 @@ use Rattle.script_lines.specs.declared.limit.LimitName.{LimitName}
 use Rattle.script_lines.specs.declared.limit.LimitName.TheVariants.{MaxQueue, MaxVersion, MaxId, MaxCut, History}
 use Rattle.script_lines.specs.declared.step.Step.{Step}
 use Rattle.script_lines.specs.declared.step.Step.TheVariants.{Song, Limit, Gone, Scanned, Want as WantStep, Have as HaveStep, Failed as FailedStep, Turn as TurnStep, Window}
-use Rattle.partition.specs.Answers.{Told}
-use Rattle.partition.specs.Lists.{ends_list}
-use Rattle.partition.specs.Shelves.{nothing_heard}
+use Rattle.player_events.specs.Told.{Told}
+use Rattle.player_events.specs.Events.{ends_list}
+use Rattle.command_plan.specs.Shelves.{nothing_heard}
 use Rattle.mpd_command.specs.Requests.{request_of}
 use Rattle.mpd_command.specs.declared.request.Request.{Request}
-use Rattle.partition.specs.declared.event.Event.{Event}
-use Rattle.partition.specs.declared.event.Stand.TheVariants.{InList}
-use Rattle.partition.specs.declared.event.Event.TheVariants.{Connect, Disconnect, Line, Want, Have, Failed, OutputTurn}
+use Rattle.player_events.specs.declared.event.Event.{Event}
+use Rattle.command_plan.specs.declared.asked.Stand.TheVariants.{InList}
+use Rattle.player_events.specs.declared.event.Event.TheVariants.{Connect, Disconnect, Line, Want, Have, Failed, OutputTurn}
 use Rattle.partition.specs.declared.partition.PartitionFault.{PartitionFault}
 use Rattle.partition.specs.declared.state.Limits.{Limits}
 use Rattle.daemon_script.specs.declared.memory.Memory.{Memory}
 use Rattle.daemon_script.specs.declared.memory.Memory.TheVariants.{Ample, NoneToConnect, NoneToFoldFirst, NoneToRead, NoneToRun, NoneToFold}
 use Rattle.daemon_script.specs.Kinds.{PlayerKind}
 use Rattle.daemon_script.specs.Output.{Run, script_after, text_of}
-use Rattle.daemon_script.specs.Reports.{report_text, window_text}
+use Rattle.script_reports.specs.Reports.{report_text, window_text}
 use Rattle.daemon_script.specs.Script.{Found, ScriptData, Shown, LineRun, bad, collects, lowers, limits_with, has_uri, told_for, notices_for, fault_of, found_at, found_first, found_then, refusal, sent_off, sends_off, applied, applies, scan_result, shown_step, shows_window, step_line, alone_line, request_run, asked_run, alone_run, request_in, read_of, end_of, closed_line, ListRun, list_goes, list_step, list_run, notices_by_number, lines_for, list_of, with_list, commands_run, collected_run, too_large_run, taken_run, line_run, connect_run, line_after, client_run, shown_client, shown_kind, shown_of}
 use Rattle.daemon_script.proofs.Ranges.{limit_at_least_one}
 

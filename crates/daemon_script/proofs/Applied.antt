@@ -6,18 +6,19 @@ use Rattle.std.specs.Prelude.{◌||◌, nat_le, not, slice_index_or}
 use Rattle.std.proofs.lemmas.List.{length-append}
 use Rattle.shelf.specs.Maps.{Same, no_maps}
 use Rattle.shelf.specs.declared.memory.MemShelf.{MemShelf}
-use Rattle.partition.specs.Answers.{Told}
+use Rattle.player_events.specs.Told.{Told}
 use Rattle.partition.specs.History.{Chronicle, folded, is_full, joined_by, with_room}
 use Rattle.partition.specs.Image.{Image}
 use Rattle.partition.specs.Lent.{IsFull, IsRefused, Records, Refuses, question, writing}
 use Rattle.partition.specs.Refusals.{MayRefuse}
-use Rattle.partition.specs.Shelves.{Serves}
-use Rattle.partition.specs.Step.{counts_frames, hearing, keeps_limits, limit_of, next_image, told, turn}
-use Rattle.partition.specs.declared.event.Event.{Event}
+use Rattle.command_plan.specs.Shelves.{Serves}
+use Rattle.partition.specs.Step.{counts_frames, keeps_limits, limit_of, next_image, told, turn}
+use Rattle.player_events.specs.Events.{hearing}
+use Rattle.player_events.specs.declared.event.Event.{Event}
 use Rattle.partition.specs.declared.partition.PartitionFault.{PartitionFault}
 use Rattle.partition.specs.declared.partition.PartitionFault.TheVariants.{HistoryFull, CutsAtLimit, AtLimit, NoMemory}
-use Rattle.partition.specs.declared.shelf_calls.Heard.{Heard}
-use Rattle.partition.specs.declared.event.Happened.{Happened}
+use Rattle.command_plan.specs.declared.shelf_calls.Heard.{Heard}
+use Rattle.player_events.specs.declared.event.Happened.{Happened}
 use Rattle.daemon_script.specs.Contents.{Contents, by_bytes, by_uri_and_name, no_contents}
 use Rattle.daemon_script.specs.Kinds.{Shelved, images, window_in_room}
 use Rattle.daemon_script.specs.Pieces.{found_by}

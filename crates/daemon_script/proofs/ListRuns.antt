@@ -9,20 +9,22 @@ use Rattle.mpd_command.specs.Requests.{name_in}
 use Rattle.mpd_command.specs.declared.request.Request.{Request}
 use Rattle.mpd_text.specs.Answers.Answer.{ack_line}
 use Rattle.shelf.specs.declared.memory.MemShelf.{MemShelf}
-use Rattle.partition.specs.Answers.{Told}
-use Rattle.partition.specs.Clients.{closes}
+use Rattle.player_events.specs.Told.{Told}
+use Rattle.idle_clients.specs.Clients.{closes}
 use Rattle.partition.specs.History.{Chronicle, is_full, joined, joined_by}
 use Rattle.partition.specs.Image.{Image}
 use Rattle.partition.specs.Lent.{ServesAll}
-use Rattle.partition.specs.Lists.{Answered, ends_list, entries_of, fault_text, AllWithin, RunsList, Stop, StopsList}
-use Rattle.partition.specs.Shelves.{nothing_heard}
-use Rattle.partition.specs.Step.{hearing, limit_of, told}
-use Rattle.partition.specs.declared.event.Event.{Event}
-use Rattle.partition.specs.declared.event.Event.TheVariants.{Line}
-use Rattle.partition.specs.declared.event.Happened.{Happened}
-use Rattle.partition.specs.declared.event.Next.{Next}
-use Rattle.partition.specs.declared.event.Next.TheVariants.{Goes, Waits, Closes}
-use Rattle.partition.specs.declared.event.Stand.TheVariants.{InList}
+use Rattle.partition.specs.Lists.{Answered, entries_of, fault_text, AllWithin, RunsList, Stop, StopsList}
+use Rattle.player_events.specs.Events.{ends_list}
+use Rattle.command_plan.specs.Shelves.{nothing_heard}
+use Rattle.player_events.specs.Events.{hearing}
+use Rattle.partition.specs.Step.{limit_of, told}
+use Rattle.player_events.specs.declared.event.Event.{Event}
+use Rattle.player_events.specs.declared.event.Event.TheVariants.{Line}
+use Rattle.player_events.specs.declared.event.Happened.{Happened}
+use Rattle.command_plan.specs.declared.reply.Next.{Next}
+use Rattle.command_plan.specs.declared.reply.Next.TheVariants.{Goes, Waits, Closes}
+use Rattle.command_plan.specs.declared.asked.Stand.TheVariants.{InList}
 use Rattle.partition.specs.declared.partition.PartitionFault.{PartitionFault}
 use Rattle.partition.specs.declared.partition.PartitionFault.TheVariants.{HistoryFull, CutsAtLimit, AtLimit, NoMemory}
 use Rattle.daemon_script.specs.Kinds.{Shelved, images}

@@ -4,17 +4,19 @@ use Rattle.std.specs.Prelude.{is_some, nat_le, option_map, slice_index_or, â—Œ+â
 use Rattle.std.specs.List.{list_any}
 use Rattle.mpd_text.specs.Songs.Song.{SongData}
 use Rattle.partition.specs.History.{replay}
-use Rattle.partition.specs.Image.{Image, opening, client_of}
+use Rattle.partition.specs.Image.{Image, opening}
+use Rattle.idle_clients.specs.Clients.{client_of}
 use Rattle.partition.specs.Legal.{ReplaysWorlds}
-use Rattle.partition.specs.Step.{hearing, limit_of, next_image, told}
+use Rattle.player_events.specs.Events.{hearing}
+use Rattle.partition.specs.Step.{limit_of, next_image, told}
 use Rattle.partition.specs.World.{Life, Listener, Moment, client_in, image_of, life_after_event, life_from, life_after, opening_life}
-use Rattle.partition.specs.declared.event.Event.{Event}
+use Rattle.player_events.specs.declared.event.Event.{Event}
 use Rattle.partition.specs.declared.partition.PartitionFault.{PartitionFault}
 use Rattle.partition.specs.declared.partition.PartitionFault.TheVariants.{HistoryFull, CutsAtLimit, AtLimit, NoMemory}
 use Rattle.partition.proofs.Counts.{made_of-at}
-use Rattle.partition.specs.declared.event.Happened.{Happened}
-use Rattle.partition.specs.declared.state.Client.{Client}
-use Rattle.partition.specs.declared.state.Library.{Library}
+use Rattle.player_events.specs.declared.event.Happened.{Happened}
+use Rattle.player_state.specs.declared.state.Client.{Client}
+use Rattle.player_state.specs.declared.state.Library.{Library}
 use Rattle.partition.specs.declared.state.Limits.{Limits}
 use Rattle.partition.specs.declared.state.Setup.{Setup}
 use Rattle.daemon_script.specs.Kinds.{library_of, left_by, setup_of, window_in_room, EventKind, Lived, Shelved, heard, image_kind, images, life_kind, lives, lived_after, told_at, seen}

@@ -5,9 +5,9 @@ use Rattle.std.proofs.lemmas.List.{map-append}
 use Rattle.std.specs.Option.{IsSome, IfSome}
 use Rattle.std.specs.Result.{OnErr}
 use Rattle.std.specs.Io.KnownBytes.{Appends, Consumes, Keeps, IsAtEnd}
-use Rattle.mpd_text.specs.declared.devices.tally.Tally.{Tally}
+use Rattle.counted_devices.specs.declared.tally.Tally.{Tally}
 use Rattle.mpd_text.specs.Lines.Cut.{split, cut, split_from, then_split}
-use Rattle.mpd_text.specs.Devices.Tally.{NoFewer, one_call}
+use Rattle.counted_devices.specs.Tally.{NoFewer, one_call}
 use Rattle.mpd_text.specs.Lines.Split.{line_of}
 use Rattle.partition.specs.Image.{Image}
 use Rattle.daemon_script.specs.Kinds.{Shelved, images}

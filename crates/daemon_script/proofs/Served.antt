@@ -8,15 +8,15 @@ use Rattle.shelf.specs.Memory.{memory_standing}
 use Rattle.shelf.specs.declared.faults.ShelfFault.{ShelfFault}
 use Rattle.shelf.specs.declared.faults.ShelfFault.TheVariants.{NoSuchList, Exists, BadName, NoSticker, StoreFault, NoMemory}
 use Rattle.shelf.specs.declared.memory.MemShelf.{MemShelf}
-use Rattle.partition.specs.declared.event.Event.{Event}
-use Rattle.partition.specs.declared.shelf_calls.Heard.{Heard}
-use Rattle.partition.specs.declared.shelf_calls.Read.{Read}
-use Rattle.partition.specs.declared.shelf_calls.Read.TheVariants as read_variant
-use Rattle.partition.specs.declared.shelf_calls.ShelfWrite.{ShelfWrite}
-use Rattle.partition.specs.declared.shelf_calls.ShelfWrite.TheVariants.{Nothing, Put, Create, Rename, Remove, SetSticker, DeleteSticker, DeleteStickers}
+use Rattle.player_events.specs.declared.event.Event.{Event}
+use Rattle.command_plan.specs.declared.shelf_calls.Heard.{Heard}
+use Rattle.command_plan.specs.declared.shelf_calls.Read.{Read}
+use Rattle.command_plan.specs.declared.shelf_calls.Read.TheVariants as read_variant
+use Rattle.command_plan.specs.declared.shelf_calls.ShelfWrite.{ShelfWrite}
+use Rattle.command_plan.specs.declared.shelf_calls.ShelfWrite.TheVariants.{Nothing, Put, Create, Rename, Remove, SetSticker, DeleteSticker, DeleteStickers}
 use Rattle.partition.specs.Image.{Image}
 use Rattle.partition.specs.Lent.{question, writing}
-use Rattle.partition.specs.Shelves.{IsAnswered, IsCause, IsRead, Question, NoQuestion, AskNames, AskList, AskSticker, AskStickers, AskFound, Serves, Spares, answered, is_ok_write, is_wanting, is_written, maps_after}
+use Rattle.command_plan.specs.Shelves.{IsAnswered, IsCause, IsRead, Question, NoQuestion, AskNames, AskList, AskSticker, AskStickers, AskFound, Serves, Spares, answered, is_ok_write, is_wanting, is_written, maps_after}
 use Rattle.daemon_script.specs.Contents.{Contents, contents_of, has_stickers, maps_in}
 use Rattle.daemon_script.specs.Shelf.{contents_after, contents_with, heard_by, list_read, read_in, refusal_in, shelf_after, sticker_read}
 use Rattle.daemon_script.proofs.Edited.{list_put, list_renamed, sticker_put, stickers_gone}

@@ -2,8 +2,8 @@
 use Rattle.std.proofs.Common.{◌≡◌, ℕ, List, [], ◌++◌, take, drop, Option, None, Some, refl, sym, ap, ◌∙◌, append_assoc, arith}
 use Rattle.std.specs.Io.KnownBytes.{Appends}
 use Rattle.std.proofs.lemmas.List.{append-nil, take-append-drop}
-use Rattle.mpd_text.specs.declared.devices.tally.Tally.{Tally}
-use Rattle.mpd_text.specs.Devices.Tally.{NoFewer}
+use Rattle.counted_devices.specs.declared.tally.Tally.{Tally}
+use Rattle.counted_devices.specs.Tally.{NoFewer}
 
 pub record Written (old new : Option (List ℕ)) (bytes rest : List ℕ) (before after : Tally) : Type 0 where
   pub front : List ℕ

@@ -1,20 +1,22 @@
 -- Two kinds of player: one that has what commands read, and one that has its whole past. Beside each is a shelf in memory.
 use Rattle.std.specs.Prelude.{ℕ, ◌+◌, nat_le, slice_index_or, if◌then◌else◌, Bool, false, true, List, [], ◌∷◌, ◌++◌, Option, is_some, codes}
 use Rattle.mpd_text.specs.Songs.Song.{SongData}
-use Rattle.partition.specs.Answers.{Told}
-use Rattle.partition.specs.Image.{Image, opening, client_of}
-use Rattle.partition.specs.Outputs.{OutputsData, no_outputs, switched}
-use Rattle.partition.specs.Scans.{never_scanned}
-use Rattle.partition.specs.Step.{hearing, limit_of, next_image, told}
+use Rattle.player_events.specs.Told.{Told}
+use Rattle.partition.specs.Image.{Image, opening}
+use Rattle.idle_clients.specs.Clients.{client_of}
+use Rattle.player_state.specs.Outputs.{OutputsData, no_outputs, switched}
+use Rattle.player_state.specs.Scans.{never_scanned}
+use Rattle.player_events.specs.Events.{hearing}
+use Rattle.partition.specs.Step.{limit_of, next_image, told}
 use Rattle.partition.specs.World.{Life, Moment, is_there, image_of, life_after_event, opening_life}
-use Rattle.partition.specs.declared.event.Event.{Event}
-use Rattle.partition.specs.declared.event.Happened.{Happened}
-use Rattle.partition.specs.declared.event.Next.TheVariants.{Goes}
+use Rattle.player_events.specs.declared.event.Event.{Event}
+use Rattle.player_events.specs.declared.event.Happened.{Happened}
+use Rattle.command_plan.specs.declared.reply.Next.TheVariants.{Goes}
 use Rattle.partition.specs.History.{own}
 use Rattle.partition.specs.declared.partition.PartitionFault.{PartitionFault}
 use Rattle.partition.specs.declared.partition.PartitionFault.TheVariants.{HistoryFull, CutsAtLimit, AtLimit, NoMemory}
-use Rattle.partition.specs.declared.report.Report.TheVariants.{Nothing}
-use Rattle.partition.specs.declared.state.Library.{Library}
+use Rattle.player_state.specs.declared.report.Report.TheVariants.{Nothing}
+use Rattle.player_state.specs.declared.state.Library.{Library}
 use Rattle.partition.specs.declared.state.Limits.{Limits}
 use Rattle.partition.specs.declared.state.Setup.{Setup}
 use Rattle.daemon_script.specs.Contents.{Contents, no_contents}

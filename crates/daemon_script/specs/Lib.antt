@@ -1,7 +1,6 @@
 pub mod Kinds
 pub mod Contents
 pub mod Shelf
-pub mod Reports
 pub mod Script
 pub mod Output
 pub mod Pieces

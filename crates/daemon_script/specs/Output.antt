@@ -1,7 +1,7 @@
 -- What a whole run writes (this profile's script).
 use Rattle.std.specs.Prelude.{◌≡◌, ℕ, ◌+◌, ◌-◌, ◌^◌, min, List, [], ◌∷◌, ◌++◌, map, codes, Option, Some, None, option_map}
 use Rattle.std.specs.Io.KnownBytes.{Appends, Consumes}
-use Rattle.mpd_text.specs.declared.devices.tally.Tally.{Tally}
+use Rattle.counted_devices.specs.declared.tally.Tally.{Tally}
 use Rattle.mpd_text.specs.Lines.Cut.{split}
 use Rattle.mpd_text.specs.Lines.Split.{line_of}
 use Rattle.partition.specs.Image.{Image}

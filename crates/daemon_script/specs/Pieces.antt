@@ -14,7 +14,7 @@ use Rattle.daemon_script.specs.Script.{Found, Enough, NoneFold, NoneRun, ScriptD
 use Rattle.command_lists.specs.declared.word.ListForm.{ListForm}
 use Rattle.mpd_command.specs.declared.request.Request.{Request}
 use Rattle.mpd_text.specs.Answers.Answer.{ack_line}
-use Rattle.partition.specs.Answers.{Told}
+use Rattle.player_events.specs.Told.{Told}
 use Rattle.partition.specs.Lists.{Stop, fault_text}
 
 -- what an event found of memory that was refused

@@ -17,26 +17,28 @@ use Rattle.script_lines.specs.declared.limit.LimitName.{LimitName}
 use Rattle.script_lines.specs.declared.limit.LimitName.TheVariants.{MaxQueue, MaxVersion, MaxId, MaxCut, History}
 use Rattle.script_lines.specs.declared.step.Step.{Step}
 use Rattle.script_lines.specs.declared.step.Step.TheVariants.{Song, Limit, Gone, Scanned, Want as WantStep, Have as HaveStep, Failed as FailedStep, Turn as TurnStep, Window}
-use Rattle.partition.specs.Answers.{Answer, Told}
-use Rattle.partition.specs.Commands.Status.{notice_text}
+use Rattle.command_plan.specs.Answers.{Answer}
+use Rattle.player_events.specs.Told.{Told}
+use Rattle.status_commands.specs.Status.{notice_text}
 use Rattle.mpd_command.specs.Requests.{request_of, name_in}
 use Rattle.mpd_command.specs.declared.request.Request.{Request}
 use Rattle.mpd_command.specs.declared.request.Request.TheVariants.{Refused}
 use Rattle.mpd_text.specs.declared.answers.answer.ErrorNumber.TheVariants.{Argument}
-use Rattle.partition.specs.Clients.{closes}
-use Rattle.partition.specs.Lists.{ends_list, fault_text}
-use Rattle.partition.specs.declared.event.Stand.TheVariants.{Alone, InList}
-use Rattle.partition.specs.declared.event.Event.{Event}
-use Rattle.partition.specs.declared.event.Event.TheVariants.{Connect, Disconnect, Line, ScanResult, Want, Have, Failed, OutputTurn}
-use Rattle.partition.specs.declared.event.Next.{Next}
-use Rattle.partition.specs.declared.event.Next.TheVariants.{Goes, Waits, Closes}
-use Rattle.partition.specs.declared.event.Notice.{Notice}
+use Rattle.idle_clients.specs.Clients.{closes}
+use Rattle.player_events.specs.Events.{ends_list}
+use Rattle.partition.specs.Lists.{fault_text}
+use Rattle.command_plan.specs.declared.asked.Stand.TheVariants.{Alone, InList}
+use Rattle.player_events.specs.declared.event.Event.{Event}
+use Rattle.player_events.specs.declared.event.Event.TheVariants.{Connect, Disconnect, Line, ScanResult, Want, Have, Failed, OutputTurn}
+use Rattle.command_plan.specs.declared.reply.Next.{Next}
+use Rattle.command_plan.specs.declared.reply.Next.TheVariants.{Goes, Waits, Closes}
+use Rattle.idle_clients.specs.declared.notices.Notice.{Notice}
 use Rattle.partition.specs.declared.partition.PartitionFault.{PartitionFault}
 use Rattle.partition.specs.declared.partition.PartitionFault.TheVariants.{HistoryFull, NoMemory}
 use Rattle.partition.specs.declared.state.Limits.{Limits}
-use Rattle.partition.specs.Shelves.{nothing_heard}
+use Rattle.command_plan.specs.Shelves.{nothing_heard}
 use Rattle.daemon_script.specs.Kinds.{PlayerKind}
-use Rattle.daemon_script.specs.Reports.{report_text, window_text}
+use Rattle.script_reports.specs.Reports.{report_text, window_text}
 use Rattle.daemon_script.specs.declared.memory.Memory.{Memory}
 use Rattle.daemon_script.specs.declared.memory.Memory.TheVariants.{NoneToConnect, NoneToFoldFirst, NoneToRead, NoneToRun, NoneToFold}
 

@@ -5,15 +5,15 @@ use Rattle.shelf.specs.declared.faults.ShelfFault.{ShelfFault}
 use Rattle.shelf.specs.declared.faults.ShelfFault.TheVariants.{NoSuchList, NoSticker}
 use Rattle.shelf.specs.Maps.{refusal_of_list, refusal_of_put, refusal_of_create, refusal_of_rename, refusal_of_set, refusal_of_sticker}
 use Rattle.daemon_script.specs.Contents.{Contents, has_stickers, is_of_other, maps_in, put_in, stickers_named, stickers_of}
-use Rattle.partition.specs.declared.event.Event.{Event}
-use Rattle.partition.specs.declared.shelf_calls.Heard.{Heard}
-use Rattle.partition.specs.declared.shelf_calls.Read.{Read}
-use Rattle.partition.specs.declared.shelf_calls.Read.TheVariants as read_variant
-use Rattle.partition.specs.declared.shelf_calls.ShelfWrite.{ShelfWrite}
-use Rattle.partition.specs.declared.shelf_calls.ShelfWrite.TheVariants.{Nothing, Put, Create, Rename, Remove, SetSticker, DeleteSticker, DeleteStickers}
+use Rattle.player_events.specs.declared.event.Event.{Event}
+use Rattle.command_plan.specs.declared.shelf_calls.Heard.{Heard}
+use Rattle.command_plan.specs.declared.shelf_calls.Read.{Read}
+use Rattle.command_plan.specs.declared.shelf_calls.Read.TheVariants as read_variant
+use Rattle.command_plan.specs.declared.shelf_calls.ShelfWrite.{ShelfWrite}
+use Rattle.command_plan.specs.declared.shelf_calls.ShelfWrite.TheVariants.{Nothing, Put, Create, Rename, Remove, SetSticker, DeleteSticker, DeleteStickers}
 use Rattle.partition.specs.Image.{Image}
 use Rattle.partition.specs.Lent.{question, writing}
-use Rattle.partition.specs.Shelves.{Question, NoQuestion, AskNames, AskList, AskSticker, AskStickers, AskFound}
+use Rattle.command_plan.specs.Shelves.{Question, NoQuestion, AskNames, AskList, AskSticker, AskStickers, AskFound}
 
 abbrev pub list_read : Option (List (List ℕ)) → Read
 list_read None = read_variant.Refused NoSuchList

@@ -11,9 +11,12 @@ use crate::lists::run_commands;
 use crate::memory::Memory;
 use crate::player::Player;
 use command_lists::{ListCollector, Taken};
+use command_plan::{Next, Reply, Stand};
+use idle_clients::Notice;
 use mpd_command::Request;
 use mpd_text::{Answer, ErrorNumber};
-use partition::{Event, Next, Notice, Outcome, PartitionFault, Reply, Stand};
+use partition::PartitionFault;
+use player_events::{Event, Outcome};
 use std::alloc::{AllocError, Global};
 
 /// What a client line found of memory, and whether its client was there when it was run.

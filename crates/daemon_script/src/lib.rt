@@ -6,7 +6,6 @@ mod laws;
 mod lists;
 mod memory;
 mod player;
-mod reports;
 mod run;
 mod script;
 

@@ -10,9 +10,11 @@ use crate::client_lines::{push_lines, push_notice};
 use crate::memory::Memory;
 use crate::player::Player;
 use command_lists::{CommandList, ListLine};
+use idle_clients::Notice;
 use mpd_command::{Ack, Request};
 use mpd_text::{Answer, ErrorNumber, Text};
-use partition::{ListFault, ListOutcome, Notice, Outcome, PartitionFault};
+use partition::{ListFault, ListOutcome, PartitionFault};
+use player_events::Outcome;
 use std::alloc::{AllocError, Global};
 
 /// The numbers of a script's clients.

@@ -8,9 +8,9 @@ ghost use Rattle.daemon_script.specs.Script.{Enough, refusal};
 
 use command_lists::ListForm;
 use mpd_command::Request;
-use partition::{
-    Event, Library, ListFault, ListOutcome, Outcome, Partition, PartitionFault, Setup,
-};
+use partition::{ListFault, ListOutcome, Partition, PartitionFault, Setup};
+use player_events::{Event, Outcome};
+use player_state::Library;
 use shelf::MemShelf;
 use std::alloc::{AllocError, Global};
 use std::marker::Model;

@@ -2,7 +2,7 @@
 ghost use Rattle.std.specs.Prelude.{◌≡◌, ◌⊎◌, ◌≤◌, ◌+◌, ◌^◌, OnOk, OnErr, IfErr, IfSome, IsErrOf, IsSome, Some, []};
 ghost use Rattle.std.specs.Io.KnownBytes.{Appends};
 ghost use Rattle.mpd_text.specs.Lines.Cut.{split_from};
-ghost use Rattle.mpd_text.specs.Devices.Tally.{HasFailed, NoFewer};
+ghost use Rattle.counted_devices.specs.Tally.{HasFailed, NoFewer};
 ghost use Rattle.mpd_text.specs.Lines.Split.{views};
 ghost use Rattle.daemon_script.specs.Kinds.{images, lives};
 ghost use Rattle.daemon_script.specs.Output.{WritesOutput, WritesAll, WritesFront, AppendsFront, CalledTooOften};
@@ -11,7 +11,8 @@ ghost use Rattle.daemon_script.specs.Script.{opening_script};
 
 use crate::laws::runs_are_lived;
 use crate::script::Script;
-use mpd_text::{Line, Sink, Source, SplitFault, Splitter, any_cut};
+use counted_devices::{Sink, Source};
+use mpd_text::{Line, SplitFault, Splitter, any_cut};
 use std::alloc::{AllocError, Global};
 
 /// The most reads of a run.

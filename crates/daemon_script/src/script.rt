@@ -10,11 +10,13 @@ ghost use Rattle.daemon_script.specs.Script.{no_lists as no_lists_lem, client_ru
 use crate::client_lines::{LineRun, push_fault, push_notices, run_line};
 use crate::memory::Memory;
 use crate::player::Player;
-use crate::reports::{push_report, push_window};
 use command_lists::ListCollector;
 use mpd_text::{Line, SharedText, Song, Tag};
-use partition::{Event, Library, Limits, Outputs, PartitionFault, Scan, Setup};
+use partition::{Limits, PartitionFault, Setup};
+use player_events::Event;
+use player_state::{Library, Outputs, Scan};
 use script_lines::{LimitName, MAX_HISTORY, MAX_ID, MAX_QUEUE, MAX_VERSION, ScriptLine, Step};
+use script_reports::{push_report, push_window};
 use song_db::{Db, DbFault, MAX_SONGS, Rate, SharedDb};
 use std::alloc::{AllocError, Global};
 use std::marker::Model;

@@ -1,15 +1,1 @@
-pub mod Booked
 pub mod Crosses
-pub mod Eight
-pub mod Few
-pub mod Frameless
-pub mod Heard
-pub mod ListEntries
-pub mod ListRooms
-pub mod Opening
-pub mod Owns
-pub mod Plain
-pub mod Quiet
-pub mod Same
-pub mod Somewhere
-pub mod Songs

@@ -1,34 +1,34 @@
 //! The house: one lock, which any thread with a seat takes.
 ghost use Rattle.std.specs.Prelude.{◌≡◌, ◌+◌, ◌<◌, IfErr, IfOk, IfSome, OnErr, OnOk, length, ℕ};
-ghost use Rattle.frame_ledger.specs.Balance.{IsBlankOf as IsBlank};
+ghost use Rattle.held_player.specs.Blanks.{AreFor};
 ghost use Rattle.output_ring.specs.Rings.{AreEndsAfter};
 ghost use Rattle.partition.specs.History.{Chronicle};
 ghost use Rattle.partition.specs.Legal.{IsPast};
-ghost use Rattle.partition.specs.Shelves.{nothing_heard};
-ghost use Rattle.partition.specs.declared.event.Event.TheVariants.{End, Have, Line, OutputTurn};
-ghost use Rattle.partition.specs.declared.event.Stand.TheVariants.{Alone};
-ghost use Rattle.house.specs.Lists.{StopsListSomewhere, TellsListSomewhere};
-ghost use Rattle.house.specs.News.{event_of};
-ghost use Rattle.house.specs.Seats.{after_events, IsBlankOf};
-ghost use Rattle.house.specs.Settling.{AreOfSomePast, Settles, numbers_in};
-ghost use Rattle.house.specs.Views.{AnswersSomewhere, FeedsSomewhere, IsFresh, IsUnwritten, RefusesSomewhere, StopsSomewhere, TellsSomewhere, song_of};
+ghost use Rattle.command_plan.specs.Shelves.{nothing_heard};
+ghost use Rattle.player_events.specs.declared.event.Event.TheVariants.{End, Have, Line, OutputTurn};
+ghost use Rattle.command_plan.specs.declared.asked.Stand.TheVariants.{Alone};
+ghost use Rattle.held_player.specs.Lists.{StopsListSomewhere, TellsListSomewhere};
+ghost use Rattle.held_player.specs.News.{event_of};
+ghost use Rattle.counted_player.specs.Seats.{after_events};
+ghost use Rattle.held_player.specs.Settling.{AreOfSomePast, Settles, numbers_in};
+ghost use Rattle.counted_player.specs.Counts.{AnswersSomewhere, IsFresh, song_of};
+ghost use Rattle.held_player.specs.Views.{FeedsSomewhere, IsUnwritten, RefusesSomewhere, StopsSomewhere, TellsSomewhere};
 ghost use Rattle.song_queue.specs.State.{queue_of};
 
-use crate::answered::{Answered, AnsweredList, Reported};
-use crate::fed::Fed;
-use crate::held::{Blanks, CrewShares, Held};
-use crate::news::News;
-use crate::seat::{NoSeat, Seat};
-use crate::settlement::Settlement;
 use command_lists::ListForm;
+use counted_player::{Decoded, Discarded, Ledgers, NoSeat, Seat, Written};
 use frame_ledger::OutputShares;
+use held_player::{
+    Answered, AnsweredList, Blanks, CrewShares, Fed, Held, News, Reported, Settlement,
+};
+use idle_clients::Notice;
 use mpd_command::Request;
 use output_ring::{Drainer, Fates, FeederEnd};
-use partition::{ListFault, Notice, Partition, PartitionFault};
+use partition::{ListFault, Partition, PartitionFault};
 use shelf::Shelf;
 use song_db::SharedSong;
 use std::alloc::{AllocError, Global};
-use std::sync::ledger::{Ledger, Share};
+use std::sync::ledger::Share;
 use std::sync::{Condvar, Mutex, Wait};
 use std::time::{Clock, Duration};
 
@@ -36,13 +36,23 @@ use std::time::{Clock, Duration};
 const IDLE_REST: u64 = 1_000;
 
 /// A player that any thread may use.
-#[derive(Drop)]
-pub struct House<A: Ledger, B: Ledger, C: Ledger, D: Ledger, E: Ledger, W: Ledger, X: Ledger> {
-    held: Mutex<Held<A, B, C, D, E, W, X>>,
+pub struct House<L: Ledgers> {
+    held: Mutex<Held<L>>,
     /// Rung where something changed that a thread at rest is woken for.
     bell: Condvar,
     /// Rung where a notice waits for a client.
     door: Condvar,
+}
+
+// Written out, so that it is proved here once, and not again in each crate that lets a house go.
+impl<L: Ledgers> Drop for House<L> {
+    fn drop(self) {
+        let House {
+            held: _,
+            bell: _,
+            door: _,
+        } = self;
+    }
 }
 
 /// Which of the two is rung once the lock is free.
@@ -52,25 +62,16 @@ struct Rung {
     door: bool,
 }
 
-impl<A: Ledger, B: Ledger, C: Ledger, D: Ledger, E: Ledger, W: Ledger, X: Ledger> House<
-    A,
-    B,
-    C,
-    D,
-    E,
-    W,
-    X,
-> {
+impl<L: Ledgers> House<L> {
     /// The house of a player of which no seat made an event yet.
     pub fn open(
         alloc: Global,
         blanks: Blanks,
         partition: Partition,
-    ) -> Result<(Self, CrewShares<E, W, X>), AllocError>
+    ) -> Result<(Self, CrewShares<L>), AllocError>
         requires fresh { IsFresh partition.present }
-        requires seats { IsBlankOf blanks.first A.name A.parts × IsBlankOf blanks.second B.name B.parts × IsBlankOf blanks.third C.name C.parts × IsBlankOf blanks.fourth D.name D.parts }
-        requires books { IsBlank blanks.frames.decoded E.name E.parts × IsBlank blanks.frames.written W.name W.parts × IsBlank blanks.frames.discarded X.name X.parts }
-        ensures parts { IfOk result (λ r. (r.1.decoded.parts ≡ E.parts) × (r.1.outputs.written.parts ≡ W.parts) × (r.1.outputs.discarded.parts ≡ X.parts)) }
+        requires blanks { AreFor L.names blanks }
+        ensures parts { IfOk result (λ r. (r.1.decoded.parts ≡ 1) × (r.1.outputs.written.parts ≡ 9) × (r.1.outputs.discarded.parts ≡ 9)) }
         ensures amounts { IfOk result (λ r. (r.1.decoded.amount ≡ 0) × (r.1.outputs.written.amount ≡ 0) × (r.1.outputs.discarded.amount ≡ 0)) }
     {
         let (held, shares) = Held::open(alloc, blanks, partition)?;
@@ -89,7 +90,7 @@ impl<A: Ledger, B: Ledger, C: Ledger, D: Ledger, E: Ledger, W: Ledger, X: Ledger
     /// # Errors
     ///
     /// [`NoSeat`] where all four are given.
-    pub fn seat(&self, rt: &impl Wait) -> Result<Seat<A, B, C, D>, NoSeat>
+    pub fn seat(&self, rt: &impl Wait) -> Result<Seat<L>, NoSeat>
         ensures { IfOk result (λ s. (s.number < 4) × (s.made ≡ 0)) }
     {
         self.held.lock(rt).seat()
@@ -104,7 +105,7 @@ impl<A: Ledger, B: Ledger, C: Ledger, D: Ledger, E: Ledger, W: Ledger, X: Ledger
     pub fn command<S: Shelf>(
         &self,
         rt: &impl Wait,
-        seat: &mut Seat<A, B, C, D>,
+        seat: &mut Seat<L>,
         shelf: &mut S,
         client: u32,
         request: Request,
@@ -134,7 +135,7 @@ impl<A: Ledger, B: Ledger, C: Ledger, D: Ledger, E: Ledger, W: Ledger, X: Ledger
     pub fn list<S: Shelf>(
         &self,
         rt: &impl Wait,
-        seat: &mut Seat<A, B, C, D>,
+        seat: &mut Seat<L>,
         shelf: &mut S,
         client: u32,
         form: ListForm,
@@ -165,7 +166,7 @@ impl<A: Ledger, B: Ledger, C: Ledger, D: Ledger, E: Ledger, W: Ledger, X: Ledger
     pub fn notice(
         &self,
         rt: &impl Wait,
-        seat: &mut Seat<A, B, C, D>,
+        seat: &mut Seat<L>,
         news: News,
     ) -> Result<Reported, PartitionFault>
         ensures made { OnOk result (seat.new ≡ after_events seat.old 1) }
@@ -199,10 +200,10 @@ impl<A: Ledger, B: Ledger, C: Ledger, D: Ledger, E: Ledger, W: Ledger, X: Ledger
     pub fn have(
         &self,
         rt: &impl Wait,
-        seat: &mut Seat<A, B, C, D>,
+        seat: &mut Seat<L>,
         number: u64,
         frames: u64,
-        share: &mut Share<E>,
+        share: &mut Share<Decoded<L>>,
     ) -> Result<Fed, PartitionFault>
         requires { 0 < share.old.parts }
         ensures made { OnOk result (seat.new ≡ after_events seat.old 1) }
@@ -230,11 +231,11 @@ impl<A: Ledger, B: Ledger, C: Ledger, D: Ledger, E: Ledger, W: Ledger, X: Ledger
     pub fn turn(
         &self,
         rt: &impl Wait,
-        seat: &mut Seat<A, B, C, D>,
+        seat: &mut Seat<L>,
         output: usize,
         fates: Fates,
         failed: bool,
-        shares: &mut OutputShares<W, X>,
+        shares: &mut OutputShares<Written<L>, Discarded<L>>,
     ) -> Result<Reported, PartitionFault>
         requires { (0 < shares.old.written.parts) × (0 < shares.old.discarded.parts) }
         ensures made { OnOk result (seat.new ≡ after_events seat.old 1) }
@@ -261,8 +262,8 @@ impl<A: Ledger, B: Ledger, C: Ledger, D: Ledger, E: Ledger, W: Ledger, X: Ledger
         end: FeederEnd,
         drainer: Drainer,
         output: usize,
-        shares: &mut OutputShares<W, X>,
-    ) -> Settlement<E, W, X>
+        shares: &mut OutputShares<Written<L>, Discarded<L>>,
+    ) -> Settlement<L>
         requires ends { AreEndsAfter end drainer }
         requires output { output < 8 }
         requires parts { (0 < shares.old.written.parts) × (0 < shares.old.discarded.parts) }
@@ -279,7 +280,7 @@ impl<A: Ledger, B: Ledger, C: Ledger, D: Ledger, E: Ledger, W: Ledger, X: Ledger
     /// # Errors
     ///
     /// As [`Held::end`].
-    pub fn end(&self, rt: &impl Wait, seat: &mut Seat<A, B, C, D>) -> Result<(), PartitionFault>
+    pub fn end(&self, rt: &impl Wait, seat: &mut Seat<L>) -> Result<(), PartitionFault>
         ensures made { OnOk result (seat.new ≡ after_events seat.old 1) }
         ensures fault { OnErr result (seat.new ≡ seat.old) }
         ensures refused { IfErr result (λ fault. RefusesSomewhere seat.old End fault) }
@@ -307,7 +308,7 @@ impl<A: Ledger, B: Ledger, C: Ledger, D: Ledger, E: Ledger, W: Ledger, X: Ledger
     /// Rests until something changed since the house had changed so often; while a song is played, no longer than the time that is
     /// given, and else a second. Answers how often it has changed by then.
     ///
-    /// What changes is what a thread has something to do for ([`Reported::changes`](crate::Reported::changes)): whether and what is
+    /// What changes is what a thread has something to do for ([`Reported::changes`](held_player::Reported::changes)): whether and what is
     /// played, which outputs are enabled, which scan runs, and the end. Frames in a ring are no change.
     pub fn rest<R: Wait + Clock>(&self, rt: &R, seen: u64, while_playing: Duration) -> u64 {
         let plays = self.held.lock(rt).plays();
@@ -348,10 +349,7 @@ impl<A: Ledger, B: Ledger, C: Ledger, D: Ledger, E: Ledger, W: Ledger, X: Ledger
 }
 
 /// What is rung where the house had changed so often before a step.
-fn rung_since<A: Ledger, B: Ledger, C: Ledger, D: Ledger, E: Ledger, W: Ledger, X: Ledger>(
-    held: &Held<A, B, C, D, E, W, X>,
-    before: u64,
-) -> Rung {
+fn rung_since<L: Ledgers>(held: &Held<L>, before: u64) -> Rung {
     Rung {
         bell: held.changes() != before,
         door: held.has_notices(),

@@ -1,27 +1,28 @@
 //! Two threads add songs to one queue.
 ghost use Rattle.std.specs.Prelude.{◌≡◌, ◌+◌, ◌<◌, IfOk};
-ghost use Rattle.house.specs.Seats.{IsBlankOf};
+ghost use Rattle.held_player.specs.Blanks.{AreFor};
 
 use crate::rooms::{adds_a_song, blanks, comes, player, says};
 use crate::wanted::wants;
-use house::{Blanks, House, Seat};
+use counted_player::{Ledgers, Seat};
+use held_player::Blanks;
+use house::House;
 use partition::PartitionFault;
 use std::alloc::{AllocError, Global};
 use std::marker::Brand;
 use std::sync::Wait;
-use std::sync::ledger::Ledger;
 use std::test::Fail;
 use std::thread;
 use std::thread::Threads;
 
 /// A client comes, and adds a song a hundred times.
-fn adds<A: Ledger, B: Ledger, C: Ledger, D: Ledger, E: Ledger, W: Ledger, X: Ledger>(
+fn adds<L: Ledgers>(
     rt: &impl Wait,
     alloc: Global,
-    house: &House<A, B, C, D, E, W, X>,
-    seat: Seat<A, B, C, D>,
+    house: &House<L>,
+    seat: Seat<L>,
     client: u32,
-) -> Result<Seat<A, B, C, D>, PartitionFault>
+) -> Result<Seat<L>, PartitionFault>
     requires { seat.number < 4 }
     ensures { IfOk result (λ s. (s.number ≡ seat.number) × (s.made ≡ seat.made + 101)) }
 {
@@ -43,24 +44,15 @@ struct Counts {
 }
 
 /// Both clients add their songs, each in a thread of its own.
-fn add_at_once<
-    A: Ledger + Send + Sync,
-    B: Ledger + Send + Sync,
-    C: Ledger + Send + Sync,
-    D: Ledger + Send + Sync,
-    E: Ledger + Send + Sync,
-    W: Ledger + Send + Sync,
-    X: Ledger + Send + Sync,
-    R: Threads + Wait + Sync,
->(
+fn add_at_once<L: Ledgers + Send + Sync, R: Threads + Wait + Sync>(
     rt: &R,
     alloc: Global,
-    house: &House<A, B, C, D, E, W, X>,
-    one: Seat<A, B, C, D>,
-    two: Seat<A, B, C, D>,
+    house: &House<L>,
+    one: Seat<L>,
+    two: Seat<L>,
 ) -> (
-    Result<Seat<A, B, C, D>, PartitionFault>,
-    Result<Seat<A, B, C, D>, PartitionFault>,
+    Result<Seat<L>, PartitionFault>,
+    Result<Seat<L>, PartitionFault>,
 )
     requires one { (one.made ≡ 0) × (one.number < 4) }
     requires two { (two.made ≡ 0) × (two.number < 4) }
@@ -68,27 +60,22 @@ fn add_at_once<
 {
     thread::join(
         rt,
-        move || -> Result<Seat<A, B, C, D>, PartitionFault>
+        move || -> Result<Seat<L>, PartitionFault>
             requires { (one.made ≡ 0) × (one.number < 4) }
             ensures { IfOk result (λ s. s.made ≡ 101) }
         { adds(rt, alloc, house, one, 1) },
-        move || -> Result<Seat<A, B, C, D>, PartitionFault>
+        move || -> Result<Seat<L>, PartitionFault>
             requires { (two.made ≡ 0) × (two.number < 4) }
             ensures { IfOk result (λ s. s.made ≡ 101) }
         { adds(rt, alloc, house, two, 2) },
     )
 }
 
-fn race<
-    A: Ledger + Send + Sync,
-    B: Ledger + Send + Sync,
-    C: Ledger + Send + Sync,
-    D: Ledger + Send + Sync,
-    E: Ledger + Send + Sync,
-    W: Ledger + Send + Sync,
-    X: Ledger + Send + Sync,
-    R: Threads + Wait + Sync,
->(rt: &R, alloc: Global, house: &House<A, B, C, D, E, W, X>) -> Result<Counts, PartitionFault>
+fn race<L: Ledgers + Send + Sync, R: Threads + Wait + Sync>(
+    rt: &R,
+    alloc: Global,
+    house: &House<L>,
+) -> Result<Counts, PartitionFault>
     ensures { IfOk result (λ e. (e.first ≡ 101) × (e.second ≡ 101)) }
 {
     let (Ok(one), Ok(two), Ok(mut three)) = (house.seat(rt), house.seat(rt), house.seat(rt)) else {
@@ -109,25 +96,16 @@ fn race<
     })
 }
 
-fn evening<
-    A: Ledger + Send + Sync,
-    B: Ledger + Send + Sync,
-    C: Ledger + Send + Sync,
-    D: Ledger + Send + Sync,
-    E: Ledger + Send + Sync,
-    W: Ledger + Send + Sync,
-    X: Ledger + Send + Sync,
-    R: Threads + Wait + Sync,
->(rt: &R, alloc: Global, blanks: Blanks, history: u32) -> Result<Counts, PartitionFault>
-    requires seats { IsBlankOf blanks.first A.name A.parts × IsBlankOf blanks.second B.name B.parts × IsBlankOf blanks.third C.name C.parts × IsBlankOf blanks.fourth D.name D.parts }
-    requires books { IsBlankOf blanks.frames.decoded E.name E.parts × IsBlankOf blanks.frames.written W.name W.parts × IsBlankOf blanks.frames.discarded X.name X.parts }
+fn evening<L: Ledgers + Send + Sync, R: Threads + Wait + Sync>(
+    rt: &R,
+    alloc: Global,
+    blanks: Blanks,
+    history: u32,
+) -> Result<Counts, PartitionFault>
+    requires blanks { AreFor L.names blanks }
     ensures { IfOk result (λ e. (e.first ≡ 101) × (e.second ≡ 101)) }
 {
-    let (house, _shares) = House::<A, B, C, D, E, W, X>::open(
-        alloc,
-        blanks,
-        player(alloc, history)?,
-    )?;
+    let (house, _shares) = House::<L>::open(alloc, blanks, player(alloc, history)?)?;
     race(rt, alloc, &house)
 }
 
@@ -136,12 +114,7 @@ fn told<R: Threads + Wait + Sync>(
     alloc: Global,
     history: u32,
 ) -> Result<String, PartitionFault> {
-    let counts = evening::<Brand, Brand, Brand, Brand, Brand, Brand, Brand, R>(
-        rt,
-        alloc,
-        blanks(),
-        history,
-    )?;
+    let counts = evening::<Brand, R>(rt, alloc, blanks(), history)?;
     let (first, second, fifth) = (counts.first, counts.second, counts.fifth);
     let status = counts.status.as_str();
     Ok(format!(in alloc; "{first} {second} {fifth}\n{status}")?)

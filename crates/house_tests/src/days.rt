@@ -1,24 +1,25 @@
 //! Clients come and go, a scan is asked for, and lists are run.
 ghost use Rattle.std.specs.Prelude.{◌≡◌};
-ghost use Rattle.frame_ledger.specs.Balance.{IsBlankOf as IsBlank};
-ghost use Rattle.house.specs.Seats.{IsBlankOf};
+ghost use Rattle.held_player.specs.Blanks.{AreFor};
 
 use crate::rooms::{blanks, comes, lists, opened, says};
 use crate::wanted::wants;
-use house::{Blanks, House, News, Seat};
-use partition::{PartitionFault, Report};
+use counted_player::{Ledgers, Seat};
+use held_player::{Blanks, News};
+use house::House;
+use partition::PartitionFault;
+use player_state::Report;
 use std::alloc::Global;
 use std::marker::Brand;
 use std::sync::Wait;
-use std::sync::ledger::Ledger;
 use std::test::Fail;
 
 /// What is told at a piece of news: to a client, or to a scanner.
-fn news<A: Ledger, B: Ledger, C: Ledger, D: Ledger, E: Ledger, W: Ledger, X: Ledger>(
+fn news<L: Ledgers>(
     rt: &impl Wait,
     alloc: Global,
-    house: &House<A, B, C, D, E, W, X>,
-    seat: &mut Seat<A, B, C, D>,
+    house: &House<L>,
+    seat: &mut Seat<L>,
     news: News,
 ) -> Result<String, PartitionFault> {
     let told = house.notice(rt, seat, news)?;
@@ -35,11 +36,7 @@ fn news<A: Ledger, B: Ledger, C: Ledger, D: Ledger, E: Ledger, W: Ledger, X: Led
 }
 
 /// What waits in the outbox of a client.
-fn outbox<A: Ledger, B: Ledger, C: Ledger, D: Ledger, E: Ledger, W: Ledger, X: Ledger>(
-    rt: &impl Wait,
-    house: &House<A, B, C, D, E, W, X>,
-    client: u32,
-) -> &'static str {
+fn outbox<L: Ledgers>(rt: &impl Wait, house: &House<L>, client: u32) -> &'static str {
     match house.outbox(rt, client) {
         Some(_) => "a notice\n",
         None => "none\n",
@@ -47,11 +44,11 @@ fn outbox<A: Ledger, B: Ledger, C: Ledger, D: Ledger, E: Ledger, W: Ledger, X: L
 }
 
 /// A client waits, another makes a change in a list, and the first goes before it is told.
-fn goes<A: Ledger, B: Ledger, C: Ledger, D: Ledger, E: Ledger, W: Ledger, X: Ledger>(
+fn goes<L: Ledgers>(
     rt: &impl Wait,
     alloc: Global,
-    house: &House<A, B, C, D, E, W, X>,
-    seat: &mut Seat<A, B, C, D>,
+    house: &House<L>,
+    seat: &mut Seat<L>,
 ) -> Result<String, PartitionFault> {
     comes(rt, house, seat, 1)?;
     says(rt, alloc, house, seat, 1, "idle")?;
@@ -63,11 +60,11 @@ fn goes<A: Ledger, B: Ledger, C: Ledger, D: Ledger, E: Ledger, W: Ledger, X: Led
 }
 
 /// A scan is asked for and fails.
-fn scans<A: Ledger, B: Ledger, C: Ledger, D: Ledger, E: Ledger, W: Ledger, X: Ledger>(
+fn scans<L: Ledgers>(
     rt: &impl Wait,
     alloc: Global,
-    house: &House<A, B, C, D, E, W, X>,
-    seat: &mut Seat<A, B, C, D>,
+    house: &House<L>,
+    seat: &mut Seat<L>,
 ) -> Result<String, PartitionFault> {
     let mut heard = news(rt, alloc, house, seat, News::AsksToScan)?;
     heard.push_str(says(rt, alloc, house, seat, 2, "update")?.as_str())?;
@@ -77,11 +74,11 @@ fn scans<A: Ledger, B: Ledger, C: Ledger, D: Ledger, E: Ledger, W: Ledger, X: Le
 }
 
 /// Sixty-three more clients come, and one too many.
-fn crowds<A: Ledger, B: Ledger, C: Ledger, D: Ledger, E: Ledger, W: Ledger, X: Ledger>(
+fn crowds<L: Ledgers>(
     rt: &impl Wait,
     alloc: Global,
-    house: &House<A, B, C, D, E, W, X>,
-    seat: &mut Seat<A, B, C, D>,
+    house: &House<L>,
+    seat: &mut Seat<L>,
 ) -> Result<String, PartitionFault> {
     for client in 3..65u32 {
         comes(rt, house, seat, client)?;
@@ -93,10 +90,10 @@ fn crowds<A: Ledger, B: Ledger, C: Ledger, D: Ledger, E: Ledger, W: Ledger, X: L
 }
 
 /// The URI of the song that an entry of the queue has.
-fn song<A: Ledger, B: Ledger, C: Ledger, D: Ledger, E: Ledger, W: Ledger, X: Ledger>(
+fn song<L: Ledgers>(
     rt: &impl Wait,
     alloc: Global,
-    house: &House<A, B, C, D, E, W, X>,
+    house: &House<L>,
     id: u32,
 ) -> Result<String, PartitionFault> {
     match house.song(rt, id)? {
@@ -106,10 +103,7 @@ fn song<A: Ledger, B: Ledger, C: Ledger, D: Ledger, E: Ledger, W: Ledger, X: Led
 }
 
 /// Whether the daemon has ended.
-fn ended<A: Ledger, B: Ledger, C: Ledger, D: Ledger, E: Ledger, W: Ledger, X: Ledger>(
-    rt: &impl Wait,
-    house: &House<A, B, C, D, E, W, X>,
-) -> &'static str {
+fn ended<L: Ledgers>(rt: &impl Wait, house: &House<L>) -> &'static str {
     if house.has_ended(rt) {
         "ended\n"
     } else {
@@ -118,11 +112,11 @@ fn ended<A: Ledger, B: Ledger, C: Ledger, D: Ledger, E: Ledger, W: Ledger, X: Le
 }
 
 /// Two songs are added, of which the first leaves, and the daemon ends.
-fn ends<A: Ledger, B: Ledger, C: Ledger, D: Ledger, E: Ledger, W: Ledger, X: Ledger>(
+fn ends<L: Ledgers>(
     rt: &impl Wait,
     alloc: Global,
-    house: &House<A, B, C, D, E, W, X>,
-    seat: &mut Seat<A, B, C, D>,
+    house: &House<L>,
+    seat: &mut Seat<L>,
 ) -> Result<String, PartitionFault> {
     let mut heard = says(rt, alloc, house, seat, 2, "addid a.wav")?;
     heard.push_str(says(rt, alloc, house, seat, 2, "addid b.wav")?.as_str())?;
@@ -135,15 +129,14 @@ fn ends<A: Ledger, B: Ledger, C: Ledger, D: Ledger, E: Ledger, W: Ledger, X: Led
     Ok(heard)
 }
 
-fn evening<A: Ledger, B: Ledger, C: Ledger, D: Ledger, E: Ledger, W: Ledger, X: Ledger>(
+fn evening<L: Ledgers>(
     rt: &impl Wait,
     alloc: Global,
     blanks: Blanks,
 ) -> Result<String, PartitionFault>
-    requires seats { IsBlankOf blanks.first A.name A.parts × IsBlankOf blanks.second B.name B.parts × IsBlankOf blanks.third C.name C.parts × IsBlankOf blanks.fourth D.name D.parts }
-    requires books { IsBlank blanks.frames.decoded E.name E.parts × IsBlank blanks.frames.written W.name W.parts × IsBlank blanks.frames.discarded X.name X.parts }
+    requires blanks { AreFor L.names blanks }
 {
-    let (house, _shares) = opened::<A, B, C, D, E, W, X>(alloc, blanks, 4096)?;
+    let (house, _shares) = opened::<L>(alloc, blanks, 4096)?;
     let Ok(mut seat) = house.seat(rt) else {
         return Err(PartitionFault::NoMemory);
     };
@@ -157,7 +150,7 @@ fn evening<A: Ledger, B: Ledger, C: Ledger, D: Ledger, E: Ledger, W: Ledger, X: 
 }
 
 fn told(rt: &impl Wait, alloc: Global) -> Result<String, PartitionFault> {
-    evening::<Brand, Brand, Brand, Brand, Brand, Brand, Brand>(rt, alloc, blanks())
+    evening::<Brand>(rt, alloc, blanks())
 }
 
 // Events: 5 until the first client goes, 4 about the scan, of the crowd 62, 2 and 1, and 4 at the end.

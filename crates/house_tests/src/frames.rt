@@ -1,20 +1,22 @@
 //! Frames of a job under the lock: fed, written, and settled.
 ghost use Rattle.std.specs.Prelude.{◌≡◌, ◌<◌, IfOk};
-ghost use Rattle.frame_ledger.specs.Balance.{IsBlankOf as IsBlank};
-ghost use Rattle.house.specs.Seats.{IsBlankOf};
+ghost use Rattle.held_player.specs.Blanks.{AreFor};
 ghost use Rattle.output_ring.specs.Rings.{AreEndsAfter, SameDrainer};
 
 use crate::rooms::{blanks, comes, opened, says};
 use crate::wanted::wants;
+use counted_devices::{FailAt, FailurePoint};
+use counted_player::{Decoded, Discarded, Ledgers, Seat, Written};
 use frame_ledger::OutputShares;
-use house::{Blanks, House, News, Seat};
-use mpd_text::{FailAt, FailurePoint};
+use held_player::{Blanks, News};
+use house::House;
 use output_ring::{Cut, Drainer, Fates, FeederEnd, Live, ring};
-use partition::{PartitionFault, Report};
+use partition::PartitionFault;
+use player_state::Report;
 use std::alloc::Global;
 use std::marker::Brand;
 use std::sync::Wait;
-use std::sync::ledger::{Ledger, Share};
+use std::sync::ledger::Share;
 use std::test::Fail;
 
 /// What a decoder is told: the job's number, its first frame and its frames.
@@ -52,23 +54,23 @@ fn live_told(alloc: Global, report: Report) -> Result<String, PartitionFault> {
 }
 
 /// A decoder asks for a job.
-fn wants_job<A: Ledger, B: Ledger, C: Ledger, D: Ledger, E: Ledger, W: Ledger, X: Ledger>(
+fn wants_job<L: Ledgers>(
     rt: &impl Wait,
     alloc: Global,
-    house: &House<A, B, C, D, E, W, X>,
-    seat: &mut Seat<A, B, C, D>,
+    house: &House<L>,
+    seat: &mut Seat<L>,
 ) -> Result<String, PartitionFault> {
     let told = house.notice(rt, seat, News::Wants(false))?;
     job_told(alloc, told.report())
 }
 
 /// A decoder has frames of a job.
-fn has<A: Ledger, B: Ledger, C: Ledger, D: Ledger, E: Ledger, W: Ledger, X: Ledger>(
+fn has<L: Ledgers>(
     rt: &impl Wait,
     alloc: Global,
-    house: &House<A, B, C, D, E, W, X>,
-    seat: &mut Seat<A, B, C, D>,
-    share: &mut Share<E>,
+    house: &House<L>,
+    seat: &mut Seat<L>,
+    share: &mut Share<Decoded<L>>,
     number: u64,
 ) -> Result<String, PartitionFault>
     requires { 0 < share.old.parts }
@@ -80,12 +82,12 @@ fn has<A: Ledger, B: Ledger, C: Ledger, D: Ledger, E: Ledger, W: Ledger, X: Ledg
 }
 
 /// An output has its turn.
-fn turns<A: Ledger, B: Ledger, C: Ledger, D: Ledger, E: Ledger, W: Ledger, X: Ledger>(
+fn turns<L: Ledgers>(
     rt: &impl Wait,
     alloc: Global,
-    house: &House<A, B, C, D, E, W, X>,
-    seat: &mut Seat<A, B, C, D>,
-    shares: &mut OutputShares<W, X>,
+    house: &House<L>,
+    seat: &mut Seat<L>,
+    shares: &mut OutputShares<Written<L>, Discarded<L>>,
     output: usize,
     fates: Fates,
 ) -> Result<String, PartitionFault>
@@ -111,12 +113,12 @@ fn writes_out(drainer: &mut Drainer, out: &mut FailAt, cut: u64)
 }
 
 /// The ends of a ring of which 512 frames were written and told of, and 512 more were discarded since.
-fn ends_told<A: Ledger, B: Ledger, C: Ledger, D: Ledger, E: Ledger, W: Ledger, X: Ledger>(
+fn ends_told<L: Ledgers>(
     rt: &impl Wait,
     alloc: Global,
-    house: &House<A, B, C, D, E, W, X>,
-    seat: &mut Seat<A, B, C, D>,
-    shares: &mut OutputShares<W, X>,
+    house: &House<L>,
+    seat: &mut Seat<L>,
+    shares: &mut OutputShares<Written<L>, Discarded<L>>,
 ) -> Result<(FeederEnd, Drainer), PartitionFault>
     requires { (0 < shares.old.written.parts) × (0 < shares.old.discarded.parts) }
     ensures ends { IfOk result (λ r. AreEndsAfter r.0 r.1) }
@@ -134,12 +136,12 @@ fn ends_told<A: Ledger, B: Ledger, C: Ledger, D: Ledger, E: Ledger, W: Ledger, X
 }
 
 /// What an output is settled with: its frames decoded, written, discarded and left.
-fn settled<A: Ledger, B: Ledger, C: Ledger, D: Ledger, E: Ledger, W: Ledger, X: Ledger>(
+fn settled<L: Ledgers>(
     rt: &impl Wait,
     alloc: Global,
-    house: &House<A, B, C, D, E, W, X>,
-    seat: &mut Seat<A, B, C, D>,
-    shares: &mut OutputShares<W, X>,
+    house: &House<L>,
+    seat: &mut Seat<L>,
+    shares: &mut OutputShares<Written<L>, Discarded<L>>,
 ) -> Result<String, PartitionFault>
     requires { (0 < shares.old.written.parts) × (0 < shares.old.discarded.parts) }
 {
@@ -153,12 +155,12 @@ fn settled<A: Ledger, B: Ledger, C: Ledger, D: Ledger, E: Ledger, W: Ledger, X: 
 }
 
 /// A song plays, and its first frames are decoded once.
-fn decoded<A: Ledger, B: Ledger, C: Ledger, D: Ledger, E: Ledger, W: Ledger, X: Ledger>(
+fn decoded<L: Ledgers>(
     rt: &impl Wait,
     alloc: Global,
-    house: &House<A, B, C, D, E, W, X>,
-    seat: &mut Seat<A, B, C, D>,
-    share: &mut Share<E>,
+    house: &House<L>,
+    seat: &mut Seat<L>,
+    share: &mut Share<Decoded<L>>,
 ) -> Result<String, PartitionFault>
     requires { 0 < share.old.parts }
     ensures { share.new.parts ≡ share.old.parts }
@@ -172,16 +174,14 @@ fn decoded<A: Ledger, B: Ledger, C: Ledger, D: Ledger, E: Ledger, W: Ledger, X: 
     Ok(heard)
 }
 
-fn evening<A: Ledger, B: Ledger, C: Ledger, D: Ledger, E: Ledger, W: Ledger, X: Ledger>(
+fn evening<L: Ledgers>(
     rt: &impl Wait,
     alloc: Global,
     blanks: Blanks,
 ) -> Result<String, PartitionFault>
-    requires seats { IsBlankOf blanks.first A.name A.parts × IsBlankOf blanks.second B.name B.parts × IsBlankOf blanks.third C.name C.parts × IsBlankOf blanks.fourth D.name D.parts }
-    requires books { IsBlank blanks.frames.decoded E.name E.parts × IsBlank blanks.frames.written W.name W.parts × IsBlank blanks.frames.discarded X.name X.parts }
-    requires parts { (0 < E.parts) × (0 < W.parts) × (0 < X.parts) }
+    requires blanks { AreFor L.names blanks }
 {
-    let (house, mut shares) = opened::<A, B, C, D, E, W, X>(alloc, blanks, 64)?;
+    let (house, mut shares) = opened::<L>(alloc, blanks, 64)?;
     let Ok(mut seat) = house.seat(rt) else {
         return Err(PartitionFault::NoMemory);
     };
@@ -216,7 +216,7 @@ fn evening<A: Ledger, B: Ledger, C: Ledger, D: Ledger, E: Ledger, W: Ledger, X: 
 }
 
 fn told(rt: &impl Wait, alloc: Global) -> Result<String, PartitionFault> {
-    evening::<Brand, Brand, Brand, Brand, Brand, Brand, Brand>(rt, alloc, blanks())
+    evening::<Brand>(rt, alloc, blanks())
 }
 
 #[test]

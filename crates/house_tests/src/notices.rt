@@ -1,17 +1,17 @@
 //! A client waits while another thread makes a hundred changes: each notice is handed out once.
 ghost use Rattle.std.specs.Prelude.{◌≡◌};
-ghost use Rattle.frame_ledger.specs.Balance.{IsBlankOf as IsBlank};
-ghost use Rattle.house.specs.Seats.{IsBlankOf};
+ghost use Rattle.held_player.specs.Blanks.{AreFor};
 
 use crate::rooms::{blanks, comes, opened, says};
 use crate::wanted::wants;
-use house::{Blanks, House, Seat};
+use counted_player::{Ledgers, Seat};
+use held_player::Blanks;
+use house::House;
 use partition::PartitionFault;
 use std::alloc::Global;
 use std::marker::Brand;
 use std::sync::Wait;
 use std::sync::atomic::{AtomicU32, Ordering};
-use std::sync::ledger::Ledger;
 use std::test::Fail;
 use std::thread;
 use std::thread::Threads;
@@ -43,11 +43,7 @@ fn meets(meeting: &AtomicU32, number: u32) {
 }
 
 /// Whether the outbox has a notice of the client, looked at up to a million times.
-fn comes_by_outbox<A: Ledger, B: Ledger, C: Ledger, D: Ledger, E: Ledger, W: Ledger, X: Ledger>(
-    rt: &impl Wait,
-    house: &House<A, B, C, D, E, W, X>,
-    client: u32,
-) -> bool {
+fn comes_by_outbox<L: Ledgers>(rt: &impl Wait, house: &House<L>, client: u32) -> bool {
     for _ in 0..1_000_000u32 {
         if house.outbox(rt, client).is_some() {
             return true;
@@ -58,10 +54,10 @@ fn comes_by_outbox<A: Ledger, B: Ledger, C: Ledger, D: Ledger, E: Ledger, W: Led
 }
 
 /// A client waits for each of a hundred changes, and is told of it from the outbox, or in front of the answer to its `noidle`.
-fn waits<A: Ledger, B: Ledger, C: Ledger, D: Ledger, E: Ledger, W: Ledger, X: Ledger>(
+fn waits<L: Ledgers>(
     rt: &impl Wait,
-    house: &House<A, B, C, D, E, W, X>,
-    seat: Seat<A, B, C, D>,
+    house: &House<L>,
+    seat: Seat<L>,
     counts: &Counts,
 ) -> Result<Notices, PartitionFault> {
     let Counts {
@@ -99,10 +95,10 @@ fn waits<A: Ledger, B: Ledger, C: Ledger, D: Ledger, E: Ledger, W: Ledger, X: Le
 }
 
 /// Another client changes the volume each time that the first waits.
-fn changes<A: Ledger, B: Ledger, C: Ledger, D: Ledger, E: Ledger, W: Ledger, X: Ledger>(
+fn changes<L: Ledgers>(
     rt: &impl Wait,
-    house: &House<A, B, C, D, E, W, X>,
-    seat: Seat<A, B, C, D>,
+    house: &House<L>,
+    seat: Seat<L>,
     counts: &Counts,
 ) -> Result<(), PartitionFault> {
     let Counts {
@@ -123,20 +119,11 @@ fn changes<A: Ledger, B: Ledger, C: Ledger, D: Ledger, E: Ledger, W: Ledger, X: 
 }
 
 /// One client waits and the other changes things, each in a thread of its own.
-fn meet<
-    A: Ledger + Send + Sync,
-    B: Ledger + Send + Sync,
-    C: Ledger + Send + Sync,
-    D: Ledger + Send + Sync,
-    E: Ledger + Send + Sync,
-    W: Ledger + Send + Sync,
-    X: Ledger + Send + Sync,
-    R: Threads + Wait + Sync,
->(
+fn meet<L: Ledgers + Send + Sync, R: Threads + Wait + Sync>(
     rt: &R,
-    house: &House<A, B, C, D, E, W, X>,
-    one: Seat<A, B, C, D>,
-    two: Seat<A, B, C, D>,
+    house: &House<L>,
+    one: Seat<L>,
+    two: Seat<L>,
     counts: &Counts,
 ) -> (Result<Notices, PartitionFault>, Result<(), PartitionFault>) {
     thread::join(
@@ -146,20 +133,14 @@ fn meet<
     )
 }
 
-fn race<
-    A: Ledger + Send + Sync,
-    B: Ledger + Send + Sync,
-    C: Ledger + Send + Sync,
-    D: Ledger + Send + Sync,
-    E: Ledger + Send + Sync,
-    W: Ledger + Send + Sync,
-    X: Ledger + Send + Sync,
-    R: Threads + Wait + Sync,
->(rt: &R, alloc: Global, blanks: Blanks) -> Result<String, PartitionFault>
-    requires seats { IsBlankOf blanks.first A.name A.parts × IsBlankOf blanks.second B.name B.parts × IsBlankOf blanks.third C.name C.parts × IsBlankOf blanks.fourth D.name D.parts }
-    requires books { IsBlank blanks.frames.decoded E.name E.parts × IsBlank blanks.frames.written W.name W.parts × IsBlank blanks.frames.discarded X.name X.parts }
+fn race<L: Ledgers + Send + Sync, R: Threads + Wait + Sync>(
+    rt: &R,
+    alloc: Global,
+    blanks: Blanks,
+) -> Result<String, PartitionFault>
+    requires blanks { AreFor L.names blanks }
 {
-    let (house, _shares) = opened::<A, B, C, D, E, W, X>(alloc, blanks, 64)?;
+    let (house, _shares) = opened::<L>(alloc, blanks, 64)?;
     let (Ok(one), Ok(two)) = (house.seat(rt), house.seat(rt)) else {
         return Err(PartitionFault::NoMemory);
     };
@@ -176,7 +157,7 @@ fn race<
 }
 
 fn told<R: Threads + Wait + Sync>(rt: &R, alloc: Global) -> Result<String, PartitionFault> {
-    race::<Brand, Brand, Brand, Brand, Brand, Brand, Brand, R>(rt, alloc, blanks())
+    race::<Brand, R>(rt, alloc, blanks())
 }
 
 #[test]

@@ -1,17 +1,17 @@
 //! Two threads add songs by turns, and each looks up the id that it was given.
 ghost use Rattle.std.specs.Prelude.{◌≡◌};
-ghost use Rattle.frame_ledger.specs.Balance.{IsBlankOf as IsBlank};
-ghost use Rattle.house.specs.Seats.{IsBlankOf};
+ghost use Rattle.held_player.specs.Blanks.{AreFor};
 
 use crate::rooms::{blanks, comes, hears, opened};
 use crate::wanted::wants;
-use house::{Blanks, House, Seat};
+use counted_player::{Ledgers, Seat};
+use held_player::Blanks;
+use house::House;
 use mpd_text::number;
 use partition::PartitionFault;
 use std::alloc::Global;
 use std::marker::Brand;
 use std::sync::Wait;
-use std::sync::ledger::Ledger;
 use std::test::Fail;
 use std::thread;
 use std::thread::Threads;
@@ -36,17 +36,17 @@ fn id_in(answer: &str) -> u32 {
 
 /// Who looks up its songs, each by a command or by a list of one command.
 #[derive(Drop)]
-struct Caller<A: Ledger, B: Ledger, C: Ledger, D: Ledger> {
-    seat: Seat<A, B, C, D>,
+struct Caller<L: Ledgers> {
+    seat: Seat<L>,
     in_list: bool,
 }
 
 /// Adds a song a hundred times, and looks up the id each time.
-fn looks_up<A: Ledger, B: Ledger, C: Ledger, D: Ledger, E: Ledger, W: Ledger, X: Ledger>(
+fn looks_up<L: Ledgers>(
     rt: &impl Wait,
     alloc: Global,
-    house: &House<A, B, C, D, E, W, X>,
-    caller: Caller<A, B, C, D>,
+    house: &House<L>,
+    caller: Caller<L>,
     client: u32,
     uri: &str,
 ) -> Result<Found, PartitionFault> {
@@ -84,21 +84,12 @@ fn given_once(one: &[u32], two: &[u32]) -> u32 {
 }
 
 /// Both clients look up their songs, each in a thread of its own.
-fn look_up_at_once<
-    A: Ledger + Send + Sync,
-    B: Ledger + Send + Sync,
-    C: Ledger + Send + Sync,
-    D: Ledger + Send + Sync,
-    E: Ledger + Send + Sync,
-    W: Ledger + Send + Sync,
-    X: Ledger + Send + Sync,
-    R: Threads + Wait + Sync,
->(
+fn look_up_at_once<L: Ledgers + Send + Sync, R: Threads + Wait + Sync>(
     rt: &R,
     alloc: Global,
-    house: &House<A, B, C, D, E, W, X>,
-    one: Seat<A, B, C, D>,
-    two: Seat<A, B, C, D>,
+    house: &House<L>,
+    one: Seat<L>,
+    two: Seat<L>,
     in_list: bool,
 ) -> (Result<Found, PartitionFault>, Result<Found, PartitionFault>) {
     let one = Caller { seat: one, in_list };
@@ -110,20 +101,15 @@ fn look_up_at_once<
     )
 }
 
-fn race<
-    A: Ledger + Send + Sync,
-    B: Ledger + Send + Sync,
-    C: Ledger + Send + Sync,
-    D: Ledger + Send + Sync,
-    E: Ledger + Send + Sync,
-    W: Ledger + Send + Sync,
-    X: Ledger + Send + Sync,
-    R: Threads + Wait + Sync,
->(rt: &R, alloc: Global, blanks: Blanks, in_list: bool) -> Result<String, PartitionFault>
-    requires seats { IsBlankOf blanks.first A.name A.parts × IsBlankOf blanks.second B.name B.parts × IsBlankOf blanks.third C.name C.parts × IsBlankOf blanks.fourth D.name D.parts }
-    requires books { IsBlank blanks.frames.decoded E.name E.parts × IsBlank blanks.frames.written W.name W.parts × IsBlank blanks.frames.discarded X.name X.parts }
+fn race<L: Ledgers + Send + Sync, R: Threads + Wait + Sync>(
+    rt: &R,
+    alloc: Global,
+    blanks: Blanks,
+    in_list: bool,
+) -> Result<String, PartitionFault>
+    requires blanks { AreFor L.names blanks }
 {
-    let (house, _shares) = opened::<A, B, C, D, E, W, X>(alloc, blanks, 4096)?;
+    let (house, _shares) = opened::<L>(alloc, blanks, 4096)?;
     let (Ok(one), Ok(two)) = (house.seat(rt), house.seat(rt)) else {
         return Err(PartitionFault::NoMemory);
     };
@@ -138,7 +124,7 @@ fn told<R: Threads + Wait + Sync>(
     alloc: Global,
     in_list: bool,
 ) -> Result<String, PartitionFault> {
-    race::<Brand, Brand, Brand, Brand, Brand, Brand, Brand, R>(rt, alloc, blanks(), in_list)
+    race::<Brand, R>(rt, alloc, blanks(), in_list)
 }
 
 #[test]

@@ -1,25 +1,28 @@
 //! A house over a few songs, and what is said in it.
 ghost use Rattle.std.specs.Prelude.{◌≡◌, ◌+◌, ◌<◌, IfOk, OnOk};
-ghost use Rattle.frame_ledger.specs.Balance.{IsBlankOf as IsBlank};
-ghost use Rattle.house.specs.Seats.{IsBlankOf, place};
-ghost use Rattle.house.specs.Views.{IsFresh};
+ghost use Rattle.held_player.specs.Blanks.{AreFor};
+ghost use Rattle.counted_player.specs.Seats.{place};
+ghost use Rattle.counted_player.specs.Counts.{IsFresh};
 
 use command_lists::ListForm;
+use counted_player::{Ledgers, Seat};
 use frame_ledger::Blanks as FrameBlanks;
-use house::{Blanks, CrewShares, House, News, Seat};
+use held_player::{Blanks, CrewShares, News};
+use house::House;
 use mpd_command::Request;
 use mpd_text::{SharedText, Song};
-use partition::{Library, Limits, Outputs, Partition, PartitionFault, Scan, Setup};
+use partition::{Limits, Partition, PartitionFault, Setup};
+use player_state::{Library, Outputs, Scan};
 use shelf::MemShelf;
 use song_db::{Db, Rate, SharedDb};
 use std::alloc::{AllocError, Global};
 use std::sync::Wait;
-use std::sync::ledger::{Blank, Ledger};
+use std::sync::ledger::Blank;
 
-/// Seven new ledgers of one part.
+/// Seven new ledgers.
 pub fn blanks() -> Blanks
     ensures first { (result.first.parts ≡ 1) × (result.second.parts ≡ 1) × (result.third.parts ≡ 1) × (result.fourth.parts ≡ 1) }
-    ensures frames { (result.frames.decoded.parts ≡ 1) × (result.frames.written.parts ≡ 1) × (result.frames.discarded.parts ≡ 1) }
+    ensures frames { (result.frames.decoded.parts ≡ 1) × (result.frames.written.parts ≡ 9) × (result.frames.discarded.parts ≡ 9) }
 {
     Blanks {
         first: Blank::new(1),
@@ -28,8 +31,8 @@ pub fn blanks() -> Blanks
         fourth: Blank::new(1),
         frames: FrameBlanks {
             decoded: Blank::new(1),
-            written: Blank::new(1),
-            discarded: Blank::new(1),
+            written: Blank::new(9),
+            discarded: Blank::new(9),
         },
     }
 }
@@ -88,10 +91,10 @@ pub fn player(alloc: Global, history: u32) -> Result<Partition, AllocError>
 }
 
 /// A client comes.
-pub fn comes<A: Ledger, B: Ledger, C: Ledger, D: Ledger, E: Ledger, W: Ledger, X: Ledger>(
+pub fn comes<L: Ledgers>(
     rt: &impl Wait,
-    house: &House<A, B, C, D, E, W, X>,
-    seat: &mut Seat<A, B, C, D>,
+    house: &House<L>,
+    seat: &mut Seat<L>,
     client: u32,
 ) -> Result<(), PartitionFault>
     ensures { OnOk result (seat.old.number < 4 → seat.new ≡ place seat.old.number (seat.old.made + 1)) }
@@ -101,11 +104,11 @@ pub fn comes<A: Ledger, B: Ledger, C: Ledger, D: Ledger, E: Ledger, W: Ledger, X
 }
 
 /// A client adds a song.
-pub fn adds_a_song<A: Ledger, B: Ledger, C: Ledger, D: Ledger, E: Ledger, W: Ledger, X: Ledger>(
+pub fn adds_a_song<L: Ledgers>(
     rt: &impl Wait,
     alloc: Global,
-    house: &House<A, B, C, D, E, W, X>,
-    seat: &mut Seat<A, B, C, D>,
+    house: &House<L>,
+    seat: &mut Seat<L>,
     client: u32,
 ) -> Result<(), PartitionFault>
     ensures { OnOk result (seat.old.number < 4 → seat.new ≡ place seat.old.number (seat.old.made + 1)) }
@@ -117,11 +120,11 @@ pub fn adds_a_song<A: Ledger, B: Ledger, C: Ledger, D: Ledger, E: Ledger, W: Led
 }
 
 /// What a client hears of a line: `told` where a notice stands in front, and the reply.
-pub fn says<A: Ledger, B: Ledger, C: Ledger, D: Ledger, E: Ledger, W: Ledger, X: Ledger>(
+pub fn says<L: Ledgers>(
     rt: &impl Wait,
     alloc: Global,
-    house: &House<A, B, C, D, E, W, X>,
-    seat: &mut Seat<A, B, C, D>,
+    house: &House<L>,
+    seat: &mut Seat<L>,
     client: u32,
     line: &str,
 ) -> Result<String, PartitionFault> {
@@ -137,11 +140,11 @@ pub fn says<A: Ledger, B: Ledger, C: Ledger, D: Ledger, E: Ledger, W: Ledger, X:
 }
 
 /// What a client hears of a list of one line: `told` where a notice stands in front, and the answer.
-pub fn lists<A: Ledger, B: Ledger, C: Ledger, D: Ledger, E: Ledger, W: Ledger, X: Ledger>(
+pub fn lists<L: Ledgers>(
     rt: &impl Wait,
     alloc: Global,
-    house: &House<A, B, C, D, E, W, X>,
-    seat: &mut Seat<A, B, C, D>,
+    house: &House<L>,
+    seat: &mut Seat<L>,
     client: u32,
     line: &str,
 ) -> Result<String, PartitionFault> {
@@ -162,11 +165,11 @@ pub fn lists<A: Ledger, B: Ledger, C: Ledger, D: Ledger, E: Ledger, W: Ledger, X
 }
 
 /// What a client hears of a line, alone or as a list of one line.
-pub fn hears<A: Ledger, B: Ledger, C: Ledger, D: Ledger, E: Ledger, W: Ledger, X: Ledger>(
+pub fn hears<L: Ledgers>(
     rt: &impl Wait,
     alloc: Global,
-    house: &House<A, B, C, D, E, W, X>,
-    seat: &mut Seat<A, B, C, D>,
+    house: &House<L>,
+    seat: &mut Seat<L>,
     client: u32,
     line: &str,
     in_list: bool,
@@ -179,14 +182,13 @@ pub fn hears<A: Ledger, B: Ledger, C: Ledger, D: Ledger, E: Ledger, W: Ledger, X
 }
 
 /// A house over two songs, with a window of at most so many events.
-pub fn opened<A: Ledger, B: Ledger, C: Ledger, D: Ledger, E: Ledger, W: Ledger, X: Ledger>(
+pub fn opened<L: Ledgers>(
     alloc: Global,
     blanks: Blanks,
     history: u32,
-) -> Result<(House<A, B, C, D, E, W, X>, CrewShares<E, W, X>), PartitionFault>
-    requires seats { IsBlankOf blanks.first A.name A.parts × IsBlankOf blanks.second B.name B.parts × IsBlankOf blanks.third C.name C.parts × IsBlankOf blanks.fourth D.name D.parts }
-    requires books { IsBlank blanks.frames.decoded E.name E.parts × IsBlank blanks.frames.written W.name W.parts × IsBlank blanks.frames.discarded X.name X.parts }
-    ensures { IfOk result (λ r. (r.1.decoded.parts ≡ E.parts) × (r.1.outputs.written.parts ≡ W.parts) × (r.1.outputs.discarded.parts ≡ X.parts)) }
+) -> Result<(House<L>, CrewShares<L>), PartitionFault>
+    requires blanks { AreFor L.names blanks }
+    ensures { IfOk result (λ r. (r.1.decoded.parts ≡ 1) × (r.1.outputs.written.parts ≡ 9) × (r.1.outputs.discarded.parts ≡ 9)) }
 {
     let player = player(alloc, history)?;
     Ok(House::open(alloc, blanks, player)?)

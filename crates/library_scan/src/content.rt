@@ -5,7 +5,8 @@ ghost use Rattle.library_scan.specs.Contents.{Keeps, name_of};
 ghost use Rattle.library_scan.specs.Windows.{whole};
 
 use crate::window::Windowed;
-use mpd_text::{Counting, Media, ReadSeek, Tag};
+use counted_devices::{Counting, Media, ReadSeek};
+use mpd_text::Tag;
 use song_db::Rate;
 use std::alloc::{AllocError, Global};
 use wave::{WaveFault, read_head};

@@ -4,7 +4,7 @@ ghost use Rattle.std.specs.Io.{ReadsAtMost};
 ghost use Rattle.std.specs.Io.KnownBytes.{ReadConsumes};
 ghost use Rattle.library_scan.specs.Windows.{whole, from_place, left, StandAt, IsEnd};
 
-use mpd_text::ReadSeek;
+use counted_devices::ReadSeek;
 use std::io;
 use std::io::{Read, Seek, SeekFrom};
 

@@ -1,7 +1,8 @@
 //! WAVE files: worked bytes, files of other programs, cut files, failing devices, and the greatest sizes.
 
 use crate::tables::{Reads, compare, holds, push, wants};
-use mpd_text::{Counting, FailAt, Failing, FailurePoint, Media, Tag, number};
+use counted_devices::{Counting, FailAt, Failing, FailurePoint, Media};
+use mpd_text::{Tag, number};
 use std::alloc::Global;
 use std::fs;
 use std::io::Cursor;

@@ -1,13 +1,13 @@
 //! A client's socket with its session.
-use crate::end::{End, SessionFault};
 use crate::inbox::Inbox;
-use crate::session::Session;
-use house::{House, News, Seat};
+use counted_devices::{Counting, Failing};
+use counted_player::{Ledgers, Seat};
+use held_player::News;
+use house::House;
 use mio::net::TcpStream;
-use mpd_text::{Counting, Failing};
+use mpd_session::{End, Session, SessionFault};
 use shelf::Shelf;
 use std::sync::Wait;
-use std::sync::ledger::Ledger;
 use std::time::{Clock, Duration, Instant};
 
 /// How long, in seconds, a client that is closed may take to read its last answers.
@@ -83,22 +83,12 @@ impl Connection {
     }
 
     /// Gives the session its turn. Where nothing came by the socket, it is not read.
-    pub(crate) fn turn<
-        A: Ledger,
-        B: Ledger,
-        C: Ledger,
-        D: Ledger,
-        E: Ledger,
-        W: Ledger,
-        X: Ledger,
-        S: Shelf,
-        R: Wait + Clock,
-    >(
+    pub(crate) fn turn<L: Ledgers, S: Shelf, R: Wait + Clock>(
         &mut self,
         rt: &R,
         client: u32,
-        house: &House<A, B, C, D, E, W, X>,
-        seat: &mut Seat<A, B, C, D>,
+        house: &House<L>,
+        seat: &mut Seat<L>,
         shelf: &mut S,
     ) -> After {
         let may_read = self.is_ready || self.is_starved;
@@ -151,11 +141,11 @@ fn gives_up(end: End) -> bool {
 }
 
 /// Tells the player that a client is gone, but not where it was the player that closed it. Whether the player knows now.
-fn tells_gone<A: Ledger, B: Ledger, C: Ledger, D: Ledger, E: Ledger, W: Ledger, X: Ledger, R: Wait>(
+fn tells_gone<L: Ledgers, R: Wait>(
     rt: &R,
     client: u32,
-    house: &House<A, B, C, D, E, W, X>,
-    seat: &mut Seat<A, B, C, D>,
+    house: &House<L>,
+    seat: &mut Seat<L>,
     end: End,
 ) -> bool {
     end == End::Left || house.notice(rt, seat, News::Goes(client)).is_ok()

@@ -1,15 +1,16 @@
 //! The places that clients have.
-use crate::asker::Asker;
 use crate::connection::{After, Connection};
-use crate::session::Session;
-use house::{House, News, Seat};
+use command_plan::Next;
+use counted_player::{Ledgers, Seat};
+use held_player::News;
+use house::House;
 use mio::net::TcpStream;
 use mio::{Interest, Registry, Token};
-use partition::Next;
+use mpd_answers::Asker;
+use mpd_session::Session;
 use shelf::Shelf;
 use std::alloc::Global;
 use std::sync::Wait;
-use std::sync::ledger::Ledger;
 use std::time::Clock;
 
 /// A place for one client at a time, which has the place's number.
@@ -81,21 +82,12 @@ impl Place {
     }
 
     /// Lets a client in. Where the player refuses it, or there is no memory, it is closed without a greeting.
-    pub(crate) fn take_in<
-        A: Ledger,
-        B: Ledger,
-        C: Ledger,
-        D: Ledger,
-        E: Ledger,
-        W: Ledger,
-        X: Ledger,
-        R: Wait,
-    >(
+    pub(crate) fn take_in<L: Ledgers, R: Wait>(
         &mut self,
         rt: &R,
         alloc: Global,
-        house: &House<A, B, C, D, E, W, X>,
-        seat: &mut Seat<A, B, C, D>,
+        house: &House<L>,
+        seat: &mut Seat<L>,
         registry: &Registry,
         stream: TcpStream,
         may_kill: bool,
@@ -133,21 +125,11 @@ impl Place {
     }
 
     /// Gives its client a turn, or tells the player that it is gone. True where the client ends the daemon.
-    pub(crate) fn visit<
-        A: Ledger,
-        B: Ledger,
-        C: Ledger,
-        D: Ledger,
-        E: Ledger,
-        W: Ledger,
-        X: Ledger,
-        S: Shelf,
-        R: Wait + Clock,
-    >(
+    pub(crate) fn visit<L: Ledgers, S: Shelf, R: Wait + Clock>(
         &mut self,
         rt: &R,
-        house: &House<A, B, C, D, E, W, X>,
-        seat: &mut Seat<A, B, C, D>,
+        house: &House<L>,
+        seat: &mut Seat<L>,
         shelf: &mut S,
     ) -> bool {
         let after = match &mut self.tenant {

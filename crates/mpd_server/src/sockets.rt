@@ -1,6 +1,7 @@
 //! The loop over the sockets.
 use crate::place::Place;
-use house::{House, Seat};
+use counted_player::{Ledgers, Seat};
+use house::House;
 use mio::net::{TcpListener, TcpStream};
 use mio::{Events, Interest, Poll, Token, Waker};
 use shelf::Shelf;
@@ -8,7 +9,6 @@ use std::alloc::{AllocError, Global};
 use std::io::ErrorKind;
 use std::net::{Net, SocketAddr};
 use std::sync::Wait;
-use std::sync::ledger::Ledger;
 use std::time::{Clock, Duration};
 
 /// The most clients that may be connected.
@@ -63,7 +63,6 @@ enum Door {
 }
 
 /// The sockets, and the places of the clients.
-#[derive(Drop)]
 pub struct Server {
     poll: Poll,
     events: Events,
@@ -72,6 +71,20 @@ pub struct Server {
     places: Vec<Place>,
     /// Whether another thread wakes the loop where a notice waits.
     is_woken: bool,
+}
+
+// Written out, so that it is proved here once, and not again in each crate that lets a server go.
+impl Drop for Server {
+    fn drop(self) {
+        let Server {
+            poll: _,
+            events: _,
+            listener: _,
+            door: _,
+            places: _,
+            is_woken: _,
+        } = self;
+    }
 }
 
 impl Server {
@@ -124,22 +137,12 @@ impl Server {
     /// handed to them. So the lines of one client cost the others one turn's worth, and one that does not read costs them nothing. Between
     /// rounds the loop sleeps until the system tells of a socket, or a thread wakes it ([`start_waker`](crate::start_waker)); without such
     /// a thread, 50 ms at most while a client idles.
-    pub fn serve<
-        A: Ledger,
-        B: Ledger,
-        C: Ledger,
-        D: Ledger,
-        E: Ledger,
-        W: Ledger,
-        X: Ledger,
-        S: Shelf,
-        R: Wait + Clock,
-    >(
+    pub fn serve<L: Ledgers, S: Shelf, R: Wait + Clock>(
         &mut self,
         rt: &R,
         alloc: Global,
-        house: &House<A, B, C, D, E, W, X>,
-        seat: &mut Seat<A, B, C, D>,
+        house: &House<L>,
+        seat: &mut Seat<L>,
         shelf: &mut S,
         may_kill: bool,
     ) -> Result<(), ServeFault> {
@@ -183,21 +186,12 @@ impl Server {
     }
 
     /// Lets in who is at the door.
-    fn let_all_in<
-        A: Ledger,
-        B: Ledger,
-        C: Ledger,
-        D: Ledger,
-        E: Ledger,
-        W: Ledger,
-        X: Ledger,
-        R: Wait,
-    >(
+    fn let_all_in<L: Ledgers, R: Wait>(
         &mut self,
         rt: &R,
         alloc: Global,
-        house: &House<A, B, C, D, E, W, X>,
-        seat: &mut Seat<A, B, C, D>,
+        house: &House<L>,
+        seat: &mut Seat<L>,
         may_kill: bool,
     ) {
         if self.door == Door::Nobody {
@@ -215,12 +209,12 @@ impl Server {
     }
 
     /// Lets in a client; one that finds no place is closed without a greeting.
-    fn let_in<A: Ledger, B: Ledger, C: Ledger, D: Ledger, E: Ledger, W: Ledger, X: Ledger, R: Wait>(
+    fn let_in<L: Ledgers, R: Wait>(
         &mut self,
         rt: &R,
         alloc: Global,
-        house: &House<A, B, C, D, E, W, X>,
-        seat: &mut Seat<A, B, C, D>,
+        house: &House<L>,
+        seat: &mut Seat<L>,
         stream: TcpStream,
         may_kill: bool,
     ) {
@@ -232,21 +226,11 @@ impl Server {
 
     /// Gives each client a turn for which there is something to do, and then hands out what the others are to be told. True where a client
     /// ends the daemon.
-    fn visit_all<
-        A: Ledger,
-        B: Ledger,
-        C: Ledger,
-        D: Ledger,
-        E: Ledger,
-        W: Ledger,
-        X: Ledger,
-        S: Shelf,
-        R: Wait + Clock,
-    >(
+    fn visit_all<L: Ledgers, S: Shelf, R: Wait + Clock>(
         &mut self,
         rt: &R,
-        house: &House<A, B, C, D, E, W, X>,
-        seat: &mut Seat<A, B, C, D>,
+        house: &House<L>,
+        seat: &mut Seat<L>,
         shelf: &mut S,
     ) -> bool {
         for place in &mut self.places {

@@ -1,9 +1,9 @@
 //! The thread that wakes the loop over the sockets where a notice waits.
 use crate::sockets::{ServeFault, Server};
+use counted_player::Ledgers;
 use house::House;
 use mio::Waker;
 use std::alloc::{AllocError, Global};
-use std::sync::ledger::Ledger;
 use std::sync::{Arc, Wait};
 use std::thread;
 use std::thread::{JoinHandle, Threads};
@@ -16,16 +16,7 @@ const LONGEST_WAIT: u64 = 1_000;
 const HAND_OUT: u64 = 5;
 
 /// Wakes the loop where a notice waits, until the daemon has ended.
-fn wake<
-    A: Ledger,
-    B: Ledger,
-    C: Ledger,
-    D: Ledger,
-    E: Ledger,
-    W: Ledger,
-    X: Ledger,
-    R: Wait + Clock,
->(rt: &R, house: &House<A, B, C, D, E, W, X>, waker: &Waker) {
+fn wake<L: Ledgers, R: Wait + Clock>(rt: &R, house: &House<L>, waker: &Waker) {
     for _ in rt.forever() {
         let waits = house.await_notice(rt, Duration::from_millis(LONGEST_WAIT));
         if house.has_ended(rt) {
@@ -45,19 +36,9 @@ fn wake<
 ///
 /// Where there is no memory, no thread or no descriptor; the server then looks for notices by itself.
 pub fn start_waker<
-    A: Ledger + Send + Sync + 'static,
-    B: Ledger + Send + Sync + 'static,
-    C: Ledger + Send + Sync + 'static,
-    D: Ledger + Send + Sync + 'static,
-    E: Ledger + Send + Sync + 'static,
-    W: Ledger + Send + Sync + 'static,
-    X: Ledger + Send + Sync + 'static,
+    L: Ledgers + Send + Sync + 'static,
     R: Threads + Wait + Clock + Copy + Send + 'static,
->(
-    rt: R,
-    house: &Arc<House<A, B, C, D, E, W, X>, Global>,
-    server: &mut Server,
-) -> Result<JoinHandle<()>, ServeFault> {
+>(rt: R, house: &Arc<House<L>, Global>, server: &mut Server) -> Result<JoinHandle<()>, ServeFault> {
     let house = Arc::try_clone(house)?;
     let waker = server.waker()?;
     match start_thread(rt, house, waker) {
@@ -70,19 +51,9 @@ pub fn start_waker<
 }
 
 fn start_thread<
-    A: Ledger + Send + Sync + 'static,
-    B: Ledger + Send + Sync + 'static,
-    C: Ledger + Send + Sync + 'static,
-    D: Ledger + Send + Sync + 'static,
-    E: Ledger + Send + Sync + 'static,
-    W: Ledger + Send + Sync + 'static,
-    X: Ledger + Send + Sync + 'static,
+    L: Ledgers + Send + Sync + 'static,
     R: Threads + Wait + Clock + Copy + Send + 'static,
->(
-    rt: R,
-    house: Arc<House<A, B, C, D, E, W, X>, Global>,
-    waker: Waker,
-) -> Result<JoinHandle<()>, AllocError> {
+>(rt: R, house: Arc<House<L>, Global>, waker: Waker) -> Result<JoinHandle<()>, AllocError> {
     let handle = thread::spawn(&rt, move || wake(&rt, &*house, &waker))?;
     Ok(handle)
 }

@@ -7,7 +7,6 @@ pub mod ScanGrammar
 pub mod AsciiCuts
 pub mod Utf8Words
 pub mod ExactWords
-pub mod DeviceLemmas
 pub mod Digits
 pub mod TagNumbers
 pub mod QuotedWords

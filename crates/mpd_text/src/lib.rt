@@ -1,13 +1,11 @@
-//! The byte edges of the player: lines, words, answers, songs, and devices that count how their calls end.
+//! The byte edges of the player: lines, words, answers and songs.
 #![tactic(auto)]
 
 mod answers;
-mod devices;
 mod lines;
 mod songs;
 
 pub use answers::{Answer, ErrorNumber, Millis, Range, Sequence, SharedText, Text, number};
-pub use devices::{Counting, FailAt, Failing, FailurePoint, Media, ReadSeek, Sink, Source, Tally};
 pub use lines::{
     Line, MAX_LINE, MAX_WORDS, SplitFault, Splitter, WordsFault, any_cut, lines_make_the_stream,
     one_reading, pieces_do_not_matter, quote, some_reading, words, words_read_quotes,

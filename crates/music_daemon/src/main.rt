@@ -1,19 +1,12 @@
 //! The program: what its words ask for, done with standard input, standard output and the files of the system.
 #![tactic(auto)]
 
-mod fault;
-mod folder;
-mod output_file;
-mod player;
-mod serving;
-mod shelf_file;
-mod summary;
-
 use command_line::{LineFault, Program, command_line};
+use counted_devices::Counting;
 use daemon_script::{ScriptFault, run_script};
 use library_scan::{ScanFault, scan};
-use mpd_text::Counting;
 use scan_report::{Progress, report_of};
+use shelf_file::serve_by_file;
 use song_db::Rate;
 use std::io::{ErrorKind, IsTerminal, Write};
 use std::process::ExitCode;
@@ -27,7 +20,7 @@ fn main(rt: HostRuntime) -> io::Result<ExitCode> {
         Err(_) => return refuse_bytes(&rt),
     };
     match command_line(rt.alloc(), &words) {
-        Ok(Program::Serve(file)) => match serving::serve_by_file(rt, rt, file) {
+        Ok(Program::Serve(file)) => match serve_by_file(rt, rt, file) {
             Ok(()) => Ok(ExitCode::SUCCESS),
             Err(fault) => {
                 eprintln!(rt; "music_daemon: {fault}")?;

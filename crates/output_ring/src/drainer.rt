@@ -7,7 +7,7 @@ ghost use Rattle.output_ring.specs.Sending.{HasRoom};
 use crate::feeder::{Feeder, FeederEnd};
 use crate::frames::{Cut, CutFrame, Fates, Live, Totals, WriteFault};
 use crate::outgoing::{Outgoing, write_bytes};
-use mpd_text::Sink;
+use counted_devices::Sink;
 use rtrb::Consumer;
 use std::alloc::{AllocError, Global};
 
@@ -40,7 +40,7 @@ impl Drainer {
     ghost use mathlib.Core.List.{IsPrefix};
     ghost use Rattle.std.specs.Prelude.{◌≡◌, ◌+◌, ◌-◌, ◌^◌, ◌<◌, ◌≤◌, [], ◌++◌, IfOk, IfSome, IsSome, MatchResult, ◌||◌, ◌↔◌, is_err, OnErr, length, true, false};
     ghost use Rattle.std.specs.Io.KnownBytes.{Appends};
-    ghost use Rattle.mpd_text.specs.Devices.Tally.{HasFailed};
+    ghost use Rattle.counted_devices.specs.Tally.{HasFailed};
     ghost use Rattle.output_ring.specs.Frames.{heard, bytes_of, StopsInside, fates, no_fates, no_totals, both, counted, totals_after, fates_in};
     ghost use Rattle.output_ring.specs.Rings.{taken_of, owed_of, fates_of, popped_of, came_of, hand_of, most_of, ring_of, totals_of, unreported_of, has_failed, AreEnds, AreEndsAfter, EndTook, end_owed, SameFeeder, SameDrainer};
 

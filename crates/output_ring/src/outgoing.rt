@@ -1,11 +1,11 @@
 //! The bytes of a hand on their way to a writer.
 ghost use Rattle.std.specs.Prelude.{◌≡◌, ◌+◌, ◌*◌, ◌<◌, ◌≤◌, ◌++◌, length, take, vec_len, vec_capacity};
 ghost use Rattle.std.specs.Io.KnownBytes.{Appends};
-ghost use Rattle.mpd_text.specs.Devices.Tally.{HasFailed, NoFewer};
+ghost use Rattle.counted_devices.specs.Tally.{HasFailed, NoFewer};
 ghost use Rattle.output_ring.specs.Frames.{heard, is_heard, bytes_of};
 
 use crate::frames::{CutFrame, Live};
-use mpd_text::Sink;
+use counted_devices::Sink;
 use pcm_mix::{Frame, to_bytes};
 use std::alloc::{AllocError, Global};
 
@@ -26,7 +26,7 @@ pub(crate) struct Outgoing {
 impl Outgoing {
     ghost use Rattle.std.specs.Prelude.{◌≡◌, ◌*◌, ◌≤◌, IfOk, OnErr, MatchResult, length, take};
     ghost use Rattle.std.specs.Io.KnownBytes.{Appends};
-    ghost use Rattle.mpd_text.specs.Devices.Tally.{HasFailed};
+    ghost use Rattle.counted_devices.specs.Tally.{HasFailed};
     ghost use Rattle.output_ring.specs.Frames.{bytes_of, heard, StopsInside};
     ghost use Rattle.output_ring.specs.Sending.{HasRoom, KeepsRoom};
 

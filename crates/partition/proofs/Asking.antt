@@ -6,30 +6,33 @@ use Rattle.std.proofs.lemmas.Bool.{eqb-true}
 use Rattle.idle_notes.specs.declared.sets.Subsystems.{Subsystems}
 use Rattle.idle_notes.specs.Notes.{fresh, waits, cancelled, noted, due}
 use Rattle.idle_notes.specs.Sets.{is_nonempty}
-use Rattle.partition.specs.declared.state.Library.{Library}
+use Rattle.player_state.specs.declared.state.Library.{Library}
 use Rattle.mpd_command.specs.declared.command.Command.{Command}
 use Rattle.mpd_command.specs.declared.command.Command.TheVariants.{Idle}
 use Rattle.mpd_command.specs.declared.name.Name.{Name}
 use Rattle.mpd_command.specs.declared.request.Request.{Request}
 use Rattle.mpd_command.specs.declared.request.Request.TheVariants.{Run, Refused}
-use Rattle.partition.specs.declared.event.Event.{Event}
-use Rattle.partition.specs.declared.event.Event.TheVariants.{Connect, Disconnect, Line, ScanQuestion, ScanResult, Want, Have, Failed, OutputTurn, End}
-use Rattle.partition.specs.declared.doing.Doing.TheVariants.{Settles}
-use Rattle.partition.specs.Outputs.{is_output}
-use Rattle.partition.specs.declared.event.Move.{Move}
-use Rattle.partition.specs.declared.event.Move.TheVariants.{Stay, Wait, Learn, Resume, Join}
-use Rattle.partition.specs.declared.event.Stand.{Stand}
-use Rattle.partition.specs.declared.event.Stand.TheVariants.{Alone, InList}
-use Rattle.partition.specs.declared.state.Client.{Client}
-use Rattle.partition.specs.declared.state.Part.{Part}
-use Rattle.partition.specs.Answers.{Answer, Said, refused_by_shelf, refuses, shut, stays, tells}
-use Rattle.partition.specs.Shelves.{is_written}
-use Rattle.partition.specs.declared.shelf_calls.Heard.{Heard}
+use Rattle.player_events.specs.declared.event.Event.{Event}
+use Rattle.player_events.specs.declared.event.Event.TheVariants.{Connect, Disconnect, Line, ScanQuestion, ScanResult, Want, Have, Failed, OutputTurn, End}
+use Rattle.player_state.specs.declared.doing.AudioStep.TheVariants.{Settles}
+use Rattle.player_state.specs.Outputs.{is_output}
+use Rattle.command_plan.specs.declared.reply.Move.{Move}
+use Rattle.command_plan.specs.declared.reply.Move.TheVariants.{Stay, Wait, Learn, Resume, Join}
+use Rattle.command_plan.specs.declared.asked.Stand.{Stand}
+use Rattle.command_plan.specs.declared.asked.Stand.TheVariants.{Alone, InList}
+use Rattle.player_state.specs.declared.state.Client.{Client}
+use Rattle.player_state.specs.declared.state.Part.{Part}
+use Rattle.command_plan.specs.Answers.{Answer, Said, refused_by_shelf, refuses, shut, stays, tells}
+use Rattle.command_plan.specs.Shelves.{is_written}
+use Rattle.command_plan.specs.declared.shelf_calls.Heard.{Heard}
 use Rattle.shelf.specs.declared.faults.ShelfFault.{ShelfFault}
-use Rattle.partition.specs.Clients.{closes, notified, at, moved, move_of}
-use Rattle.partition.specs.Commands.Status.{Wish, ToWait, ToGoOn, granted, resumes, wish_of}
-use Rattle.partition.specs.Image.{Turn, client_of}
-use Rattle.partition.specs.Step.{absent, acts, deed_of, departs, ends_by, greeting, name_of, once_written, quiet, turn_of, turn_line, turn_wished, written_turn}
+use Rattle.idle_clients.specs.Clients.{closes, notified, at, moved, move_of}
+use Rattle.status_commands.specs.Status.{Wish, ToWait, ToGoOn, granted, resumes, wish_of}
+use Rattle.command_plan.specs.Turns.{Turn}
+use Rattle.idle_clients.specs.Clients.{client_of}
+use Rattle.partition.specs.Step.{absent, deed_of, ends_by, greeting, once_written, turn_of, turn_line, turn_wished, written_turn}
+use Rattle.player_events.specs.Events.{name_of}
+use Rattle.command_plan.specs.Turns.{acts, departs, quiet}
 use Rattle.partition.specs.World.{is_learning}
 use Rattle.partition.specs.Notices.{IsIn}
 use Rattle.partition.proofs.Members.{of_map}

@@ -3,12 +3,12 @@ use Rattle.std.proofs.Common.{◌≡◌, ℕ, ◌+◌, ◌-◌, ◌^◌, ◌<◌
 use Rattle.std.specs.Prelude.{min}
 use Rattle.std.proofs.lemmas.List.{length-append}
 use Rattle.std.proofs.lemmas.List.Sums.{sum_by-append}
-use Rattle.partition.specs.declared.event.Happened.{Happened}
+use Rattle.player_events.specs.declared.event.Happened.{Happened}
 use Rattle.partition.specs.Image.{Image, opening}
 use Rattle.partition.specs.Invariant.{Came}
 use Rattle.partition.specs.Step.{next_image, told}
 use Rattle.partition.specs.History.{Chronicle, joined, joined_by, replay, AreTold}
-use Rattle.partition.specs.Sizes.{event_bytes, window_bytes}
+use Rattle.player_events.specs.Sizes.{event_bytes, window_bytes}
 
 -- one more event is one more step
 pub replay-append : (i : Image) (hs : List Happened) (h : Happened) → replay i (hs ++ h ∷ []) ≡ next_image h.seat (replay i hs) h.event

@@ -2,7 +2,7 @@
 use Rattle.std.proofs.Common.{◌≡◌, List, [], ◌∷◌, map, sym, subst}
 use Rattle.std.specs.List.{All}
 use Rattle.std.proofs.lemmas.List.Elements.{All-nil, All-cons}
-use Rattle.partition.specs.declared.event.Happened.{Happened}
+use Rattle.player_events.specs.declared.event.Happened.{Happened}
 use Rattle.partition.specs.Image.{Image}
 use Rattle.partition.specs.Legal.{HasPending}
 use Rattle.partition.specs.World.{Life, Listener, Moment, client_in, image_of}

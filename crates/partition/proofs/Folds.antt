@@ -1,6 +1,6 @@
 -- A fold between any two events is not seen.
 use Rattle.std.proofs.Common.{◌≡◌, List, [], ◌∷◌, ◌++◌, refl, ap, sym, subst, ◌∙◌, append_assoc, append-nil}
-use Rattle.partition.specs.declared.event.Happened.{Happened}
+use Rattle.player_events.specs.declared.event.Happened.{Happened}
 use Rattle.partition.specs.History.{Chronicle, Happening, Happens, Folds, replay, AreTold, AreToldBy, begun, folded, after_one, after_all, events_among}
 use Rattle.partition.specs.Image.{Image, opening}
 use Rattle.partition.specs.Legal.{FoldsAreUnseen}

@@ -2,14 +2,15 @@
 use Rattle.std.proofs.Common.{inl, inr, ℕ, ◌≤◌, false, Option, Some, None, refl, arith}
 use Rattle.shelf.specs.Calls.{Call}
 use Rattle.shelf.specs.Maps.{Maps, Same, Standing, Turns}
-use Rattle.partition.specs.declared.event.Event.{Event}
+use Rattle.player_events.specs.declared.event.Event.{Event}
 use Rattle.partition.specs.declared.partition.PartitionFault.{PartitionFault}
 use Rattle.partition.specs.declared.partition.PartitionFault.TheVariants.{NoMemory}
 use Rattle.partition.specs.Image.{Image}
 use Rattle.partition.specs.Lent.{IsRefused}
 use Rattle.partition.specs.Refusals.{MayRefuse}
-use Rattle.partition.specs.Shelves.{Spares, nothing_heard}
-use Rattle.partition.specs.Step.{hearing, limit_of}
+use Rattle.command_plan.specs.Shelves.{Spares, nothing_heard}
+use Rattle.player_events.specs.Events.{hearing}
+use Rattle.partition.specs.Step.{limit_of}
 
 pub same_maps : (m : Maps) → Same m m
 same_maps m = record { lists = λ name. refl; stickers = λ uri name. refl }

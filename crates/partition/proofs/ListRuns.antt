@@ -9,20 +9,22 @@ use Rattle.mpd_command.specs.Requests.{name_in}
 use Rattle.mpd_command.specs.declared.request.Request.{Request}
 use Rattle.shelf.specs.Calls.{Call}
 use Rattle.shelf.specs.Maps.{Standing}
-use Rattle.partition.specs.declared.event.Event.{Event}
-use Rattle.partition.specs.declared.event.Event.TheVariants.{Line}
-use Rattle.partition.specs.declared.event.Happened.{Happened}
-use Rattle.partition.specs.declared.event.Stand.TheVariants.{InList}
+use Rattle.player_events.specs.declared.event.Event.{Event}
+use Rattle.player_events.specs.declared.event.Event.TheVariants.{Line}
+use Rattle.player_events.specs.declared.event.Happened.{Happened}
+use Rattle.command_plan.specs.declared.asked.Stand.TheVariants.{InList}
 use Rattle.partition.specs.declared.partition.PartitionFault.{PartitionFault}
 use Rattle.partition.specs.declared.partition.PartitionFault.TheVariants.{HistoryFull, NoMemory}
-use Rattle.partition.specs.declared.shelf_calls.Heard.{Heard}
-use Rattle.partition.specs.Answers.{Told}
+use Rattle.command_plan.specs.declared.shelf_calls.Heard.{Heard}
+use Rattle.player_events.specs.Told.{Told}
 use Rattle.partition.specs.History.{Chronicle, is_full, joined_by, replay, with_room}
 use Rattle.partition.specs.Image.{Image}
 use Rattle.partition.specs.Lent.{IsRefused, Records, Refuses, ServesAll, question, writing}
-use Rattle.partition.specs.Lists.{Answered, ends_list, entries_of, AllWithin, Joins, RunsList, StopsList}
-use Rattle.partition.specs.Shelves.{Serves, nothing_heard}
-use Rattle.partition.specs.Step.{heard_at, limit_of, next_image, told}
+use Rattle.partition.specs.Lists.{Answered, entries_of, AllWithin, Joins, RunsList, StopsList}
+use Rattle.player_events.specs.Events.{ends_list}
+use Rattle.command_plan.specs.Shelves.{Serves, nothing_heard}
+use Rattle.player_events.specs.Events.{heard_at}
+use Rattle.partition.specs.Step.{limit_of, next_image, told}
 use Rattle.partition.proofs.Chronicles.{joined-append, replay-append}
 use Rattle.partition.proofs.Lending.{wanting}
 

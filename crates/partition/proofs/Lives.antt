@@ -1,14 +1,14 @@
 -- What is true of each moment of a life.
 use Rattle.std.proofs.Common.{◌≡◌, ◌<◌, ◌≤◌, List, [], ◌∷◌, ◌++◌, length, map, reverse, refl, ap, sym, subst, ◌∙◌, append_assoc, append-nil, arith}
 use Rattle.std.proofs.lemmas.List.{map-append, reverse-append}
-use Rattle.partition.specs.declared.state.Library.{Library}
-use Rattle.partition.specs.declared.event.Event.{Event}
-use Rattle.partition.specs.declared.event.Happened.{Happened}
+use Rattle.player_state.specs.declared.state.Library.{Library}
+use Rattle.player_events.specs.declared.event.Event.{Event}
+use Rattle.player_events.specs.declared.event.Happened.{Happened}
 use Rattle.partition.specs.declared.state.Setup.{Setup}
-use Rattle.partition.specs.Answers.{Told}
-use Rattle.partition.specs.Clients.{Rising}
+use Rattle.player_events.specs.Told.{Told}
+use Rattle.idle_clients.specs.Clients.{Rising}
 use Rattle.partition.specs.History.{AreTold}
-use Rattle.partition.specs.Doings.{Change, change_of}
+use Rattle.player_state.specs.Doings.{Change, change_of}
 use Rattle.partition.specs.Image.{Image, opening}
 use Rattle.partition.specs.Step.{turn, told, next_image}
 use Rattle.partition.specs.World.{Moment, Life, image_of, life_after_event, life_from, opening_life, life_after}

@@ -9,35 +9,39 @@ use Rattle.idle_notes.specs.Names.{changed_lines}
 use Rattle.idle_notes.specs.Notes.{waits, notice_of}
 use Rattle.idle_notes.specs.Sets.{union, meet, has, is_nonempty}
 use Rattle.idle_notes.specs.Channels.{messages_of, pairs}
-use Rattle.partition.specs.Shelves.{changes_lists, changes_stickers}
+use Rattle.command_plan.specs.Shelves.{changes_lists, changes_stickers}
 use Rattle.song_queue.specs.Past.{present}
 use Rattle.mpd_command.specs.declared.command.Command.{Command}
 use Rattle.mpd_command.specs.declared.command.Command.TheVariants.{Idle}
 use Rattle.mpd_command.specs.declared.request.Request.TheVariants.{Run}
-use Rattle.partition.specs.declared.event.Event.TheVariants.{Line}
-use Rattle.partition.specs.declared.event.Stand.TheVariants.{Alone}
-use Rattle.partition.specs.declared.event.Event.{Event}
-use Rattle.partition.specs.declared.event.Happened.{Happened}
-use Rattle.partition.specs.declared.event.Move.{Move}
-use Rattle.partition.specs.declared.event.Move.TheVariants.{Wait, Learn}
-use Rattle.partition.specs.declared.event.Next.TheVariants.{Goes, Waits}
-use Rattle.partition.specs.declared.event.Notice.{Notice}
-use Rattle.partition.specs.declared.state.Client.{Client}
-use Rattle.partition.specs.Answers.{Said}
-use Rattle.partition.specs.Clients.{notified, move_of, closes, options, playing, Rising}
-use Rattle.partition.specs.Commands.Status.{idles}
-use Rattle.partition.specs.Doings.{Change, change_of, channels_after, outputs_after, player_after, volume_after}
-use Rattle.partition.specs.Image.{Image, Turn, client_of, library_after}
-use Rattle.partition.specs.Step.{turn, turn_of, turn_line, written_turn, speaker, mover, raised_by, report_of, after_turn, told_by}
+use Rattle.player_events.specs.declared.event.Event.TheVariants.{Line}
+use Rattle.command_plan.specs.declared.asked.Stand.TheVariants.{Alone}
+use Rattle.player_events.specs.declared.event.Event.{Event}
+use Rattle.player_events.specs.declared.event.Happened.{Happened}
+use Rattle.command_plan.specs.declared.reply.Move.{Move}
+use Rattle.command_plan.specs.declared.reply.Move.TheVariants.{Wait, Learn}
+use Rattle.command_plan.specs.declared.reply.Next.TheVariants.{Goes, Waits}
+use Rattle.idle_clients.specs.declared.notices.Notice.{Notice}
+use Rattle.player_state.specs.declared.state.Client.{Client}
+use Rattle.command_plan.specs.Answers.{Said}
+use Rattle.idle_clients.specs.Clients.{notified, move_of, closes, options, playing, Rising}
+use Rattle.status_commands.specs.Status.{idles}
+use Rattle.player_state.specs.Doings.{Change, change_of, channels_after, outputs_after, player_after, volume_after}
+use Rattle.partition.specs.Image.{Image}
+use Rattle.command_plan.specs.Turns.{Turn}
+use Rattle.idle_clients.specs.Clients.{client_of}
+use Rattle.player_state.specs.Libraries.{library_after}
+use Rattle.partition.specs.Step.{turn, turn_of, turn_line, written_turn, speaker, mover, raised_by, after_turn, told_by}
+use Rattle.command_plan.specs.Turns.{report_of}
 use Rattle.partition.specs.World.{Listener, Moment, Life, Differs, IsPending, parts_in, raised_at, is_there, is_learning, is_told, begins_anew, pending_for, client_in, listener_of, image_of, past_after, world_after_turn}
 use Rattle.partition.specs.Notices.{Raises, IsIn, WaitsFor, HasChanged, Meets, HasNews, IsSent, IsClear, Asks, IsToldNews, Tells}
 use Rattle.partition.proofs.Asking.{wish_is, turn_idle, Quiet, quiet_unheard, quiet_unwaiting, IsAsking, kind_of, is_found, of_any, notified_some, does_some, of_moved}
 use Rattle.partition.proofs.Members.{in_map, of_map, any_in, same_sets, has_meet, has_some, is_some}
 use Rattle.partition.proofs.Parts.{raised_differ, agree}
 use Rattle.partition.proofs.Pending.{has_union, has_none, pending_more, reads_pending}
-use Rattle.partition.proofs.Rises.{rising_staying}
+use Rattle.idle_clients.proofs.Rises.{rising_staying}
 use Rattle.partition.proofs.Sends.{found, news, waiter_moves, notices_rise, does, does_keeps, does_other, does_none, does_wait, notified_none, told_none, untold_waits, is_other_speaker, of_sent, is_sent, kept, kept_was, others_kept, open_kept, lands, there_kept}
-use Rattle.partition.proofs.Frames.{keeps}
+use Rattle.player_state.proofs.Frames.{keeps}
 use Rattle.partition.proofs.Worlds.{same_raised}
 
 both : (a b : Bool) → a ≡ true → b ≡ true → (a && b) ≡ true

@@ -8,14 +8,14 @@ use Rattle.idle_notes.specs.declared.pending.Pending.{Pending}
 use Rattle.idle_notes.specs.declared.sets.Subsystems.{Subsystems}
 use Rattle.idle_notes.specs.Sets.{none, union, is_nonempty}
 use Rattle.idle_notes.specs.Notes.{fresh, noted, waits, cancelled, due}
-use Rattle.partition.specs.declared.event.Move.{Move}
-use Rattle.partition.specs.declared.event.Move.TheVariants.{Stay, Wait, Learn, Resume, Join}
-use Rattle.partition.specs.declared.event.Notice.{Notice}
-use Rattle.partition.specs.declared.state.Client.{Client}
-use Rattle.partition.specs.Clients.{notified, is_other, at, joined, moved, notice_to, notice_for, AllAbove, Rising}
-use Rattle.partition.specs.Image.{client_of}
+use Rattle.command_plan.specs.declared.reply.Move.{Move}
+use Rattle.command_plan.specs.declared.reply.Move.TheVariants.{Stay, Wait, Learn, Resume, Join}
+use Rattle.idle_clients.specs.declared.notices.Notice.{Notice}
+use Rattle.player_state.specs.declared.state.Client.{Client}
+use Rattle.idle_clients.specs.Clients.{notified, is_other, at, joined, moved, notice_to, notice_for, AllAbove, Rising}
+use Rattle.idle_clients.specs.Clients.{client_of}
 use Rattle.partition.specs.World.{is_learning}
-use Rattle.partition.proofs.Rises.{at_keeps, rising_filter}
+use Rattle.idle_clients.proofs.Rises.{at_keeps, rising_filter}
 
 -- each client has this
 abbrev pub Each : (Client → Type 0) → List Client → Type 0

@@ -22,22 +22,26 @@ use Rattle.song_queue.proofs.Ids.{present-after_event}
 use Rattle.song_queue.proofs.Same.{pointwise-refl, pointwise-true, same_queue-refl, same_queue-true}
 use Rattle.idle_notes.specs.Channels.{messages_of, pairs}
 use Rattle.idle_notes.specs.declared.channels.Message.{Message as Waiting}
-use Rattle.partition.specs.declared.scan.ScanMove.{ScanMove}
-use Rattle.partition.specs.declared.scan.ScanMove.TheVariants.{Stay, Begin, End}
-use Rattle.partition.specs.declared.state.Library.{Library}
-use Rattle.partition.specs.declared.doing.Doing.{Doing}
-use Rattle.partition.specs.declared.doing.Doing.TheVariants.{Rests, Edits, Shuffles, SetsVolume, SetsRepeat, SetsRandom, SetsSingle, SetsConsume, SetsCrossfade, ClearsError, Plays, PlaysPlace, Pauses, TogglesPause, Stops, GoesOn, GoesBack, Seeks, Switches, Wants, Accepts, Fails, Settles, Subscribes, Unsubscribes, Sends, ReadsMessages, Leaves}
-use Rattle.partition.specs.declared.event.Event.{Event}
-use Rattle.partition.specs.declared.event.Notice.{Notice}
-use Rattle.partition.specs.declared.report.Report.{Report}
-use Rattle.partition.specs.declared.state.Part.{Part}
-use Rattle.partition.specs.Outputs.{OutputsData, any_enabled, broken}
-use Rattle.partition.specs.Doings.{Change, ByEdit, ByStep, change_of, entries, outputs_after, played_entry, player_after, player_edited, sought_entry}
-use Rattle.partition.specs.Image.{Image, Turn, library_after}
-use Rattle.partition.specs.Scans.{is_last}
-use Rattle.partition.proofs.Songs.{same_songs-refl, same_songs-true}
-use Rattle.partition.proofs.Alike.{same_enabled-refl, same_enabled-true, same_options-refl, same_options-true, same_playing-refl, same_playing-true}
-use Rattle.partition.specs.Clients.{options, playing, same_enabled, same_pair, same_pairs, same_options, same_playing, same_songs}
+use Rattle.player_state.specs.declared.scan.ScanMove.{ScanMove}
+use Rattle.player_state.specs.declared.scan.ScanMove.TheVariants.{Stay, Begin, End}
+use Rattle.player_state.specs.declared.state.Library.{Library}
+use Rattle.player_state.specs.declared.doing.Doing.{Doing}
+use Rattle.player_state.specs.declared.doing.Doing.TheVariants.{ByCommand, ByAudio}
+use Rattle.player_state.specs.declared.doing.Effect.TheVariants.{Rests, Edits, Shuffles, SetsVolume, SetsRepeat, SetsRandom, SetsSingle, SetsConsume, SetsCrossfade, ClearsError, Plays, PlaysPlace, Pauses, TogglesPause, Stops, GoesOn, GoesBack, Seeks, Switches, Subscribes, Unsubscribes, Sends, ReadsMessages, Leaves}
+use Rattle.player_state.specs.declared.doing.AudioStep.TheVariants.{Wants, Accepts, Fails, Settles}
+use Rattle.player_events.specs.declared.event.Event.{Event}
+use Rattle.idle_clients.specs.declared.notices.Notice.{Notice}
+use Rattle.player_state.specs.declared.report.Report.{Report}
+use Rattle.player_state.specs.declared.state.Part.{Part}
+use Rattle.player_state.specs.Outputs.{OutputsData, any_enabled, broken}
+use Rattle.player_state.specs.Doings.{Change, ByEdit, ByStep, change_of, entries, outputs_after, played_entry, player_after, player_edited, sought_entry}
+use Rattle.partition.specs.Image.{Image}
+use Rattle.command_plan.specs.Turns.{Turn}
+use Rattle.player_state.specs.Libraries.{library_after}
+use Rattle.player_state.specs.Scans.{is_last}
+use Rattle.idle_clients.proofs.Songs.{same_songs-refl, same_songs-true}
+use Rattle.idle_clients.proofs.Alike.{more_than_none, same_pairs-refl, same_pairs-true, same_enabled-refl, same_enabled-true, same_options-refl, same_options-true, same_playing-refl, same_playing-true}
+use Rattle.idle_clients.specs.Clients.{options, playing, same_enabled, same_pair, same_pairs, same_options, same_playing, same_songs}
 use Rattle.partition.specs.World.{World, Moment, Differs, past_after, raised_at, world_after_turn}
 use Rattle.partition.specs.Notices.{AgreeButForUnspoken}
 
@@ -84,25 +88,6 @@ differs-tells false false = (λ e. cc, λ ne. absurd (ne refl))
 
 modes_of : (a b : Bool) → ((a ≢ b) → ⊥) → a ≡ b
 modes_of a b n = decides alike alike-one alike-own a b n
-
-same_pair-true : (p q : ℕ × List ℕ) → same_pair p q ≡ true → p ≡ q
-same_pair-true p q e =
-    let both = and_parts (nat_eq p.0 q.0) (bytes_eq p.1 q.1) e in
-    λ i. (eqb-true p.0 q.0 both.0 i, (bytes_eq-Decides p.1 q.1).0 both.1 i)
-
-same_pair-refl : (p : ℕ × List ℕ) → same_pair p p ≡ true
-same_pair-refl p = and_from (nat_eq p.0 p.0) (bytes_eq p.1 p.1) (eq-eqb p.0 p.0 refl) ((bytes_eq-Decides p.1 p.1).1 refl)
-
-pub same_pairs-true : (a b : List (ℕ × List ℕ)) → same_pairs a b ≡ true → a ≡ b
-unfolding same_pairs
-same_pairs-true a b e = pointwise-true same_pair same_pair-true a b e
-
-pub same_pairs-refl : (a : List (ℕ × List ℕ)) → same_pairs a a ≡ true
-unfolding same_pairs
-same_pairs-refl a = pointwise-refl same_pair same_pair-refl a
-
-pub more_than_none : (n : ℕ) → (1 + n == 0) ≡ false
-more_than_none n = grind (arith, nat_tests)
 
 some_more : (m : Waiting) (ms : List Waiting) → (length (m ∷ ms) == 0) ≡ false
 some_more m ms = ap (λ n. n == 0) (let is : length (m ∷ ms) ≡ 1 + length ms = omega arith in is) ∙ more_than_none (length ms)
@@ -157,8 +142,8 @@ same_library library (End found) songs runs =
 
 -- the names of outputs stay
 same_names : (outputs : OutputsData) (doing : Doing) → (outputs_after outputs doing).names ≡ outputs.names
-same_names outputs (Switches output on) = refl
-same_names outputs (Settles output written discarded failed) = elim failed as (λ b. (if b then broken outputs output else outputs).names ≡ outputs.names) [ true ↦ refl | false ↦ refl ]
+same_names outputs (ByCommand (Switches output on)) = refl
+same_names outputs (ByAudio (Settles output written discarded failed)) = elim failed as (λ b. (if b then broken outputs output else outputs).names ≡ outputs.names) [ true ↦ refl | false ↦ refl ]
 same_names outputs _ = refl
 
 -- a step of the player leaves the greatest number
@@ -183,34 +168,34 @@ module _ (p : PlayerState) where
   seek_keeps (Some entry) frame = (numbers_rise p (Seek entry frame)).3
 
 same_limit : (rate : ℕ) (part : Part) (doing : Doing) → (player_after rate part doing).max_cut ≡ part.player.max_cut
-same_limit rate part Rests = refl
-same_limit rate part (Edits edit) = edit_keeps part.player part.queue edit
-same_limit rate part (Shuffles start end) = refl
-same_limit rate part (SetsVolume volume) = refl
-same_limit rate part (SetsRepeat on) = refl
-same_limit rate part (SetsRandom on) = (numbers_rise part.player (SetRandom (entries part) on)).3
-same_limit rate part (SetsSingle single) = refl
-same_limit rate part (SetsConsume consume) = refl
-same_limit rate part (SetsCrossfade seconds) = refl
-same_limit rate part ClearsError = refl
-same_limit rate part Plays = (numbers_rise part.player (Play (entries part))).3
-same_limit rate part (PlaysPlace place) = play_keeps part.player (slice_get (entries part) place)
-same_limit rate part (Pauses on) = (numbers_rise part.player (Pause on)).3
-same_limit rate part TogglesPause = (numbers_rise part.player TogglePause).3
-same_limit rate part Stops = (numbers_rise part.player Stop).3
-same_limit rate part GoesOn = (numbers_rise part.player (Next (entries part))).3
-same_limit rate part GoesBack = (numbers_rise part.player (Previous (entries part))).3
-same_limit rate part (Seeks place frame) = seek_keeps part.player (slice_get (entries part) place) frame
-same_limit rate part (Switches output on) = refl
-same_limit rate part (Wants owes) = (numbers_rise part.player (Want rate (entries part) (any_enabled part.outputs) owes)).3
-same_limit rate part (Accepts number frames) = (numbers_rise part.player (Have (entries part) number frames)).3
-same_limit rate part (Fails number partner) = (numbers_rise part.player (Failed (entries part) number partner)).3
-same_limit rate part (Settles output written discarded failed) = refl
-same_limit rate part (Subscribes client channel) = refl
-same_limit rate part (Unsubscribes client channel) = refl
-same_limit rate part (Sends channel text) = refl
-same_limit rate part (ReadsMessages client) = refl
-same_limit rate part (Leaves client) = refl
+same_limit rate part (ByCommand Rests) = refl
+same_limit rate part (ByCommand (Edits edit)) = edit_keeps part.player part.queue edit
+same_limit rate part (ByCommand (Shuffles start end)) = refl
+same_limit rate part (ByCommand (SetsVolume volume)) = refl
+same_limit rate part (ByCommand (SetsRepeat on)) = refl
+same_limit rate part (ByCommand (SetsRandom on)) = (numbers_rise part.player (SetRandom (entries part) on)).3
+same_limit rate part (ByCommand (SetsSingle single)) = refl
+same_limit rate part (ByCommand (SetsConsume consume)) = refl
+same_limit rate part (ByCommand (SetsCrossfade seconds)) = refl
+same_limit rate part (ByCommand ClearsError) = refl
+same_limit rate part (ByCommand Plays) = (numbers_rise part.player (Play (entries part))).3
+same_limit rate part (ByCommand (PlaysPlace place)) = play_keeps part.player (slice_get (entries part) place)
+same_limit rate part (ByCommand (Pauses on)) = (numbers_rise part.player (Pause on)).3
+same_limit rate part (ByCommand TogglesPause) = (numbers_rise part.player TogglePause).3
+same_limit rate part (ByCommand Stops) = (numbers_rise part.player Stop).3
+same_limit rate part (ByCommand GoesOn) = (numbers_rise part.player (Next (entries part))).3
+same_limit rate part (ByCommand GoesBack) = (numbers_rise part.player (Previous (entries part))).3
+same_limit rate part (ByCommand (Seeks place frame)) = seek_keeps part.player (slice_get (entries part) place) frame
+same_limit rate part (ByCommand (Switches output on)) = refl
+same_limit rate part (ByAudio (Wants owes)) = (numbers_rise part.player (Want rate (entries part) (any_enabled part.outputs) owes)).3
+same_limit rate part (ByAudio (Accepts number frames)) = (numbers_rise part.player (Have (entries part) number frames)).3
+same_limit rate part (ByAudio (Fails number partner)) = (numbers_rise part.player (Failed (entries part) number partner)).3
+same_limit rate part (ByAudio (Settles output written discarded failed)) = refl
+same_limit rate part (ByCommand (Subscribes client channel)) = refl
+same_limit rate part (ByCommand (Unsubscribes client channel)) = refl
+same_limit rate part (ByCommand (Sends channel text)) = refl
+same_limit rate part (ByCommand (ReadsMessages client)) = refl
+same_limit rate part (ByCommand (Leaves client)) = refl
 
 -- where no part differs nothing differs but what no subsystem speaks of
 pub agree : (before : World) (i : Image) (event : Event) (t : Turn) (notices : List Notice) (report : Report) → i.part.player ≡ before.player

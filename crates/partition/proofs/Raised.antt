@@ -6,21 +6,24 @@ use Rattle.song_queue.specs.Entries.{same_queue}
 use Rattle.song_queue.specs.State.{QueueState, queue_of, differ}
 use Rattle.song_queue.proofs.Parity.{edited_tells, parity_tells_changes}
 use Rattle.song_queue.proofs.Same.{same_queue-refl}
-use Rattle.partition.specs.declared.state.Part.{Part}
-use Rattle.partition.specs.declared.event.Event.{Event}
-use Rattle.partition.specs.declared.event.Notice.{Notice}
-use Rattle.partition.specs.declared.state.Client.{Client}
-use Rattle.partition.specs.Answers.{Said}
-use Rattle.partition.specs.declared.state.Library.{Library}
-use Rattle.partition.specs.Clients.{begins_to_have, clients_after, has_messages, notices_after, same_songs}
-use Rattle.partition.specs.Outputs.{FrameBooks, books_after}
-use Rattle.partition.specs.Doings.{Change, ByEdit, ByStep, change_of, channels_after, part_after, queue_after}
-use Rattle.partition.specs.Image.{Image, Turn, library_after, songs_after}
-use Rattle.partition.specs.Signs.{SignsData, changes_subscriptions, is_among, signs, told_by_signs}
-use Rattle.partition.specs.declared.shelf_calls.ShelfWrite.{ShelfWrite}
-use Rattle.partition.specs.Settled.{HasRoom}
-use Rattle.partition.proofs.Listeners.{among_waiting, changes}
-use Rattle.partition.specs.Step.{mover, raised_by, report_of, after_turn, ended_after, told_by}
+use Rattle.player_state.specs.declared.state.Part.{Part}
+use Rattle.player_events.specs.declared.event.Event.{Event}
+use Rattle.idle_clients.specs.declared.notices.Notice.{Notice}
+use Rattle.player_state.specs.declared.state.Client.{Client}
+use Rattle.command_plan.specs.Answers.{Said}
+use Rattle.player_state.specs.declared.state.Library.{Library}
+use Rattle.idle_clients.specs.Clients.{begins_to_have, clients_after, has_messages, notices_after, same_songs}
+use Rattle.player_state.specs.Outputs.{FrameBooks, books_after}
+use Rattle.player_state.specs.Doings.{Change, ByEdit, ByStep, change_of, channels_after, part_after, queue_after}
+use Rattle.partition.specs.Image.{Image}
+use Rattle.command_plan.specs.Turns.{Turn}
+use Rattle.player_state.specs.Libraries.{library_after, songs_after}
+use Rattle.idle_clients.specs.Signs.{SignsData, changes_subscriptions, is_among, signs, told_by_signs}
+use Rattle.command_plan.specs.declared.shelf_calls.ShelfWrite.{ShelfWrite}
+use Rattle.idle_clients.specs.Settled.{HasRoom}
+use Rattle.idle_clients.proofs.Listeners.{among_waiting, changes}
+use Rattle.partition.specs.Step.{mover, raised_by, after_turn, ended_after, told_by}
+use Rattle.command_plan.specs.Turns.{report_of}
 
 pub differ-self : (b : Bool) → differ b b ≡ false
 differ-self true = refl

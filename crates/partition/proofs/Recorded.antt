@@ -3,16 +3,17 @@ use Rattle.std.proofs.Common.{◌≡◌, ◌⊎◌, inl, inr, ℕ, true, false, 
 use Rattle.std.specs.Prelude.{nat_le, slice_index_or}
 use Rattle.shelf.specs.Calls.{Call}
 use Rattle.shelf.specs.Maps.{Standing}
-use Rattle.partition.specs.declared.event.Event.{Event}
-use Rattle.partition.specs.declared.event.Happened.{Happened}
+use Rattle.player_events.specs.declared.event.Event.{Event}
+use Rattle.player_events.specs.declared.event.Happened.{Happened}
 use Rattle.partition.specs.declared.partition.PartitionFault.{PartitionFault}
 use Rattle.partition.specs.declared.partition.PartitionFault.TheVariants.{HistoryFull, CutsAtLimit, AtLimit, NoMemory}
-use Rattle.partition.specs.Answers.{Told}
+use Rattle.player_events.specs.Told.{Told}
 use Rattle.partition.specs.Image.{Image, counted}
 use Rattle.partition.specs.Lent.{IsRefused, Records, question, writing}
 use Rattle.partition.specs.Refusals.{MayRefuse, RefusesTurn}
-use Rattle.partition.specs.Shelves.{Serves, Spares}
-use Rattle.partition.specs.Step.{after_turn, counts_frames, hearing, heard_at, keeps_limits, limit_of, next_image, told, told_by, turn}
+use Rattle.command_plan.specs.Shelves.{Serves, Spares}
+use Rattle.partition.specs.Step.{after_turn, counts_frames, keeps_limits, limit_of, next_image, told, told_by, turn}
+use Rattle.player_events.specs.Events.{hearing, heard_at}
 use Rattle.partition.proofs.Lending.{may_want}
 
 abbrev IsFree : ℕ → Image → Type 0
@@ -38,6 +39,22 @@ is_told i e outcome is = is
 pub is_next : (seat : ℕ) (i after : Image) (e : Event) → after ≡ counted seat (after_turn i e (turn i e)) → after ≡ next_image seat i e
 unfolding next_image
 is_next seat i after e is = is
+
+-- An event that is no line, where the state was found equal to the one before.
+pub told_before : (found before : Image) (e : Event) (outcome : Told) → found ≡ before → outcome ≡ told_by found e (turn found e) → outcome ≡ told before e
+told_before found before e outcome same is = is_told found e outcome is ∙ ap (λ (i : Image). told i e) same
+
+pub next_before : (seat : ℕ) (found before after : Image) (e : Event) → found ≡ before → after ≡ counted seat (after_turn found e (turn found e)) → after ≡ next_image seat before e
+next_before seat found before after e same is = is_next seat found after e is ∙ ap (λ (i : Image). next_image seat i e) same
+
+pub within_before : (seat : ℕ) (found before : Image) (e : Event) → found ≡ before → IsFree seat found
+    → counts_frames found (turn found e) ≡ true → keeps_limits found (turn found e) ≡ true → limit_of seat before e ≡ None
+within_before seat found before e same free counts keeps = ap (λ (i : Image). limit_of seat i e) (sym same) ∙ is_within seat found e free counts keeps
+
+pub may_refuse_before : (seat : ℕ) (found before : Image) (e : Event) (fault : PartitionFault) → found ≡ before → IsFree seat found
+    → RefusesTurn found (turn found e) fault → MayRefuse (limit_of seat before e) fault
+may_refuse_before seat found before e fault same free refused =
+    subst (λ (i : Image). MayRefuse (limit_of seat i e) fault) same (may_refuse seat found e fault free refused)
 
 module _ {S : Type 0} (standing : S → Standing) (failed : S → S → Call → Type 0) where
   -- an event joined the history as the one that heard what it heard

@@ -1,24 +1,32 @@
--- Commands over stickers change nothing of the player.
-use Rattle.std.proofs.Common.{◌≡◌, Bool, true, false, List, ℕ, Option, Some, None, refl, sym, subst, if◌then◌else◌}
+-- Commands over stickers, and what is put on a stored playlist, change nothing of the player.
+use Rattle.std.proofs.Common.{◌≡◌, ◌+◌, ◌==◌, Bool, true, false, not, nat_lt, List, [], ◌∷◌, ◌++◌, length, ℕ, Option, Some, None, codes, refl, sym, subst, if◌then◌else◌}
 use Rattle.shelf.specs.declared.faults.ShelfFault.{ShelfFault}
 use Rattle.shelf.specs.declared.faults.ShelfFault.TheVariants.{NoSuchList, Exists, BadName, NoSticker, StoreFault, NoMemory}
-use Rattle.shelf.specs.Maps.{is_sticker_name}
+use Rattle.shelf.specs.Maps.{is_list_name, is_sticker_name}
+use Rattle.mpd_text.specs.Songs.Song.{SongData}
+use Rattle.mpd_text.specs.declared.answers.answer.ErrorNumber.TheVariants.{PlaylistMax}
+use Rattle.command_plan.specs.declared.shelf_calls.ShelfWrite.TheVariants.{Put}
+use Rattle.song_db.specs.Library.{song_of}
+use Rattle.song_search.specs.Folders.{is_folder, under}
+use Rattle.shelf_contents.specs.Edits.{uris_of}
 use Rattle.mpd_command.specs.declared.sticker.Comparison.{Comparison}
 use Rattle.mpd_command.specs.declared.sticker.StickerCommand.{StickerCommand}
 use Rattle.mpd_command.specs.declared.sticker.StickerCommand.TheVariants.{Get, Set, Delete, List as ListStickers, Find}
-use Rattle.partition.specs.declared.doing.Doing.TheVariants.{Rests}
-use Rattle.partition.specs.declared.event.Asked.{Asked}
-use Rattle.partition.specs.declared.shelf_calls.Read.{Read}
-use Rattle.partition.specs.declared.shelf_calls.Read.TheVariants.{Nothing, Names, List as ListRead, Value, Entries, Refused}
-use Rattle.partition.specs.declared.state.Library.{Library}
-use Rattle.partition.specs.declared.state.Part.{Part}
-use Rattle.partition.specs.Commands.Deeds.{bad_name, no_such_song}
-use Rattle.partition.specs.Commands.Shelf.{delete_stickers, is_place, is_song, set_value, show_found, show_stickers, show_value, sticker}
-use Rattle.partition.specs.Image.{Deed}
-use Rattle.partition.specs.Plans.{Fits}
+use Rattle.player_state.specs.declared.doing.Doing.TheVariants.{ByCommand}
+use Rattle.player_state.specs.declared.doing.Effect.{Effect}
+use Rattle.player_state.specs.declared.doing.Effect.TheVariants.{Rests}
+use Rattle.command_plan.specs.declared.asked.Asked.{Asked}
+use Rattle.command_plan.specs.declared.shelf_calls.Read.{Read}
+use Rattle.command_plan.specs.declared.shelf_calls.Read.TheVariants.{Nothing, Names, List as ListRead, Value, Entries, Refused}
+use Rattle.player_state.specs.declared.state.Library.{Library}
+use Rattle.player_state.specs.declared.state.Part.{Part}
+use Rattle.command_plan.specs.Deeds.{bad_name, no_such_song, refusal, writes}
+use Rattle.library_commands.specs.Shelf.{append, append_folder, append_song_or_folder, delete_stickers, named, playlist_add, put_with, is_place, is_song, set_value, show_found, show_stickers, show_value, sticker}
+use Rattle.command_plan.specs.Turns.{Deed}
+use Rattle.player_state.specs.Plans.{Fits}
 
 abbrev IsRest : Deed → Type 0
-IsRest deed = deed.doing ≡ Rests
+IsRest deed = deed.effect ≡ Rests
 
 either : (b : Bool) (d e : Deed) → IsRest d → IsRest e → IsRest (if b then d else e)
 either true d e p q = p
@@ -78,5 +86,38 @@ sticker_rests asked library read (ListStickers uri) = either (is_song library ur
 sticker_rests asked library read (Find uri name test) =
     either (is_place library uri.0) _ (no_such_song asked) (either (is_sticker_name name) _ (bad_name asked name) (find_rests asked library read uri.0 name test) refl) refl
 
-pub sticker_fits : (part : Part) (asked : Asked) (library : Library) (read : Read) (command : StickerCommand) → Fits part (sticker asked library read command).doing
-sticker_fits part asked library read command = subst (Fits part) (sym (sticker_rests asked library read command)) tt
+pub sticker_fits : (part : Part) (asked : Asked) (library : Library) (read : Read) (command : StickerCommand) → Fits part (ByCommand (sticker asked library read command).effect)
+sticker_fits part asked library read command = subst (λ (e : Effect). Fits part (ByCommand e)) (sym (sticker_rests asked library read command)) tt
+
+put_rests : (asked : Asked) (name : List ℕ) (uris : List (List ℕ)) (songs : List SongData) (changes : Bool) → IsRest (put_with asked name uris songs changes)
+put_rests asked name uris songs changes =
+    either (nat_lt 16384 (length uris + length songs)) (refusal asked PlaylistMax (codes "playlist is full")) (writes asked (Put name (uris ++ uris_of songs) changes)) refl refl
+
+append_refused : (asked : Asked) (fault : ShelfFault) (name : List ℕ) (songs : List SongData) → IsRest (append asked (Refused fault) name songs)
+append_refused asked NoSuchList name songs = put_rests asked name [] songs true
+append_refused asked Exists name songs = refl
+append_refused asked BadName name songs = refl
+append_refused asked NoSticker name songs = refl
+append_refused asked StoreFault name songs = refl
+append_refused asked NoMemory name songs = refl
+
+append_rests : (asked : Asked) (read : Read) (name : List ℕ) (songs : List SongData) → IsRest (append asked read name songs)
+append_rests asked Nothing name songs = refl
+append_rests asked (Names names) name songs = refl
+append_rests asked (ListRead uris) name songs = put_rests asked name uris songs (not (length songs == 0))
+append_rests asked (Value value) name songs = refl
+append_rests asked (Entries entries) name songs = refl
+append_rests asked (Refused fault) name songs = append_refused asked fault name songs
+
+added_rests : (asked : Asked) (library : Library) (read : Read) (name uri : List ℕ) (song : Option SongData) → IsRest (append_song_or_folder asked library read name uri song)
+added_rests asked library read name uri (Some song) = append_rests asked read name (song ∷ [])
+added_rests asked library read name uri None =
+    either (is_folder uri library.songs) (append asked read name (under uri library.songs)) (no_such_song asked) (append_rests asked read name (under uri library.songs)) refl
+
+add_rests : (asked : Asked) (library : Library) (read : Read) (name uri : List ℕ) → IsRest (playlist_add asked library read name uri)
+add_rests asked library read name uri =
+    either (is_list_name name) (append_song_or_folder asked library read name uri (song_of library.songs uri)) (bad_name asked name)
+    (added_rests asked library read name uri (song_of library.songs uri)) refl
+
+pub add_fits : (part : Part) (asked : Asked) (library : Library) (read : Read) (name uri : List ℕ) → Fits part (ByCommand (playlist_add asked library read name uri).effect)
+add_fits part asked library read name uri = subst (λ (e : Effect). Fits part (ByCommand e)) (sym (add_rests asked library read name uri)) tt

@@ -1,7 +1,7 @@
 -- The limit of a seat's events comes before all others.
 use Rattle.std.proofs.Common.{◌≡◌, inl, ℕ, true, nat_le, refl}
 use Rattle.std.specs.Prelude.{slice_index_or}
-use Rattle.partition.specs.declared.event.Event.{Event}
+use Rattle.player_events.specs.declared.event.Event.{Event}
 use Rattle.partition.specs.declared.partition.PartitionFault.TheVariants.{AtLimit}
 use Rattle.partition.specs.Image.{Image}
 use Rattle.partition.specs.Refusals.{MayRefuse}

@@ -7,35 +7,38 @@ use Rattle.std.proofs.lemmas.Bool.Decides.{nat_tests}
 use Rattle.idle_notes.specs.declared.sets.Subsystems.{Subsystems}
 use Rattle.idle_notes.specs.Sets.{is_nonempty}
 use Rattle.idle_notes.specs.Notes.{fresh, noted, waits, cancelled, due}
-use Rattle.partition.specs.declared.state.Library.{Library}
+use Rattle.player_state.specs.declared.state.Library.{Library}
 use Rattle.mpd_command.specs.declared.command.Command.{Command}
 use Rattle.mpd_command.specs.declared.name.Name.{Name}
 use Rattle.mpd_command.specs.declared.request.Request.{Request}
 use Rattle.mpd_command.specs.declared.request.Request.TheVariants.{Run, Refused}
-use Rattle.partition.specs.declared.event.Asked.{Asked}
-use Rattle.partition.specs.declared.event.Stand.{Stand}
-use Rattle.partition.specs.declared.event.Stand.TheVariants.{Alone, InList}
-use Rattle.partition.specs.declared.event.Event.{Event}
-use Rattle.partition.specs.declared.event.Event.TheVariants.{Connect, Disconnect, Line, ScanQuestion, ScanResult, Want, Have, Failed, OutputTurn, End}
-use Rattle.partition.specs.declared.doing.Doing.TheVariants.{Settles}
-use Rattle.partition.specs.Outputs.{is_output}
-use Rattle.partition.specs.declared.event.Move.{Move}
-use Rattle.partition.specs.declared.event.Move.TheVariants.{Stay, Wait, Learn, Resume, Join}
-use Rattle.partition.specs.declared.event.Notice.{Notice}
-use Rattle.partition.specs.declared.state.Client.{Client}
-use Rattle.partition.specs.declared.state.Part.{Part}
-use Rattle.partition.specs.Answers.{Said, refused_by_shelf, stays}
-use Rattle.partition.specs.Commands.Status.{Wish, ToWait, ToGoOn, wish_of}
-use Rattle.partition.specs.Clients.{notified, is_other, at, moved, notice_to, notice_for, notices_after, clients_after, staying, move_of, closes, AllAbove, Rising}
-use Rattle.partition.specs.Image.{Turn, client_of}
-use Rattle.partition.specs.Step.{absent, acts, deed_of, departs, ends_by, name_of, once_written, turn_of, turn_line, turn_wished, written_turn, speaker, mover, unspoken}
-use Rattle.partition.specs.Shelves.{is_written}
-use Rattle.partition.specs.declared.shelf_calls.Read.{Read}
+use Rattle.command_plan.specs.declared.asked.Asked.{Asked}
+use Rattle.command_plan.specs.declared.asked.Stand.{Stand}
+use Rattle.command_plan.specs.declared.asked.Stand.TheVariants.{Alone, InList}
+use Rattle.player_events.specs.declared.event.Event.{Event}
+use Rattle.player_events.specs.declared.event.Event.TheVariants.{Connect, Disconnect, Line, ScanQuestion, ScanResult, Want, Have, Failed, OutputTurn, End}
+use Rattle.player_state.specs.declared.doing.AudioStep.TheVariants.{Settles}
+use Rattle.player_state.specs.Outputs.{is_output}
+use Rattle.command_plan.specs.declared.reply.Move.{Move}
+use Rattle.command_plan.specs.declared.reply.Move.TheVariants.{Stay, Wait, Learn, Resume, Join}
+use Rattle.idle_clients.specs.declared.notices.Notice.{Notice}
+use Rattle.player_state.specs.declared.state.Client.{Client}
+use Rattle.player_state.specs.declared.state.Part.{Part}
+use Rattle.command_plan.specs.Answers.{Said, refused_by_shelf, stays}
+use Rattle.status_commands.specs.Status.{Wish, ToWait, ToGoOn, wish_of}
+use Rattle.idle_clients.specs.Clients.{notified, is_other, at, moved, notice_to, notice_for, notices_after, clients_after, staying, move_of, closes, AllAbove, Rising}
+use Rattle.command_plan.specs.Turns.{Turn}
+use Rattle.idle_clients.specs.Clients.{client_of}
+use Rattle.partition.specs.Step.{absent, deed_of, ends_by, once_written, turn_of, turn_line, turn_wished, written_turn, speaker, mover}
+use Rattle.player_events.specs.Events.{name_of}
+use Rattle.command_plan.specs.Turns.{acts, departs, unspoken}
+use Rattle.command_plan.specs.Shelves.{is_written}
+use Rattle.command_plan.specs.declared.shelf_calls.Read.{Read}
 use Rattle.shelf.specs.declared.faults.ShelfFault.{ShelfFault}
 use Rattle.shelf.specs.declared.faults.ShelfFault.TheVariants.{NoSuchList, Exists, BadName, NoSticker, StoreFault, NoMemory}
 use Rattle.partition.specs.Notices.{IsIn, AllBeyond, NoticesRise}
 use Rattle.partition.proofs.Members.{in_filter, of_filter, in_insert, in_map, of_map, in_flat_map, of_flat_map}
-use Rattle.partition.proofs.Rises.{at_keeps}
+use Rattle.idle_clients.proofs.Rises.{at_keeps}
 
 above_in : (n : ℕ) (k : Client) (ks : List Client) → AllAbove n ks → IsIn k ks → n < k.number
 above_in n k [] a e = absurd e

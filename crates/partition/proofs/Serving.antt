@@ -3,16 +3,17 @@ use Rattle.std.proofs.Common.{◌≡◌, Bool, true, false, Option, None, refl, 
 use Rattle.shelf.specs.declared.faults.ShelfFault.{ShelfFault}
 use Rattle.shelf.specs.Calls.{Call}
 use Rattle.shelf.specs.Maps.{Maps, Standing, Trusted, Turns}
-use Rattle.partition.specs.declared.event.Event.{Event}
-use Rattle.partition.specs.declared.event.Event.TheVariants.{Connect, Disconnect, Line, ScanQuestion, ScanResult, Want, Have, Failed, OutputTurn, End}
-use Rattle.partition.specs.declared.shelf_calls.Heard.{Heard}
-use Rattle.partition.specs.declared.shelf_calls.Read.{Read}
-use Rattle.partition.specs.declared.shelf_calls.ShelfWrite.{ShelfWrite}
-use Rattle.partition.specs.declared.shelf_calls.ShelfWrite.TheVariants.{Nothing as Unwritten}
+use Rattle.player_events.specs.declared.event.Event.{Event}
+use Rattle.player_events.specs.declared.event.Event.TheVariants.{Connect, Disconnect, Line, ScanQuestion, ScanResult, Want, Have, Failed, OutputTurn, End}
+use Rattle.command_plan.specs.declared.shelf_calls.Heard.{Heard}
+use Rattle.command_plan.specs.declared.shelf_calls.Read.{Read}
+use Rattle.command_plan.specs.declared.shelf_calls.ShelfWrite.{ShelfWrite}
+use Rattle.command_plan.specs.declared.shelf_calls.ShelfWrite.TheVariants.{Nothing as Unwritten}
 use Rattle.partition.specs.Image.{Image}
 use Rattle.partition.specs.Lent.{question, writing}
-use Rattle.partition.specs.Shelves.{IsAnswered, IsRead, Serves, Spares, answered, is_ok_write, is_read, is_wanting, is_written, maps_after}
-use Rattle.partition.specs.Step.{hearing, heard_at, turn}
+use Rattle.command_plan.specs.Shelves.{IsAnswered, IsRead, Serves, Spares, answered, is_ok_write, is_read, is_wanting, is_written, maps_after}
+use Rattle.player_events.specs.Events.{hearing, heard_at}
+use Rattle.partition.specs.Step.{turn}
 use Rattle.partition.proofs.Lending.{uncalled}
 use Rattle.partition.proofs.Settled.{unwritten}
 use Rattle.partition.proofs.Writing.{hears_last, hears_so}

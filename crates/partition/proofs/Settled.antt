@@ -7,45 +7,49 @@ use Rattle.idle_notes.specs.declared.pending.Pending.{Pending}
 use Rattle.idle_notes.specs.declared.sets.Subsystems.{Subsystems}
 use Rattle.idle_notes.specs.Sets.{none, union, meet, is_nonempty}
 use Rattle.idle_notes.specs.Notes.{fresh, noted, waits, cancelled, due, settled, notice_of}
-use Rattle.partition.specs.declared.state.Library.{Library}
+use Rattle.player_state.specs.declared.state.Library.{Library}
 use Rattle.song_queue.proofs.Same.{same_queue-refl}
 use Rattle.song_queue.specs.State.{queue_of}
 use Rattle.mpd_command.specs.declared.request.Request.TheVariants.{Run}
-use Rattle.partition.specs.declared.event.Asked.{Asked}
-use Rattle.partition.specs.declared.event.Event.{Event}
-use Rattle.partition.specs.declared.event.Stand.TheVariants.{Alone}
-use Rattle.partition.specs.declared.event.Happened.{Happened}
-use Rattle.partition.specs.declared.event.Move.{Move}
-use Rattle.partition.specs.declared.event.Move.TheVariants.{Stay, Wait, Learn, Resume, Join}
-use Rattle.partition.specs.declared.state.Client.{Client}
-use Rattle.partition.specs.declared.state.Part.{Part}
-use Rattle.partition.specs.Answers.{Said}
-use Rattle.partition.specs.Clients.{has_messages, notified, notice_for, notice_to, is_other, at, joined, moved, staying, move_of, clients_after, options, playing, Rising}
-use Rattle.partition.specs.Commands.Status.{Wish, idles}
+use Rattle.command_plan.specs.declared.asked.Asked.{Asked}
+use Rattle.player_events.specs.declared.event.Event.{Event}
+use Rattle.command_plan.specs.declared.asked.Stand.TheVariants.{Alone}
+use Rattle.player_events.specs.declared.event.Happened.{Happened}
+use Rattle.command_plan.specs.declared.reply.Move.{Move}
+use Rattle.command_plan.specs.declared.reply.Move.TheVariants.{Stay, Wait, Learn, Resume, Join}
+use Rattle.player_state.specs.declared.state.Client.{Client}
+use Rattle.player_state.specs.declared.state.Part.{Part}
+use Rattle.command_plan.specs.Answers.{Said}
+use Rattle.idle_clients.specs.Clients.{has_messages, notified, notice_for, notice_to, is_other, at, joined, moved, staying, move_of, clients_after, options, playing, Rising}
+use Rattle.status_commands.specs.Status.{Wish, idles}
 use Rattle.partition.specs.History.{replay}
-use Rattle.partition.specs.declared.doing.Doing.{Doing}
-use Rattle.partition.specs.declared.doing.Doing.TheVariants.{Rests}
-use Rattle.partition.specs.declared.report.Report.{Report}
-use Rattle.partition.specs.declared.report.Report.TheVariants.{Nothing}
-use Rattle.partition.specs.declared.scan.ScanMove.{ScanMove}
-use Rattle.partition.specs.declared.scan.ScanMove.TheVariants.{Stay as StayScan}
-use Rattle.partition.proofs.Songs.{same_songs-refl}
-use Rattle.partition.specs.Image.{Image, Turn, client_of}
+use Rattle.player_state.specs.declared.doing.Doing.{Doing}
+use Rattle.player_state.specs.declared.doing.Doing.TheVariants.{ByCommand}
+use Rattle.player_state.specs.declared.doing.Effect.TheVariants.{Rests}
+use Rattle.player_state.specs.declared.report.Report.{Report}
+use Rattle.player_state.specs.declared.report.Report.TheVariants.{Nothing}
+use Rattle.player_state.specs.declared.scan.ScanMove.{ScanMove}
+use Rattle.player_state.specs.declared.scan.ScanMove.TheVariants.{Stay as StayScan}
+use Rattle.idle_clients.proofs.Songs.{same_songs-refl}
+use Rattle.partition.specs.Image.{Image}
+use Rattle.command_plan.specs.Turns.{Turn}
+use Rattle.idle_clients.specs.Clients.{client_of}
 use Rattle.partition.specs.Notices.{IsIn}
-use Rattle.partition.specs.Rooms.{is_waiting}
-use Rattle.partition.specs.Settled.{IsSettled, AllSettled, HasRoom, nothing}
-use Rattle.partition.specs.Shelves.{is_written}
-use Rattle.partition.specs.declared.shelf_calls.ShelfWrite.{ShelfWrite}
-use Rattle.partition.specs.declared.shelf_calls.ShelfWrite.TheVariants.{Nothing as Unwritten, Put, Create, Rename, Remove, SetSticker, DeleteSticker, DeleteStickers}
+use Rattle.idle_clients.specs.Rooms.{is_waiting}
+use Rattle.idle_clients.specs.Settled.{IsSettled, AllSettled, HasRoom, nothing}
+use Rattle.command_plan.specs.Shelves.{is_written}
+use Rattle.command_plan.specs.declared.shelf_calls.ShelfWrite.{ShelfWrite}
+use Rattle.command_plan.specs.declared.shelf_calls.ShelfWrite.TheVariants.{Nothing as Unwritten, Put, Create, Rename, Remove, SetSticker, DeleteSticker, DeleteStickers}
 use Rattle.idle_notes.specs.Channels.{pairs}
-use Rattle.partition.proofs.Parts.{same_pairs-refl}
-use Rattle.partition.specs.Step.{turn, turn_of, turn_line, turn_wished, deed_of, departs, ends_by, quiet, mover, raised_by, next_image, written_turn}
-use Rattle.partition.proofs.Alike.{same_enabled-refl, same_options-refl, same_playing-refl}
+use Rattle.idle_clients.proofs.Alike.{same_pairs-refl}
+use Rattle.partition.specs.Step.{turn, turn_of, turn_line, turn_wished, deed_of, ends_by, mover, raised_by, next_image, written_turn}
+use Rattle.command_plan.specs.Turns.{departs, quiet}
+use Rattle.idle_clients.proofs.Alike.{same_enabled-refl, same_options-refl, same_playing-refl}
 use Rattle.partition.proofs.Asking.{quiet_unwaiting, IsAsking, kind_of, turn_idle}
 use Rattle.partition.proofs.Raised.{differ-self}
-use Rattle.partition.proofs.Rises.{rising_after}
+use Rattle.idle_clients.proofs.Rises.{rising_after}
 use Rattle.partition.proofs.Sends.{found}
-use Rattle.partition.proofs.Tells.{fewer_wait}
+use Rattle.idle_clients.proofs.Tells.{fewer_wait}
 
 or_false : (b : Bool) → (b || false) ≡ b
 or_false true = refl
@@ -71,7 +75,7 @@ begins-own true = refl
 begins-own false = refl
 
 rest_raises : (part : Part) (library : Library) (said : Said) (report : Report)
-    → raised_by part library (record { doing = Rests; scan = StayScan; written = Unwritten; said = said; report = report }) ≡ nothing
+    → raised_by part library (record { doing = ByCommand Rests; scan = StayScan; written = Unwritten; said = said; report = report }) ≡ nothing
 rest_raises part library said report = λ i number. record none {
   database = not (same_songs-refl library.songs i);
   update = differ-self library.scan.runs i;
@@ -95,11 +99,11 @@ unwritten (DeleteSticker uri name) e = cc
 unwritten (DeleteStickers uri) e = cc
 
 -- what leaves the part and the scans as they are raises nothing
-pub same_raises : (part : Part) (library : Library) (t : Turn) → t.scan ≡ StayScan → t.doing ≡ Rests → is_written t.written ≡ false → raised_by part library t ≡ nothing
+pub same_raises : (part : Part) (library : Library) (t : Turn) → t.scan ≡ StayScan → t.doing ≡ (ByCommand Rests) → is_written t.written ≡ false → raised_by part library t ≡ nothing
 same_raises part library t scan doing written =
     ap (λ (d : Doing). raised_by part library (record t { doing = d })) doing
-    ∙ ap (λ (m : ScanMove). raised_by part library (record t { doing = Rests; scan = m })) scan
-    ∙ ap (λ (w : ShelfWrite). raised_by part library (record t { doing = Rests; scan = StayScan; written = w })) (unwritten t.written written)
+    ∙ ap (λ (m : ScanMove). raised_by part library (record t { doing = ByCommand Rests; scan = m })) scan
+    ∙ ap (λ (w : ShelfWrite). raised_by part library (record t { doing = ByCommand Rests; scan = StayScan; written = w })) (unwritten t.written written)
     ∙ rest_raises part library t.said t.report
 
 pub quiet_raises : (part : Part) (library : Library) (said : Said) → raised_by part library (quiet said) ≡ nothing
@@ -256,37 +260,6 @@ unheard_one k one =
 pub no_notices : (ks : List Client) → AllSettled ks → flat_map (notice_for nothing) ks ≡ []
 no_notices [] all = refl
 no_notices (k ∷ ks) all = ap (λ l. l ++ flat_map (notice_for nothing) ks) (unheard_one k all.0) ∙ no_notices ks all.1
-
-or_parts : (a b : Bool) → (a || b) ≡ false → (a ≡ false) × (b ≡ false)
-or_parts true b e = cc
-or_parts false b e = (refl, e)
-
--- a set without members is the empty one
-pub is_none : (s : Subsystems) → is_nonempty s ≡ false → s ≡ none
-is_none s e =
-    let a = or_parts _ _ e in
-    let b = or_parts _ _ a.0 in
-    let c = or_parts _ _ b.0 in
-    let d = or_parts _ _ c.0 in
-    let f = or_parts _ _ d.0 in
-    let g = or_parts _ _ f.0 in
-    let h = or_parts _ _ g.0 in
-    let j = or_parts _ _ h.0 in
-    let k = or_parts _ _ j.0 in
-    let l = or_parts _ _ k.0 in
-    λ i. record {
-      database = l.0 i;
-      update = l.1 i;
-      stored_playlist = k.1 i;
-      playlist = j.1 i;
-      player = h.1 i;
-      mixer = g.1 i;
-      output = f.1 i;
-      options = d.1 i;
-      sticker = c.1 i;
-      subscription = b.1 i;
-      message = a.1 i;
-    }
 
 -- where fewer wait there are no more notices
 pub fewer_wanted : (raised : ℕ → Subsystems) (number : ℕ) (ks : List Client) (room : ℕ) → HasRoom raised ks room → HasRoom raised (filter (is_other number) ks) room

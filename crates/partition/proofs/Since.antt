@@ -6,19 +6,22 @@ use Rattle.std.proofs.lemmas.List.Elements.{All-nil, All-cons}
 use Rattle.idle_notes.specs.declared.sets.Subsystems.{Subsystems}
 use Rattle.idle_notes.specs.declared.subsystem.Subsystem.{Subsystem}
 use Rattle.idle_notes.specs.Sets.{none, union, has}
-use Rattle.partition.specs.declared.event.Happened.{Happened}
-use Rattle.partition.specs.declared.state.Client.{Client}
-use Rattle.partition.specs.Clients.{notified, closes, AllAbove, Rising}
+use Rattle.player_events.specs.declared.event.Happened.{Happened}
+use Rattle.player_state.specs.declared.state.Client.{Client}
+use Rattle.idle_clients.specs.Clients.{notified, closes, AllAbove, Rising}
 use Rattle.partition.specs.History.{replay}
-use Rattle.partition.specs.Image.{Image, Turn, client_of}
-use Rattle.partition.specs.Outputs.{FrameBooks, books_after}
+use Rattle.partition.specs.Image.{Image}
+use Rattle.command_plan.specs.Turns.{Turn}
+use Rattle.idle_clients.specs.Clients.{client_of}
+use Rattle.player_state.specs.Outputs.{FrameBooks, books_after}
 use Rattle.partition.specs.Since.{world_of, moment_at, moments_from, flags_of, kept_for, IsPendingSince, HasPendingSince, books_since}
-use Rattle.partition.specs.Step.{turn, mover, raised_by, report_of, after_turn, next_image, told}
+use Rattle.partition.specs.Step.{turn, mover, raised_by, after_turn, next_image, told}
+use Rattle.command_plan.specs.Turns.{report_of}
 use Rattle.partition.specs.World.{Moment, raised_at, is_there, begins_anew, books_of, listener_of, NeverAnew}
 use Rattle.partition.proofs.Notified.{Each, flagged, all_stand}
 use Rattle.partition.proofs.Parts.{raised_differ}
 use Rattle.partition.proofs.Pending.{has_union, has_none, either, or_right, or_left, longer}
-use Rattle.partition.proofs.Rises.{rising_after}
+use Rattle.idle_clients.proofs.Rises.{rising_after}
 use Rattle.partition.proofs.Worlds.{same_first, or_more}
 
 module _ (base : Image) where

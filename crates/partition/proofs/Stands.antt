@@ -1,9 +1,9 @@
 -- Where a history leads an opening, an image stands.
 use Rattle.std.proofs.Common.{◌≡◌, ◌≤◌, List, sym, subst, ◌∙◌}
-use Rattle.partition.specs.declared.event.Happened.{Happened}
-use Rattle.partition.specs.declared.state.Library.{Library}
+use Rattle.player_events.specs.declared.event.Happened.{Happened}
+use Rattle.player_state.specs.declared.state.Library.{Library}
 use Rattle.partition.specs.declared.state.Setup.{Setup}
-use Rattle.partition.specs.Clients.{Rising}
+use Rattle.idle_clients.specs.Clients.{Rising}
 use Rattle.partition.specs.History.{replay, AreTold}
 use Rattle.partition.specs.Image.{Image, opening}
 use Rattle.partition.specs.Legal.{Stands}

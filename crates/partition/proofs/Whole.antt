@@ -2,12 +2,13 @@
 use Rattle.std.proofs.Common.{◌≡◌, ℕ, suc, ◌+◌, Bool, true, false, ◌||◌, List, [], ◌∷◌, ◌++◌, refl, ap, sym, ◌∙◌, if◌then◌else◌}
 use Rattle.std.specs.List.{list_any}
 use Rattle.command_lists.specs.declared.word.ListForm.{ListForm}
-use Rattle.partition.specs.declared.event.Event.{Event}
-use Rattle.partition.specs.declared.event.Event.TheVariants.{Line}
-use Rattle.partition.specs.declared.event.Happened.{Happened}
-use Rattle.partition.specs.declared.event.Stand.TheVariants.{InList}
+use Rattle.player_events.specs.declared.event.Event.{Event}
+use Rattle.player_events.specs.declared.event.Event.TheVariants.{Line}
+use Rattle.player_events.specs.declared.event.Happened.{Happened}
+use Rattle.command_plan.specs.declared.asked.Stand.TheVariants.{InList}
 use Rattle.partition.specs.Image.{Image}
-use Rattle.partition.specs.Lists.{Answered, ends_list, entries_of, AreEntries, EntriesAre}
+use Rattle.partition.specs.Lists.{Answered, entries_of, AreEntries, EntriesAre}
+use Rattle.player_events.specs.Events.{ends_list}
 use Rattle.partition.specs.Step.{next_image, told}
 
 rest_of : List Happened → List Happened

@@ -5,30 +5,34 @@ use Rattle.std.proofs.Math.Nat.{mod-eq_of_lt}
 use Rattle.std.proofs.lemmas.Bool.Decides.{nat_tests}
 use Rattle.idle_notes.specs.declared.sets.Subsystems.{Subsystems}
 use Rattle.idle_notes.specs.Sets.{none, union}
-use Rattle.partition.specs.declared.state.Library.{Library}
+use Rattle.player_state.specs.declared.state.Library.{Library}
 use Rattle.song_queue.specs.declared.entry.Entry.{Entry}
 use Rattle.song_queue.specs.Laws as queues
 use Rattle.song_queue.specs.Past.{greatest_id, greatest_in, present, state_of}
 use Rattle.song_queue.specs.State.{QueueState, queue_of}
 use Rattle.song_queue.proofs.Ids.{pasts_keep_queues}
 use Rattle.song_queue.proofs.Runs.{length-after_event, after_edit, edited-at_end, greatest_in-present}
-use Rattle.partition.specs.declared.event.Event.{Event}
-use Rattle.partition.specs.declared.event.Happened.{Happened}
-use Rattle.partition.specs.declared.state.Client.{Client}
-use Rattle.partition.specs.declared.shelf_calls.ShelfWrite.{ShelfWrite}
+use Rattle.player_events.specs.declared.event.Event.{Event}
+use Rattle.player_events.specs.declared.event.Happened.{Happened}
+use Rattle.player_state.specs.declared.state.Client.{Client}
+use Rattle.command_plan.specs.declared.shelf_calls.ShelfWrite.{ShelfWrite}
 use Rattle.partition.specs.declared.state.Setup.{Setup}
-use Rattle.partition.specs.Clients.{Parts, raised, notified, closes, Rising}
+use Rattle.idle_clients.specs.Clients.{Parts, raised, notified, closes, Rising}
 use Rattle.partition.specs.History.{made_of, replay}
-use Rattle.partition.specs.Doings.{Change, ByEdit, ByStep, change_of, channels_after, outputs_after, player_after, queue_after, volume_after}
-use Rattle.partition.specs.Image.{Image, Turn, client_of, library_after, opening}
+use Rattle.player_state.specs.Doings.{Change, ByEdit, ByStep, change_of, channels_after, outputs_after, player_after, queue_after, volume_after}
+use Rattle.partition.specs.Image.{Image, opening}
+use Rattle.command_plan.specs.Turns.{Turn}
+use Rattle.idle_clients.specs.Clients.{client_of}
+use Rattle.player_state.specs.Libraries.{library_after}
 use Rattle.partition.specs.Legal.{ReplaysWorlds}
-use Rattle.partition.specs.Step.{turn, mover, raised_by, report_of, after_turn, ended_after, told_by, next_image}
+use Rattle.partition.specs.Step.{turn, mover, raised_by, after_turn, ended_after, told_by, next_image}
+use Rattle.command_plan.specs.Turns.{report_of}
 use Rattle.partition.specs.World.{Greatest, Listener, Moment, Life, raised_at, is_there, begins_anew, parts_in, pending_for, client_in, listener_of, books_of, image_of, past_after, world_after_turn, lived, life_after_event, life_from, limits_of, opening_life}
 use Rattle.partition.proofs.Counts.{made_of-more}
-use Rattle.partition.proofs.Frames.{Keeps, keeps}
+use Rattle.player_state.proofs.Frames.{Keeps, keeps}
 use Rattle.partition.proofs.Notified.{Each, flagged, all_stand}
 use Rattle.partition.proofs.Pending.{pending_more}
-use Rattle.partition.proofs.Rises.{rising_after}
+use Rattle.idle_clients.proofs.Rises.{rising_after}
 
 abbrev state_at : Greatest → List (List Entry) → QueueState
 state_at limits past = state_of limits.max_queue limits.max_version limits.max_id past

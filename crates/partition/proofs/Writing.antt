@@ -2,19 +2,22 @@
 use Rattle.std.proofs.Common.{◌≡◌, Bool, true, false, List, Option, Some, None, refl, ap, sym, ◌∙◌, if◌then◌else◌}
 use Rattle.mpd_command.specs.declared.request.Request.{Request}
 use Rattle.shelf.specs.declared.faults.ShelfFault.{ShelfFault}
-use Rattle.partition.specs.declared.doing.Doing.TheVariants.{Settles}
-use Rattle.partition.specs.declared.event.Event.{Event}
-use Rattle.partition.specs.declared.event.Event.TheVariants.{Connect, Disconnect, Line, ScanQuestion, ScanResult, Want, Have, Failed, OutputTurn, End}
-use Rattle.partition.specs.declared.event.Stand.{Stand}
-use Rattle.partition.specs.declared.shelf_calls.Heard.{Heard}
-use Rattle.partition.specs.declared.state.Client.{Client}
-use Rattle.partition.specs.declared.state.Library.{Library}
-use Rattle.partition.specs.declared.state.Part.{Part}
-use Rattle.partition.specs.Answers.{refused_by_shelf, stays}
-use Rattle.partition.specs.Image.{Turn, client_of}
-use Rattle.partition.specs.Outputs.{is_output}
-use Rattle.partition.specs.Shelves.{is_written}
-use Rattle.partition.specs.Step.{absent, acts, heard_at, hearing, name_at, name_of, once_written, quiet, stand_of, turn_line, turn_of, written_turn}
+use Rattle.player_state.specs.declared.doing.AudioStep.TheVariants.{Settles}
+use Rattle.player_events.specs.declared.event.Event.{Event}
+use Rattle.player_events.specs.declared.event.Event.TheVariants.{Connect, Disconnect, Line, ScanQuestion, ScanResult, Want, Have, Failed, OutputTurn, End}
+use Rattle.command_plan.specs.declared.asked.Stand.{Stand}
+use Rattle.command_plan.specs.declared.shelf_calls.Heard.{Heard}
+use Rattle.player_state.specs.declared.state.Client.{Client}
+use Rattle.player_state.specs.declared.state.Library.{Library}
+use Rattle.player_state.specs.declared.state.Part.{Part}
+use Rattle.command_plan.specs.Answers.{refused_by_shelf, stays}
+use Rattle.command_plan.specs.Turns.{Turn}
+use Rattle.idle_clients.specs.Clients.{client_of}
+use Rattle.player_state.specs.Outputs.{is_output}
+use Rattle.command_plan.specs.Shelves.{is_written}
+use Rattle.partition.specs.Step.{absent, once_written, turn_line, turn_of, written_turn}
+use Rattle.player_events.specs.Events.{heard_at, hearing, name_at, name_of, stand_of}
+use Rattle.command_plan.specs.Turns.{acts, quiet}
 
 -- an event hears what it heard
 pub same_hearing : (event : Event) → event ≡ hearing event (heard_at event)

@@ -1,12 +1,12 @@
 -- What is true of each player with its history.
 use Rattle.std.specs.Prelude.{◌≡◌, ◌≤◌, List, length}
-use Rattle.partition.specs.declared.event.Happened.{Happened}
+use Rattle.player_events.specs.declared.event.Happened.{Happened}
 use Rattle.partition.specs.declared.partition.Partition.TheInside.{Inside}
-use Rattle.partition.specs.declared.state.Library.{Library}
+use Rattle.player_state.specs.declared.state.Library.{Library}
 use Rattle.partition.specs.declared.state.Setup.{Setup}
 use Rattle.partition.specs.History.{Chronicle, replay, AreTold}
 use Rattle.partition.specs.Image.{Image, image_of_state, opening}
-use Rattle.partition.specs.Sizes.{window_bytes}
+use Rattle.player_events.specs.Sizes.{window_bytes}
 
 abbrev pub chronicle_of : Inside → Chronicle
 chronicle_of p = record { base = image_of_state p.base; window = p.history.items; present = image_of_state p.state; limit = p.limit }

@@ -3,11 +3,11 @@ use Rattle.std.specs.Prelude.{◌≡◌, ◌≢◌, ◌≤◌, ◌↔◌, ℕ, t
 use Rattle.idle_notes.specs.declared.subsystem.Subsystem.{Subsystem}
 use Rattle.idle_notes.specs.Sets.{has}
 use Rattle.song_queue.specs.State.{queue_of}
-use Rattle.partition.specs.declared.event.Happened.{Happened}
-use Rattle.partition.specs.declared.state.Client.{Client}
-use Rattle.partition.specs.declared.state.Library.{Library}
+use Rattle.player_events.specs.declared.event.Happened.{Happened}
+use Rattle.player_state.specs.declared.state.Client.{Client}
+use Rattle.player_state.specs.declared.state.Library.{Library}
 use Rattle.partition.specs.declared.state.Setup.{Setup}
-use Rattle.partition.specs.Clients.{Rising}
+use Rattle.idle_clients.specs.Clients.{Rising}
 use Rattle.partition.specs.History.{Chronicle, Happening, replay, AreTold, AreToldBy, after_all, begun, events_among}
 use Rattle.partition.specs.Image.{Image, opening}
 use Rattle.partition.specs.Notices.{Raises, Tells, EachMoment, AreHeard}

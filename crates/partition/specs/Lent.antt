@@ -2,18 +2,19 @@
 use Rattle.std.specs.Prelude.{◌≡◌, ◌⊎◌, ℕ, true, nat_le, slice_index_or, List, [], ◌∷◌, ◌++◌, None}
 use Rattle.shelf.specs.Calls.{Call}
 use Rattle.shelf.specs.Maps.{Standing}
-use Rattle.partition.specs.declared.event.Event.{Event}
-use Rattle.partition.specs.declared.event.Happened.{Happened}
+use Rattle.player_events.specs.declared.event.Event.{Event}
+use Rattle.player_events.specs.declared.event.Happened.{Happened}
 use Rattle.partition.specs.declared.partition.PartitionFault.{PartitionFault}
 use Rattle.partition.specs.declared.partition.PartitionFault.TheVariants.{HistoryFull, NoMemory}
-use Rattle.partition.specs.declared.shelf_calls.Heard.{Heard}
-use Rattle.partition.specs.declared.shelf_calls.ShelfWrite.{ShelfWrite}
-use Rattle.partition.specs.Answers.{Told}
+use Rattle.command_plan.specs.declared.shelf_calls.Heard.{Heard}
+use Rattle.command_plan.specs.declared.shelf_calls.ShelfWrite.{ShelfWrite}
+use Rattle.player_events.specs.Told.{Told}
 use Rattle.partition.specs.History.{Chronicle, is_full, with_room}
 use Rattle.partition.specs.Image.{Image}
 use Rattle.partition.specs.Refusals.{MayRefuse}
-use Rattle.partition.specs.Shelves.{Question, Serves, Spares}
-use Rattle.partition.specs.Step.{hearing, heard_at, limit_of, next_image, question_of, told, turn}
+use Rattle.command_plan.specs.Shelves.{Question, Serves, Spares}
+use Rattle.player_events.specs.Events.{hearing, heard_at}
+use Rattle.partition.specs.Step.{limit_of, next_image, question_of, told, turn}
 
 -- what an event asks the shelf
 abbrev pub question : Image → Event → Question

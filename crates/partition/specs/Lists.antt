@@ -6,27 +6,24 @@ use Rattle.command_lists.specs.declared.word.ListForm.{ListForm}
 use Rattle.mpd_command.specs.Requests.{name_in}
 use Rattle.mpd_command.specs.declared.request.Request.{Request}
 use Rattle.mpd_text.specs.Answers.Answer.{ack_line}
-use Rattle.partition.specs.declared.event.Event.{Event}
-use Rattle.partition.specs.declared.event.Event.TheVariants.{Line}
-use Rattle.partition.specs.declared.event.Happened.{Happened}
-use Rattle.partition.specs.declared.event.Stand.TheVariants.{InList}
+use Rattle.player_events.specs.declared.event.Event.{Event}
+use Rattle.player_events.specs.declared.event.Event.TheVariants.{Line}
+use Rattle.player_events.specs.declared.event.Happened.{Happened}
+use Rattle.command_plan.specs.declared.asked.Stand.TheVariants.{InList}
 use Rattle.partition.specs.declared.partition.PartitionFault.{PartitionFault}
 use Rattle.partition.specs.declared.partition.PartitionFault.TheVariants.{HistoryFull, CutsAtLimit, AtLimit, NoMemory}
 use Rattle.player_core.specs.declared.fault.PlayerFault.{PlayerFault}
 use Rattle.player_core.specs.declared.fault.PlayerFault.TheVariants as player_fault
-use Rattle.partition.specs.Answers.{Told}
-use Rattle.partition.specs.Clients.{closes}
+use Rattle.player_events.specs.Told.{Told}
+use Rattle.idle_clients.specs.Clients.{closes}
 use Rattle.partition.specs.Lent.{Refuses, ServesAll}
-use Rattle.partition.specs.declared.shelf_calls.Heard.{Heard}
+use Rattle.command_plan.specs.declared.shelf_calls.Heard.{Heard}
 use Rattle.shelf.specs.Calls.{Call}
 use Rattle.shelf.specs.Maps.{Standing}
 use Rattle.partition.specs.History.{Chronicle, joined, replay, AreTold}
 use Rattle.partition.specs.Image.{Image}
 use Rattle.partition.specs.Step.{limit_of, next_image, told}
-
--- a list ends at its first refusal, and where its client is closed
-abbrev pub ends_list : Told → Bool
-ends_list t = t.answer.refused || closes t.answer.next
+use Rattle.player_events.specs.Events.{ends_list}
 
 -- a request, and what the shelf answers to it
 abbrev pub Answered : Type 0

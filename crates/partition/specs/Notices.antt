@@ -9,15 +9,15 @@ use Rattle.idle_notes.specs.Sets.{has}
 use Rattle.mpd_command.specs.declared.command.Command.TheVariants.{Idle}
 use Rattle.mpd_command.specs.declared.name.Name.{Name}
 use Rattle.mpd_command.specs.declared.request.Request.TheVariants.{Run}
-use Rattle.partition.specs.declared.event.Event.{Event}
-use Rattle.partition.specs.declared.event.Event.TheVariants.{Line}
-use Rattle.partition.specs.declared.event.Happened.{Happened}
-use Rattle.partition.specs.declared.event.Next.TheVariants.{Goes, Waits}
-use Rattle.partition.specs.declared.event.Notice.{Notice}
-use Rattle.partition.specs.declared.event.Stand.TheVariants.{Alone}
+use Rattle.player_events.specs.declared.event.Event.{Event}
+use Rattle.player_events.specs.declared.event.Event.TheVariants.{Line}
+use Rattle.player_events.specs.declared.event.Happened.{Happened}
+use Rattle.command_plan.specs.declared.reply.Next.TheVariants.{Goes, Waits}
+use Rattle.idle_clients.specs.declared.notices.Notice.{Notice}
+use Rattle.command_plan.specs.declared.asked.Stand.TheVariants.{Alone}
 use Rattle.player_core.specs.Player.{PlayerState}
-use Rattle.partition.specs.Answers.{Told}
-use Rattle.partition.specs.declared.shelf_calls.Heard.{Heard}
+use Rattle.player_events.specs.Told.{Told}
+use Rattle.command_plan.specs.declared.shelf_calls.Heard.{Heard}
 use Rattle.partition.specs.Step.{speaker}
 use Rattle.partition.specs.World.{World, Moment, Differs, IsPending, is_told, raised_at}
 

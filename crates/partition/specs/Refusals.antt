@@ -2,11 +2,13 @@
 use Rattle.std.specs.Prelude.{◌≡◌, ◌⊎◌, true, false, Option, Some, None}
 use Rattle.partition.specs.declared.partition.PartitionFault.{PartitionFault}
 use Rattle.partition.specs.declared.partition.PartitionFault.TheVariants.{HistoryFull, CutsAtLimit, AtLimit, NoMemory}
-use Rattle.partition.specs.declared.state.Library.{Library}
-use Rattle.partition.specs.declared.state.Part.{Part}
-use Rattle.partition.specs.Image.{Image, Turn}
-use Rattle.partition.specs.Outputs.{FrameBooks, books_after, can_count_all}
-use Rattle.partition.specs.Step.{counts_frames, keeps_limits, report_of}
+use Rattle.player_state.specs.declared.state.Library.{Library}
+use Rattle.player_state.specs.declared.state.Part.{Part}
+use Rattle.partition.specs.Image.{Image}
+use Rattle.command_plan.specs.Turns.{Turn}
+use Rattle.player_state.specs.Outputs.{FrameBooks, books_after, can_count_all}
+use Rattle.partition.specs.Step.{counts_frames, keeps_limits}
+use Rattle.command_plan.specs.Turns.{report_of}
 
 -- a turn is refused where it passes a limit, or for want of memory; that of a fold comes before any turn
 abbrev pub RefusesTurn : Image → Turn → PartitionFault → Type 0

@@ -5,12 +5,14 @@ use Rattle.idle_notes.specs.declared.sets.Subsystems.{Subsystems}
 use Rattle.idle_notes.specs.declared.subsystem.Subsystem.{Subsystem}
 use Rattle.idle_notes.specs.Sets.{none, has}
 use Rattle.song_queue.specs.State.{queue_of}
-use Rattle.partition.specs.declared.event.Happened.{Happened}
-use Rattle.partition.specs.declared.state.Client.{Client}
+use Rattle.player_events.specs.declared.event.Happened.{Happened}
+use Rattle.player_state.specs.declared.state.Client.{Client}
 use Rattle.partition.specs.History.{Chronicle}
-use Rattle.partition.specs.Image.{Image, client_of}
-use Rattle.partition.specs.Outputs.{FrameBooks, decoded_by, discarded_by, written_by}
-use Rattle.partition.specs.Step.{next_image, told_by, report_of, turn}
+use Rattle.partition.specs.Image.{Image}
+use Rattle.idle_clients.specs.Clients.{client_of}
+use Rattle.player_state.specs.Outputs.{FrameBooks, decoded_by, discarded_by, written_by}
+use Rattle.partition.specs.Step.{next_image, told_by, turn}
+use Rattle.command_plan.specs.Turns.{report_of}
 use Rattle.partition.specs.World.{World, Moment, NeverAnew, IsPending, limits_of, listener_of}
 
 -- the world that an image shows: of its past only the present queue

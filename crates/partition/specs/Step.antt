@@ -7,43 +7,49 @@ use Rattle.mpd_command.specs.declared.command.Command.TheVariants.{Add, AddId, C
 use Rattle.mpd_command.specs.declared.name.Name.{Name}
 use Rattle.mpd_command.specs.declared.request.Request.{Request}
 use Rattle.mpd_command.specs.declared.request.Request.TheVariants.{Run, Refused}
-use Rattle.partition.specs.declared.event.Asked.{Asked}
-use Rattle.partition.specs.declared.event.Event.{Event}
-use Rattle.partition.specs.declared.event.Event.TheVariants.{Connect, Disconnect, Line, ScanQuestion, ScanResult, Want, Have, Failed, OutputTurn, End}
-use Rattle.partition.specs.declared.event.Move.TheVariants.{Join}
-use Rattle.partition.specs.declared.event.Stand.{Stand}
-use Rattle.partition.specs.declared.event.Stand.TheVariants.{Alone, InList}
-use Rattle.partition.specs.declared.doing.Doing.{Doing}
-use Rattle.partition.specs.declared.doing.Doing.TheVariants.{Rests, Wants, Accepts, Fails, Settles, Leaves}
+use Rattle.command_plan.specs.declared.asked.Asked.{Asked}
+use Rattle.player_events.specs.declared.event.Event.{Event}
+use Rattle.player_events.specs.declared.event.Event.TheVariants.{Connect, Disconnect, Line, ScanQuestion, ScanResult, Want, Have, Failed, OutputTurn, End}
+use Rattle.command_plan.specs.declared.reply.Move.TheVariants.{Join}
+use Rattle.command_plan.specs.declared.asked.Stand.{Stand}
+use Rattle.command_plan.specs.declared.asked.Stand.TheVariants.{Alone, InList}
+use Rattle.player_state.specs.declared.doing.Doing.{Doing}
+use Rattle.player_state.specs.declared.doing.Effect.TheVariants.{Rests, Leaves}
+use Rattle.player_state.specs.declared.doing.AudioStep.TheVariants.{Wants, Accepts, Fails, Settles}
 use Rattle.partition.specs.declared.partition.PartitionFault.{PartitionFault}
 use Rattle.partition.specs.declared.partition.PartitionFault.TheVariants.{CutsAtLimit, AtLimit}
-use Rattle.partition.specs.declared.report.Report.{Report}
-use Rattle.partition.specs.declared.report.Report.TheVariants.{Nothing, ToScan, ScanEnded, ToFeed, ToPlay, Ended}
-use Rattle.partition.specs.declared.scan.ScanMove.TheVariants.{Stay, End as EndsScan}
-use Rattle.partition.specs.declared.state.Client.{Client}
-use Rattle.partition.specs.declared.state.Library.{Library}
-use Rattle.partition.specs.declared.state.Part.{Part}
-use Rattle.partition.specs.Answers.{Told, Said, refused_by_shelf, refuses, shut, stays, tells}
-use Rattle.partition.specs.Clients.{parts_of, raised, clients_after, notices_after}
-use Rattle.partition.specs.Commands.Connection.{commands, not_commands, ping, tag_types}
-use Rattle.partition.specs.Commands.Deeds.{closes_client, only}
-use Rattle.partition.specs.Commands.Library.{count_songs, find, find_add, list, list_all, list_info, update}
-use Rattle.partition.specs.Commands.Options.{consume, crossfade, get_volume, random, repeat, set_volume, single}
-use Rattle.partition.specs.Commands.Playback.{clear_error, current_song, next, pause, play, play_id, previous, seek, seek_cur, seek_id, stop}
-use Rattle.partition.specs.Commands.Devices.{outputs, switch_output, toggle_output}
-use Rattle.partition.specs.Commands.Queue.{add, add_id, clear, delete, delete_id, move, move_id, swap, swap_id, prio, prio_id, playlist_info, playlist_id, changes, changed_places, shuffle}
-use Rattle.partition.specs.Commands.Messages.{channels, read_messages, send_message, subscribe, unsubscribe}
-use Rattle.partition.specs.Commands.Shelf.{list_playlist, list_playlist_info, list_playlists, load, playlist_add, playlist_clear, playlist_delete, playlist_move, question_by, remove, rename, save, sticker}
-use Rattle.partition.specs.Commands.Status.{Wish, ToGoOn, wish_of, wished, status}
-use Rattle.partition.specs.Scans.{running}
-use Rattle.partition.specs.Shelves.{Question, NoQuestion, is_written, nothing_heard}
-use Rattle.partition.specs.declared.shelf_calls.Heard.{Heard}
-use Rattle.partition.specs.declared.shelf_calls.Read.{Read}
-use Rattle.partition.specs.declared.shelf_calls.ShelfWrite.TheVariants.{Nothing as Unwritten}
+use Rattle.player_state.specs.declared.report.Report.{Report}
+use Rattle.player_state.specs.declared.report.Report.TheVariants.{Nothing, ToScan, ScanEnded, ToFeed, ToPlay, Ended}
+use Rattle.player_state.specs.declared.scan.ScanMove.TheVariants.{Stay, End as EndsScan}
+use Rattle.player_state.specs.declared.state.Client.{Client}
+use Rattle.player_state.specs.declared.state.Library.{Library}
+use Rattle.player_state.specs.declared.state.Part.{Part}
+use Rattle.player_events.specs.Told.{Told}
+use Rattle.command_plan.specs.Answers.{Said, refused_by_shelf, refuses, shut, stays, tells}
+use Rattle.idle_clients.specs.Clients.{parts_of, raised, clients_after, notices_after}
+use Rattle.status_commands.specs.Connection.{commands, not_commands, ping, tag_types}
+use Rattle.command_plan.specs.Deeds.{closes_client, only}
+use Rattle.library_commands.specs.Library.{count_songs, find, find_add, list, list_all, list_info, update}
+use Rattle.status_commands.specs.Options.{consume, crossfade, get_volume, random, repeat, set_volume, single}
+use Rattle.queue_commands.specs.Playback.{clear_error, current_song, next, pause, play, play_id, previous, seek, seek_cur, seek_id, stop}
+use Rattle.status_commands.specs.Devices.{outputs, switch_output, toggle_output}
+use Rattle.queue_commands.specs.Queue.{add, add_id, clear, delete, delete_id, move, move_id, swap, swap_id, prio, prio_id, playlist_info, playlist_id, changes, changed_places, shuffle}
+use Rattle.status_commands.specs.Messages.{channels, read_messages, send_message, subscribe, unsubscribe}
+use Rattle.library_commands.specs.Shelf.{list_playlist, list_playlist_info, list_playlists, load, playlist_add, playlist_clear, playlist_delete, playlist_move, question_by, remove, rename, save, sticker}
+use Rattle.status_commands.specs.Status.{Wish, ToGoOn, wish_of, wished, status}
+use Rattle.player_state.specs.Scans.{running}
+use Rattle.command_plan.specs.Shelves.{Question, NoQuestion, is_written, nothing_heard}
+use Rattle.command_plan.specs.declared.shelf_calls.Heard.{Heard}
+use Rattle.command_plan.specs.declared.shelf_calls.Read.{Read}
+use Rattle.command_plan.specs.declared.shelf_calls.ShelfWrite.TheVariants.{Nothing as Unwritten}
 use Rattle.shelf.specs.declared.faults.ShelfFault.{ShelfFault}
-use Rattle.partition.specs.Outputs.{books_after, can_count_all, is_output}
-use Rattle.partition.specs.Doings.{keeps_numbers, part_after, report_after}
-use Rattle.partition.specs.Image.{Image, Turn, Deed, library_after, client_of, counted, turn_by}
+use Rattle.player_state.specs.Outputs.{books_after, can_count_all, is_output}
+use Rattle.player_state.specs.Doings.{keeps_numbers, part_after, report_after}
+use Rattle.partition.specs.Image.{Image, counted}
+use Rattle.command_plan.specs.Turns.{Turn, Deed, acts, acts_unless, departs, or_ended, quiet, report_of, turn_by, unspoken}
+use Rattle.player_state.specs.Libraries.{library_after}
+use Rattle.idle_clients.specs.Clients.{client_of}
+use Rattle.player_events.specs.Events.{name_of}
 
 -- what a command makes of the player; the commands by which a client waits are wishes and make nothing of it
 abbrev pub deed_of : Asked → Part → Library → Read → Command → Deed
@@ -122,10 +128,6 @@ deed_of asked part library read (ToggleOutput output) = toggle_output asked part
 deed_of asked part library read (Unsubscribe channel) = unsubscribe asked part channel
 deed_of asked part library read (Update uri) = update asked library
 
--- the player stays as it is
-abbrev pub quiet : Said → Turn
-quiet said = record { doing = Rests; scan = Stay; written = Unwritten; said = said; report = Nothing }
-
 -- a client's wish leaves the player as it is; another command does its deed
 abbrev pub turn_wished : Asked → Client → Deed → Option Wish → Turn
 turn_wished asked client deed (Some wish) = quiet (wished asked client wish)
@@ -160,29 +162,12 @@ abbrev pub ends_waiting : Stand → Request → Bool
 ends_waiting stand (Run name command) = ends_by stand (wish_of command)
 ends_waiting stand (Refused ack) = false
 
--- a client goes, with its channels and its messages
-abbrev pub departs : ℕ → Turn
-departs number = record (quiet (stays shut)) { doing = Leaves number }
-
 -- a line of a client that is not there closes it; so does a line other than `noidle` while it waits, whatever the line says
 abbrev pub turn_line : Part → Library → Option Client → Stand → Request → Read → Turn
 turn_line part library None stand request read = quiet (stays shut)
 turn_line part library (Some client) stand request read =
     if is_some client.pending.waiting && not (ends_waiting stand request) then departs client.number
     else turn_request part library client stand request read
-
--- an event that comes from no client is answered by its report alone
-abbrev pub unspoken : Said
-unspoken = stays (tells (codes ""))
-
--- a step of the decoder or of an output, which comes from no client
-abbrev pub acts : Doing → Turn
-acts doing = record { doing = doing; scan = Stay; written = Unwritten; said = unspoken; report = Nothing }
-
--- the command that a request names, if it names one
-abbrev pub name_of : Request → Option Name
-name_of (Run name command) = Some name
-name_of (Refused ack) = ack.command
 
 -- a turn that writes to the shelf does nothing else; where the shelf refuses, it is answered so, and nothing happens
 abbrev pub once_written : Stand → Request → Option ShelfFault → Turn → Turn
@@ -195,14 +180,6 @@ written_turn stand request refused t = if is_written t.written then once_written
 -- an output that is not there has nothing to play (this profile's)
 abbrev pub absent : Turn
 absent = record (quiet unspoken) { report = ToPlay (record { cut = 0; enabled = false; paused = false }) }
-
--- the end, whatever else is told
-abbrev pub or_ended : Bool → Turn → Turn
-or_ended ended t = record t { report = if ended then Ended else t.report }
-
--- a step of the decoder; after the end it does nothing, and is told so
-abbrev pub acts_unless : Bool → Report → Doing → Turn
-acts_unless ended report doing = record (acts doing) { doing = if ended then Rests else doing; report = if ended then report else Nothing }
 
 -- What an event makes of a part, a library and some clients. The turn of an output that is not there changes nothing. After the end
 -- wants, scan questions and turns are told of it, and a have is stale; an output still tells of its frames.
@@ -234,25 +211,6 @@ abbrev pub question_of : Library → List Client → Event → Question
 question_of library clients (Line number stand request heard) = question_line library (client_of number clients) stand request
 question_of library clients _ = NoQuestion
 
--- what a shelf answered to an event
-abbrev pub heard_at : Event → Heard
-heard_at (Line number stand request heard) = heard
-heard_at _ = nothing_heard
-
--- how a line comes, and the command that it names, for what the shelf refuses
-abbrev pub stand_of : Event → Stand
-stand_of (Line number stand request heard) = stand
-stand_of _ = Alone
-
-abbrev pub name_at : Event → Option Name
-name_at (Line number stand request heard) = name_of request
-name_at _ = None
-
--- the event, with what a shelf answered to it
-abbrev pub hearing : Event → Heard → Event
-hearing (Line number stand request before) heard = Line number stand request heard
-hearing event heard = event
-
 abbrev pub turn : Image → Event → Turn
 turn i event = turn_of i.shared.ended i.part i.shared.library i.clients event
 
@@ -277,10 +235,6 @@ mover event = unwrap_or (speaker event) 0
 -- what a turn raises for each client: what differs between the parts before and after it
 abbrev pub raised_by : Part → Library → Turn → ℕ → Subsystems
 raised_by part library t = raised t.written (parts_of part library) (parts_of (part_after library.rate part t.doing) (library_after library t.scan))
-
--- what a part of the daemon is told that is no client
-abbrev pub report_of : Part → Library → Turn → Report
-report_of part library t = report_after library.rate part t.doing t.report
 
 -- whether the daemon has ended, after an event
 abbrev pub ended_after : Bool → Event → Bool

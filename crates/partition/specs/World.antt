@@ -10,21 +10,24 @@ use Rattle.song_queue.specs.declared.entry.Entry.{Entry}
 use Rattle.song_queue.specs.Past.{present, after_event, state_of}
 use Rattle.song_queue.specs.Laws as queues
 use Rattle.player_core.specs.Player.{PlayerState}
-use Rattle.partition.specs.declared.event.Event.{Event}
-use Rattle.partition.specs.declared.event.Happened.{Happened}
-use Rattle.partition.specs.declared.event.Move.{Move}
-use Rattle.partition.specs.declared.event.Move.TheVariants.{Stay, Wait, Learn, Resume, Join}
-use Rattle.partition.specs.declared.event.Notice.{Notice}
-use Rattle.partition.specs.declared.state.Client.{Client}
-use Rattle.partition.specs.declared.state.Library.{Library}
-use Rattle.partition.specs.declared.report.Report.{Report}
-use Rattle.partition.specs.Clients.{Parts, raised, move_of, options, playing}
+use Rattle.player_events.specs.declared.event.Event.{Event}
+use Rattle.player_events.specs.declared.event.Happened.{Happened}
+use Rattle.command_plan.specs.declared.reply.Move.{Move}
+use Rattle.command_plan.specs.declared.reply.Move.TheVariants.{Stay, Wait, Learn, Resume, Join}
+use Rattle.idle_clients.specs.declared.notices.Notice.{Notice}
+use Rattle.player_state.specs.declared.state.Client.{Client}
+use Rattle.player_state.specs.declared.state.Library.{Library}
+use Rattle.player_state.specs.declared.report.Report.{Report}
+use Rattle.idle_clients.specs.Clients.{Parts, raised, move_of, options, playing}
 use Rattle.partition.specs.History.{made_of}
-use Rattle.partition.specs.Outputs.{FrameBooks, OutputsData, decoded_by, discarded_by, written_by}
-use Rattle.partition.specs.Doings.{Change, ByEdit, ByStep, change_of, channels_after, outputs_after, player_after, volume_after}
-use Rattle.partition.specs.Image.{Image, Turn, library_after}
-use Rattle.partition.specs.Shelves.{changes_lists, changes_stickers}
-use Rattle.partition.specs.Step.{turn, mover, after_turn, ended_after, report_of, told_by}
+use Rattle.player_state.specs.Outputs.{FrameBooks, OutputsData, decoded_by, discarded_by, written_by}
+use Rattle.player_state.specs.Doings.{Change, ByEdit, ByStep, change_of, channels_after, outputs_after, player_after, volume_after}
+use Rattle.partition.specs.Image.{Image}
+use Rattle.command_plan.specs.Turns.{Turn}
+use Rattle.player_state.specs.Libraries.{library_after}
+use Rattle.command_plan.specs.Shelves.{changes_lists, changes_stickers}
+use Rattle.partition.specs.Step.{turn, mover, after_turn, ended_after, told_by}
+use Rattle.command_plan.specs.Turns.{report_of}
 
 -- the most entries of the queue, and the greatest version, id, and number of cuts, of starts, of jobs and of scans
 pub record Greatest : Type 0 where

@@ -3,33 +3,35 @@ ghost use Rattle.std.specs.Prelude.{◌≡◌, ◌⊎◌, ◌<◌, ◌≤◌, �
 ghost use Rattle.std.specs.List.{flat_map};
 ghost use Rattle.shelf.specs.Maps.{Trusted, Turns};
 ghost use Rattle.partition.specs.declared.partition.PartitionFault.{PartitionFault};
-ghost use Rattle.partition.specs.Clients.{same_songs as same_songs_lem, clients_after, closes as closes_lem, notice_for, notices_after, notified};
-ghost use Rattle.partition.specs.Image.{image_of_state, songs_after};
+ghost use Rattle.idle_clients.specs.Clients.{clients_after, closes as closes_lem, notice_for, notices_after, notified};
+ghost use Rattle.partition.specs.Image.{counted, image_of_state};
 ghost use Rattle.partition.specs.Lent.{IsRefused, Records, question, writing};
-ghost use Rattle.partition.specs.Plans.{Fits};
-ghost use Rattle.partition.specs.Signs.{raised_in, signs};
-ghost use Rattle.partition.specs.Rooms.{is_waiting, listed, room_in};
-ghost use Rattle.partition.specs.Settled.{AllSettled, HasRoom, nothing};
-ghost use Rattle.partition.specs.Refusals.{RefusesTurn};
-ghost use Rattle.partition.specs.Shelves.{IsAnswered, Serves, Spares, answered, is_ok_write, is_wanting, is_written, maps_after};
-ghost use Rattle.partition.specs.Step.{after_turn, counts_frames, ended_after as ended_after_lem, heard_at, hearing, keeps_limits, quiet, raised_by, mover as mover_lem, name_at, stand_of, told_by, turn, turn_of};
+ghost use Rattle.player_state.specs.Plans.{Fits};
+ghost use Rattle.idle_clients.specs.Signs.{raised_in, signs};
+ghost use Rattle.idle_clients.specs.Rooms.{is_waiting, listed, room_in};
+ghost use Rattle.idle_clients.specs.Settled.{AllSettled, HasRoom, nothing};
+ghost use Rattle.partition.specs.Refusals.{MayRefuse, RefusesTurn};
+ghost use Rattle.command_plan.specs.Shelves.{IsAnswered, Serves, Spares, answered, is_ok_write, is_wanting, is_written, maps_after};
+ghost use Rattle.partition.specs.Step.{after_turn, counts_frames, ended_after as ended_after_lem, keeps_limits, limit_of, next_image, raised_by, mover as mover_lem, told as told_of, told_by, turn, turn_of};
+ghost use Rattle.player_events.specs.Events.{heard_at, hearing, name_at, stand_of};
+ghost use Rattle.partition.specs.Steps.{entry};
+ghost use Rattle.player_events.specs.Events.{is_line};
+ghost use Rattle.command_plan.specs.Turns.{quiet};
 
-use crate::clients::{leave, list_notices, make_move, notify_all};
-use crate::doing::done;
-use crate::event::{Event, Happened, Next, Outcome, discard};
 use crate::lent::write;
-use crate::notices::Notices;
 use crate::partition::PartitionFault;
-use crate::plan::{Plan, Telling, carry_out, discard as discard_plan};
 use crate::prepare::{Prepared, prepare_step, prepare_write};
-use crate::refusals::Refusals;
-use crate::same::same_songs;
-use crate::scan::ScanMove;
-use crate::shelf_calls::{Heard, ShelfWrite};
-use crate::signs::{Raised, changes_subscriptions};
-use crate::spoken::Spoken;
-use crate::state::{Client, Library, Part, State};
+use crate::state::State;
 use crate::turns::{ask_shelf, plan_turn};
+use command_plan::{
+    Heard, Next, Plan, Refusals, ShelfWrite, Spoken, Telling, carry_out, discard as discard_plan,
+};
+use idle_clients::{
+    Notices, Raised, changes_songs, changes_subscriptions, leave, list_notices, make_move,
+    notify_all,
+};
+use player_events::{Event, Happened, Outcome, discard};
+use player_state::{Client, Library, Part, done};
 use shelf::{Shelf, ShelfFault};
 use std::alloc::{AllocError, Global};
 
@@ -94,17 +96,66 @@ pub(crate) fn record_event<S: Shelf>(
         return Err(PartitionFault::NoMemory);
     }
     match apply_event(alloc, state, shelf, &mut event) {
-        Ok(applied) => {
-            state.made[usize::from(seat)] += 1;
-            let (given, told) = applied.into_outcomes();
-            history.push_reserved(Happened { seat, event, told });
-            Ok(given)
-        }
+        Ok(applied) => Ok(keep(state, history, seat, event, applied)),
         Err(fault) => {
             discard(event);
             Err(fault)
         }
     }
+}
+
+/// Runs an event that is no line, and keeps it. It asks no shelf. Where it is refused, nothing changes.
+pub(crate) fn record_step(
+    alloc: Global,
+    state: &mut State,
+    history: &mut Vec<Happened>,
+    seat: u8,
+    event: Event,
+) -> Result<Outcome, PartitionFault>
+    requires seat { seat < 16 }
+    requires count { nat_le 9223372036854775807 (slice_index_or state.old.made seat 0) ≡ false }
+    requires settled { AllSettled state.old.clients.items }
+    requires step { is_line event ≡ false }
+    ensures told { IfOk result (λ outcome. outcome ≡ told_of (image_of_state state.old) event) }
+    ensures next { OnOk result (image_of_state state.new ≡ next_image seat (image_of_state state.old) event) }
+    ensures kept { IfOk result (λ outcome. history.new.items ≡ history.old.items ++ entry seat event outcome ∷ []) }
+    ensures within { OnOk result (limit_of seat (image_of_state state.old) event ≡ None) }
+    ensures refused { IfErr result (λ fault. MayRefuse (limit_of seat (image_of_state state.old) event) fault) }
+    ensures unchanged { OnErr result (image_of_state state.new ≡ image_of_state state.old) }
+    ensures unkept { OnErr result (history.new.items ≡ history.old.items) }
+{
+    if reserve(history, &mut state.clients).is_err() {
+        discard(event);
+        return Err(PartitionFault::NoMemory);
+    }
+    match apply_step(alloc, state, &event) {
+        Ok(applied) => Ok(keep(state, history, seat, event, applied)),
+        Err(fault) => {
+            discard(event);
+            Err(fault)
+        }
+    }
+}
+
+/// Counts an event of a seat that was applied, and keeps it with what it made clients hear.
+fn keep(
+    state: &mut State,
+    history: &mut Vec<Happened>,
+    seat: u8,
+    event: Event,
+    applied: Applied,
+) -> Outcome
+    requires seat { seat < 16 }
+    requires count { nat_le 9223372036854775807 (slice_index_or state.old.made seat 0) ≡ false }
+    requires room { vec_len history.old < vec_capacity history.old }
+    ensures state { image_of_state state.new ≡ counted seat (image_of_state state.old) }
+    ensures outcome { result ≡ record { answer = applied.telling.spoken.answer; notices = listed applied.given; report = applied.telling.report } }
+    ensures history { history.new.items ≡ history.old.items ++ entry seat event (record { answer = applied.telling.spoken.answer; notices = listed applied.kept; report = applied.telling.report }) ∷ [] }
+{
+    state.made[usize::from(seat)] += 1;
+    let (given, told) = applied.into_outcomes();
+    history.push_reserved(Happened { seat, event, told });
+    given
 }
 
 /// Makes room for one more event and one more client.
@@ -120,6 +171,7 @@ fn reserve(history: &mut Vec<Happened>, clients: &mut Vec<Client>) -> Result<(),
 
 /// Applies an event, all but the count of its seat, and puts in what the shelf answered. Where it is refused, nothing changes, and the
 /// shelf was asked at most.
+#[tactic(auto, using(crate::proofs::Writing::same_hearing))]
 fn apply_event<S: Shelf>(
     alloc: Global,
     state: &mut State,
@@ -141,9 +193,7 @@ fn apply_event<S: Shelf>(
     ensures spared { OnErr result (Spares S.standing S.failed shelf.old shelf.new) }
     ensures err { OnErr result (image_of_state state.new ≡ image_of_state state.old) }
 {
-    let asked = ask_shelf(&state.library, &state.clients, shelf, event);
-    event.hear(Heard::nothing());
-    let read = asked?;
+    let read = ask_shelf(&state.library, &state.clients, shelf, event)?;
     event.hear(Heard {
         read,
         refused: None,
@@ -159,6 +209,32 @@ fn apply_event<S: Shelf>(
     if plan.written.is_written() {
         return write_plan(alloc, state, shelf, event, plan);
     }
+    apply_plan(alloc, state, event, plan)
+}
+
+/// Applies an event that is no line, all but the count of its seat. Where it is refused, nothing changes.
+#[tactic(auto, using(crate::proofs::Stepping::is_unrefused, crate::proofs::Stepping::writes_nothing))]
+fn apply_step(alloc: Global, state: &mut State, event: &Event) -> Result<Applied, PartitionFault>
+    requires space { vec_len state.old.clients < vec_capacity state.old.clients }
+    requires settled { AllSettled state.old.clients.items }
+    requires step { is_line event.now ≡ false }
+    ensures image { OnOk result (image_of_state state.new ≡ after_turn (image_of_state state.old) event.now (turn (image_of_state state.old) event.now)) }
+    ensures answer { IfOk result (λ applied. applied.telling.spoken.answer ≡ (turn (image_of_state state.old) event.now).said.answer) }
+    ensures report { IfOk result (λ applied. applied.telling.report ≡ (told_by (image_of_state state.old) event.now (turn (image_of_state state.old) event.now)).report) }
+    ensures given { IfOk result (λ applied. listed applied.given ≡ (told_by (image_of_state state.old) event.now (turn (image_of_state state.old) event.now)).notices) }
+    ensures kept { IfOk result (λ applied. listed applied.kept ≡ (told_by (image_of_state state.old) event.now (turn (image_of_state state.old) event.now)).notices) }
+    ensures within { OnOk result ((counts_frames (image_of_state state.old) (turn (image_of_state state.old) event.now) ≡ true) × (keeps_limits (image_of_state state.old) (turn (image_of_state state.old) event.now) ≡ true)) }
+    ensures refused { IfErr result (λ fault. RefusesTurn (image_of_state state.old) (turn (image_of_state state.old) event.now) fault) }
+    ensures err { OnErr result (image_of_state state.new ≡ image_of_state state.old) }
+{
+    let plan = plan_turn(
+        alloc,
+        &state.part,
+        &state.library,
+        &state.clients,
+        state.ended,
+        event,
+    )?;
     apply_plan(alloc, state, event, plan)
 }
 
@@ -379,20 +455,6 @@ fn tell(
         given: given.trimmed(),
         kept: kept.trimmed(),
     }
-}
-
-/// Whether a plan changes the songs of a library.
-#[tactic(auto, using(crate::proofs::Songs::unchanged))]
-fn changes_songs(plan: &Plan, library: &Library) -> bool
-    ensures { result ≡ not (same_songs_lem library.now.songs (songs_after library.now plan.now.scan)) }
-{
-    let ScanMove::End(Some(songs)) = &plan.scan else {
-        return false;
-    };
-    if library.scan.running().is_none() {
-        return false;
-    }
-    !same_songs(library.songs.db().songs(), songs.db().songs())
 }
 
 /// Tells the clients what was raised, and lets the one that the event comes from do what it does. The notices join the list.

@@ -1,12 +1,13 @@
 //! What command lists make clients hear.
 ghost use Rattle.std.specs.Prelude.{◌≡◌, ◌++◌, ℕ, List, OnErr, OnOk};
 ghost use Rattle.std.specs.List.{flat_map, list_any};
-ghost use Rattle.partition.specs.Clients.{closes};
-ghost use Rattle.partition.specs.Lists.{ends_list};
+ghost use Rattle.idle_clients.specs.Clients.{closes};
+ghost use Rattle.player_events.specs.Events.{ends_list};
 
-use crate::event::{Next, Outcome};
 use crate::partition::PartitionFault;
+use command_plan::Next;
 use mpd_text::{Answer, ErrorNumber};
+use player_events::Outcome;
 use std::alloc::{AllocError, Global};
 use std::marker::Model;
 
@@ -18,7 +19,7 @@ pub struct ListOutcome {
 
 impl Model for ListOutcome {
     ghost use Rattle.std.specs.Prelude.{List};
-    ghost use Rattle.partition.specs.Answers.{Told};
+    ghost use Rattle.player_events.specs.Told.{Told};
 
     ghost Value = { List Told };
 

@@ -1,29 +1,33 @@
 //! The player with its history.
-ghost use Rattle.std.specs.Prelude.{◌≡◌, ◌≢◌, ◌⊎◌, ◌↔◌, ◌++◌, ◌∷◌, ◌+◌, ◌-◌, ◌^◌, ◌≤◌, ◌<◌, [], None, length, map, vec_capacity, IfOk, IfErr, OnErr, OnOk, IsErrOf, slice_index_or, nat_le, is_some, true, min, List, All, AllPairs};
+ghost use Rattle.std.specs.Prelude.{◌≡◌, ◌≢◌, ◌⊎◌, ◌↔◌, ◌++◌, ◌∷◌, ◌+◌, ◌-◌, ◌^◌, ◌≤◌, ◌<◌, [], None, false, length, map, vec_capacity, IfOk, IfErr, OnErr, OnOk, IsErrOf, slice_index_or, nat_le, is_some, true, min, List, All, AllPairs};
 ghost use Rattle.song_queue.specs.State.{queue_of};
 ghost use Rattle.mpd_command.specs.Requests.{name_in};
-ghost use Rattle.partition.specs.declared.event.Happened.{Happened};
-ghost use Rattle.partition.specs.History.{replay, AreTold, begun, folded, is_full, own as own_of, with_room};
-ghost use Rattle.partition.specs.Image.{Image, opening, client_of};
+ghost use Rattle.player_events.specs.declared.event.Happened.{Happened};
+ghost use Rattle.partition.specs.History.{replay, AreTold, begun, folded, is_full, joined_by, own as own_of, with_room};
+ghost use Rattle.partition.specs.Image.{Image, opening};
+ghost use Rattle.idle_clients.specs.Clients.{client_of};
 ghost use Rattle.partition.specs.Lent.{IsRefused, Records, Refuses};
 ghost use Rattle.partition.specs.Lists.{RunsList, StopsList};
 ghost use Rattle.partition.specs.Legal.{IsPast};
-ghost use Rattle.partition.specs.Settled.{AllSettled};
+ghost use Rattle.partition.specs.Refusals.{MayRefuse};
+ghost use Rattle.partition.specs.Step.{limit_of, next_image, told as told_of};
+ghost use Rattle.partition.specs.Steps.{RefusesStep, entry};
+ghost use Rattle.player_events.specs.Events.{is_line};
+ghost use Rattle.idle_clients.specs.Settled.{AllSettled};
 ghost use Rattle.partition.specs.Since.{HasPendingSince, books_since, moments_of};
-ghost use Rattle.partition.specs.Sizes.{event_bytes as event_bytes_lem, window_bytes as window_bytes_lem};
+ghost use Rattle.player_events.specs.Sizes.{event_bytes as event_bytes_lem, window_bytes as window_bytes_lem};
 
-use crate::books::Books;
-use crate::clients::find_client;
-use crate::event::{Event, Happened, Outcome, Stand, discard};
-use crate::happen::record_event;
+use crate::happen::{record_event, record_step};
 use crate::laws::replays_worlds;
 use crate::lists::{ListFault, ListOutcome};
-use crate::outputs::Outputs;
-use crate::sizes::event_bytes;
-use crate::state::{Client, Library, MAX_OWN, Setup, State};
+use crate::state::{MAX_OWN, Setup, State};
 use command_lists::ListForm;
+use command_plan::Stand;
+use idle_clients::find_client;
 use mpd_command::{Request, Volume};
 use player_core::{Player, PlayerFault};
+use player_events::{Event, Happened, Outcome, discard, event_bytes};
+use player_state::{Books, Client, Library, Outputs};
 use shelf::Shelf;
 use song_queue::Queue;
 use std::alloc::{AllocError, Global};
@@ -163,6 +167,9 @@ impl Partition {
         ensures own { 2 ^ 63 - 1 ≤ slice_index_or self.old.present.shared.made seat 0 → IsErrOf result PartitionFault.AtLimit ⊎ IsErrOf result PartitionFault.HistoryFull }
         ensures legal { IsPast self.old }
     {
+        if !event.is_line() {
+            return self.step(seat, event);
+        }
         self.legal();
         if let Err(fault) = self.make_room() {
             discard(event);
@@ -195,6 +202,62 @@ impl Partition {
         let history = &mut self.history;
         let outcome = record_event(self.alloc, &mut self.state, history, shelf, seat, event)?;
         self.bytes = self.bytes.saturating_add(last_bytes(&self.history));
+        Ok(outcome)
+    }
+
+    /// Applies an event of a seat that is no line, and keeps it with what it made clients hear. It asks no shelf. A window that is full is
+    /// folded first.
+    ///
+    /// # Errors
+    ///
+    /// As [`Partition::apply`].
+    pub fn step(&mut self, seat: u8, event: Event) -> Result<Outcome, PartitionFault>
+        requires seat { seat < 16 }
+        requires step { is_line event ≡ false }
+        // The outcome is the one of the player of one thread, and the event joins the history with it; it passed no limit.
+        ensures told { IfOk result (λ outcome. outcome ≡ told_of self.old.present event) }
+        ensures player { IfOk result (λ outcome. self.new ≡ joined_by self.old (entry seat event outcome)) }
+        ensures within { OnOk result (limit_of seat self.old.present event ≡ None) }
+        // It is refused where the full window cannot be folded, for the limit that it would pass, or for want of memory; all is as it was, but
+        // that a full window may have been folded.
+        ensures refused { IfErr result (λ fault. RefusesStep self.old self.new seat event fault) }
+        ensures own { 2 ^ 63 - 1 ≤ slice_index_or self.old.present.shared.made seat 0 → IsErrOf result PartitionFault.AtLimit ⊎ IsErrOf result PartitionFault.HistoryFull }
+        ensures legal { IsPast self.old }
+    {
+        self.legal();
+        match self.make_room() {
+            Ok(()) => self.step_in_room(seat, event),
+            Err(fault) => {
+                discard(event);
+                Err(fault)
+            }
+        }
+    }
+
+    /// Applies an event that is no line where the window has room for it.
+    fn step_in_room(&mut self, seat: u8, event: Event) -> Result<Outcome, PartitionFault>
+        requires seat { seat < 16 }
+        requires step { is_line event ≡ false }
+        requires room { length self.old.window < self.old.limit }
+        ensures base { self.new.base ≡ self.old.base }
+        ensures limit { self.new.limit ≡ self.old.limit }
+        ensures told { IfOk result (λ outcome. outcome ≡ told_of self.old.present event) }
+        ensures window { IfOk result (λ outcome. self.new.window ≡ self.old.window ++ entry seat event outcome ∷ []) }
+        ensures present { OnOk result (self.new.present ≡ next_image seat self.old.present event) }
+        ensures within { OnOk result (limit_of seat self.old.present event ≡ None) }
+        ensures err { OnErr result (self.new ≡ self.old) }
+        ensures refused { IfErr result (λ fault. MayRefuse (limit_of seat self.old.present event) fault) }
+        ensures own { 2 ^ 63 - 1 ≤ slice_index_or self.old.present.shared.made seat 0 → IsErrOf result PartitionFault.AtLimit }
+    {
+        self.legal();
+        if self.is_at_limit(seat) {
+            discard(event);
+            return Err(PartitionFault::AtLimit);
+        }
+        let history = &mut self.history;
+        let outcome = record_step(self.alloc, &mut self.state, history, seat, event)?;
+        let bytes = last_bytes(&self.history);
+        self.bytes = self.bytes.saturating_add(bytes);
         Ok(outcome)
     }
 

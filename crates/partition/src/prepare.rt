@@ -1,22 +1,21 @@
 //! What an event needs that can fail, made ready before anything changes.
 ghost use Rattle.std.specs.Prelude.{◌≡◌, ◌≤◌, [], true, false, count_by, IfErr, IfOk};
-ghost use Rattle.partition.specs.Outputs.{books_after, can_count_all};
+ghost use Rattle.player_state.specs.Outputs.{books_after, can_count_all};
 ghost use Rattle.partition.specs.Refusals.{RefusesFrames};
-ghost use Rattle.partition.specs.Rooms.{is_waiting, listed, room_in};
-ghost use Rattle.partition.specs.Settled.{HasRoom};
-ghost use Rattle.partition.specs.Shelves.{is_written};
-ghost use Rattle.partition.specs.Signs.{signs};
-ghost use Rattle.partition.specs.Step.{name_at, raised_by, report_of, stand_of};
+ghost use Rattle.idle_clients.specs.Rooms.{is_waiting, listed, room_in};
+ghost use Rattle.idle_clients.specs.Settled.{HasRoom, nothing};
+ghost use Rattle.command_plan.specs.Shelves.{is_written};
+ghost use Rattle.idle_clients.specs.Signs.{signs};
+ghost use Rattle.player_events.specs.Events.{name_at, name_of as name_of_lem, stand_of};
+ghost use Rattle.partition.specs.Step.{raised_by};
+ghost use Rattle.command_plan.specs.Turns.{report_of};
 
-use crate::books::Books;
-use crate::clients::waiting;
-use crate::event::Event;
-use crate::notices::Notices;
 use crate::partition::PartitionFault;
-use crate::plan::Plan;
-use crate::refusals::Refusals;
-use crate::signs::Signs;
-use crate::state::{Client, Library, Part};
+use command_plan::{Plan, Refusals, Stand};
+use idle_clients::{Notices, Signs, waiting};
+use mpd_command::{Name, Request};
+use player_events::Event;
+use player_state::{Books, Client, Library, Part};
 use std::alloc::{AllocError, Global};
 
 /// Lists for the notices of an event, one to hand out and one to keep, and what tells whether it changed a part of the player.
@@ -95,7 +94,7 @@ pub(crate) fn prepare_write(
     ensures refusals { IfOk result (λ made. made.1 ≡ (stand_of event.now, name_at event.now)) }
 {
     let prepared = Prepared::with_room(alloc, part, library, waiting(clients))?;
-    let refusals = Refusals::of(alloc, event)?;
+    let refusals = refusals_of(alloc, event)?;
     Ok((prepared, refusals))
 }
 
@@ -104,9 +103,37 @@ fn room_wanted(plan: &Plan, part: &Part, library: &Library, clients: &[Client]) 
     requires { is_written plan.now.written ≡ false }
     ensures { HasRoom (raised_by part.now library.now plan.now) clients.now result }
 {
-    if plan.changes(part, library) {
+    if changes(plan, part, library) {
         waiting(clients)
     } else {
         0
+    }
+}
+
+/// Whether a plan may change what clients are told of.
+fn changes(plan: &Plan, part: &Part, library: &Library) -> bool
+    requires { is_written plan.now.written ≡ false }
+    ensures { result ≡ false → raised_by part.now library.now plan.now ≡ nothing }
+{
+    let still = plan.scan.stays() & plan.doing.rests();
+    !still
+}
+
+/// The answers to the line of an event for each refusal of the shelf; for another event they are never given.
+fn refusals_of(alloc: Global, event: &Event) -> Result<Refusals, AllocError>
+    ensures { IfOk result (λ refusals. refusals ≡ (stand_of event.now, name_at event.now)) }
+{
+    match event {
+        Event::Line(_, stand, request, _) => Refusals::for_line(alloc, *stand, name_of(request)),
+        _ => Refusals::for_line(alloc, Stand::Alone, None),
+    }
+}
+
+fn name_of(request: &Request) -> Option<Name>
+    ensures { result ≡ name_of_lem request.now }
+{
+    match request {
+        Request::Run(name, _) => Some(*name),
+        Request::Refused(ack) => ack.command,
     }
 }

@@ -1,48 +1,48 @@
 //! What each event is to do, and what it answers.
+ghost use Rattle.player_state.specs.declared.doing.Doing.TheVariants.{ByCommand};
+ghost use Rattle.player_state.specs.declared.doing.Effect.TheVariants.{Rests};
 ghost use Rattle.std.specs.Prelude.{◌≡◌, true, Some, None, IfOk, if◌then◌else◌};
 ghost use Rattle.std.specs.Option.{option_copied};
-ghost use Rattle.partition.specs.Plans.{Fits};
+ghost use Rattle.player_state.specs.Plans.{Fits};
 ghost use Rattle.shelf.specs.Maps.{Trusted, Turns};
-ghost use Rattle.partition.specs.Shelves.{IsRead, is_ok_read, is_written};
-ghost use Rattle.partition.specs.Step.{absent, acts, deed_of, ends_waiting as ends_waiting_lem, heard_at, question_of, quiet, unspoken, said_to_new, turn_command, turn_line, turn_of, turn_request};
-ghost use Rattle.partition.specs.Image.{turn_by};
-ghost use Rattle.partition.specs.Outputs.{is_output};
+ghost use Rattle.command_plan.specs.Shelves.{IsRead, is_ok_read, is_written};
+ghost use Rattle.partition.specs.Step.{absent, deed_of, ends_waiting as ends_waiting_lem, question_of, said_to_new, turn_command, turn_line, turn_of, turn_request};
+ghost use Rattle.player_events.specs.Events.{heard_at};
+ghost use Rattle.command_plan.specs.Turns.{acts, quiet, unspoken};
+ghost use Rattle.command_plan.specs.Turns.{turn_by};
+ghost use Rattle.player_state.specs.Outputs.{is_output};
 
-use crate::clients::find_client;
-use crate::commands::connection::{commands, not_commands, ping, tag_types};
-use crate::commands::devices::{outputs, switch_output, toggle_output};
-use crate::commands::library::{count, find, find_add, list, list_all, list_info, update};
-use crate::commands::messages::{channels, read_messages, send_message, subscribe, unsubscribe};
-use crate::commands::options::{
-    consume, crossfade, get_volume, random, repeat, set_volume, single,
-};
-use crate::commands::playback::{
-    clear_error, current_song, next, pause, play, play_id, previous, seek, seek_cur, seek_id, stop,
-};
-use crate::commands::queue_edits::{
-    add, add_id, clear, delete, delete_id, move_id, move_range, prio, prio_id, shuffle, swap,
-    swap_id,
-};
-use crate::commands::queue_songs::{changed_places, changes, playlist_id, playlist_info};
-use crate::commands::status::{idle, no_idle, status};
-use crate::commands::stored::{
+use crate::state::MAX_CLIENTS;
+use command_plan::{Asked, Move, Plan, Read, Spoken, Stand, refuses_line, shut, tells};
+use filters::Case;
+use idle_clients::find_client;
+use library_commands::asking::ask;
+use library_commands::library::{count, find, find_add, list, list_all, list_info, update};
+use library_commands::stored::{
     list_playlist, list_playlist_info, list_playlists, load, playlist_add, playlist_clear,
     playlist_delete, playlist_move, remove, rename, save, sticker,
 };
-use crate::doing::Doing;
-use crate::event::{Asked, Event, Move, Stand};
-use crate::lent::ask;
-use crate::plan::Plan;
-use crate::report::Report;
-use crate::scan::ScanMove;
-use crate::shelf_calls::Read;
-use crate::spoken::{Spoken, refuses_line, shut, tells};
-use crate::state::{Client, Library, MAX_CLIENTS, Part};
-use filters::Case;
 use mpd_command::{Command, Request};
 use player_core::Live;
+use player_events::Event;
+use player_state::{AudioStep, Client, Library, Part, Report, ScanMove};
+use queue_commands::playback::{
+    clear_error, current_song, next, pause, play, play_id, previous, seek, seek_cur, seek_id, stop,
+};
+use queue_commands::queue_edits::{
+    add, add_id, clear, delete, delete_id, move_id, move_range, prio, prio_id, shuffle, swap,
+    swap_id,
+};
+use queue_commands::queue_songs::{changed_places, changes, playlist_id, playlist_info};
 use shelf::Shelf;
 use song_db::SharedDb;
+use status_commands::connection::{commands, not_commands, ping, tag_types};
+use status_commands::devices::{outputs, switch_output, toggle_output};
+use status_commands::messages::{channels, read_messages, send_message, subscribe, unsubscribe};
+use status_commands::options::{
+    consume, crossfade, get_volume, random, repeat, set_volume, single,
+};
+use status_commands::status::{idle, no_idle, status};
 use std::alloc::{AllocError, Global};
 
 /// What an event asks of a part.
@@ -76,14 +76,16 @@ pub(crate) fn plan_turn(
             Plan::reports(alloc, ScanMove::Stay, report)
         }
         Event::ScanResult(songs) => end_scan(alloc, library, songs.as_ref()),
-        Event::Want(owes) => { Plan::acts_unless(alloc, ended, Report::Ended, Doing::Wants(*owes)) }
-        Event::Have(number, frames) => {
-            let doing = Doing::Accepts(*number, *frames);
-            Plan::acts_unless(alloc, ended, Report::ToFeed(None), doing)
+        Event::Want(owes) => {
+            Plan::acts_unless(alloc, ended, Report::Ended, AudioStep::Wants(*owes))
         }
-        Event::Failed(number, partner) => Plan::acts(alloc, Doing::Fails(*number, *partner)),
+        Event::Have(number, frames) => {
+            let step = AudioStep::Accepts(*number, *frames);
+            Plan::acts_unless(alloc, ended, Report::ToFeed(None), step)
+        }
+        Event::Failed(number, partner) => Plan::acts(alloc, AudioStep::Fails(*number, *partner)),
         Event::OutputTurn(output, written, discarded, failed) => {
-            let turn = Doing::Settles(*output, *written, *discarded, *failed);
+            let turn = AudioStep::Settles(*output, *written, *discarded, *failed);
             Ok(settle(alloc, part, *output, turn)?.or_ended(ended))
         }
         Event::End => Plan::reports(alloc, ScanMove::Stay, Report::Nothing),
@@ -93,7 +95,7 @@ pub(crate) fn plan_turn(
 /// Ends the scan that runs, with the library that it found.
 fn end_scan(alloc: Global, library: &Library, songs: Option<&SharedDb>) -> Result<Plan, AllocError>
     ensures plan { IfOk result (λ plan. plan ≡ record (quiet unspoken) { scan = ScanMove.End (option_copied songs.entry); report = Report.ScanEnded library.now.scan.runs }) }
-    ensures rests { IfOk result (λ plan. plan.doing ≡ Doing.Rests) }
+    ensures rests { IfOk result (λ plan. plan.doing ≡ ByCommand Rests) }
 {
     let found = match songs {
         Some(songs) => Some(songs.clone()?),
@@ -104,7 +106,7 @@ fn end_scan(alloc: Global, library: &Library, songs: Option<&SharedDb>) -> Resul
 }
 
 /// An output has its turn; one that is not there has nothing to play.
-fn settle(alloc: Global, part: &Part, output: usize, turn: Doing) -> Result<Plan, AllocError>
+fn settle(alloc: Global, part: &Part, output: usize, turn: AudioStep) -> Result<Plan, AllocError>
     ensures plan { IfOk result (λ plan. plan ≡ (if is_output part.now.outputs output then acts turn else absent)) }
 {
     if part.outputs.is_output(output) {

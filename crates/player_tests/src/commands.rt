@@ -1,8 +1,9 @@
 //! What the playback commands are read as.
 //!
 //! Each line of a text is read, and told as a command with its values or as the refusal.
-use crate::tables::{push_line, wants};
+use crate::wanted::wants;
 use mpd_command::{Command, Request};
+use queue_tests::steps::push_line;
 use std::alloc::{AllocError, Global};
 
 /// A command that has no argument.

@@ -1,6 +1,6 @@
 //! Cross-fades, and the commands that show which commands there are.
-use crate::player::session_over;
-use crate::tables::wants;
+use crate::wanted::wants;
+use player_sessions::session::session_over;
 
 pub(crate) const FADES: &str = "comes 1
 1 crossfade 3601

@@ -1,6 +1,5 @@
 //! Folds of the history: a session tells the same in a window of any size, and with a fold by hand between any two events.
 use crate::fades::{FADES, FADES_TELL};
-use crate::player::{session, session_over, session_within};
 use crate::sessions::{
     DELETION, DELETION_TELLS, EDITS, EDITS_TELL, LISTS, LISTS_TELL, ROOMS, ROOMS_TELL, SCANS,
     SCANS_TELL, numbered,
@@ -10,7 +9,9 @@ use crate::shelf_commands::{
     STICKERS_TELL,
 };
 use crate::shelf_sizes::doubling;
-use crate::tables::{push_line, wants, wants_made};
+use crate::wanted::{wants, wants_made};
+use player_sessions::session::{session, session_over, session_within};
+use queue_tests::steps::push_line;
 use std::alloc::{AllocError, Global};
 
 /// The most events of the windows in which each session is run.

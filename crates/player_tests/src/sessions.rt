@@ -1,8 +1,8 @@
 //! Worked sessions of the player of one thread, and what they tell.
-use crate::player::session;
-use crate::tables::{wants, wants_made};
+use crate::wanted::{wants, wants_made};
 use mpd_command::{NAMES, Name, Request, Volume};
 use partition::{PartitionFault, folds_are_unseen, reads_pending, replays_worlds};
+use player_sessions::session::session;
 use std::alloc::{AllocError, Global};
 
 pub(crate) const DELETION: &str = "comes 1

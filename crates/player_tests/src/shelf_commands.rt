@@ -1,6 +1,6 @@
 //! Worked sessions of stored playlists, stickers and messages, over a shelf in memory.
-use crate::player::{session, session_over};
-use crate::tables::wants;
+use crate::wanted::wants;
+use player_sessions::session::{session, session_over};
 use std::alloc::{AllocError, Global};
 
 const SONGS: &str = "a.wav

@@ -1,7 +1,7 @@
 //! Stored playlists, stickers and messages at their greatest sizes.
-use crate::player::session;
 use crate::sessions::numbered;
-use crate::tables::{wants, wants_made};
+use crate::wanted::{wants, wants_made};
+use player_sessions::session::session;
 use std::alloc::{AllocError, Global};
 
 /// What is told where a client subscribes to 16 channels, then to another, and to that one after it left the first.

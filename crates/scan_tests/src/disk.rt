@@ -1,7 +1,7 @@
 //! Folders that are made on the disk, and scanned.
 use crate::helpers::{holds, push, repeated, wants};
+use counted_devices::ReadSeek;
 use library_scan::{Refusal, ScanFault, Scanned, Unwatched, Watcher, scan};
-use mpd_text::ReadSeek;
 use song_db::Rate;
 use std::alloc::Global;
 use std::fs;

@@ -1,19 +1,20 @@
 //! Sessions of a few clients in one house, told as steps.
 ghost use Rattle.std.specs.Prelude.{◌≡◌};
-ghost use Rattle.frame_ledger.specs.Balance.{IsBlankOf as IsBlank};
-ghost use Rattle.house.specs.Seats.{IsBlankOf};
+ghost use Rattle.held_player.specs.Blanks.{AreFor};
 
 use crate::wires::{Feed, Pipe, Takes, Then};
-use house::{Blanks, House, News, Seat};
+use counted_devices::Counting;
+use counted_player::{Ledgers, Seat};
+use held_player::{Blanks, News};
+use house::House;
 use house_tests::rooms::{blanks, opened};
-use mpd_server::{Asker, End, Goes, Session, SessionFault};
-use mpd_text::Counting;
+use mpd_answers::Asker;
+use mpd_session::{End, Goes, Session, SessionFault};
 use partition::PartitionFault;
 use shelf::MemShelf;
 use std::alloc::{AllocError, Global};
 use std::marker::Brand;
 use std::sync::Wait;
-use std::sync::ledger::Ledger;
 
 /// A step of a day.
 #[derive(Clone, Copy)]
@@ -38,11 +39,11 @@ struct Guest {
     wire: Counting<Pipe>,
 }
 
-fn comes<A: Ledger, B: Ledger, C: Ledger, D: Ledger, E: Ledger, W: Ledger, X: Ledger>(
+fn comes<L: Ledgers>(
     rt: &impl Wait,
     alloc: Global,
-    house: &House<A, B, C, D, E, W, X>,
-    seat: &mut Seat<A, B, C, D>,
+    house: &House<L>,
+    seat: &mut Seat<L>,
     client: u32,
     takes: Takes,
     may_kill: bool,
@@ -57,11 +58,11 @@ fn comes<A: Ledger, B: Ledger, C: Ledger, D: Ledger, E: Ledger, W: Ledger, X: Le
 }
 
 /// Gives a session turns until all bytes are read, or it is closed.
-fn reads<A: Ledger, B: Ledger, C: Ledger, D: Ledger, E: Ledger, W: Ledger, X: Ledger>(
+fn reads<L: Ledgers>(
     rt: &impl Wait,
     alloc: Global,
-    house: &House<A, B, C, D, E, W, X>,
-    seat: &mut Seat<A, B, C, D>,
+    house: &House<L>,
+    seat: &mut Seat<L>,
     shelf: &mut MemShelf,
     guest: &mut Guest,
     bytes: &[u8],
@@ -104,11 +105,11 @@ fn fault_name(fault: SessionFault) -> &'static str {
     }
 }
 
-fn steps_of<A: Ledger, B: Ledger, C: Ledger, D: Ledger, E: Ledger, W: Ledger, X: Ledger>(
+fn steps_of<L: Ledgers>(
     rt: &impl Wait,
     alloc: Global,
-    house: &House<A, B, C, D, E, W, X>,
-    seat: &mut Seat<A, B, C, D>,
+    house: &House<L>,
+    seat: &mut Seat<L>,
     steps: &[Step<'_>],
     may_kill: bool,
 ) -> Result<String, PartitionFault> {
@@ -143,17 +144,16 @@ fn steps_of<A: Ledger, B: Ledger, C: Ledger, D: Ledger, E: Ledger, W: Ledger, X:
     Ok(told)
 }
 
-fn day<A: Ledger, B: Ledger, C: Ledger, D: Ledger, E: Ledger, W: Ledger, X: Ledger>(
+fn day<L: Ledgers>(
     rt: &impl Wait,
     alloc: Global,
     blanks: Blanks,
     steps: &[Step<'_>],
     may_kill: bool,
 ) -> Result<String, PartitionFault>
-    requires seats { IsBlankOf blanks.first A.name A.parts × IsBlankOf blanks.second B.name B.parts × IsBlankOf blanks.third C.name C.parts × IsBlankOf blanks.fourth D.name D.parts }
-    requires books { IsBlank blanks.frames.decoded E.name E.parts × IsBlank blanks.frames.written W.name W.parts × IsBlank blanks.frames.discarded X.name X.parts }
+    requires blanks { AreFor L.names blanks }
 {
-    let (house, _shares) = opened::<A, B, C, D, E, W, X>(alloc, blanks, 4096)?;
+    let (house, _shares) = opened::<L>(alloc, blanks, 4096)?;
     let Ok(mut seat) = house.seat(rt) else {
         return Err(PartitionFault::NoMemory);
     };
@@ -166,7 +166,7 @@ pub(crate) fn told<R: Wait>(
     alloc: Global,
     steps: &[Step<'_>],
 ) -> Result<String, PartitionFault> {
-    day::<Brand, Brand, Brand, Brand, Brand, Brand, Brand>(rt, alloc, blanks(), steps, false)
+    day::<Brand>(rt, alloc, blanks(), steps, false)
 }
 
 /// The same where clients may end the daemon.
@@ -175,7 +175,7 @@ pub(crate) fn told_with_kill<R: Wait>(
     alloc: Global,
     steps: &[Step<'_>],
 ) -> Result<String, PartitionFault> {
-    day::<Brand, Brand, Brand, Brand, Brand, Brand, Brand>(rt, alloc, blanks(), steps, true)
+    day::<Brand>(rt, alloc, blanks(), steps, true)
 }
 
 /// A client comes and says some pieces.

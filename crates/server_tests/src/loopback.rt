@@ -1,10 +1,11 @@
 //! Clients over the loopback, beside a server on another thread.
 ghost use Rattle.std.specs.Prelude.{◌≡◌};
-ghost use Rattle.frame_ledger.specs.Balance.{IsBlankOf as IsBlank};
-ghost use Rattle.house.specs.Seats.{IsBlankOf};
+ghost use Rattle.held_player.specs.Blanks.{AreFor};
 
 use crate::scanner::start_scanner;
-use house::{Blanks, House};
+use counted_player::Ledgers;
+use held_player::Blanks;
+use house::House;
 use house_tests::rooms::{blanks, opened};
 use mio::net::TcpListener as Door;
 use mpd_server::{ServeFault, Server, bind, start_waker};
@@ -13,7 +14,6 @@ use std::alloc::Global;
 use std::io::{Read, Write};
 use std::marker::Brand;
 use std::net::{Net, SocketAddr, TcpListener, TcpStream};
-use std::sync::ledger::Ledger;
 use std::sync::{Arc, Wait};
 use std::test::Fail;
 use std::thread::Threads;
@@ -43,20 +43,9 @@ enum Party {
 
 /// A house is served until a client ends the daemon, by a loop that another thread wakes, and a third makes the scans.
 fn serves_in<
-    A: Ledger + Send + Sync + 'static,
-    B: Ledger + Send + Sync + 'static,
-    C: Ledger + Send + Sync + 'static,
-    D: Ledger + Send + Sync + 'static,
-    E: Ledger + Send + Sync + 'static,
-    W: Ledger + Send + Sync + 'static,
-    X: Ledger + Send + Sync + 'static,
+    L: Ledgers + Send + Sync + 'static,
     R: Threads + Wait + Net + Clock + Copy + Send + 'static,
->(
-    rt: R,
-    alloc: Global,
-    house: &Arc<House<A, B, C, D, E, W, X>, Global>,
-    door: Door,
-) -> Result<(), ServeFault> {
+>(rt: R, alloc: Global, house: &Arc<House<L>, Global>, door: Door) -> Result<(), ServeFault> {
     let Ok(mut seat) = house.seat(&rt) else {
         return Err(ServeFault::NoMemory);
     };
@@ -78,19 +67,12 @@ fn serves_in<
 
 /// The same with a new house.
 fn serves<
-    A: Ledger + Send + Sync + 'static,
-    B: Ledger + Send + Sync + 'static,
-    C: Ledger + Send + Sync + 'static,
-    D: Ledger + Send + Sync + 'static,
-    E: Ledger + Send + Sync + 'static,
-    W: Ledger + Send + Sync + 'static,
-    X: Ledger + Send + Sync + 'static,
+    L: Ledgers + Send + Sync + 'static,
     R: Threads + Wait + Net + Clock + Copy + Send + 'static,
 >(rt: R, alloc: Global, blanks: Blanks, door: Door) -> Result<(), ServeFault>
-    requires seats { IsBlankOf blanks.first A.name A.parts × IsBlankOf blanks.second B.name B.parts × IsBlankOf blanks.third C.name C.parts × IsBlankOf blanks.fourth D.name D.parts }
-    requires books { IsBlank blanks.frames.decoded E.name E.parts × IsBlank blanks.frames.written W.name W.parts × IsBlank blanks.frames.discarded X.name X.parts }
+    requires blanks { AreFor L.names blanks }
 {
-    let Ok((house, _shares)) = opened::<A, B, C, D, E, W, X>(alloc, blanks, 4096) else {
+    let Ok((house, _shares)) = opened::<L>(alloc, blanks, 4096) else {
         return Err(ServeFault::NoMemory);
     };
     let Ok(house) = Arc::new(alloc, house) else {
@@ -104,7 +86,7 @@ fn serves_at_brand<R: Threads + Wait + Net + Clock + Copy + Send + 'static>(
     alloc: Global,
     door: Door,
 ) -> Result<(), ServeFault> {
-    serves::<Brand, Brand, Brand, Brand, Brand, Brand, Brand, R>(rt, alloc, blanks(), door)
+    serves::<Brand, R>(rt, alloc, blanks(), door)
 }
 
 /// A client that has been greeted.

@@ -1,9 +1,10 @@
 //! A scanner, which makes a notice that no client's line makes.
-use house::{House, News, Seat};
-use partition::Report;
+use counted_player::{Ledgers, Seat};
+use held_player::News;
+use house::House;
+use player_state::Report;
 use song_db::{Db, SharedDb};
 use std::alloc::{AllocError, Global};
-use std::sync::ledger::Ledger;
 use std::sync::{Arc, Wait};
 use std::thread;
 use std::thread::{JoinHandle, Threads};
@@ -19,16 +20,12 @@ fn no_songs(alloc: Global) -> Option<SharedDb> {
 }
 
 /// Looks whether a scan runs, and ends it a while later; it found no song. False where the daemon has ended.
-fn looks<
-    A: Ledger,
-    B: Ledger,
-    C: Ledger,
-    D: Ledger,
-    E: Ledger,
-    W: Ledger,
-    X: Ledger,
-    R: Wait + Clock,
->(rt: &R, alloc: Global, house: &House<A, B, C, D, E, W, X>, seat: &mut Seat<A, B, C, D>) -> bool {
+fn looks<L: Ledgers, R: Wait + Clock>(
+    rt: &R,
+    alloc: Global,
+    house: &House<L>,
+    seat: &mut Seat<L>,
+) -> bool {
     let asked = house.notice(rt, seat, News::AsksToScan);
     thread::sleep(rt, Duration::from_millis(SCAN));
     let Ok(told) = asked else {
@@ -44,16 +41,7 @@ fn looks<
     !matches!(report, Report::Ended)
 }
 
-fn scans<
-    A: Ledger,
-    B: Ledger,
-    C: Ledger,
-    D: Ledger,
-    E: Ledger,
-    W: Ledger,
-    X: Ledger,
-    R: Wait + Clock,
->(rt: &R, alloc: Global, house: &House<A, B, C, D, E, W, X>) {
+fn scans<L: Ledgers, R: Wait + Clock>(rt: &R, alloc: Global, house: &House<L>) {
     let mut seat = Seat::of_crew(9);
     for _ in rt.forever() {
         if !looks(rt, alloc, house, &mut seat) {
@@ -64,19 +52,9 @@ fn scans<
 
 /// Starts a thread that ends each scan which a client asks for, and that ends with the daemon.
 pub(crate) fn start_scanner<
-    A: Ledger + Send + Sync + 'static,
-    B: Ledger + Send + Sync + 'static,
-    C: Ledger + Send + Sync + 'static,
-    D: Ledger + Send + Sync + 'static,
-    E: Ledger + Send + Sync + 'static,
-    W: Ledger + Send + Sync + 'static,
-    X: Ledger + Send + Sync + 'static,
+    L: Ledgers + Send + Sync + 'static,
     R: Threads + Wait + Clock + Copy + Send + 'static,
->(
-    rt: R,
-    alloc: Global,
-    house: &Arc<House<A, B, C, D, E, W, X>, Global>,
-) -> Result<JoinHandle<()>, AllocError> {
+>(rt: R, alloc: Global, house: &Arc<House<L>, Global>) -> Result<JoinHandle<()>, AllocError> {
     let house = Arc::try_clone(house)?;
     let handle = thread::spawn(&rt, move || scans(&rt, alloc, &*house))?;
     Ok(handle)

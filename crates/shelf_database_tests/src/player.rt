@@ -1,7 +1,10 @@
 //! A player that is lent a shelf over a database.
+use command_plan::Stand;
 use mpd_command::Request;
 use mpd_text::Song;
-use partition::{Event, Library, Limits, Outputs, Partition, Scan, Setup, Stand};
+use partition::{Limits, Partition, Setup};
+use player_events::Event;
+use player_state::{Library, Outputs, Scan};
 use shelf_database::SqlShelf;
 use song_db::{Db, Rate, SharedDb};
 use sqlite::Alter;

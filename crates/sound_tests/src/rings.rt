@@ -2,7 +2,7 @@
 ghost use Rattle.std.specs.Prelude.{◌≡◌, length};
 
 use crate::tables::wants;
-use mpd_text::{Counting, FailAt, Failing, FailurePoint};
+use counted_devices::{Counting, FailAt, Failing, FailurePoint};
 use output_ring::{Cut, Drainer, Fates, Feeder, Live, Totals, WriteFault, ring};
 use pcm_mix::Frame;
 use std::alloc::{AllocError, Global};

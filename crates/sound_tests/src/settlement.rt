@@ -4,8 +4,8 @@ ghost use Rattle.output_ring.specs.Rings.{AreEndsAfter};
 ghost use Rattle.frame_ledger.specs.Balance.{IsBlankOf};
 
 use crate::tables::wants;
+use counted_devices::{FailAt, FailurePoint};
 use frame_ledger::{AtLimit, Blanks, Books, SettleFault, Settled, Tally, settle};
-use mpd_text::{FailAt, FailurePoint};
 use output_ring::{Cut, Drainer, Fates, FeederEnd, Live, ring};
 use std::alloc::{AllocError, Global};
 use std::marker::Brand;

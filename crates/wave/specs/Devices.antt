@@ -1,7 +1,7 @@
 -- What calls ask of a device (this profile's).
 use Rattle.std.specs.Prelude.{◌≡◌, ℕ, ◌+◌, ◌-◌, ◌^◌, ◌≤◌, ◌⊎◌, List, length, take, drop}
-use Rattle.mpd_text.specs.declared.devices.tally.Tally.{Tally}
-use Rattle.mpd_text.specs.Devices.Tally.{HasFailed}
+use Rattle.counted_devices.specs.declared.tally.Tally.{Tally}
+use Rattle.counted_devices.specs.Tally.{HasFailed}
 use Rattle.wave.specs.declared.fault.WaveFault.{WaveFault}
 use Rattle.wave.specs.declared.fault.WaveFault.TheVariants.{NotRiff, NoFormat, Unsupported, NoData, ReadFault, NoMemory}
 

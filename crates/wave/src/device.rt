@@ -1,11 +1,11 @@
 //! Reads of a device at a place, with an end to how often it is called.
 ghost use Rattle.std.specs.Prelude.{◌≡◌, ℕ, ◌+◌, ◌-◌, ◌^◌, ◌≤◌, ◌<◌, List, Some, length, min, take, drop, IfSome, IfOk, OnErr};
 ghost use Rattle.std.specs.Io.KnownBytes.{Consumes, IsAtEnd};
-ghost use Rattle.mpd_text.specs.Devices.Tally.{NoFewer};
+ghost use Rattle.counted_devices.specs.Tally.{NoFewer};
 ghost use Rattle.wave.specs.Devices.{FillsFrom, Ends, KeepsTo};
 
 use crate::fault::Unread;
-use mpd_text::Media;
+use counted_devices::Media;
 
 /// The most reads and seeks of one call.
 pub const MAX_CALLS: u64 = 1 << 32;

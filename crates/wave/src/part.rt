@@ -1,13 +1,13 @@
 //! Chunks, and where they lie.
 ghost use Rattle.std.specs.Prelude.{◌≡◌, ◌==◌, ℕ, ◌+◌, ◌≤◌, ◌<◌, List, Some, length, take, drop, IfSome, IfOk, OnErr};
-ghost use Rattle.mpd_text.specs.Devices.Tally.{NoFewer};
+ghost use Rattle.counted_devices.specs.Tally.{NoFewer};
 ghost use Rattle.wave.specs.Chunks.{Chunk, AreChunks, chunks};
 ghost use Rattle.wave.specs.Devices.{Ends, KeepsTo};
 ghost use Rattle.wave.specs.Parts.{IsHeader, StartsWith};
 
 use crate::device::read_at;
 use crate::fault::Unread;
-use mpd_text::Media;
+use counted_devices::Media;
 
 /// The name and size before a content.
 #[derive(Clone, Copy)]

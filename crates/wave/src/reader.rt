@@ -1,6 +1,6 @@
 //! Frames of a file.
 ghost use Rattle.std.specs.Prelude.{◌≡◌, ◌⊎◌, ◌≤◌, ◌<◌, ◌+◌, ◌*◌, ◌^◌, length, take, drop, IfSome, IfOk, IfErr, IsErrOf};
-ghost use Rattle.mpd_text.specs.Devices.Tally.{NoFewer, HasFailed};
+ghost use Rattle.counted_devices.specs.Tally.{NoFewer, HasFailed};
 ghost use Rattle.wave.specs.Devices.{CalledTooOften};
 ghost use Rattle.wave.specs.Formats.{frames_of};
 ghost use Rattle.wave.specs.Meanings.{frames_in};
@@ -9,7 +9,7 @@ use crate::device::{last_call, read_at};
 use crate::fault::WaveFault;
 use crate::format::Layout;
 use crate::head::Head;
-use mpd_text::Media;
+use counted_devices::Media;
 use pcm_mix::{Frame, from_bytes};
 use std::alloc::Global;
 

@@ -1,6 +1,6 @@
 //! Heads, read from files.
 ghost use Rattle.std.specs.Prelude.{length, ◌≡◌, ◌⊎◌, ◌≤◌, ◌+◌, ◌/◌, ◌^◌, ◌<◌, take, IfSome, IfOk, OnErr, IsErrOf};
-ghost use Rattle.mpd_text.specs.Devices.Tally.{NoFewer, HasFailed};
+ghost use Rattle.counted_devices.specs.Tally.{NoFewer, HasFailed};
 ghost use Rattle.wave.specs.Devices.{Ends, KeepsTo, CalledTooOften};
 ghost use Rattle.wave.specs.Formats.{block};
 ghost use Rattle.wave.specs.Waves.{is_riff, wave_of};
@@ -12,7 +12,8 @@ use crate::fault::{Unread, WaveFault};
 use crate::head::Head;
 use crate::samples::{Samples, find_samples};
 use crate::texts::read_texts;
-use mpd_text::{Media, Tag};
+use counted_devices::Media;
+use mpd_text::Tag;
 use std::alloc::Global;
 
 /// Reads the head of a file that is to be played at this rate, in frames a second.

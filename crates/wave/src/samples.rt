@@ -1,7 +1,7 @@
 //! Where the samples of a file lie.
 ghost use Rattle.std.specs.Prelude.{◌≡◌, ◌==◌, ◌&&◌, ℕ, ◌≤◌, ◌+◌, List, ◌∷◌, length, take, true, false, IfErr, IfSome, IfOk, OnErr, IsErrOf, MatchResult, codes, is_none};
 ghost use Rattle.std.specs.Str.{bytes_eq};
-ghost use Rattle.mpd_text.specs.Devices.Tally.{NoFewer};
+ghost use Rattle.counted_devices.specs.Tally.{NoFewer};
 ghost use Rattle.wave.specs.Chunks.{Chunk};
 ghost use Rattle.wave.specs.Formats.{layout_of};
 ghost use Rattle.wave.specs.Waves.{sound_of};
@@ -13,7 +13,7 @@ use crate::device::read_at;
 use crate::fault::{Unread, WaveFault};
 use crate::format::{Layout, layout_of};
 use crate::part::{Part, chunk_at};
-use mpd_text::Media;
+use counted_devices::Media;
 
 /// How samples lie in the data, and where the data lies.
 #[derive(Clone, Copy)]

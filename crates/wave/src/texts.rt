@@ -1,7 +1,7 @@
 //! The texts in the lists of a file.
 ghost use Rattle.std.specs.Prelude.{◌≡◌, ◌==◌, ◌&&◌, nat_le, codes, ◌≤◌, ◌<◌, ◌^◌, ◌+◌, List, ◌∷◌, ◌++◌, true, length, IfSome, IfOk, IfErr, OnErr};
 ghost use Rattle.std.specs.Str.{bytes_eq};
-ghost use Rattle.mpd_text.specs.Devices.Tally.{NoFewer};
+ghost use Rattle.counted_devices.specs.Tally.{NoFewer};
 ghost use Rattle.wave.specs.Chunks.{Chunk};
 ghost use Rattle.wave.specs.Texts.{is_info, items};
 ghost use Rattle.wave.specs.Devices.{Ends, KeepsTo, IsOutside};
@@ -12,7 +12,8 @@ use crate::device::read_at;
 use crate::fault::{Unread, WaveFault};
 use crate::part::{Part, chunk_at};
 use crate::tag::{MAX_TEXT, Texts, tag_of, text_in};
-use mpd_text::{Media, Text};
+use counted_devices::Media;
+use mpd_text::Text;
 use std::alloc::Global;
 
 /// The first text of each tag, of all lists of a file of this many bytes.

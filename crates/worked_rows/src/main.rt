@@ -8,8 +8,8 @@
 
 mod row;
 
+use counted_devices::{FailAt, FailurePoint};
 use daemon_script::run_script;
-use mpd_text::{FailAt, FailurePoint};
 use row::Row;
 use std::{fs, io};
 

@@ -1,9 +1,9 @@
 use Rattle.std.proofs.Common.{rules, sym, subst}
 use Rattle.output_ring.specs.Rings.{EndsFeeder}
 use Rattle.crew.specs.Closing.{LeavesRun}
-use Rattle.crew.specs.Each.{Each}
+use Rattle.crew_steps.specs.Each.{Each}
 use Rattle.crew.proofs.Closes.{each_settles, left_firsts}
-use Rattle.crew.proofs.Eaches.{each_length}
+use Rattle.crew_steps.proofs.Eaches.{each_length}
 use Rattle.crew.proofs.ending.close.Goals as goal
 
 pub settle_outputs-requires-clause-few : goal.settle_outputs-requires-clause-few

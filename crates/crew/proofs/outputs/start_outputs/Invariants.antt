@@ -1,6 +1,7 @@
 use Rattle.std.proofs.Common.{◌≡◌, ◌+◌, ◌<◌, ◌++◌, map, vec_len}
 use Rattle.std.specs.Vec.Iter.{into_iter_items, into_iter_len}
-use Rattle.crew.specs.Rows.{first_of_run, drainer_of_run, feeder_of_station, drainer_of_station}
+use Rattle.crew.specs.Rows.{first_of_run, drainer_of_run}
+use Rattle.crew_steps.specs.Stations.{feeder_of_station, drainer_of_station}
 use Rattle.crew.proofs.outputs.start_outputs.Given as goal
 
 abbrev pub invariant-loop-station : goal.invariant-loop-station

@@ -1,7 +1,7 @@
 use Rattle.std.proofs.Common.{rules, ◌∙◌, vec_len}
 use Rattle.std.specs.Vec.Iter.{into_iter_items}
 use Rattle.crew.specs.Closing.{LeavesRun}
-use Rattle.crew.proofs.Eaches.{each_next, next_taken}
+use Rattle.crew_steps.proofs.Eaches.{each_next, next_taken}
 use Rattle.crew.proofs.settling.join_outputs.Goals as goal
 
 pub loop-run-preserved : goal.loop-run-preserved

@@ -1,6 +1,6 @@
 use Rattle.std.proofs.Common.{◌≡◌, ◌+◌, take, drop, vec_len, vec_capacity}
 use Rattle.std.specs.Vec.Iter.{into_iter_items, into_iter_len}
-use Rattle.crew.specs.Each.{Each}
+use Rattle.crew_steps.specs.Each.{Each}
 use Rattle.crew.specs.Closing.{LeavesRun}
 use Rattle.crew.proofs.settling.join_outputs.Given as goal
 

@@ -4,7 +4,7 @@ use Rattle.output_ring.specs.Rings.{EndsFeeder}
 use Rattle.crew.specs.Rows.{first_of_left}
 use Rattle.crew.specs.Closing.{SettlesLeft}
 use Rattle.crew.proofs.Closes.{closes}
-use Rattle.crew.proofs.Eaches.{each_next_at, next_taken, each_rest}
+use Rattle.crew_steps.proofs.Eaches.{each_next_at, next_taken, each_rest}
 use Rattle.crew.proofs.settling.settle_outputs.Goals as goal
 
 pub loop-left-preserved : goal.loop-left-preserved

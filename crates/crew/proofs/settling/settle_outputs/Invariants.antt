@@ -1,7 +1,7 @@
 use Rattle.std.proofs.Common.{◌≡◌, ◌+◌, map, take, drop, vec_len, vec_capacity}
 use Rattle.std.specs.Vec.Iter.{into_iter_items, into_iter_len}
 use Rattle.output_ring.specs.Rings.{EndsFeeder}
-use Rattle.crew.specs.Each.{Each, EachAt}
+use Rattle.crew_steps.specs.Each.{Each, EachAt}
 use Rattle.crew.specs.Rows.{first_of_left}
 use Rattle.crew.specs.Closing.{SettlesLeft}
 use Rattle.crew.proofs.settling.settle_outputs.Given as goal

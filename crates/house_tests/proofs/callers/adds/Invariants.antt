@@ -1,5 +1,5 @@
 use Rattle.std.specs.Prelude.{◌≡◌, ◌+◌, ◌<◌}
-use Rattle.house.specs.Seats.{place}
+use Rattle.counted_player.specs.Seats.{place}
 use Rattle.house_tests.proofs.callers.adds.Given as goal
 
 abbrev pub invariant-loop-i : goal.invariant-loop-i

@@ -1,6 +1,6 @@
 use Rattle.std.proofs.Common.{◌≤◌, ◌-◌, length, take}
 use Rattle.std.specs.Io.KnownBytes.{Appends}
-use Rattle.mpd_text.specs.Devices.Tally.{NoFewer}
+use Rattle.counted_devices.specs.Tally.{NoFewer}
 use Rattle.output_ring.proofs.outgoing.write_bytes.Given as goal
 
 abbrev pub invariant-loop-done : goal.invariant-loop-done

@@ -1,11 +1,13 @@
 use Rattle.std.proofs.Common.{◌≡◌, ◌∙◌, inr, false, Result, Ok, Err, ap, sym, subst, rules}
 use Rattle.std.specs.Prelude.{IfErr, IfOk, OnErr, OnOk}
 use Rattle.shelf.specs.Maps.{Trusted}
-use Rattle.partition.specs.declared.event.Event.{Event}
-use Rattle.partition.specs.Image.{Image, Turn, image_of_state}
-use Rattle.partition.specs.Rooms.{listed}
-use Rattle.partition.specs.Shelves.{IsRead, is_written}
-use Rattle.partition.specs.Step.{hearing, heard_at, question_of, told_by, turn, turn_of}
+use Rattle.player_events.specs.declared.event.Event.{Event}
+use Rattle.partition.specs.Image.{Image, image_of_state}
+use Rattle.command_plan.specs.Turns.{Turn}
+use Rattle.idle_clients.specs.Rooms.{listed}
+use Rattle.command_plan.specs.Shelves.{IsRead, is_written}
+use Rattle.player_events.specs.Events.{hearing, heard_at}
+use Rattle.partition.specs.Step.{question_of, told_by, turn, turn_of}
 use Rattle.partition.proofs.Lending.{uncalled}
 use Rattle.partition.proofs.Serving.{heard_read, heard_so, serves_unwritten, serves_written, spared}
 use Rattle.partition.proofs.Writing.{hears_last}
@@ -29,77 +31,69 @@ on_ok_from (Err e) more p q s = tt
 
 pub returns-in_err-plan-clause-spared : goal.returns-in_err-plan-clause-spared
 returns-in_err-plan-clause-spared g c =
-    on_err c.from_residual-in_err-plan.result (spared g.S.Shelf.standing g.S.Shelf.failed c.args.shelf.now c.ask_shelf-asked.new.shelf c.ask_shelf-asked.new.shelf _ _
-    c.ask_shelf-asked.ensures.turns (uncalled (g.S.Shelf.standing c.ask_shelf-asked.new.shelf) (g.S.Shelf.standing c.args.shelf.now).maps))
+    on_err c.from_residual-in_err-plan.result (spared g.S.Shelf.standing g.S.Shelf.failed c.args.shelf.now c.ask_shelf.new.shelf c.ask_shelf.new.shelf _ _
+    c.ask_shelf.ensures.turns (uncalled (g.S.Shelf.standing c.ask_shelf.new.shelf) (g.S.Shelf.standing c.args.shelf.now).maps))
 
 pub returns-then-is_written-clause-event : goal.returns-then-is_written-clause-event
 returns-then-is_written-clause-event g c =
-    let second : c.hear-2.new.self ≡ hearing c.args.event.now (heard_read c.in_ok-read.read) =
-    c.hear-2.ensures ∙ ap (λ (e : Event). hearing e (heard_read c.in_ok-read.read)) c.hear.ensures ∙ hears_last c.args.event.now c.nothing.result (heard_read c.in_ok-read.read) in
     heard_so c.args.event.now c.write_plan.new.event _
-    (c.write_plan.ensures.event ∙ ap (λ (e : Event). hearing e (record (heard_at c.hear-2.new.self) { refused = (heard_at c.write_plan.new.event).refused })) second
-    ∙ hears_last c.args.event.now (heard_read c.in_ok-read.read) (record (heard_at c.hear-2.new.self) { refused = (heard_at c.write_plan.new.event).refused }))
+    (c.write_plan.ensures.event ∙ ap (λ (e : Event). hearing e (record (heard_at c.hear.new.self) { refused = (heard_at c.write_plan.new.event).refused })) c.hear.ensures
+    ∙ hears_last c.args.event.now (heard_read c.in_ok-read.read) (record (heard_at c.hear.new.self) { refused = (heard_at c.write_plan.new.event).refused }))
 
 pub returns-then-is_written-clause-shelf : goal.returns-then-is_written-clause-shelf
 returns-then-is_written-clause-shelf g c =
     let i : Image = image_of_state c.args.state.now in
-    let second : c.hear-2.new.self ≡ hearing c.args.event.now (heard_read c.in_ok-read.read) =
-    c.hear-2.ensures ∙ ap (λ (e : Event). hearing e (heard_read c.in_ok-read.read)) c.hear.ensures ∙ hears_last c.args.event.now c.nothing.result (heard_read c.in_ok-read.read) in
     on_ok_from c.write_plan.result
     (λ turns answers ample.
     serves_written g.S.Shelf.standing g.S.Shelf.failed i c.args.event.now c.write_plan.new.event c.in_ok-read.read (heard_at c.write_plan.new.event).refused c.in_ok-plan.plan.written
-    c.args.shelf.now c.ask_shelf-asked.new.shelf c.write_plan.new.shelf c.in_ok-read.ensures.turns
-    (subst (λ ks. Trusted (g.S.Shelf.standing c.args.shelf.now) (g.S.Shelf.standing c.ask_shelf-asked.new.shelf)
-    → IsRead (g.S.Shelf.failed c.args.shelf.now c.ask_shelf-asked.new.shelf) (g.S.Shelf.standing c.args.shelf.now).maps (question_of i.shared.library ks c.args.event.now) c.in_ok-read.read) c.deref.ensures.value c.in_ok-read.ensures.read)
-    (ap (λ (t : Turn). t.written) (c.in_ok-plan.ensures.plan ∙ ap (λ ks. turn_of i.shared.ended i.part i.shared.library ks c.hear-2.new.self) c.deref-2.ensures.value ∙ ap (turn i) second))
-    (c.write_plan.ensures.event ∙ ap (λ (e : Event). hearing e (record (heard_at e) { refused = (heard_at c.write_plan.new.event).refused })) second)
+    c.args.shelf.now c.ask_shelf.new.shelf c.write_plan.new.shelf c.in_ok-read.ensures.turns
+    (subst (λ ks. Trusted (g.S.Shelf.standing c.args.shelf.now) (g.S.Shelf.standing c.ask_shelf.new.shelf)
+    → IsRead (g.S.Shelf.failed c.args.shelf.now c.ask_shelf.new.shelf) (g.S.Shelf.standing c.args.shelf.now).maps (question_of i.shared.library ks c.args.event.now) c.in_ok-read.read) c.deref.ensures.value c.in_ok-read.ensures.read)
+    (ap (λ (t : Turn). t.written) (c.in_ok-plan.ensures.plan ∙ ap (λ ks. turn_of i.shared.ended i.part i.shared.library ks c.hear.new.self) c.deref-2.ensures.value ∙ ap (turn i) c.hear.ensures))
+    (c.write_plan.ensures.event ∙ ap (λ (e : Event). hearing e (record (heard_at e) { refused = (heard_at c.write_plan.new.event).refused })) c.hear.ensures)
     turns answers ample)
     c.write_plan.ensures.turns c.write_plan.ensures.answers c.write_plan.ensures.ample
 
 pub returns-clause-event : goal.returns-clause-event
 returns-clause-event g c =
-    heard_so c.args.event.now c.hear-2.new.self (heard_read c.in_ok-read.read)
-    (c.hear-2.ensures ∙ ap (λ (e : Event). hearing e (heard_read c.in_ok-read.read)) c.hear.ensures ∙ hears_last c.args.event.now c.nothing.result (heard_read c.in_ok-read.read))
+    heard_so c.args.event.now c.hear.new.self (heard_read c.in_ok-read.read)
+    c.hear.ensures
 
 pub returns-clause-given : goal.returns-clause-given
 returns-clause-given g c =
     let i : Image = image_of_state c.args.state.now in
-    subst (λ (t : Turn). IfOk c.apply_plan.result (λ applied. listed applied.given ≡ (told_by i c.hear-2.new.self t).notices))
-    (c.in_ok-plan.ensures.plan ∙ ap (λ ks. turn_of i.shared.ended i.part i.shared.library ks c.hear-2.new.self) c.deref-2.ensures.value) c.apply_plan.ensures.given
+    subst (λ (t : Turn). IfOk c.apply_plan.result (λ applied. listed applied.given ≡ (told_by i c.hear.new.self t).notices))
+    (c.in_ok-plan.ensures.plan ∙ ap (λ ks. turn_of i.shared.ended i.part i.shared.library ks c.hear.new.self) c.deref-2.ensures.value) c.apply_plan.ensures.given
 
 pub returns-clause-kept : goal.returns-clause-kept
 returns-clause-kept g c =
     let i : Image = image_of_state c.args.state.now in
-    subst (λ (t : Turn). IfOk c.apply_plan.result (λ applied. listed applied.kept ≡ (told_by i c.hear-2.new.self t).notices))
-    (c.in_ok-plan.ensures.plan ∙ ap (λ ks. turn_of i.shared.ended i.part i.shared.library ks c.hear-2.new.self) c.deref-2.ensures.value) c.apply_plan.ensures.kept
+    subst (λ (t : Turn). IfOk c.apply_plan.result (λ applied. listed applied.kept ≡ (told_by i c.hear.new.self t).notices))
+    (c.in_ok-plan.ensures.plan ∙ ap (λ ks. turn_of i.shared.ended i.part i.shared.library ks c.hear.new.self) c.deref-2.ensures.value) c.apply_plan.ensures.kept
 
 pub returns-clause-shelf : goal.returns-clause-shelf
 returns-clause-shelf g c =
     let i : Image = image_of_state c.args.state.now in
-    let second : c.hear-2.new.self ≡ hearing c.args.event.now (heard_read c.in_ok-read.read) =
-    c.hear-2.ensures ∙ ap (λ (e : Event). hearing e (heard_read c.in_ok-read.read)) c.hear.ensures ∙ hears_last c.args.event.now c.nothing.result (heard_read c.in_ok-read.read) in
     let none : is_written c.in_ok-plan.plan.written ≡ false = search rules in
     on_ok c.apply_plan.result
-    (serves_unwritten g.S.Shelf.standing g.S.Shelf.failed i c.args.event.now c.hear-2.new.self c.in_ok-read.read c.args.shelf.now c.ask_shelf-asked.new.shelf c.in_ok-read.ensures.turns
-    (subst (λ ks. Trusted (g.S.Shelf.standing c.args.shelf.now) (g.S.Shelf.standing c.ask_shelf-asked.new.shelf)
-    → IsRead (g.S.Shelf.failed c.args.shelf.now c.ask_shelf-asked.new.shelf) (g.S.Shelf.standing c.args.shelf.now).maps (question_of i.shared.library ks c.args.event.now) c.in_ok-read.read) c.deref.ensures.value c.in_ok-read.ensures.read)
-    (sym (ap (λ (t : Turn). is_written t.written) (c.in_ok-plan.ensures.plan ∙ ap (λ ks. turn_of i.shared.ended i.part i.shared.library ks c.hear-2.new.self) c.deref-2.ensures.value ∙ ap (turn i) second)) ∙ none)
-    second)
+    (serves_unwritten g.S.Shelf.standing g.S.Shelf.failed i c.args.event.now c.hear.new.self c.in_ok-read.read c.args.shelf.now c.ask_shelf.new.shelf c.in_ok-read.ensures.turns
+    (subst (λ ks. Trusted (g.S.Shelf.standing c.args.shelf.now) (g.S.Shelf.standing c.ask_shelf.new.shelf)
+    → IsRead (g.S.Shelf.failed c.args.shelf.now c.ask_shelf.new.shelf) (g.S.Shelf.standing c.args.shelf.now).maps (question_of i.shared.library ks c.args.event.now) c.in_ok-read.read) c.deref.ensures.value c.in_ok-read.ensures.read)
+    (sym (ap (λ (t : Turn). is_written t.written) (c.in_ok-plan.ensures.plan ∙ ap (λ ks. turn_of i.shared.ended i.part i.shared.library ks c.hear.new.self) c.deref-2.ensures.value ∙ ap (turn i) c.hear.ensures)) ∙ none)
+    c.hear.ensures)
 
 pub returns-clause-cause : goal.returns-clause-cause
 returns-clause-cause g c =
     let i : Image = image_of_state c.args.state.now in
-    let second : c.hear-2.new.self ≡ hearing c.args.event.now (heard_read c.in_ok-read.read) =
-    c.hear-2.ensures ∙ ap (λ (e : Event). hearing e (heard_read c.in_ok-read.read)) c.hear.ensures ∙ hears_last c.args.event.now c.nothing.result (heard_read c.in_ok-read.read) in
     let none : is_written c.in_ok-plan.plan.written ≡ false = search rules in
     if_err c.apply_plan.result (λ fault. inr
-    (serves_unwritten g.S.Shelf.standing g.S.Shelf.failed i c.args.event.now c.hear-2.new.self c.in_ok-read.read c.args.shelf.now c.ask_shelf-asked.new.shelf c.in_ok-read.ensures.turns
-    (subst (λ ks. Trusted (g.S.Shelf.standing c.args.shelf.now) (g.S.Shelf.standing c.ask_shelf-asked.new.shelf)
-    → IsRead (g.S.Shelf.failed c.args.shelf.now c.ask_shelf-asked.new.shelf) (g.S.Shelf.standing c.args.shelf.now).maps (question_of i.shared.library ks c.args.event.now) c.in_ok-read.read) c.deref.ensures.value c.in_ok-read.ensures.read)
-    (sym (ap (λ (t : Turn). is_written t.written) (c.in_ok-plan.ensures.plan ∙ ap (λ ks. turn_of i.shared.ended i.part i.shared.library ks c.hear-2.new.self) c.deref-2.ensures.value ∙ ap (turn i) second)) ∙ none)
-    second))
+    (serves_unwritten g.S.Shelf.standing g.S.Shelf.failed i c.args.event.now c.hear.new.self c.in_ok-read.read c.args.shelf.now c.ask_shelf.new.shelf c.in_ok-read.ensures.turns
+    (subst (λ ks. Trusted (g.S.Shelf.standing c.args.shelf.now) (g.S.Shelf.standing c.ask_shelf.new.shelf)
+    → IsRead (g.S.Shelf.failed c.args.shelf.now c.ask_shelf.new.shelf) (g.S.Shelf.standing c.args.shelf.now).maps (question_of i.shared.library ks c.args.event.now) c.in_ok-read.read) c.deref.ensures.value c.in_ok-read.ensures.read)
+    (sym (ap (λ (t : Turn). is_written t.written) (c.in_ok-plan.ensures.plan ∙ ap (λ ks. turn_of i.shared.ended i.part i.shared.library ks c.hear.new.self) c.deref-2.ensures.value ∙ ap (turn i) c.hear.ensures)) ∙ none)
+    c.hear.ensures))
 
 pub returns-clause-spared : goal.returns-clause-spared
 returns-clause-spared g c =
-    on_err c.apply_plan.result (spared g.S.Shelf.standing g.S.Shelf.failed c.args.shelf.now c.ask_shelf-asked.new.shelf c.ask_shelf-asked.new.shelf _ _
-    c.ask_shelf-asked.ensures.turns (uncalled (g.S.Shelf.standing c.ask_shelf-asked.new.shelf) (g.S.Shelf.standing c.args.shelf.now).maps))
+    on_err c.apply_plan.result (spared g.S.Shelf.standing g.S.Shelf.failed c.args.shelf.now c.ask_shelf.new.shelf c.ask_shelf.new.shelf _ _
+    c.ask_shelf.ensures.turns (uncalled (g.S.Shelf.standing c.ask_shelf.new.shelf) (g.S.Shelf.standing c.args.shelf.now).maps))

@@ -1,8 +1,9 @@
 use Rattle.std.proofs.Common.{◌∙◌, not, sym, rules}
-use Rattle.partition.specs.Clients.{same_songs}
-use Rattle.partition.specs.Image.{Image, image_of_state, songs_after}
-use Rattle.partition.specs.Rooms.{listed, room_in}
-use Rattle.partition.specs.Signs.{changes_subscriptions, raised_in, signs}
+use Rattle.idle_clients.specs.Clients.{same_songs}
+use Rattle.partition.specs.Image.{Image, image_of_state}
+use Rattle.player_state.specs.Libraries.{songs_after}
+use Rattle.idle_clients.specs.Rooms.{listed, room_in}
+use Rattle.idle_clients.specs.Signs.{changes_subscriptions, raised_in, signs}
 use Rattle.partition.proofs.Raised.{PartIs, LibraryIs, Shown, stepped, noticed, roomy, told_alike}
 use Rattle.partition.proofs.Settled.{unwritten}
 use Rattle.partition.proofs.happen.apply_plan.Goals as goal

@@ -1,5 +1,5 @@
 use Rattle.std.proofs.Common.{List, ap, rules}
-use Rattle.partition.specs.declared.state.Client.{Client}
+use Rattle.player_state.specs.declared.state.Client.{Client}
 use Rattle.partition.specs.Image.{Image, image_of_state}
 use Rattle.partition.proofs.Lending.{wanting}
 use Rattle.partition.proofs.Recorded.{records_before, refuses_before}

@@ -1,11 +1,11 @@
 use Rattle.std.proofs.Common.{◌≡◌, ◌∙◌, ◌++◌, ℕ, [], List, ap, sym, append-nil, rules}
 use Rattle.std.specs.List.{flat_map}
 use Rattle.idle_notes.specs.declared.sets.Subsystems.{Subsystems}
-use Rattle.partition.specs.Clients.{notice_for}
-use Rattle.partition.specs.declared.event.Notice.{Notice}
-use Rattle.partition.specs.Rooms.{listed}
-use Rattle.partition.specs.Settled.{nothing}
-use Rattle.partition.specs.Signs.{raised_in}
+use Rattle.idle_clients.specs.Clients.{notice_for}
+use Rattle.idle_clients.specs.declared.notices.Notice.{Notice}
+use Rattle.idle_clients.specs.Rooms.{listed}
+use Rattle.idle_clients.specs.Settled.{nothing}
+use Rattle.idle_clients.specs.Signs.{raised_in}
 use Rattle.partition.proofs.Settled.{no_notices}
 use Rattle.partition.proofs.happen.tell_all.Goals as goal
 

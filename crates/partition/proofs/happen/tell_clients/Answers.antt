@@ -1,11 +1,11 @@
 use Rattle.std.proofs.Common.{◌≡◌, ◌≤◌, sym, subst, length, arith, rules}
 use Rattle.std.specs.Prelude.{count_by, filter}
-use Rattle.partition.specs.Clients.{is_other}
-use Rattle.partition.specs.Rooms.{is_waiting, listed, room_in}
-use Rattle.partition.specs.Settled.{HasRoom}
-use Rattle.partition.specs.Signs.{raised_in}
+use Rattle.idle_clients.specs.Clients.{is_other}
+use Rattle.idle_clients.specs.Rooms.{is_waiting, listed, room_in}
+use Rattle.idle_clients.specs.Settled.{HasRoom}
+use Rattle.idle_clients.specs.Signs.{raised_in}
 use Rattle.partition.proofs.Settled.{fewer_wanted}
-use Rattle.partition.proofs.Tells.{fewer_wait}
+use Rattle.idle_clients.proofs.Tells.{fewer_wait}
 use Rattle.partition.proofs.happen.tell_clients.Goals.{then-closing, else-closing}
 use Rattle.partition.proofs.happen.tell_clients.Goals as goal
 

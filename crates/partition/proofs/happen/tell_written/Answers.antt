@@ -1,9 +1,10 @@
 use Rattle.std.proofs.Common.{◌≡◌, ◌∙◌, ℕ, false, ap}
 use Rattle.idle_notes.specs.declared.sets.Subsystems.{Subsystems}
-use Rattle.partition.specs.Clients.{clients_after, notices_after}
-use Rattle.partition.specs.Image.{Image, Turn, image_of_state}
-use Rattle.partition.specs.Rooms.{listed}
-use Rattle.partition.specs.Signs.{raised_in, told_by_signs}
+use Rattle.idle_clients.specs.Clients.{clients_after, notices_after}
+use Rattle.partition.specs.Image.{Image, image_of_state}
+use Rattle.command_plan.specs.Turns.{Turn}
+use Rattle.idle_clients.specs.Rooms.{listed}
+use Rattle.idle_clients.specs.Signs.{raised_in, told_by_signs}
 use Rattle.partition.proofs.Written.{written_notices, written_step}
 use Rattle.partition.proofs.happen.tell_written.Goals as goal
 

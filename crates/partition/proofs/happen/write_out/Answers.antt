@@ -1,14 +1,16 @@
 use Rattle.std.proofs.Common.{◌≡◌, ◌∙◌, true, false, Option, Some, Err, refl, ap, sym, subst, rules}
 use Rattle.shelf.specs.Maps.{Turns}
-use Rattle.partition.specs.declared.shelf_calls.ShelfWrite.{ShelfWrite}
+use Rattle.command_plan.specs.declared.shelf_calls.ShelfWrite.{ShelfWrite}
 use Rattle.mpd_command.specs.declared.name.Name.{Name}
 use Rattle.shelf.specs.declared.faults.ShelfFault.{ShelfFault}
-use Rattle.partition.specs.declared.event.Stand.{Stand}
-use Rattle.partition.specs.declared.shelf_calls.Heard.{Heard}
-use Rattle.partition.specs.Answers.{refused_by_shelf, stays}
-use Rattle.partition.specs.Image.{Turn}
-use Rattle.partition.specs.Shelves.{IsAnswered, is_wanting, is_written, maps_after}
-use Rattle.partition.specs.Step.{heard_at, hearing, quiet, turn_of}
+use Rattle.command_plan.specs.declared.asked.Stand.{Stand}
+use Rattle.command_plan.specs.declared.shelf_calls.Heard.{Heard}
+use Rattle.command_plan.specs.Answers.{refused_by_shelf, stays}
+use Rattle.command_plan.specs.Turns.{Turn}
+use Rattle.command_plan.specs.Shelves.{IsAnswered, is_wanting, is_written, maps_after}
+use Rattle.player_events.specs.Events.{heard_at, hearing}
+use Rattle.partition.specs.Step.{turn_of}
+use Rattle.command_plan.specs.Turns.{quiet}
 use Rattle.partition.proofs.Writing.{hears, refused_turn}
 use Rattle.partition.proofs.happen.write_out.Goals as goal
 

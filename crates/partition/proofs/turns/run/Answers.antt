@@ -1,8 +1,8 @@
 use Rattle.std.proofs.Common.{Result, Ok, Err, sym, subst}
 use Rattle.std.specs.Prelude.{IfOk}
-use Rattle.partition.specs.Image.{Turn}
-use Rattle.partition.specs.Plans.{Fits}
-use Rattle.partition.proofs.Rests.{sticker_fits}
+use Rattle.command_plan.specs.Turns.{Turn}
+use Rattle.player_state.specs.Plans.{Fits}
+use Rattle.partition.proofs.Rests.{add_fits, sticker_fits}
 use Rattle.partition.proofs.turns.run.Goals as goal
 
 if_ok : {X E : Type 0} {P Q : X → Type 0} (r : Result X E) → ((x : X) → P x → Q x) → IfOk r P → IfOk r Q
@@ -12,3 +12,8 @@ if_ok (Err e) more p = tt
 pub returns-in-Sticker-clause-fits : goal.returns-in-Sticker-clause-fits
 returns-in-Sticker-clause-fits c =
     if_ok c.sticker.result (λ plan is. subst (λ (t : Turn). Fits c.args.part.now t.doing) (sym is) (sticker_fits c.args.part.now c.args.asked c.args.library.now c.args.read.now c.in-Sticker.command)) c.sticker.ensures
+
+pub returns-in-PlaylistAdd-clause-fits : goal.returns-in-PlaylistAdd-clause-fits
+returns-in-PlaylistAdd-clause-fits c =
+    if_ok c.playlist_add.result (λ plan is. subst (λ (t : Turn). Fits c.args.part.now t.doing) (sym is)
+    (add_fits c.args.part.now c.args.asked c.args.library.now c.args.read.now c.in-PlaylistAdd.name c.in-PlaylistAdd.uri.0)) c.playlist_add.ensures

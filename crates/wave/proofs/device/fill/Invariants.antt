@@ -1,7 +1,7 @@
 -- What was read so far is at the start of the buffer.
 use Rattle.std.proofs.Common.{◌≡◌, ◌≤◌, ◌-◌, length, take}
 use Rattle.std.specs.Io.KnownBytes.{Consumes}
-use Rattle.mpd_text.specs.Devices.Tally.{NoFewer}
+use Rattle.counted_devices.specs.Tally.{NoFewer}
 use Rattle.wave.specs.Devices.{KeepsTo}
 use Rattle.wave.proofs.device.fill.Given as goal
 

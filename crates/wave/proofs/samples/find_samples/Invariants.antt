@@ -1,6 +1,6 @@
 -- What all chunks mean is what those that are left mean, after the layout so far.
 use Rattle.std.proofs.Common.{◌≡◌, ◌-◌, IfSome}
-use Rattle.mpd_text.specs.Devices.Tally.{NoFewer}
+use Rattle.counted_devices.specs.Tally.{NoFewer}
 use Rattle.wave.specs.Devices.{KeepsTo}
 use Rattle.wave.specs.Parts.{chunks_within}
 use Rattle.wave.specs.Waves.{sound_of}

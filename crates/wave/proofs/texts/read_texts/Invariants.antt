@@ -1,6 +1,6 @@
 -- The texts so far and those that are left are those of the whole file.
 use Rattle.std.proofs.Common.{◌≡◌, ◌-◌, IfSome}
-use Rattle.mpd_text.specs.Devices.Tally.{NoFewer}
+use Rattle.counted_devices.specs.Tally.{NoFewer}
 use Rattle.wave.specs.Texts.{items}
 use Rattle.wave.specs.Devices.{KeepsTo}
 use Rattle.wave.specs.Parts.{chunks_within}

@@ -1,5 +1,5 @@
 use Rattle.std.proofs.Common.{length}
-use Rattle.partition.specs.declared.event.Happened.{Happened}
+use Rattle.player_events.specs.declared.event.Happened.{Happened}
 use Rattle.daemon_script.proofs.Applied.{empty_shelf}
 use Rattle.daemon_script.proofs.player.Player.open.Goals as goal
 

@@ -1,10 +1,10 @@
 use Rattle.std.proofs.Common.{◌≡◌, ◌<◌, length, inl, inr, true, nat_le, sym, subst, ◌∙◌, rules}
 use Rattle.std.specs.Prelude.{slice_index_or}
-use Rattle.partition.specs.declared.event.Happened.{Happened}
+use Rattle.player_events.specs.declared.event.Happened.{Happened}
 use Rattle.partition.specs.History.{Chronicle}
 use Rattle.partition.specs.Image.{image_of_state}
-use Rattle.partition.specs.Shelves.{nothing_heard}
-use Rattle.partition.specs.Step.{hearing}
+use Rattle.command_plan.specs.Shelves.{nothing_heard}
+use Rattle.player_events.specs.Events.{hearing}
 use Rattle.partition.proofs.Chronicles.{fits, goes_on, more_bytes}
 use Rattle.partition.proofs.Lending.{untouched}
 use Rattle.partition.proofs.Seats.{own_limit}

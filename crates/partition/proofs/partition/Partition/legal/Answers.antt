@@ -1,7 +1,7 @@
 use Rattle.std.proofs.Common.{◌++◌, sym, subst}
 use Rattle.partition.specs.Image.{Image, image_of_state, opening}
 use Rattle.partition.specs.Invariant.{Came}
-use Rattle.partition.specs.Settled.{AllSettled}
+use Rattle.idle_clients.specs.Settled.{AllSettled}
 use Rattle.partition.specs.World.{life_after}
 use Rattle.partition.proofs.Chronicles.{leads_on}
 use Rattle.partition.proofs.Settled.{replay_settled}

@@ -1,11 +1,11 @@
 use Rattle.std.proofs.Common.{◌≡◌, ◌∷◌, [], length, ap, sym, subst, ◌∙◌, arith}
 use Rattle.std.proofs.lemmas.List.{length-append}
 use Rattle.std.specs.Vec.Iter.{into_iter_items}
-use Rattle.partition.specs.declared.event.Event.TheVariants.{Line}
-use Rattle.partition.specs.declared.event.Stand.TheVariants.{InList}
+use Rattle.player_events.specs.declared.event.Event.TheVariants.{Line}
+use Rattle.command_plan.specs.declared.asked.Stand.TheVariants.{InList}
 use Rattle.partition.specs.History.{with_room}
 use Rattle.partition.specs.Lent.{Records, Refuses}
-use Rattle.partition.specs.Shelves.{nothing_heard}
+use Rattle.command_plan.specs.Shelves.{nothing_heard}
 use Rattle.partition.specs.Lists.{RunsList, StopsList}
 use Rattle.partition.proofs.ListRuns.{does_so, nothing_left, none_ran, ran_all, ran_last, ran_more, ran_stop}
 use Rattle.partition.proofs.partition.Partition.run_requests.Goals as goal

@@ -1,0 +1,58 @@
+#!/usr/bin/env python3
+"""The crates of crates.txt, those that stand below some of them, and a copy of these that a check's program is built on.
+
+    crates.py ROOT CRATE...                     prints the lines of these crates and of all below them, in the order of crates.txt
+    crates.py ROOT CRATE... --for PROGRAM WORK  copies them into the folder WORK, with a crate of the folder PROGRAM above them
+
+ROOT is a repository's top folder; a CRATE that its crates.txt does not name is a library of the kit. PROGRAM has
+src/main.rt.txt, which is main.rt in the copy: WORK/crates/PROGRAM. What the crates have proved is copied along.
+"""
+import os
+import shutil
+import sys
+
+
+def table_of(root):
+    """The lines of crates.txt by the names of their crates."""
+    with open(os.path.join(root, 'crates.txt'), encoding='utf-8') as table:
+        return {line.split(':')[0].split()[0]: line for line in table if ':' in line and not line.startswith('#')}
+
+
+def below(root, crates):
+    """The lines of these crates and of all that they stand on, by name."""
+    lines = table_of(root)
+    found, rest = set(), list(crates)
+    while rest:
+        crate = rest.pop()
+        if crate in lines and crate not in found:
+            found.add(crate)
+            rest += lines[crate].split(':')[1].split()
+    return {crate: line for crate, line in lines.items() if crate in found}
+
+
+def copy_below(root, crates, program, work):
+    """Copies them with the program, and says which folder is the program's."""
+    lines = below(root, crates)
+    for crate in lines:
+        shutil.copytree(os.path.join(root, 'crates', crate), os.path.join(work, 'crates', crate), symlinks=True)
+    name = os.path.basename(os.path.normpath(program))
+    folder = os.path.join(work, 'crates', name)
+    shutil.copytree(program, folder)
+    os.rename(os.path.join(folder, 'src', 'main.rt.txt'), os.path.join(folder, 'src', 'main.rt'))
+    shutil.copy(os.path.join(root, 'HANDLES'), work)
+    with open(os.path.join(work, 'crates.txt'), 'w', encoding='utf-8') as table:
+        table.write(''.join(lines.values()) + '%s: %s\n' % (name, ' '.join(crates)))
+    return folder
+
+
+def main(words):
+    if words[-3:-2] == ['--for']:
+        copy_below(words[0], words[1:-3], words[-2], words[-1])
+    elif len(words) > 1 and '--for' not in words:
+        print(''.join(below(words[0], words[1:]).values()), end='')
+    else:
+        sys.exit(__doc__)
+
+
+if __name__ == '__main__':
+    main(sys.argv[1:])

@@ -1,0 +1,11 @@
+//! Tests of command lists, of notices, and of the channels of clients.
+#![tactic(auto)]
+
+#[cfg(test)]
+mod channels;
+#[cfg(test)]
+mod list_lines;
+#[cfg(test)]
+mod notices;
+#[cfg(test)]
+mod wanted;

@@ -1,0 +1,4 @@
+pub mod Answers
+pub mod Deeds
+pub mod Shelves
+pub mod Turns

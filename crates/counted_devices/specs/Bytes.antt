@@ -1,0 +1,15 @@
+-- Where a device is, and where it fails (this profile's).
+use Rattle.std.specs.Prelude.{◌≡◌, ℕ, ◌-◌, ◌^◌, List, drop, Result, Option, Some, IfSome, MatchResult, ◌==◌, if◌then◌else◌}
+use Rattle.counted_devices.specs.Tally.{count_up}
+use Rattle.counted_devices.specs.declared.fail_at.FailurePoint.{FailurePoint}
+use Rattle.counted_devices.specs.declared.fail_at.FailurePoint.TheVariants.{Never, Call, Byte}
+
+-- A seek to a place, where all bytes are known: at Ok those from the place on remain, and at Err what remained before.
+abbrev pub SeeksTo : {X E : Type 0} → Option (List ℕ) → ℕ → Option (List ℕ) → Option (List ℕ) → Result X E → Type 0
+SeeksTo bytes place old new r = IfSome bytes (λ all. MatchResult r (λ _. new ≡ Some (drop place all)) (λ _. new ≡ old))
+
+-- how many bytes a call lets through that comes after so many calls and bytes; none where it is to fail
+abbrev pub room_after : FailurePoint → ℕ → ℕ → ℕ
+room_after Never calls bytes = 2 ^ 64 - 1
+room_after (Call call) calls bytes = if count_up calls == call then 0 else 2 ^ 64 - 1
+room_after (Byte byte) calls bytes = byte - bytes

@@ -1,0 +1,317 @@
+//! A device over memory that fails at a given call or byte.
+ghost use Rattle.std.specs.Prelude.{◌≡◌, ◌≢◌, ◌↔◌, ℕ, Some, length, drop, min, IsOk, IsErr, IfOk, IfErr, OnErr};
+ghost use Rattle.std.specs.Io.{ReadsAtMost, WritesAtMost};
+ghost use Rattle.std.specs.Io.KnownBytes.{ReadConsumes, WriteAppends, Keeps};
+ghost use Rattle.std.specs.Io.Seek.{SeekMoves};
+ghost use Rattle.std.specs.IoError.{error_kind};
+ghost use Rattle.counted_devices.specs.Tally.{CountsCall, CountsError, CountsWrite, HasFailed, NoFewer, one_call, no_calls};
+ghost use Rattle.counted_devices.specs.Bytes.{room_after};
+
+use crate::{Failing, Media, ReadSeek, Sink, Source, Tally};
+use std::io;
+use std::io::{ErrorKind, Read, Seek, SeekFrom, Write};
+
+/// Where a device fails.
+#[derive(Clone, Copy, Debug, PartialEq, Eq)]
+pub enum FailurePoint {
+    /// Nowhere.
+    Never,
+    /// At this one read, write or seek, counted from 1.
+    Call(u64),
+    /// At each read once so many bytes were read, at each write once it holds so many, and at each seek
+    /// and flush where this is 0.
+    Byte(u64),
+}
+
+/// Bytes in memory that are read from any place and written at the end, with a failure where one is wanted.
+#[derive(Drop)]
+pub struct FailAt {
+    bytes: Vec<u8>,
+    position: u64,
+    tally: Tally,
+    point: FailurePoint,
+    kind: ErrorKind,
+}
+
+impl FailAt {
+    /// A device that holds these bytes, is at the first, and returns `ErrorKind::Other` at the point.
+    pub fn new(bytes: Vec<u8>, point: FailurePoint) -> FailAt
+        ensures { result ≡ record { bytes = bytes; position = 0; tally = no_calls; point = point; kind = ErrorKind.Other } }
+    {
+        FailAt {
+            bytes,
+            position: 0,
+            tally: Tally::new(),
+            point,
+            kind: ErrorKind::Other,
+        }
+    }
+
+    /// A device as `new` makes it, that returns `ErrorKind::WouldBlock` at the point.
+    pub fn would_block(bytes: Vec<u8>, point: FailurePoint) -> FailAt
+        ensures { result ≡ record { bytes = bytes; position = 0; tally = no_calls; point = point; kind = ErrorKind.WouldBlock } }
+    {
+        FailAt {
+            bytes,
+            position: 0,
+            tally: Tally::new(),
+            point,
+            kind: ErrorKind::WouldBlock,
+        }
+    }
+
+    /// All its bytes, those that were written included.
+    pub fn bytes(&self) -> &[u8]
+        ensures { result.now ≡ self.now.bytes.items }
+    {
+        self.bytes.as_slice()
+    }
+
+    /// What is left to read.
+    fn rest(&self) -> &[u8]
+        ensures { result.now ≡ drop self.now.position self.now.bytes.items }
+    {
+        let start = (self.position as usize).min(self.bytes.len());
+        &self.bytes.as_slice()[start..]
+    }
+
+    /// How many bytes the next call may let through after so many: none where it is to fail.
+    fn room(&self, before: u64) -> usize
+        ensures { result ≡ room_after self.now.point self.now.tally.calls before }
+    {
+        match self.point {
+            FailurePoint::Never => usize::MAX,
+            FailurePoint::Call(call) => {
+                if self.tally.calls.saturating_add(1) == call {
+                    0
+                } else {
+                    usize::MAX
+                }
+            }
+            FailurePoint::Byte(byte) => byte.saturating_sub(before) as usize,
+        }
+    }
+
+    /// Counts the failure, and gives its error.
+    fn fail(&mut self) -> io::Error
+        ensures kind { error_kind result ≡ self.old.kind }
+        ensures counts { CountsError self.old.tally self.new.tally result }
+        ensures calls { self.new.tally.calls ≡ (one_call self.old.tally).calls }
+        ensures failed { HasFailed self.old.tally self.new.tally }
+        ensures calm { NoFewer self.old.tally self.new.tally }
+        ensures bytes { self.new.bytes ≡ self.old.bytes }
+        ensures position { self.new.position ≡ self.old.position }
+    {
+        self.tally.count_error(self.kind);
+        io::Error::from(self.kind)
+    }
+}
+
+impl Failing for FailAt {
+    ghost tally = { λ d. d.tally };
+
+    fn failures(&self) -> u64 {
+        self.tally.failures
+    }
+
+    fn blocked(&self) -> u64 {
+        self.tally.blocked
+    }
+
+    fn calls(&self) -> u64 {
+        self.tally.calls
+    }
+}
+
+impl Read for FailAt {
+    ghost remaining = { λ d. Some (drop d.position d.bytes.items) };
+
+    fn read(&mut self, buf: &mut [u8]) -> io::Result<usize>
+        ensures bound { ReadsAtMost result buf.new }
+        ensures bytes { ReadConsumes (Some (drop self.old.position self.old.bytes.items)) (Some (drop self.new.position self.new.bytes.items)) result buf.new }
+        ensures stays { self.new.bytes ≡ self.old.bytes }
+        ensures counts { CountsCall self.old.tally self.new.tally result }
+        ensures calls { self.new.tally.calls ≡ (one_call self.old.tally).calls }
+        ensures failed { OnErr result (HasFailed self.old.tally self.new.tally) }
+        ensures calm { NoFewer self.old.tally self.new.tally }
+        ensures count { IfOk result (λ n. n ≡ min (min (room_after self.old.point self.old.tally.calls self.old.position) (length (drop self.old.position self.old.bytes.items))) (length buf.new)) }
+        ensures fails { IsErr result ↔ (room_after self.old.point self.old.tally.calls self.old.position ≡ 0) }
+        ensures kind { IfErr result (λ e. error_kind e ≡ self.old.kind) }
+    {
+        // Read once, so that the proof has the range of each count.
+        let Tally {
+            failures: _failures,
+            blocked: _blocked,
+            calls: _calls,
+        } = self.tally;
+        let room = self.room(self.position);
+        if room == 0 {
+            return Err(self.fail());
+        }
+        let rest = self.rest();
+        let count = room.min(rest.len()).min(buf.len());
+        buf[..count].copy_from_slice(&rest[..count]);
+        self.position = self.position.saturating_add(count as u64);
+        self.tally.count_call();
+        Ok(count)
+    }
+}
+
+impl Source for FailAt {
+    fn read_some(&mut self, buf: &mut [u8]) -> io::Result<usize> {
+        self.read(buf)
+    }
+}
+
+impl Write for FailAt {
+    ghost contents = { λ d. Some d.bytes.items };
+
+    fn write(&mut self, buf: &[u8]) -> io::Result<usize>
+        ensures bound { WritesAtMost result buf.now }
+        ensures bytes { WriteAppends (Some self.old.bytes.items) (Some self.new.bytes.items) result buf.now }
+        ensures counts { CountsWrite self.old.tally self.new.tally result buf.now }
+        ensures failed { OnErr result (HasFailed self.old.tally self.new.tally) }
+        ensures calm { NoFewer self.old.tally self.new.tally }
+        ensures count { IfOk result (λ n. n ≡ min (room_after self.old.point self.old.tally.calls (length self.old.bytes.items)) (length buf.now)) }
+        ensures fails { room_after self.old.point self.old.tally.calls (length self.old.bytes.items) ≡ 0 → IsErr result × IfErr result (λ e. error_kind e ≡ self.old.kind) }
+        // An error elsewhere is want of memory.
+        ensures memory { room_after self.old.point self.old.tally.calls (length self.old.bytes.items) ≢ 0 → IfErr result (λ e. error_kind e ≡ ErrorKind.OutOfMemory) }
+    {
+        // Read once, so that the proof has the range of each count.
+        let Tally {
+            failures: _failures,
+            blocked: _blocked,
+            calls: _calls,
+        } = self.tally;
+        let room = self.room(self.bytes.len() as u64);
+        if room == 0 {
+            return Err(self.fail());
+        }
+        let count = room.min(buf.len());
+        let returned = match self.bytes.extend_from_slice(&buf[..count]) {
+            Ok(()) => Ok(count),
+            Err(e) => Err(io::Error::from(e)),
+        };
+        self.tally.count_result(&returned);
+        returned
+    }
+
+    fn flush(&mut self) -> io::Result<()>
+        ensures bytes { Keeps (Some self.old.bytes.items) (Some self.new.bytes.items) }
+        ensures stays { self.new.bytes ≡ self.old.bytes }
+        ensures counts { CountsCall self.old.tally self.new.tally result }
+        ensures failed { OnErr result (HasFailed self.old.tally self.new.tally) }
+        ensures calm { NoFewer self.old.tally self.new.tally }
+        ensures fails { IsErr result ↔ (room_after self.old.point self.old.tally.calls 0 ≡ 0) }
+        ensures kind { IfErr result (λ e. error_kind e ≡ self.old.kind) }
+    {
+        // Read once, so that the proof has the range of each count.
+        let Tally {
+            failures: _failures,
+            blocked: _blocked,
+            calls: _calls,
+        } = self.tally;
+        if self.room(0) == 0 {
+            return Err(self.fail());
+        }
+        self.tally.count_call();
+        Ok(())
+    }
+}
+
+impl Sink for FailAt {
+    fn write_some(&mut self, buf: &[u8]) -> io::Result<usize> {
+        self.write(buf)
+    }
+
+    fn flush_out(&mut self) -> io::Result<()> {
+        self.flush()
+    }
+}
+
+impl Seek for FailAt {
+    ghost stream_position = { λ d. Some d.position };
+
+    ghost stream_bytes = { λ d. Some d.bytes.items };
+
+    fn seek(&mut self, to: SeekFrom) -> io::Result<u64>
+        ensures moves { SeekMoves (Some self.old.position) (Some self.new.position) (Some self.old.bytes.items) to result }
+        ensures place { IfOk result (λ place. self.new.position ≡ place) }
+        ensures stays_there { OnErr result (self.new.position ≡ self.old.position) }
+        ensures bytes { Keeps (Some self.old.bytes.items) (Some self.new.bytes.items) }
+        ensures stays { self.new.bytes ≡ self.old.bytes }
+        ensures counts { CountsCall self.old.tally self.new.tally result }
+        ensures calls { self.new.tally.calls ≡ (one_call self.old.tally).calls }
+        ensures failed { OnErr result (HasFailed self.old.tally self.new.tally) }
+        ensures calm { NoFewer self.old.tally self.new.tally }
+        ensures fails { room_after self.old.point self.old.tally.calls 0 ≡ 0 → IsErr result × IfErr result (λ e. error_kind e ≡ self.old.kind) }
+        // An error elsewhere is a place before the first byte or past 2^64-1.
+        ensures place_wrong { room_after self.old.point self.old.tally.calls 0 ≢ 0 → IfErr result (λ e. error_kind e ≡ ErrorKind.InvalidInput) }
+        ensures start { room_after self.old.point self.old.tally.calls 0 ≢ 0 → (n : ℕ) → to ≡ SeekFrom.Start n → IsOk result }
+    {
+        // Read once, so that the proof has the range of each count.
+        let Tally {
+            failures: _failures,
+            blocked: _blocked,
+            calls: _calls,
+        } = self.tally;
+        if self.room(0) == 0 {
+            return Err(self.fail());
+        }
+        let (base, offset) = match to {
+            SeekFrom::Start(place) => (place, 0),
+            SeekFrom::End(offset) => (self.bytes.len() as u64, offset),
+            SeekFrom::Current(offset) => (self.position, offset),
+        };
+        let distance = offset.unsigned_abs();
+        let target = if offset < 0 {
+            base.checked_sub(distance)
+        } else {
+            base.checked_add(distance)
+        };
+        match target {
+            Some(place) => {
+                self.position = place;
+                self.tally.count_call();
+                Ok(place)
+            }
+            None => {
+                self.tally.count_error(ErrorKind::InvalidInput);
+                Err(io::Error::from(ErrorKind::InvalidInput))
+            }
+        }
+    }
+}
+
+impl Media for FailAt {
+    ghost all_bytes = { λ d. Some d.bytes.items };
+
+    fn seek_to(&mut self, place: u64) -> io::Result<()> {
+        self.seek(SeekFrom::Start(place))?;
+        Ok(())
+    }
+
+    fn seek_to_end(&mut self) -> io::Result<u64> {
+        self.seek(SeekFrom::End(0))
+    }
+
+    fn read_here(&mut self, buf: &mut [u8]) -> io::Result<usize> {
+        self.read(buf)
+    }
+}
+
+impl ReadSeek for FailAt {
+    ghost known_bytes = { λ d. Some d.bytes.items };
+
+    fn move_to(&mut self, place: u64) -> io::Result<()> {
+        self.seek_to(place)
+    }
+
+    fn move_to_end(&mut self) -> io::Result<u64> {
+        self.seek_to_end()
+    }
+
+    fn read_on(&mut self, buf: &mut [u8]) -> io::Result<usize> {
+        self.read_here(buf)
+    }
+}

@@ -1,0 +1,9 @@
+pub mod Booked
+pub mod Crosses
+pub mod Eight
+pub mod Found
+pub mod Frameless
+pub mod ListEntries
+pub mod Owns
+pub mod Same
+pub mod Songs

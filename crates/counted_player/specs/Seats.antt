@@ -1,0 +1,32 @@
+-- What a contract sees of a seat.
+use Rattle.std.specs.Prelude.{ℕ, ◌≡◌, ◌+◌, ◌<◌, nat_lt, if◌then◌else◌}
+use Rattle.counted_player.specs.declared.mark.Mark.{Mark}
+use Rattle.counted_player.specs.declared.mark.Mark.TheVariants.{First, Second, Third, Fourth, Crew}
+
+-- a seat's number, and how many events its caller made with it
+pub record Place : Type 0 where
+  pub number : ℕ
+  pub made : ℕ
+
+abbrev pub place : ℕ → ℕ → Place
+place number made = record { number = number; made = made }
+
+-- a seat after so many events more; those of the house's own threads are not counted in their seats
+abbrev pub after_events : Place → ℕ → Place
+after_events p events = if nat_lt p.number 4 then place p.number (p.made + events) else p
+
+module _ {L : Type 0} where
+  abbrev pub number_of : Mark L → ℕ
+  number_of (First s) = 0
+  number_of (Second s) = 1
+  number_of (Third s) = 2
+  number_of (Fourth s) = 3
+  number_of (Crew n) = 4 + n
+
+  -- the seat's share has the one part of its ledger, and this amount
+  abbrev pub IsWhole : ℕ → Mark L → Type 0
+  IsWhole made (First s) = (s.parts ≡ 1) × (s.amount ≡ made)
+  IsWhole made (Second s) = (s.parts ≡ 1) × (s.amount ≡ made)
+  IsWhole made (Third s) = (s.parts ≡ 1) × (s.amount ≡ made)
+  IsWhole made (Fourth s) = (s.parts ≡ 1) × (s.amount ≡ made)
+  IsWhole made (Crew n) = n < 12

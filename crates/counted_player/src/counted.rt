@@ -1,0 +1,261 @@
+//! The player, with the books that count each seat's events.
+ghost use Rattle.std.specs.Prelude.{◌≡◌, IfOk};
+ghost use Rattle.song_queue.specs.State.{queue_of};
+ghost use Rattle.counted_player.specs.Counts.{done_in, song_of};
+
+use crate::frames::{decoded_in, discarded_in, enabled_in, written_in};
+use crate::ledgers::Ledgers;
+use crate::pulse::Pulse;
+use crate::seat::{Seat, SeatBooks};
+use command_lists::ListForm;
+use mpd_command::Request;
+use partition::{ListFault, ListOutcome, Partition, PartitionFault};
+use player_core::Playback;
+use player_events::{Event, Happened, Outcome};
+use player_state::Client;
+use shelf::Shelf;
+use song_db::SharedSong;
+use song_queue::Queue;
+use std::alloc::AllocError;
+use std::marker::Model;
+
+/// The most bytes of the window's texts, behind which the history is folded early.
+const MOST_BYTES: u64 = 16_777_216;
+
+/// The player, each of whose events is one of a seat. Contracts see it as its history.
+#[derive(Drop)]
+pub struct Counted<L: Ledgers> {
+    partition: Partition,
+    seats: SeatBooks<L>,
+}
+
+impl<L: Ledgers> Model for Counted<L> {
+    ghost use Rattle.std.specs.Prelude.{◌≡◌};
+    ghost use Rattle.partition.specs.History.{Chronicle};
+    ghost use Rattle.counted_player.specs.Counts.{owns};
+
+    ghost Value = { Chronicle };
+
+    // A filter, which an event may have, holds itself, so its code is named.
+    ghost use Rattle.filters.specs.contracts.expression.Filter as filter;
+    ghost use Rattle.std.specs.Coded.{codes};
+
+    ghost coded = { Prim.hlevel (codes, filter.the_row.coded) };
+
+    ghost view = { λ c. c.partition };
+
+    ghost invariant = { λ c. c.seats ≡ owns c.partition.present.shared.made };
+}
+
+impl<L: Ledgers> Counted<L> {
+    ghost use Rattle.std.specs.Prelude.{◌≡◌, ◌⊎◌, ◌+◌, ◌<◌, [], ◌∷◌, ◌++◌, ℕ, None, false, length, IfErr, IfOk, OnErr, OnOk, slice_index_or};
+    ghost use Rattle.partition.specs.History.{folded, joined_by, with_room};
+    ghost use Rattle.partition.specs.Legal.{IsPast};
+    ghost use Rattle.partition.specs.Lent.{Records, Refuses};
+    ghost use Rattle.partition.specs.Lists.{RunsList, StopsList};
+    ghost use Rattle.partition.specs.Step.{limit_of, told as told_of};
+    ghost use Rattle.partition.specs.Steps.{RefusesStep, entry};
+    ghost use Rattle.player_events.specs.Events.{is_line};
+    ghost use Rattle.player_state.specs.Outputs.{is_enabled};
+    ghost use Rattle.counted_player.specs.Counts.{done_in, AnswersSomewhere, IsFresh, own_in, song_of};
+    ghost use Rattle.counted_player.specs.Seats.{after_events};
+    ghost use Rattle.song_queue.specs.State.{queue_of};
+
+    /// A player of which no seat made an event yet.
+    pub fn new(partition: Partition, seats: SeatBooks<L>) -> Self
+        requires fresh { IsFresh partition.present }
+        requires seats { seats ≡ 0 ∷ 0 ∷ 0 ∷ 0 ∷ [] }
+        ensures { result ≡ partition }
+    {
+        Counted { partition, seats }
+    }
+
+    /// The caller's count is the number of its seat's events, and the value is a past's. Nothing changes.
+    pub fn check(&mut self, seat: &mut Seat<L>)
+        ensures found { seat.old.number < 4 → own_in seat.old.number self.old.present ≡ seat.old.made }
+        ensures legal { IsPast self.old }
+        ensures same { (self.new ≡ self.old) × (seat.new ≡ seat.old) }
+    {
+        let Counted { partition, seats } = self;
+        let _past = partition.history();
+        seats.audit(seat);
+    }
+
+    /// One event of a seat.
+    pub fn apply<S: Shelf>(
+        &mut self,
+        seat: &mut Seat<L>,
+        shelf: &mut S,
+        event: Event,
+    ) -> Result<Outcome, PartitionFault>
+        // The caller's count is the number of its seat's events, and the value that was found is a past's.
+        ensures found { seat.old.number < 4 → own_in seat.old.number self.old.present ≡ seat.old.made }
+        ensures legal { IsPast self.old }
+        ensures base { OnOk result (self.new.base ≡ (with_room self.old).base) }
+        ensures limit { self.new.limit ≡ self.old.limit }
+        ensures ok { IfOk result (λ outcome. Records S.standing S.failed self.old.present self.new.present (with_room self.old).window self.new.window shelf.old shelf.new seat.old.number event outcome) }
+        ensures made { OnOk result (seat.new ≡ after_events seat.old 1) }
+        ensures seat { OnErr result (seat.new ≡ seat.old) }
+        ensures refused { IfErr result (λ fault. Refuses S.standing S.failed self.old self.new shelf.old shelf.new seat.old.number event fault) }
+        ensures somewhere { IfOk result (λ outcome. seat.old.number < 4 → AnswersSomewhere S.standing S.failed shelf.old shelf.new seat.old.number seat.old.made event outcome.answer) }
+    {
+        let Counted { partition, seats } = self;
+        let _past = partition.history();
+        seats.audit(seat);
+        let outcome = partition.apply(seat.number(), shelf, event)?;
+        seats.count(seat, 1);
+        Ok(outcome)
+    }
+
+    /// One event of a seat that is no line. It asks no shelf.
+    pub fn step(&mut self, seat: &mut Seat<L>, event: Event) -> Result<Outcome, PartitionFault>
+        requires step { is_line event ≡ false }
+        ensures found { seat.old.number < 4 → own_in seat.old.number self.old.present ≡ seat.old.made }
+        ensures legal { IsPast self.old }
+        ensures told { IfOk result (λ outcome. outcome ≡ told_of self.old.present event) }
+        ensures player { IfOk result (λ outcome. self.new ≡ joined_by self.old (entry seat.old.number event outcome)) }
+        ensures within { OnOk result (limit_of seat.old.number self.old.present event ≡ None) }
+        ensures made { OnOk result (seat.new ≡ after_events seat.old 1) }
+        ensures seat { OnErr result (seat.new ≡ seat.old) }
+        ensures refused { IfErr result (λ fault. RefusesStep self.old self.new seat.old.number event fault) }
+    {
+        let Counted { partition, seats } = self;
+        let _past = partition.history();
+        seats.audit(seat);
+        let outcome = partition.step(seat.number(), event)?;
+        seats.count(seat, 1);
+        Ok(outcome)
+    }
+
+    /// Folds the history where the texts of its window take more than 16 MiB. Where there is no memory for that, nothing changes.
+    pub fn lighten(&mut self)
+        ensures { (self.new ≡ self.old) ⊎ (self.new ≡ folded self.old) }
+    {
+        if self.partition.window_bytes() <= MOST_BYTES {
+            return;
+        }
+        let _folded = self.partition.fold();
+    }
+
+    /// The requests of a command list, each as an event of the seat.
+    pub fn run_list<S: Shelf>(
+        &mut self,
+        seat: &mut Seat<L>,
+        shelf: &mut S,
+        client: u32,
+        form: ListForm,
+        requests: Vec<Request>,
+    ) -> Result<ListOutcome, ListFault>
+        ensures found { seat.old.number < 4 → own_in seat.old.number self.old.present ≡ seat.old.made }
+        ensures legal { IsPast self.old }
+        ensures ok { IfOk result (λ tolds. RunsList S.standing S.failed self.old self.new shelf.old shelf.new seat.old.number client form requests.items tolds) }
+        ensures err { IfErr result (λ stop. StopsList S.standing S.failed self.old self.new shelf.old shelf.new seat.old.number client form requests.items stop) }
+        ensures books { self.new.present.shared.books ≡ self.old.present.shared.books }
+        ensures made { seat.new ≡ after_events seat.old (done_in result) }
+    {
+        let Counted { partition, seats } = self;
+        let _past = partition.history();
+        seats.audit(seat);
+        let end = partition.run_list(seat.number(), shelf, client, form, requests);
+        seats.count(seat, done_of(&end) as u64);
+        end
+    }
+
+    /// The events of the window.
+    pub fn history(&self) -> &[Happened]
+        ensures window { result.now ≡ self.now.window }
+        ensures legal { IsPast self.now }
+    {
+        self.partition.history()
+    }
+
+    /// What a thread at rest is woken for, where it changes.
+    pub fn pulse(&self) -> Pulse {
+        Pulse::of(&self.partition)
+    }
+
+    /// Whether the daemon has ended.
+    pub fn has_ended(&self) -> bool
+        ensures ended { result ≡ self.now.present.shared.ended }
+        ensures legal { IsPast self.now }
+    {
+        let _past = self.partition.history();
+        self.partition.has_ended()
+    }
+
+    /// Whether a song is being played.
+    pub fn plays(&self) -> bool {
+        matches!(self.partition.player().playback(), Playback::Play)
+    }
+
+    /// The song of an entry of the present queue.
+    pub fn song(&self, id: u32) -> Result<Option<SharedSong>, AllocError>
+        ensures song { IfOk result (λ song. song ≡ song_of id (queue_of self.now.present.part.queue)) }
+        ensures legal { IsPast self.now }
+    {
+        let _past = self.partition.history();
+        song_in(self.partition.queue(), id)
+    }
+
+    /// The clients that are connected.
+    pub fn clients(&self) -> &[Client]
+        ensures { result.now ≡ self.now.present.clients }
+    {
+        self.partition.clients()
+    }
+
+    /// The frames that each output was given.
+    pub fn decoded(&self) -> [u64; 8]
+        ensures { result ≡ self.now.present.shared.books.decoded }
+    {
+        let _past = self.partition.history();
+        decoded_in(self.partition.books())
+    }
+
+    /// The frames that each output wrote.
+    pub fn written(&self) -> [u64; 8]
+        ensures { result ≡ self.now.present.shared.books.written }
+    {
+        let _past = self.partition.history();
+        written_in(self.partition.books())
+    }
+
+    /// The frames that each output discarded.
+    pub fn discarded(&self) -> [u64; 8]
+        ensures { result ≡ self.now.present.shared.books.discarded }
+    {
+        let _past = self.partition.history();
+        discarded_in(self.partition.books())
+    }
+
+    /// Which outputs are enabled.
+    pub fn enabled(&self) -> [bool; 8]
+        ensures { (output : ℕ) → output < 8 → slice_index_or result output false ≡ is_enabled self.now.present.part.outputs output }
+    {
+        enabled_in(self.partition.outputs())
+    }
+}
+
+/// How many commands of a list were run.
+fn done_of(end: &Result<ListOutcome, ListFault>) -> usize
+    ensures { result ≡ done_in end.now }
+{
+    match end {
+        Ok(outcome) => outcome.outcomes().len(),
+        Err(fault) => fault.done,
+    }
+}
+
+/// The song of the entry of a queue that has this id.
+#[tactic(auto, using(crate::proofs::Songs::no_place, crate::proofs::Songs::no_entry, crate::proofs::Songs::entry_song))]
+fn song_in(queue: &Queue, id: u32) -> Result<Option<SharedSong>, AllocError>
+    ensures { IfOk result (λ song. song ≡ song_of id (queue_of queue.now)) }
+{
+    let Some(place) = queue.position_of(id) else {
+        return Ok(None);
+    };
+    match queue.get(place) {
+        Some(entry) => Ok(Some(entry.song.clone()?)),
+        None => Ok(None),
+    }
+}

@@ -1,0 +1,75 @@
+//! The numbers of eight outputs, as the player keeps them.
+ghost use Rattle.std.specs.Prelude.{◌≡◌, ◌<◌, ℕ, false, length, slice_index_or};
+ghost use Rattle.player_state.specs.Outputs.{is_enabled};
+
+use player_state::{Books, Outputs};
+
+/// The frames that each of eight outputs was given.
+#[tactic(auto, using(crate::proofs::Eight::eight))]
+pub(crate) fn decoded_in(books: &Books) -> [u64; 8]
+    requires { length books.now.decoded ≡ 8 }
+    ensures { result ≡ books.now.decoded }
+{
+    [
+        books.decoded(0),
+        books.decoded(1),
+        books.decoded(2),
+        books.decoded(3),
+        books.decoded(4),
+        books.decoded(5),
+        books.decoded(6),
+        books.decoded(7),
+    ]
+}
+
+/// The frames that each of eight outputs wrote.
+#[tactic(auto, using(crate::proofs::Eight::eight))]
+pub(crate) fn written_in(books: &Books) -> [u64; 8]
+    requires { length books.now.written ≡ 8 }
+    ensures { result ≡ books.now.written }
+{
+    [
+        books.written(0),
+        books.written(1),
+        books.written(2),
+        books.written(3),
+        books.written(4),
+        books.written(5),
+        books.written(6),
+        books.written(7),
+    ]
+}
+
+/// The frames that each of eight outputs discarded.
+#[tactic(auto, using(crate::proofs::Eight::eight))]
+pub(crate) fn discarded_in(books: &Books) -> [u64; 8]
+    requires { length books.now.discarded ≡ 8 }
+    ensures { result ≡ books.now.discarded }
+{
+    [
+        books.discarded(0),
+        books.discarded(1),
+        books.discarded(2),
+        books.discarded(3),
+        books.discarded(4),
+        books.discarded(5),
+        books.discarded(6),
+        books.discarded(7),
+    ]
+}
+
+/// Which of eight outputs are enabled.
+pub(crate) fn enabled_in(outputs: &Outputs) -> [bool; 8]
+    ensures { (output : ℕ) → output < 8 → slice_index_or result output false ≡ is_enabled outputs.now output }
+{
+    [
+        outputs.is_enabled(0),
+        outputs.is_enabled(1),
+        outputs.is_enabled(2),
+        outputs.is_enabled(3),
+        outputs.is_enabled(4),
+        outputs.is_enabled(5),
+        outputs.is_enabled(6),
+        outputs.is_enabled(7),
+    ]
+}

@@ -1,0 +1,14 @@
+//! A player whose events are counted: each is an event of a seat, and the seat's book has their number.
+#![tactic(auto)]
+
+mod counted;
+mod frames;
+mod ledgers;
+mod mark;
+mod pulse;
+mod seat;
+
+pub use counted::Counted;
+pub use ledgers::{At, Decoded, Discarded, First, Fourth, Ledgers, Second, Third, Written};
+pub use pulse::Pulse;
+pub use seat::{NoSeat, Seat, SeatBooks};

@@ -1,0 +1,190 @@
+//! Seats, and the books that count their events.
+ghost use Rattle.std.specs.Prelude.{◌≡◌, ◌+◌, ◌-◌, ◌<◌, ◌≤◌, ◌^◌, [], ◌∷◌, ◌++◌, slice_index, slice_set, vec_len, vec_capacity};
+ghost use Rattle.counted_player.specs.Ledgers.{IsAt};
+ghost use Rattle.counted_player.specs.Seats.{after_events, place};
+
+use crate::ledgers::{First, Fourth, Ledgers, Second, Third};
+use crate::mark::Mark;
+use std::marker::Model;
+use std::sync::ledger::{Blank, Book};
+
+/// All four seats are given.
+#[derive(Clone, Copy, Debug, PartialEq, Eq)]
+pub struct NoSeat;
+
+/// A seat. Contracts see its number and how many events it made.
+#[derive(Drop)]
+pub struct Seat<L: Ledgers> {
+    made: u64,
+    mark: Mark<L>,
+}
+
+impl<L: Ledgers> Model for Seat<L> {
+    ghost use Rattle.std.specs.Prelude.{◌<◌, ◌^◌};
+    ghost use Rattle.counted_player.specs.Seats.{Place, place, number_of, IsWhole};
+
+    ghost Value = { Place };
+
+    ghost view = { λ s. place (number_of s.mark) s.made };
+
+    ghost invariant = { λ s. IsWhole s.made s.mark × (s.made < 2 ^ 63) };
+}
+
+impl<L: Ledgers> Seat<L> {
+    /// The seat of a thread of the house's own.
+    pub fn of_crew(n: u8) -> Self
+        requires { n < 12 }
+        ensures { result ≡ place (4 + n) 0 }
+    {
+        Seat {
+            made: 0,
+            mark: Mark::Crew(n),
+        }
+    }
+
+    /// How many events its caller made with it.
+    pub fn made(&self) -> u64
+        ensures { result ≡ self.now.made }
+    {
+        self.made
+    }
+
+    /// Its number.
+    pub fn number(&self) -> u8
+        ensures number { result ≡ self.now.number }
+        ensures seat { result < 16 }
+    {
+        match &self.mark {
+            Mark::First(_) => 0,
+            Mark::Second(_) => 1,
+            Mark::Third(_) => 2,
+            Mark::Fourth(_) => 3,
+            Mark::Crew(n) => 4 + *n,
+        }
+    }
+}
+
+/// The books of the four seats. Contracts see their totals.
+#[derive(Drop)]
+pub struct SeatBooks<L: Ledgers> {
+    first: Book<First<L>>,
+    second: Book<Second<L>>,
+    third: Book<Third<L>>,
+    fourth: Book<Fourth<L>>,
+}
+
+impl<L: Ledgers> Model for SeatBooks<L> {
+    ghost use Rattle.std.specs.Prelude.{ℕ, List, [], ◌∷◌};
+
+    ghost Value = { List ℕ };
+
+    ghost view = { λ b. b.first.total ∷ b.second.total ∷ b.third.total ∷ b.fourth.total ∷ [] };
+}
+
+impl<L: Ledgers> SeatBooks<L> {
+    /// The books of four new ledgers, and their seats.
+    pub fn open(
+        first: Blank,
+        second: Blank,
+        third: Blank,
+        fourth: Blank,
+        free: &mut Vec<Seat<L>>,
+    ) -> Self
+        requires first { IsAt L.names 0 first }
+        requires second { IsAt L.names 1 second }
+        requires third { IsAt L.names 2 third }
+        requires fourth { IsAt L.names 3 fourth }
+        requires room { vec_len free.old + 4 ≤ vec_capacity free.old }
+        ensures books { result ≡ 0 ∷ 0 ∷ 0 ∷ 0 ∷ [] }
+        ensures free { free.new.items ≡ (((free.old.items ++ place 0 0 ∷ []) ++ place 1 0 ∷ []) ++ place 2 0 ∷ []) ++ place 3 0 ∷ [] }
+    {
+        let (first, share) = first.open::<First<L>>();
+        free.push_reserved(Seat {
+            made: 0,
+            mark: Mark::First(share),
+        });
+        let (second, share) = second.open::<Second<L>>();
+        free.push_reserved(Seat {
+            made: 0,
+            mark: Mark::Second(share),
+        });
+        let (third, share) = third.open::<Third<L>>();
+        free.push_reserved(Seat {
+            made: 0,
+            mark: Mark::Third(share),
+        });
+        let (fourth, share) = fourth.open::<Fourth<L>>();
+        free.push_reserved(Seat {
+            made: 0,
+            mark: Mark::Fourth(share),
+        });
+        SeatBooks {
+            first,
+            second,
+            third,
+            fourth,
+        }
+    }
+
+    /// The seat's book has the seat's count.
+    pub(crate) fn audit(&mut self, seat: &mut Seat<L>)
+        ensures few { seat.old.made < 2 ^ 63 }
+        ensures found { seat.old.number < 4 → slice_index self.old seat.old.number ≡ seat.old.made }
+        ensures seat { seat.new ≡ seat.old }
+        ensures books { self.new ≡ self.old }
+    {
+        let SeatBooks {
+            first,
+            second,
+            third,
+            fourth,
+        } = self;
+        let Seat { made: _, mark } = seat;
+        match mark {
+            Mark::First(share) => first.audit(share),
+            Mark::Second(share) => second.audit(share),
+            Mark::Third(share) => third.audit(share),
+            Mark::Fourth(share) => fourth.audit(share),
+            Mark::Crew(_) => {}
+        }
+    }
+
+    /// Counts events of the seat. Its book had the seat's count. Those of the house's own threads are not counted.
+    pub(crate) fn count(&mut self, seat: &mut Seat<L>, events: u64)
+        requires { seat.old.number < 4 → seat.old.made + events < 2 ^ 63 }
+        ensures found { seat.old.number < 4 → slice_index self.old seat.old.number ≡ seat.old.made }
+        ensures seat { seat.new ≡ after_events seat.old events }
+        ensures books { self.new ≡ slice_set self.old seat.old.number (seat.old.made + events) }
+    {
+        let SeatBooks {
+            first,
+            second,
+            third,
+            fourth,
+        } = self;
+        let Seat { made, mark } = seat;
+        match mark {
+            Mark::First(share) => {
+                first.audit(share);
+                first.add(share, events);
+                *made += events;
+            }
+            Mark::Second(share) => {
+                second.audit(share);
+                second.add(share, events);
+                *made += events;
+            }
+            Mark::Third(share) => {
+                third.audit(share);
+                third.add(share, events);
+                *made += events;
+            }
+            Mark::Fourth(share) => {
+                fourth.audit(share);
+                fourth.add(share, events);
+                *made += events;
+            }
+            Mark::Crew(_) => {}
+        }
+    }
+}

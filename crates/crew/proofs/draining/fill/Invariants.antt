@@ -1,7 +1,0 @@
-use Rattle.std.proofs.Common.{List}
-use Rattle.output_ring.specs.declared.frames.CutFrame.{CutFrame}
-use Rattle.crew.specs.Turns.{Pops}
-use Rattle.crew.proofs.draining.fill.Given as goal
-
-abbrev pub invariant-loop : goal.invariant-loop
-invariant-loop l = (came : List CutFrame) × Pops l.initial.drainer l.drainer came

@@ -1,0 +1,59 @@
+-- Frames that go into rings.
+use Rattle.std.proofs.Common.{◌≡◌, ℕ, ◌+◌, ◌<◌, Bool, true, false, ◌||◌, if◌then◌else◌, List, [], ◌∷◌, ◌++◌, All, slice_index_or, length, get_or, set, take, refl, sym, subst, ◌∙◌}
+use Rattle.std.proofs.lemmas.List.{append-nil, take_more_set}
+use Rattle.std.proofs.lemmas.List.Elements.{All-push}
+use Rattle.output_ring.specs.declared.feeder.Feeder.{Feeder}
+use Rattle.output_ring.specs.declared.frames.CutFrame.{CutFrame}
+use Rattle.output_ring.specs.Rings.{SameFeeder, taken_of}
+use Rattle.crew_steps.specs.Each.{Each, EachAt}
+use Rattle.crew_steps.specs.Feeding.{TakesItsOwn, TakesNone}
+use Rattle.crew_steps.proofs.Eaches.{each_set, each_trans, same_refl, same_trans}
+
+pub both : (a b : Bool) → (a || b) ≡ false → (a ≡ false) × (b ≡ false)
+both true b h = cc
+both false b h = (refl, h)
+
+-- one more of which something holds
+pub one_more : {A : Type 0} (P : A → Type 0) (xs : List A) (i : ℕ) (y : A) → i < length xs → All P (take i xs) → P y → All P (take (i + 1) (set xs i y))
+one_more P xs i y low a p = subst (All P) (sym (take_more_set xs i y low)) (All-push P (take i xs) y a p)
+
+pub none_refl : (f : Feeder) → TakesNone f f
+none_refl f = (same_refl f, refl)
+
+pub none_trans : (f g h : Feeder) → TakesNone f g → TakesNone g h → TakesNone f h
+none_trans f g h p q = (same_trans f g h p.0 q.0, q.1 ∙ p.1)
+
+pub none_set : (fs gs : List Feeder) (i : ℕ) (old h : Feeder) → i < length gs → old ≡ get_or gs i old → TakesNone old h → Each TakesNone fs gs → Each TakesNone fs (set gs i h)
+none_set fs gs i old h low is s e =
+    each_set TakesNone fs gs i old h low (λ x r. none_trans x old h (subst (λ z. TakesNone x z) (sym is) r) s) e
+
+-- what takes none, and what takes frames, is of its ring
+pub each_kept : (fs gs : List Feeder) → Each TakesNone fs gs → Each SameFeeder fs gs
+each_kept [] [] e = tt
+each_kept [] (g ∷ gs) e = absurd e
+each_kept (f ∷ fs) [] e = absurd e
+each_kept (f ∷ fs) (g ∷ gs) e = (e.0.0, each_kept fs gs e.1)
+
+fed_from : (outputs : List Bool) (frames : List CutFrame) (n : ℕ) (fs gs : List Feeder) → EachAt (TakesItsOwn outputs frames) n fs gs → Each SameFeeder fs gs
+fed_from outputs frames n [] [] e = tt
+fed_from outputs frames n [] (g ∷ gs) e = absurd e
+fed_from outputs frames n (f ∷ fs) [] e = absurd e
+fed_from outputs frames n (f ∷ fs) (g ∷ gs) e = (e.0.0, fed_from outputs frames (n + 1) fs gs e.1)
+
+pub each_fed : (outputs : List Bool) (frames : List CutFrame) (fs gs : List Feeder) → EachAt (TakesItsOwn outputs frames) 0 fs gs → Each SameFeeder fs gs
+each_fed outputs frames = fed_from outputs frames 0
+
+pub each_none : (fs gs hs : List Feeder) → Each TakesNone fs gs → Each TakesNone gs hs → Each TakesNone fs hs
+each_none fs gs hs = each_trans TakesNone TakesNone TakesNone fs gs hs none_trans
+
+no_frames : (fed : Bool) (taken : List CutFrame) → taken ≡ taken ++ (if fed then [] else [])
+no_frames true taken = sym (append-nil taken)
+no_frames false taken = sym (append-nil taken)
+
+-- where there are no frames, nothing changes
+none_fed_from : (outputs : List Bool) (n : ℕ) (fs : List Feeder) → EachAt (TakesItsOwn outputs []) n fs fs
+none_fed_from outputs n [] = tt
+none_fed_from outputs n (f ∷ fs) = ((same_refl f, no_frames (slice_index_or outputs n false) (taken_of f)), none_fed_from outputs (n + 1) fs)
+
+pub none_fed : (outputs : List Bool) (fs : List Feeder) → EachAt (TakesItsOwn outputs []) 0 fs fs
+none_fed outputs fs = none_fed_from outputs 0 fs

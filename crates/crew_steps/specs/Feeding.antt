@@ -1,0 +1,58 @@
+-- What the rings of the outputs take of a job's frames (this profile's).
+use Rattle.std.specs.Prelude.{ℕ, ℤ, ◌≡◌, ◌+◌, ◌++◌, Bool, false, ◌&&◌, ◌==◌, nat_le, nat_lt, min, List, [], length, Option, Some, None, slice_index_or, if◌then◌else◌}
+use Rattle.output_ring.specs.Frames.{with_cut}
+use Rattle.output_ring.specs.Rings.{SameFeeder, owed_of, taken_of}
+use Rattle.output_ring.specs.declared.feeder.Feeder.{Feeder}
+use Rattle.output_ring.specs.declared.frames.CutFrame.{CutFrame}
+use Rattle.pcm_mix.specs.Blocks.{FadingData, block_of}
+use Rattle.player_core.specs.declared.state.FadePart.{FadePart}
+use Rattle.player_state.specs.declared.report.Feed.{Feed}
+use Rattle.player_state.specs.declared.report.Report.{Report}
+use Rattle.player_state.specs.declared.report.Report.TheVariants.{ToFeed}
+use Rattle.held_player.specs.Views.{FedData}
+
+-- no frame waits for room in the ring
+abbrev pub OwesNothing : Feeder → Type 0
+OwesNothing f = owed_of f ≡ []
+
+-- the ring took no more frames; some that waited for room may have gone into it
+abbrev pub TakesNone : Feeder → Feeder → Type 0
+TakesNone old new = SameFeeder old new × (taken_of new ≡ taken_of old)
+
+-- a ring that is fed took these frames behind those before, another none
+abbrev pub TakesIf : Bool → List CutFrame → Feeder → Feeder → Type 0
+TakesIf fed frames old new = SameFeeder old new × (taken_of new ≡ taken_of old ++ (if fed then frames else []))
+
+-- the ring of the n-th output took these frames, if they are for it
+abbrev pub TakesItsOwn : List Bool → List CutFrame → ℕ → Feeder → Feeder → Type 0
+TakesItsOwn outputs frames n old new = TakesIf (slice_index_or outputs n false) frames old new
+
+-- a job's part of a fade, with the other song's frames; none where these are not as many as the job's, or end behind the fade
+abbrev pub fading_of : Option FadePart → List (List ℤ) → ℕ → Option FadingData
+fading_of None others count = None
+fading_of (Some part) others count =
+    if (length others == count) && nat_le (part.index + count) part.len && nat_lt part.len 4294967296
+    then Some (record { others = others; place = part.index; len = part.len })
+    else None
+
+-- the block that the outputs are handed: the job's frames, faded and then at the volume
+abbrev pub block_at : ℕ → Option FadePart → List (List ℤ) → List (List ℤ) → List (List ℤ)
+block_at volume fade others frames = block_of (fading_of fade others (length frames)) (min volume 100) frames
+
+-- what decoded frames are fed with, unless they are stale or were not accepted
+abbrev pub feed_told : Report → Option Feed
+feed_told (ToFeed feed) = feed
+feed_told _ = None
+
+abbrev pub feed_in : Option FedData → Option Feed
+feed_in None = None
+feed_in (Some fed) = feed_told fed.told.report
+
+abbrev pub outputs_in : Option FedData → List Bool
+outputs_in None = []
+outputs_in (Some fed) = fed.outputs
+
+-- the frames that the outputs are handed, of the cut and at the volume that they are fed with
+abbrev pub handed : Option Feed → Option FadePart → List (List ℤ) → List (List ℤ) → List CutFrame
+handed None fade others frames = []
+handed (Some feed) fade others frames = with_cut (record { number = feed.cut }) (block_at feed.volume fade others frames)

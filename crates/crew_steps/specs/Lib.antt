@@ -1,0 +1,4 @@
+pub mod Each
+pub mod Stations
+pub mod Feeding
+pub mod Turns

@@ -1,0 +1,313 @@
+//! The thread that decodes.
+ghost use Rattle.std.specs.Prelude.{◌≡◌, ◌<◌, ◌≤◌, [], All, vec_len, vec_capacity};
+ghost use Rattle.output_ring.specs.Rings.{EndsFeeder, SameFeeder};
+ghost use Rattle.crew_steps.specs.Each.{Each, EachAt};
+ghost use Rattle.crew_steps.specs.Feeding.{OwesNothing, TakesItsOwn, TakesNone, feed_in, feed_told, handed, outputs_in};
+
+use crate::feeders::{finish_all, push_all, take_all};
+use crate::mixing::mix_block;
+use crate::song_source::SongSource;
+use crate::songs::{JobFrames, NoFrames, Songs};
+use counted_devices::Media;
+use counted_player::{Decoded, Ledgers, Seat};
+use held_player::{Fed, News};
+use house::House;
+use output_ring::{Cut, Feeder, FeederEnd};
+use player_core::Job;
+use player_state::{Feed, Report};
+use std::alloc::Global;
+use std::sync::Wait;
+use std::sync::ledger::Share;
+use std::thread;
+use std::time::{Clock, Duration};
+
+/// How many milliseconds a decoder waits after a fault before it tries the same again.
+const PAUSE: u64 = 50;
+
+/// How often it looks at full rings before it rests, where it decoded several blocks without a rest.
+const LOOKS: u32 = 200;
+
+/// How often it looks by time at rings into which no frame goes, before it rests until something changes.
+const VAIN_LOOKS: u32 = 16;
+
+/// A decoder that runs: it hands the frames of the house's jobs to the feeders of the outputs.
+#[derive(Drop)]
+pub struct Decoder<'h, L: Ledgers, S: SongSource<M> + Drop, M: Media + Drop, R: Wait + Clock> {
+    rt: &'h R,
+    alloc: Global,
+    house: &'h House<L>,
+    seat: Seat<L>,
+    share: Share<Decoded<L>>,
+    songs: Songs<S, M>,
+    /// How many milliseconds it rests at most while a song is played: half the time that a block lasts.
+    look: u64,
+    /// How many milliseconds it rests now.
+    wait: u64,
+    /// How many blocks it decoded since its last rest.
+    streak: u64,
+    /// How often it rested since a frame went into a ring.
+    vain: u32,
+    ghost part: { 0 < share.parts },
+}
+
+/// What a decoder does next.
+enum Next {
+    Ends,
+    Again,
+    Decodes(Job),
+}
+
+/// Half the time that a block of 1,024 frames lasts, in milliseconds, from 1 to 20.
+fn look_at(rate: u32) -> u64 {
+    (512_000 / u64::from(rate.max(1))).max(1).min(20)
+}
+
+impl<'h, L: Ledgers, S: SongSource<M> + Drop, M: Media + Drop, R: Wait + Clock> Decoder<
+    'h,
+    L,
+    S,
+    M,
+    R,
+> {
+    ghost use Rattle.std.specs.Prelude.{◌≡◌, ◌<◌, ◌≤◌, [], All, false, vec_len, vec_capacity};
+    ghost use Rattle.output_ring.specs.Rings.{EndsFeeder, SameFeeder};
+    ghost use Rattle.player_core.specs.declared.state.Job.{Job};
+    ghost use Rattle.crew_steps.specs.Each.{Each};
+    ghost use Rattle.crew_steps.specs.Feeding.{OwesNothing, TakesNone};
+    ghost use Rattle.crew_steps.specs.declared.decoder.Next.TheVariants.{Decodes};
+
+    /// A decoder of songs of this rate.
+    pub fn new(
+        rt: &'h R,
+        alloc: Global,
+        house: &'h House<L>,
+        source: S,
+        rate: u32,
+        share: Share<Decoded<L>>,
+    ) -> Self
+        requires { 0 < share.parts }
+    {
+        Decoder {
+            rt,
+            alloc,
+            house,
+            seat: Seat::of_crew(0),
+            share,
+            songs: Songs::new(source, rate),
+            look: look_at(rate),
+            wait: 1,
+            streak: 0,
+            vain: 0,
+        }
+    }
+
+    /// Decodes until the end, and finishes the feeders, whatever they owe. There is room for their ends.
+    pub fn run(self, feeders: Vec<Feeder>, room: Vec<FeederEnd>) -> Vec<FeederEnd>
+        requires { (room.items ≡ []) × (vec_len feeders ≤ vec_capacity room) }
+        ensures { Each EndsFeeder feeders.items result.items }
+    {
+        let mut decoder = self;
+        let mut feeders = feeders;
+        decoder.keep_decoding(&mut feeders);
+        finish_all(feeders, room)
+    }
+
+    /// Decodes until the end.
+    fn keep_decoding(&mut self, feeders: &mut Vec<Feeder>)
+        ensures { Each SameFeeder feeders.old.items feeders.new.items }
+    {
+        let rt = self.rt;
+        for _ in rt.forever() {
+            if !self.decode_once(feeders) {
+                return;
+            }
+        }
+    }
+
+    /// Moves what waits into the rings, and decodes one job if there is one. False at the end.
+    #[tactic(auto, using(crate::proofs::Eaches::each_same, crate::proofs::Pushes::each_kept))]
+    fn decode_once(&mut self, feeders: &mut Vec<Feeder>) -> bool
+        ensures { Each SameFeeder feeders.old.items feeders.new.items }
+    {
+        let owes = self.push(feeders);
+        match self.ask(owes) {
+            Next::Ends => false,
+            Next::Again => true,
+            Next::Decodes(job) => {
+                self.decode(feeders, &job);
+                true
+            }
+        }
+    }
+
+    /// Asks for a job. Where there is none it rests, and where there is no answer it waits a while. There is none while a ring owes frames.
+    #[tactic(auto, using(crate::proofs::Wanted::owes_none))]
+    fn ask(&mut self, owes: bool) -> Next
+        ensures { (job : Job) → result ≡ Decodes job → owes ≡ false }
+    {
+        let wanted = self
+            .house
+            .notice(self.rt, &mut self.seat, News::Wants(owes));
+        let Ok(told) = wanted else {
+            self.pause();
+            return Next::Again;
+        };
+        match told.report() {
+            Report::Ended => Next::Ends,
+            Report::ToDecode(Some(job)) => Next::Decodes(job),
+            _ => {
+                self.rest(told.changes(), owes);
+                Next::Again
+            }
+        }
+    }
+
+    /// Moves frames into the rings, and says whether some still wait.
+    fn push(&mut self, feeders: &mut Vec<Feeder>) -> bool
+        ensures kept { Each TakesNone feeders.old.items feeders.new.items }
+        ensures owes { result ≡ false → All OwesNothing feeders.new.items }
+    {
+        let looks = if self.streak > 1 { LOOKS } else { 1 };
+        for _ in 0..looks {
+            let pushed = push_all(feeders);
+            if pushed.moves {
+                self.vain = 0;
+            }
+            if !pushed.waits {
+                return false;
+            }
+            thread::yield_now();
+        }
+        true
+    }
+
+    /// Decodes a job, and hands its frames to the outputs that they are for.
+    #[tactic(auto, using(crate::proofs::Eaches::each_unchanged, crate::proofs::Pushes::each_fed))]
+    fn decode(&mut self, feeders: &mut Vec<Feeder>, job: &Job)
+        requires { All OwesNothing feeders.old.items }
+        ensures { Each SameFeeder feeders.old.items feeders.new.items }
+    {
+        self.streak = self.streak.saturating_add(1);
+        match self.read(job) {
+            Ok(read) => {
+                let fed = self.have(job.number, read.frames.len() as u64);
+                hand_out(feeders, job, read, &fed);
+            }
+            Err(partner) => self.tell_failure(job.number, partner),
+        }
+    }
+
+    /// Reads the frames of a job; where there is no memory, again after a while. Its failure tells whether the partner has failed.
+    fn read(&mut self, job: &Job) -> Result<JobFrames, bool> {
+        let rt = self.rt;
+        for _ in rt.forever() {
+            match self.try_to_read(job) {
+                Ok(read) => return Ok(read),
+                Err(NoFrames::Failed(partner)) => return Err(partner),
+                Err(NoFrames::NoMemory) => self.pause(),
+            }
+        }
+        Err(false)
+    }
+
+    /// Reads the frames of a job, and opens its songs where they are not open yet.
+    fn try_to_read(&mut self, job: &Job) -> Result<JobFrames, NoFrames> {
+        if !self.songs.is_current(job.id) {
+            self.open(job.id, false)?;
+        }
+        if let Some(fade) = job.fade {
+            if !self.songs.is_partner(fade.partner) {
+                self.open(fade.partner, true)?;
+            }
+        }
+        self.songs.frames_of(self.alloc, job)
+    }
+
+    /// Opens the song of an entry of the queue, as the current one or as its partner. One that left the queue has failed.
+    fn open(&mut self, id: u32, partner: bool) -> Result<(), NoFrames> {
+        match self.house.song(self.rt, id) {
+            Ok(Some(song)) => self.songs.open(self.alloc, id, &song, partner),
+            Ok(None) => Err(NoFrames::Failed(partner)),
+            Err(_) => Err(NoFrames::NoMemory),
+        }
+    }
+
+    /// Tells that frames of a job are decoded; where that is refused, again after a while.
+    fn have(&mut self, number: u64, frames: u64) -> Option<Fed> {
+        let rt = self.rt;
+        for _ in rt.forever() {
+            match self
+                .house
+                .have(rt, &mut self.seat, number, frames, &mut self.share)
+            {
+                Ok(fed) => return Some(fed),
+                Err(_) => self.pause(),
+            }
+        }
+        None
+    }
+
+    /// Tells that a song of a job cannot be read; where that is refused, again after a while.
+    fn tell_failure(&mut self, number: u64, partner: bool) {
+        let rt = self.rt;
+        for _ in rt.forever() {
+            match self
+                .house
+                .notice(rt, &mut self.seat, News::Failed(number, partner))
+            {
+                Ok(_) => return,
+                Err(_) => self.pause(),
+            }
+        }
+    }
+
+    /// Rests until something changes. While frames still leave the rings it looks by time, since nothing tells of them, whether a song is
+    /// played or the last one has ended.
+    fn rest(&mut self, seen: u64, owes: bool) {
+        // Where several blocks went since the last rest, that was too long.
+        self.wait = if self.streak > 1 {
+            1
+        } else {
+            self.wait.saturating_mul(2).min(self.look)
+        };
+        self.streak = 0;
+        let wait = Duration::from_millis(self.wait);
+        if owes && self.vain < VAIN_LOOKS {
+            self.vain += 1;
+            thread::sleep(self.rt, wait);
+        } else {
+            let _ = self.house.rest(self.rt, seen, wait);
+        }
+    }
+
+    fn pause(&self) {
+        thread::sleep(self.rt, Duration::from_millis(PAUSE));
+    }
+}
+
+/// Mixes the frames of a job that was accepted, and hands them to the outputs that they are for. Nothing waits for room in their rings.
+#[tactic(auto, using(crate::proofs::Pushes::none_fed))]
+fn hand_out(feeders: &mut Vec<Feeder>, job: &Job, read: JobFrames, fed: &Option<Fed>)
+    requires { All OwesNothing feeders.old.items }
+    ensures { EachAt (TakesItsOwn (outputs_in fed.now) (handed (feed_in fed.now) job.now.fade read.others.items read.frames.items)) 0 feeders.old.items feeders.new.items }
+{
+    let Some(fed) = fed else {
+        return;
+    };
+    let Some(feed) = feed_of(fed) else {
+        return;
+    };
+    let JobFrames { mut frames, others } = read;
+    mix_block(&mut frames, &others, job.fade, feed.volume);
+    take_all(feeders, &frames, Cut { number: feed.cut }, fed);
+}
+
+/// What decoded frames are fed with, unless they are stale.
+fn feed_of(fed: &Fed) -> Option<Feed>
+    ensures { result ≡ feed_told fed.now.told.report }
+{
+    match fed.report() {
+        Report::ToFeed(feed) => feed,
+        _ => None,
+    }
+}

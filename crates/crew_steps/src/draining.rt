@@ -1,0 +1,248 @@
+//! What the thread of an output does.
+ghost use Rattle.std.specs.Prelude.{◌≡◌, ◌<◌, ◌||◌, List, IfSome};
+ghost use Rattle.output_ring.specs.Rings.{SameDrainer, hand_of, has_failed, popped_of};
+ghost use Rattle.output_ring.specs.declared.frames.CutFrame.{CutFrame};
+ghost use Rattle.player_events.specs.declared.event.Event.TheVariants.{OutputTurn};
+ghost use Rattle.held_player.specs.Views.{TellsSomewhere};
+ghost use Rattle.crew_steps.specs.Turns.{Drains, Plays, Pops};
+
+use crate::output::{Gate, OutputEnd};
+use counted_devices::Sink;
+use counted_player::{Discarded, Ledgers, Seat, Written};
+use frame_ledger::OutputShares;
+use held_player::Reported;
+use house::House;
+use output_ring::{Cut, Drainer, Fates, Live};
+use player_state::Report;
+use std::sync::Wait;
+use std::thread;
+use std::time::{Clock, Duration};
+
+/// How many milliseconds an enabled output without frames rests at most while a song is played.
+const LOOK: u64 = 10;
+
+/// How many milliseconds an output rests at most that is off.
+const OFF: u64 = 1_000;
+
+/// How many milliseconds it waits for frames that may be on their way.
+const SOON: u64 = 1;
+
+/// How many milliseconds it waits after a fault, or before it asks its gate again.
+const PAUSE: u64 = 20;
+
+/// How often it looks at an empty ring before it has its turn, where several hands came without a rest.
+const LOOKS: u32 = 200;
+
+/// An output that runs: it writes or discards the frames of its ring.
+#[derive(Drop)]
+pub struct Draining<'h, L: Ledgers, O: Sink + Drop, G: Gate, R: Wait + Clock> {
+    rt: &'h R,
+    house: &'h House<L>,
+    gate: &'h G,
+    output: usize,
+    seat: Seat<L>,
+    writer: O,
+    /// Whether the writer failed.
+    failed: bool,
+    shares: OutputShares<Written<L>, Discarded<L>>,
+    /// How often the house had changed when it last looked for frames.
+    seen: u64,
+    /// How many hands came since its last rest.
+    streak: u64,
+    ghost parts: { (0 < shares.written.parts) × (0 < shares.discarded.parts) },
+}
+
+impl<'h, L: Ledgers, O: Sink + Drop, G: Gate, R: Wait + Clock> Draining<'h, L, O, G, R> {
+    ghost use Rattle.std.specs.Prelude.{◌≡◌, ◌<◌, ◌||◌, List, IfSome};
+    ghost use Rattle.output_ring.specs.Rings.{SameDrainer, hand_of, has_failed, popped_of};
+    ghost use Rattle.output_ring.specs.declared.frames.CutFrame.{CutFrame};
+    ghost use Rattle.player_events.specs.declared.event.Event.TheVariants.{OutputTurn};
+    ghost use Rattle.held_player.specs.Views.{TellsSomewhere};
+    ghost use Rattle.crew_steps.specs.Turns.{Drains, Plays, Pops};
+
+    /// The output of this number.
+    pub fn new(
+        rt: &'h R,
+        house: &'h House<L>,
+        gate: &'h G,
+        output: usize,
+        writer: O,
+        shares: OutputShares<Written<L>, Discarded<L>>,
+    ) -> Self
+        requires { (0 < shares.written.parts) × (0 < shares.discarded.parts) }
+    {
+        Draining {
+            rt,
+            house,
+            gate,
+            output,
+            seat: Seat::of_crew((output.min(7) as u8) + 1),
+            writer,
+            failed: false,
+            shares,
+            seen: 0,
+            streak: 0,
+        }
+    }
+
+    /// Drains frames until the end.
+    pub fn run(self, drainer: Drainer) -> OutputEnd<L>
+        ensures { SameDrainer drainer result.drainer }
+    {
+        let mut drainer = drainer;
+        let mut draining = self;
+        draining.keep_draining(&mut drainer);
+        draining.end(drainer)
+    }
+
+    fn keep_draining(&mut self, drainer: &mut Drainer)
+        ensures { SameDrainer drainer.old drainer.new }
+    {
+        let rt = self.rt;
+        for _ in rt.forever() {
+            if !self.drain_once(drainer) {
+                return;
+            }
+        }
+    }
+
+    /// Where the gate lets it, pops frames, has a turn, and writes the frames out as it was told. False at the end.
+    #[tactic(auto, using(crate::proofs::Turns::idle))]
+    fn drain_once(&mut self, drainer: &mut Drainer) -> bool
+        ensures ring { SameDrainer drainer.old drainer.new }
+        ensures drains { Drains O.contents self.old.seat self.old.output self.old.failed drainer.old self.old.writer drainer.new self.new.writer }
+        ensures failed { self.old.failed ≡ has_failed drainer.old → self.new.failed ≡ has_failed drainer.new }
+    {
+        if !self.gate.ask(self.output) {
+            self.pause();
+            return true;
+        }
+        let popped = fill(drainer, if self.streak > 1 { LOOKS } else { 1 });
+        let Some(told) = self.tell(drainer.fates()) else {
+            self.pause();
+            return true;
+        };
+        drainer.reported();
+        let Report::ToPlay(live) = told.report() else {
+            return false;
+        };
+        let wrote = write_hand(drainer, &mut self.writer, live);
+        self.go_on(popped, wrote, told.changes(), live.enabled);
+        true
+    }
+
+    /// Rests where no frame came and none got its fate. Once the writer has failed, the output is switched off at its next turn.
+    fn go_on(&mut self, popped: usize, wrote: Wrote, changes: u64, enabled: bool)
+        ensures writer { self.new.writer ≡ self.old.writer }
+        ensures failed { self.new.failed ≡ (self.old.failed || wrote.failed) }
+    {
+        self.failed = self.failed || wrote.failed;
+        if popped > 0 {
+            self.streak = self.streak.saturating_add(1);
+        } else if !wrote.some {
+            self.rest(changes, enabled);
+        }
+    }
+
+    /// Tells which fates frames got since the last turn. `None` where the turn was refused.
+    fn tell(&mut self, fates: Fates) -> Option<Reported>
+        ensures writer { (self.new.writer ≡ self.old.writer) × (self.new.failed ≡ self.old.failed) }
+        ensures told { IfSome result (λ told. TellsSomewhere self.old.seat (OutputTurn self.old.output fates.written fates.discarded self.old.failed) told) }
+    {
+        let turn = self.house.turn(
+            self.rt,
+            &mut self.seat,
+            self.output,
+            fates,
+            self.failed,
+            &mut self.shares,
+        );
+        match turn {
+            Ok(told) => Some(told),
+            Err(_) => None,
+        }
+    }
+
+    /// Rests until something changes. It is woken before new frames are in its ring, so after a change it looks once more soon.
+    fn rest(&mut self, changes: u64, enabled: bool)
+        ensures { (self.new.writer ≡ self.old.writer) × (self.new.failed ≡ self.old.failed) }
+    {
+        self.streak = 0;
+        if enabled && self.seen != changes {
+            self.seen = changes;
+            thread::sleep(self.rt, Duration::from_millis(SOON));
+            return;
+        }
+        let look = if enabled { LOOK } else { OFF };
+        let _ = self
+            .house
+            .rest(self.rt, changes, Duration::from_millis(look));
+    }
+
+    fn pause(&self) {
+        thread::sleep(self.rt, Duration::from_millis(PAUSE));
+    }
+
+    /// What is left of it. The frames that it holds are kept.
+    fn end(self, drainer: Drainer) -> OutputEnd<L>
+        ensures { result.drainer ≡ drainer }
+    {
+        let Draining {
+            rt: _rt,
+            house: _house,
+            gate: _gate,
+            output: _output,
+            seat: _seat,
+            writer: _writer,
+            failed: _failed,
+            shares,
+            seen: _seen,
+            streak: _streak,
+        } = self;
+        OutputEnd { drainer, shares }
+    }
+}
+
+/// Fills the hand from the ring, and says by how many frames. It looks so often before it gives up.
+fn fill(drainer: &mut Drainer, looks: u32) -> usize
+    ensures { (came : List CutFrame) × Pops drainer.old drainer.new came }
+{
+    for _ in 0..looks {
+        let popped = drainer.pop();
+        if popped > 0 {
+            return popped;
+        }
+        thread::yield_now();
+    }
+    0
+}
+
+/// What came of writing a hand out.
+#[derive(Clone, Copy)]
+struct Wrote {
+    /// Whether a frame got its fate.
+    some: bool,
+    /// Whether the writer failed.
+    failed: bool,
+}
+
+/// Gives the frames of the hand their fates.
+fn write_hand<O: Sink>(drainer: &mut Drainer, writer: &mut O, live: player_core::Live) -> Wrote
+    ensures plays { Plays O.contents live (hand_of drainer.old) (has_failed drainer.old) writer.old drainer.new writer.new }
+    ensures failed { has_failed drainer.new ≡ (has_failed drainer.old || result.failed) }
+    ensures popped { popped_of drainer.new ≡ popped_of drainer.old }
+    ensures ring { SameDrainer drainer.old drainer.new }
+{
+    let before = drainer.held();
+    let live = Live {
+        cut: Cut { number: live.cut },
+        enabled: live.enabled,
+        paused: live.paused,
+        ended: false,
+    };
+    let failed = drainer.write_out(writer, live).is_err();
+    Wrote {
+        some: drainer.held() < before,
+        failed,
+    }
+}

@@ -1,0 +1,21 @@
+//! What the crew's threads do, step by step: songs are decoded into the outputs' rings, and each output drains its own.
+#![tactic(auto)]
+
+mod decoder;
+mod draining;
+mod feeders;
+mod folder;
+mod mixing;
+mod new_rings;
+mod output;
+mod song_source;
+mod songs;
+mod station;
+
+pub use decoder::Decoder;
+pub use draining::Draining;
+pub use folder::Folder;
+pub use new_rings::stations;
+pub use output::{Gate, Open, OutputEnd};
+pub use song_source::{SongFault, SongSource};
+pub use station::Station;

@@ -1,0 +1,29 @@
+//! What an output is let go on by, and what is left of it.
+ghost use Rattle.std.specs.Prelude.{◌<◌};
+
+use counted_player::{Discarded, Ledgers, Written};
+use frame_ledger::OutputShares;
+use output_ring::Drainer;
+
+/// Lets an output go on, or tells it to ask again. It is asked before an output takes frames from its ring.
+pub trait Gate {
+    fn ask(&self, output: usize) -> bool;
+}
+
+/// A gate that is always open.
+#[derive(Drop)]
+pub struct Open;
+
+impl Gate for Open {
+    fn ask(&self, _output: usize) -> bool {
+        true
+    }
+}
+
+/// What an output's thread hands back.
+#[derive(Drop)]
+pub struct OutputEnd<L: Ledgers> {
+    pub drainer: Drainer,
+    pub shares: OutputShares<Written<L>, Discarded<L>>,
+    ghost parts: { (0 < shares.written.parts) × (0 < shares.discarded.parts) },
+}

@@ -1,0 +1,147 @@
+//! Devices of 40,000 bytes: more than a device hands on in one piece of 32 KiB.
+ghost use Rattle.std.specs.Prelude.{◌≡◌, length, IfOk};
+
+use crate::devices::{counts, end, failing, inner_counts, read, read_at, written};
+use counted_devices::{Counting, FailAt, FailurePoint, Media};
+use std::alloc::{AllocError, Global};
+use std::io::{Cursor, ErrorKind};
+
+/// 40,000 bytes, each known by its place.
+fn pattern(alloc: Global) -> Result<Vec<u8>, AllocError> {
+    let mut bytes = Vec::new(alloc);
+    for place in 0..40_000u32 {
+        bytes.push((place % 251) as u8)?;
+    }
+    Ok(bytes)
+}
+
+// The size is that of the bytes: what the device inside knows is known of the device that counts.
+fn size_of(bytes: Vec<u8>) -> Result<u64, std::io::Error>
+    ensures { IfOk result (λ n. n ≡ length bytes.items) }
+{
+    let mut media = Counting::new(FailAt::new(bytes, FailurePoint::Never));
+    media.seek_to_end()
+}
+
+fn size_of_cursor(bytes: Vec<u8>) -> Result<u64, std::io::Error>
+    ensures { IfOk result (λ n. n ≡ length bytes.items) }
+{
+    let mut media = Counting::new(Cursor::new(bytes));
+    media.seek_to_end()
+}
+
+fn size_of_pattern(alloc: Global) -> Result<Option<u64>, AllocError> {
+    Ok(size_of(pattern(alloc)?).ok())
+}
+
+fn size_of_cursor_on_pattern(alloc: Global) -> Result<Option<u64>, AllocError> {
+    Ok(size_of_cursor(pattern(alloc)?).ok())
+}
+
+#[test]
+fn a_long_device_has_all_its_bytes(rt: HostRuntime) {
+    assert!(rt; size_of_pattern(rt.alloc()) == Ok(Some(40_000)));
+    assert!(rt; size_of_cursor_on_pattern(rt.alloc()) == Ok(Some(40_000)));
+}
+
+/// Whether these bytes stand there twice, with nothing else.
+fn is_twice(twice: &[u8], bytes: &[u8]) -> bool {
+    twice.len() == 80_000 && twice.starts_with(bytes) && twice.ends_with(bytes)
+}
+
+/// Writes to a device that holds nothing, and, the second time, more than 32 KiB.
+fn two_long_writes(alloc: Global, bytes: &[u8]) -> Result<bool, AllocError> {
+    let mut writer = failing(alloc, b"", FailurePoint::Never)?;
+    Ok(
+        written(&mut writer, bytes) == Ok(40_000)
+            && written(&mut writer, bytes) == Ok(40_000)
+            && inner_counts(&writer) == (0, 0, 2)
+            && is_twice(writer.into_inner().bytes(), bytes),
+    )
+}
+
+fn long_writes(alloc: Global) -> Result<bool, AllocError> {
+    let bytes = pattern(alloc)?;
+    two_long_writes(alloc, bytes.as_slice())
+}
+
+#[test]
+fn a_long_write_is_handed_on_whole(rt: HostRuntime) {
+    assert!(rt; long_writes(rt.alloc()) == Ok(true));
+}
+
+/// Whether all bytes but the last are held.
+fn holds_all_but_one(held: &[u8], bytes: &[u8]) -> bool {
+    held.len() == 39_999 && bytes.starts_with(held)
+}
+
+fn cut_write(alloc: Global, bytes: &[u8]) -> Result<bool, AllocError> {
+    let mut writer = failing(alloc, b"", FailurePoint::Byte(39_999))?;
+    Ok(
+        written(&mut writer, bytes) == Ok(39_999)
+            && written(&mut writer, bytes) == Err(ErrorKind::Other)
+            && counts(&writer) == (1, 0, 2)
+            && holds_all_but_one(writer.inner().bytes(), bytes),
+    )
+}
+
+fn cut_write_of_pattern(alloc: Global) -> Result<bool, AllocError> {
+    let bytes = pattern(alloc)?;
+    cut_write(alloc, bytes.as_slice())
+}
+
+#[test]
+fn a_write_fails_at_its_byte(rt: HostRuntime) {
+    assert!(rt; cut_write_of_pattern(rt.alloc()) == Ok(true));
+}
+
+/// Reads all bytes twice into this room.
+fn two_long_reads(alloc: Global, bytes: &[u8], room: &mut [u8]) -> Result<bool, AllocError> {
+    let mut media = failing(alloc, bytes, FailurePoint::Never)?;
+    Ok(
+        read(&mut media, room) == Ok(40_000)
+            && *room == *bytes
+            && read_at(&mut media, 0, room) == Ok(40_000)
+            && inner_counts(&media) == (0, 0, 3),
+    )
+}
+
+fn long_reads(alloc: Global) -> Result<bool, AllocError> {
+    let bytes = pattern(alloc)?;
+    let mut room = vec![in alloc; 0; 40_000]?;
+    two_long_reads(alloc, bytes.as_slice(), room.as_mut_slice())
+}
+
+#[test]
+fn a_long_read_is_handed_on_whole(rt: HostRuntime) {
+    assert!(rt; long_reads(rt.alloc()) == Ok(true));
+}
+
+/// How many bytes a read of one byte gives at a place, and which.
+fn byte_of(media: &mut Counting<FailAt>, place: u64) -> Result<(usize, u8), ErrorKind> {
+    let mut room = [0; 1];
+    let count = read_at(media, place, &mut room)?;
+    Ok((count, room[0]))
+}
+
+/// Byte i is i modulo 251: 39,998 is 159 * 251 + 89.
+fn last_bytes(alloc: Global, bytes: &[u8]) -> Result<bool, AllocError> {
+    let mut media = failing(alloc, bytes, FailurePoint::Never)?;
+    Ok(
+        byte_of(&mut media, 39_998) == Ok((1, 89))
+            && byte_of(&mut media, 39_999) == Ok((1, 90))
+            && byte_of(&mut media, 40_000) == Ok((0, 0))
+            && end(&mut media) == Ok(40_000)
+            && inner_counts(&media) == (0, 0, 7),
+    )
+}
+
+fn last_bytes_of_pattern(alloc: Global) -> Result<bool, AllocError> {
+    let bytes = pattern(alloc)?;
+    last_bytes(alloc, bytes.as_slice())
+}
+
+#[test]
+fn a_seek_is_handed_on_to_its_place(rt: HostRuntime) {
+    assert!(rt; last_bytes_of_pattern(rt.alloc()) == Ok(true));
+}

@@ -1,0 +1,26 @@
+-- What lies under the house's lock may go to another thread.
+use denote.RattleType.{RattleType}
+use denote.Param.Send.{IsSend, sendable, view_send}
+use denote.Param.SendFields.{declared_send}
+use Rattle.std.proofs.Crossing.{crosses}
+use Rattle.counted_player.specs.declared.ledgers.Ledgers.{Ghosts}
+use Rattle.partition.proofs.Crosses.{◌⨟◌}
+use Rattle.frame_ledger.proofs.books.Books.TheSendSync as books
+use Rattle.counted_player.proofs.seat.Seat.TheSendSync as seat
+use Rattle.held_player.specs.contracts.held.Held as Held
+use Rattle.held_player.specs.contracts.held.Held.TheInside as HeldInside
+use Rattle.counted_player.proofs.Crosses.{counted_send}
+
+ruleset parts = (crosses, sendable)
+
+module _ (L : RattleType) (l : Ghosts L.Denot) where
+  pub held_send : IsSend (Held.the_row L l)
+  held_send = view_send _ _ _ _ _ (declared_send (HeldInside.the_type L l) (
+      search parts depth 60 fits 20000 ⨟
+      counted_send L l ⨟
+      search parts depth 60 fits 20000 ⨟
+      search (books.the_send, parts) depth 60 fits 20000 ⨟
+      search (seat.the_send, parts) depth 60 fits 20000 ⨟
+      search parts depth 60 fits 20000 ⨟
+      search parts depth 60 fits 20000 ⨟
+      tt))

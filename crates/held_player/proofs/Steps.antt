@@ -1,0 +1,126 @@
+-- What becomes of an event that is no line.
+use Rattle.std.proofs.Common.{◌≡◌, inl, inr, ℕ, ◌+◌, ◌<◌, ◌≤◌, ◌^◌, true, false, None, length, refl, ap, ◌∙◌, Bool, List, arith}
+use Rattle.std.specs.Prelude.{Result, Ok, Err, IfErr, IfOk, OnErr, OnOk, sum}
+use Rattle.player_events.specs.declared.event.Event.{Event}
+use Rattle.partition.specs.declared.partition.PartitionFault.{PartitionFault}
+use Rattle.player_events.specs.Told.{Told}
+use Rattle.partition.specs.History.{Chronicle, joined_by}
+use Rattle.partition.specs.Image.{Image}
+use Rattle.partition.specs.Step.{limit_of, next_image, told, turn, turn_of}
+use Rattle.partition.specs.Steps.{RefusesStep}
+use Rattle.player_events.specs.Events.{is_line}
+use Rattle.player_state.specs.Outputs.{FrameBooks}
+use Rattle.player_state.specs.declared.state.Client.{Client}
+use Rattle.player_state.specs.declared.state.Library.{Library}
+use Rattle.player_state.specs.declared.state.Part.{Part}
+use Rattle.held_player.specs.declared.news.News.{News}
+use Rattle.held_player.specs.declared.news.News.TheVariants as news
+use Rattle.held_player.specs.News.{event_of}
+use Rattle.held_player.specs.Views.{IsRefusedFor, IsSpared, entry}
+use Rattle.counted_player.proofs.Booked.{HasEight, all_stay, decoded_grows, discarded_grows, few_after, written_grows}
+use Rattle.counted_player.proofs.Frameless.{is_frameless}
+use Rattle.counted_player.proofs.ListEntries.{room_keeps}
+use Rattle.held_player.proofs.Few.{few_notices}
+
+-- no piece of news is a line, or brings frames
+pub news_steps : (piece : News) → is_line (event_of piece) ≡ false
+news_steps (news.Comes client) = refl
+news_steps (news.Goes client) = refl
+news_steps news.AsksToScan = refl
+news_steps (news.Scanned songs) = refl
+news_steps (news.Wants owes) = refl
+news_steps (news.Failed number partner) = refl
+
+pub news_frameless : (ended : Bool) (part : Part) (library : Library) (clients : List Client) (piece : News) → is_frameless (turn_of ended part library clients (event_of piece)).doing ≡ true
+news_frameless ended part library clients (news.Comes client) = refl
+news_frameless ended part library clients (news.Goes client) = refl
+news_frameless ended part library clients news.AsksToScan = refl
+news_frameless ended part library clients (news.Scanned songs) = refl
+news_frameless true part library clients (news.Wants owes) = refl
+news_frameless false part library clients (news.Wants owes) = refl
+news_frameless ended part library clients (news.Failed number partner) = refl
+
+-- there is room for its notices
+pub has_room_for : (i : Image) (event : Event) (r : Result Told PartitionFault) (waiting capacity : ℕ) → waiting + length i.clients ≤ capacity
+    → IfOk r (λ outcome. outcome ≡ told i event) → IfOk r (λ outcome. waiting + length outcome.notices ≤ capacity)
+has_room_for i event (Ok outcome) waiting capacity room is =
+    let few = few_notices i event in
+    let same : length outcome.notices ≡ length (told i event).notices = ap (λ (t : Told). length t.notices) is in
+    omega (arith, room, few, same)
+has_room_for i event (Err fault) waiting capacity room is = tt
+
+at_most : (n : ℕ) → n ≤ n
+at_most n = omega arith
+
+abbrev books_of : Chronicle → FrameBooks
+books_of c = c.present.shared.books
+
+module _ (before after : Chronicle) (seat : ℕ) (event : Event) where
+  -- why it is refused, and what that leaves
+  pub refused_for : (r : Result Told PartitionFault) → IfErr r (λ fault. RefusesStep before after seat event fault) → IfErr r (λ fault. IsRefusedFor before seat event fault)
+  refused_for (Ok outcome) stops = tt
+  refused_for (Err fault) (inl full) = inl (full.0, full.1.0)
+  refused_for (Err fault) (inr roomy) = inr roomy.1
+
+  pub step_spares : (r : Result Told PartitionFault) → IfErr r (λ fault. RefusesStep before after seat event fault) → OnErr r (IsSpared before after)
+  step_spares (Ok outcome) stops = tt
+  step_spares (Err fault) (inl full) = inl full.1.1
+  step_spares (Err fault) (inr roomy) = inr roomy.0
+
+  abbrev Joins : Result Told PartitionFault → Type 0
+  Joins r = IfOk r (λ outcome. after ≡ joined_by before (entry seat event outcome))
+
+  abbrev Spares : Result Told PartitionFault → Type 0
+  Spares r = OnErr r (IsSpared before after)
+
+  spared_keeps : IsSpared before after → after.present ≡ before.present
+  spared_keeps (inl same) = ap (λ (c : Chronicle). c.present) same
+  spared_keeps (inr folded) = ap (λ (c : Chronicle). c.present) folded ∙ room_keeps before
+
+  steps_to : (outcome : Told) → after ≡ joined_by before (entry seat event outcome) → after.present ≡ next_image seat before.present event
+  steps_to outcome joins = ap (λ (c : Chronicle). c.present) joins
+
+  -- at a fault the books of frames stay
+  pub step_keeps : (r : Result Told PartitionFault) → Spares r → OnErr r (books_of after ≡ books_of before)
+  step_keeps (Ok outcome) spares = tt
+  step_keeps (Err fault) spares = ap (λ (i : Image). i.shared.books) (spared_keeps spares)
+
+  module _ (eight : HasEight before.present.shared.books) where
+    -- an event that brings no frames leaves the books of frames
+    pub step_stays : is_frameless (turn before.present event).doing ≡ true → (r : Result Told PartitionFault) → Joins r → Spares r → books_of after ≡ books_of before
+    step_stays frameless (Ok outcome) joins spares = all_stay seat before.present after.present event eight (steps_to outcome joins) frameless
+    step_stays frameless (Err fault) joins spares = ap (λ (i : Image). i.shared.books) (spared_keeps spares)
+
+    -- what no event of this kind changes
+    pub step_part : {X : Type 0} (of_books : FrameBooks → X) (r : Result Told PartitionFault)
+        → ((i : Image) → i ≡ next_image seat before.present event → of_books i.shared.books ≡ of_books before.present.shared.books)
+        → Joins r → Spares r → of_books (books_of after) ≡ of_books (books_of before)
+    step_part of_books (Ok outcome) stays joins spares = stays after.present (steps_to outcome joins)
+    step_part of_books (Err fault) stays joins spares = ap (λ (i : Image). of_books i.shared.books) (spared_keeps spares)
+
+    -- no number of frames becomes smaller
+    rises : (of_books : FrameBooks → List ℕ) → ((i : Image) → i ≡ next_image seat before.present event → sum (of_books before.present.shared.books) ≤ sum (of_books i.shared.books))
+        → (r : Result Told PartitionFault) → Joins r → Spares r → sum (of_books before.present.shared.books) ≤ sum (of_books after.present.shared.books)
+    rises of_books grows (Ok outcome) joins spares = grows after.present (steps_to outcome joins)
+    rises of_books grows (Err fault) joins spares = rw (spared_keeps spares) (at_most (sum (of_books before.present.shared.books)))
+
+    pub decoded_rise : (r : Result Told PartitionFault) → Joins r → Spares r → sum before.present.shared.books.decoded ≤ sum after.present.shared.books.decoded
+    decoded_rise = rises (λ (b : FrameBooks). b.decoded) (λ i is. decoded_grows seat before.present i event eight is)
+
+    pub written_rise : (r : Result Told PartitionFault) → Joins r → Spares r → sum before.present.shared.books.written ≤ sum after.present.shared.books.written
+    written_rise = rises (λ (b : FrameBooks). b.written) (λ i is. written_grows seat before.present i event eight is)
+
+    pub discarded_rise : (r : Result Told PartitionFault) → Joins r → Spares r → sum before.present.shared.books.discarded ≤ sum after.present.shared.books.discarded
+    discarded_rise = rises (λ (b : FrameBooks). b.discarded) (λ i is. discarded_grows seat before.present i event eight is)
+
+  -- all of them can be counted
+  pub few_decoded : (r : Result Told PartitionFault) → OnOk r (limit_of seat before.present event ≡ None) → Joins r → OnOk r (sum after.present.shared.books.decoded < 2 ^ 63)
+  few_decoded (Ok outcome) within joins = (few_after seat before.present after.present event within (steps_to outcome joins)).decoded
+  few_decoded (Err fault) within joins = tt
+
+  pub few_fates : (r : Result Told PartitionFault) → OnOk r (limit_of seat before.present event ≡ None) → Joins r
+      → OnOk r ((sum after.present.shared.books.written < 2 ^ 63) × (sum after.present.shared.books.discarded < 2 ^ 63))
+  few_fates (Ok outcome) within joins =
+      let all = few_after seat before.present after.present event within (steps_to outcome joins) in
+      (all.written, all.discarded)
+  few_fates (Err fault) within joins = tt

@@ -1,0 +1,20 @@
+use Rattle.command_plan.specs.declared.asked.Stand.TheVariants.{Alone}
+use Rattle.counted_player.proofs.Booked.{has_eight}
+use Rattle.counted_player.proofs.Frameless.{line_frameless}
+use Rattle.held_player.proofs.Heard.{books_stay, spared, unwritten}
+use Rattle.held_player.proofs.happen.hear_line.Goals as goal
+
+pub returns-clause-spared : goal.returns-clause-spared
+returns-clause-spared g c =
+    spared g.S.Shelf.standing g.S.Shelf.failed c.args.counted.now c.happen.new.counted c.args.shelf.now c.happen.new.shelf c.args.seat.now.number _ c.happen.result c.happen.ensures.refused
+
+pub returns-clause-unwritten : goal.returns-clause-unwritten
+returns-clause-unwritten g c =
+    unwritten g.S.Shelf.standing g.S.Shelf.failed c.args.counted.now c.happen.new.counted c.args.shelf.now c.happen.new.shelf c.args.seat.now.number _ c.happen.result c.happen.ensures.refused
+
+pub returns-clause-books : goal.returns-clause-books
+returns-clause-books g c =
+    let p = c.args.counted.now.present in
+    books_stay g.S.Shelf.standing g.S.Shelf.failed c.args.counted.now c.happen.new.counted c.args.shelf.now c.happen.new.shelf c.args.seat.now.number _
+    (has_eight c.args.counted.now c.happen.ensures.legal) c.happen.result
+    (λ heard. line_frameless p.shared.ended p.part p.shared.library p.clients c.args.client Alone c.args.request heard) c.happen.ensures.ok c.happen.ensures.refused

@@ -1,0 +1,15 @@
+-- The blanks of the seven ledgers of a house.
+use Rattle.std.specs.Prelude.{ℕ, [], ◌∷◌, slice_index_or}
+use Rattle.held_player.specs.declared.held.Blanks.{Blanks}
+use Rattle.counted_player.specs.Ledgers.{IsAt}
+
+-- blanks that open these ledgers
+abbrev pub AreFor : (ℕ → ℕ) → Blanks → Type 0
+AreFor names b =
+    IsAt names 0 b.first × IsAt names 1 b.second × IsAt names 2 b.third × IsAt names 3 b.fourth
+    × IsAt names 4 b.frames.decoded × IsAt names 5 b.frames.written × IsAt names 6 b.frames.discarded
+
+-- the names of these blanks
+abbrev pub names_in : Blanks → ℕ → ℕ
+names_in b place =
+    slice_index_or (b.first.name ∷ b.second.name ∷ b.third.name ∷ b.fourth.name ∷ b.frames.decoded.name ∷ b.frames.written.name ∷ b.frames.discarded.name ∷ []) place 0

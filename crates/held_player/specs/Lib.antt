@@ -1,0 +1,6 @@
+pub mod Waiting
+pub mod Views
+pub mod News
+pub mod Lists
+pub mod Settling
+pub mod Blanks

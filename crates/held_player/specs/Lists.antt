@@ -1,0 +1,47 @@
+-- Command lists under one taking of the lock.
+use Rattle.std.specs.Prelude.{ℕ, ◌≡◌, ◌⊎◌, List, [], Option, map, slice_index_or}
+use Rattle.std.specs.List.{flat_map}
+use Rattle.command_lists.specs.declared.word.ListForm.{ListForm}
+use Rattle.mpd_command.specs.Requests.{name_in}
+use Rattle.mpd_command.specs.declared.request.Request.{Request}
+use Rattle.shelf.specs.Calls.{Call}
+use Rattle.shelf.specs.Maps.{Standing}
+use Rattle.idle_clients.specs.declared.notices.Notice.{Notice}
+use Rattle.partition.specs.declared.partition.PartitionFault.TheVariants.{NoMemory}
+use Rattle.player_events.specs.Told.{Told}
+use Rattle.partition.specs.History.{Chronicle}
+use Rattle.partition.specs.Legal.{IsPast}
+use Rattle.partition.specs.Lists.{RunsList, Stop, StopsList}
+use Rattle.counted_player.specs.Counts.{own_in}
+
+-- what a command list is answered with: its client's waiting notice, and what each of its events told
+pub record HandedList : Type 0 where
+  pub front : Option Notice
+  pub tolds : List Told
+
+-- the notices of several events, one after the other
+abbrev pub notices_in : List Told → List Notice
+notices_in tolds = flat_map (λ t. t.notices) tolds
+
+-- a list that stopped before its first command
+abbrev pub unbegun : List Request → Stop
+unbegun requests = record { done = 0; tolds = []; command = slice_index_or (map name_in requests) 0 []; cause = NoMemory }
+
+module _ {S : Type 0} (standing : S → Standing) (failed : S → S → Call → Type 0) where
+  -- What the player of one thread tells at the commands of a list, one after the other, after some past in which the seat made so many
+  -- events; the lent shelf answered and changed as that says.
+  abbrev pub TellsListSomewhere : S → S → ℕ → ℕ → ℕ → ListForm → List Request → List Told → Type 0
+  TellsListSomewhere old new seat made client form requests tolds =
+      (past : Chronicle) × IsPast past × (own_in seat past.present ≡ made)
+      × ((after : Chronicle) × RunsList standing failed past after old new seat client form requests tolds)
+
+  -- What a list leaves that stopped: before it was begun, for want of memory, all is as it was; else what the player says.
+  abbrev pub StopsHere : Chronicle → Chronicle → S → S → ℕ → ℕ → ListForm → List Request → Stop → Type 0
+  StopsHere before after old new seat client form requests stop =
+      ((stop ≡ unbegun requests) × ((after ≡ before) × (new ≡ old))) ⊎ StopsList standing failed before after old new seat client form requests stop
+
+  -- What the player of one thread tells at the commands before one that is refused there.
+  abbrev pub StopsListSomewhere : S → S → ℕ → ℕ → ℕ → ListForm → List Request → Stop → Type 0
+  StopsListSomewhere old new seat made client form requests stop =
+      (past : Chronicle) × IsPast past × (own_in seat past.present ≡ made)
+      × ((after : Chronicle) × StopsHere past after old new seat client form requests stop)

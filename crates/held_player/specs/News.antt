@@ -1,0 +1,30 @@
+-- What the house is told beside lines and frames.
+use Rattle.std.specs.Prelude.{ℕ, List, Option, Some, None}
+use Rattle.held_player.specs.declared.news.News.{News}
+use Rattle.held_player.specs.declared.news.News.TheVariants as news
+use Rattle.held_player.specs.Waiting.{of_others}
+use Rattle.player_events.specs.declared.event.Event.{Event}
+use Rattle.player_events.specs.declared.event.Event.TheVariants.{Connect, Disconnect, ScanQuestion, ScanResult, Want, Failed}
+use Rattle.idle_clients.specs.declared.notices.Notice.{Notice}
+
+-- the event that a piece of news is
+abbrev pub event_of : News → Event
+event_of (news.Comes client) = Connect client
+event_of (news.Goes client) = Disconnect client
+event_of news.AsksToScan = ScanQuestion
+event_of (news.Scanned songs) = ScanResult songs
+event_of (news.Wants owes) = Want owes
+event_of (news.Failed number partner) = Failed number partner
+
+-- the client that goes, if one goes
+abbrev pub gone_of : News → Option ℕ
+gone_of (news.Goes client) = Some client
+gone_of _ = None
+
+-- the notices that still wait: those of a client that goes are dropped
+abbrev pub kept_without : Option ℕ → List Notice → List Notice
+kept_without None waiting = waiting
+kept_without (Some client) waiting = of_others client waiting
+
+abbrev pub kept_at : News → List Notice → List Notice
+kept_at piece waiting = kept_without (gone_of piece) waiting

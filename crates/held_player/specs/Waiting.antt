@@ -1,0 +1,24 @@
+-- The notices that wait to be handed out.
+use Rattle.std.specs.Prelude.{ℕ, Bool, not, ◌==◌, List, [], ◌∷◌, Option, Some, None, if◌then◌else◌}
+use Rattle.std.specs.List.{filter}
+use Rattle.idle_clients.specs.declared.notices.Notice.{Notice}
+
+abbrev pub is_for : ℕ → Notice → Bool
+is_for client notice = notice.client == client
+
+abbrev pub is_for_another : ℕ → Notice → Bool
+is_for_another client notice = not (is_for client notice)
+
+-- the first notice of the client
+abbrev pub first_for : ℕ → List Notice → Option Notice
+first_for client [] = None
+first_for client (n ∷ ns) = if is_for client n then Some n else first_for client ns
+
+-- the notices without the first of the client
+abbrev pub without_first : ℕ → List Notice → List Notice
+without_first client [] = []
+without_first client (n ∷ ns) = if is_for client n then ns else n ∷ without_first client ns
+
+-- the notices of the others
+abbrev pub of_others : ℕ → List Notice → List Notice
+of_others client notices = filter (is_for_another client) notices

@@ -1,0 +1,348 @@
+//! What lies under the house's lock.
+use crate::answered::{Answered, Reported};
+use crate::changes::count_change;
+use crate::happen::{hear_end, hear_line, hear_news};
+use crate::new_books::{NewBooks, let_go, new_books};
+use crate::news::News;
+use crate::waiting::{drop_gone, put_all, take_first};
+use counted_player::{Counted, Decoded, Discarded, Ledgers, NoSeat, Seat, Written};
+use frame_ledger::{Blanks as FrameBlanks, Books, OutputShares};
+use idle_clients::Notice;
+use mpd_command::Request;
+use partition::{Partition, PartitionFault};
+use player_events::Happened;
+use shelf::Shelf;
+use song_db::SharedSong;
+use std::alloc::{AllocError, Global};
+use std::marker::Model;
+use std::sync::ledger::{Blank, Share};
+
+/// Seven new ledgers: one for each seat of a caller, and those of the books of frames.
+#[derive(Drop)]
+pub struct Blanks {
+    pub first: Blank,
+    pub second: Blank,
+    pub third: Blank,
+    pub fourth: Blank,
+    pub frames: FrameBlanks,
+}
+
+/// The whole shares of the books of frames, which the house's own threads have.
+#[derive(Drop)]
+pub struct CrewShares<L: Ledgers> {
+    pub decoded: Share<Decoded<L>>,
+    pub outputs: OutputShares<Written<L>, Discarded<L>>,
+}
+
+/// The player, the notices that wait to be handed out, and the books that count its events and its frames.
+#[derive(Drop)]
+pub struct Held<L: Ledgers> {
+    pub(crate) alloc: Global,
+    pub(crate) counted: Counted<L>,
+    pub(crate) waiting: Vec<Notice>,
+    pub(crate) books: Books<Decoded<L>, Written<L>, Discarded<L>>,
+    pub(crate) free: Vec<Seat<L>>,
+    /// Whether an output was settled, whose last fates no event told of.
+    pub(crate) is_settled: bool,
+    /// How often something changed that a thread at rest is woken for; it begins anew behind its greatest value. No contract speaks of
+    /// it.
+    pub(crate) changes: u64,
+}
+
+impl<L: Ledgers> Model for Held<L> {
+    ghost use Rattle.std.specs.Prelude.{◌≡◌, ◌<◌, All, false, length, vec_len};
+    ghost use Rattle.held_player.specs.Views.{View};
+
+    ghost Value = { View };
+
+    // A filter, which an event may have, holds itself, so its code is named.
+    ghost use Rattle.filters.specs.contracts.expression.Filter as filter;
+    ghost use Rattle.std.specs.Coded.{codes};
+
+    ghost coded = { Prim.hlevel (codes, filter.the_row.coded) };
+
+    ghost view = { λ h. record { player = h.counted; waiting = h.waiting.items; books = record { decoded = h.books.decoded; written = h.books.written; discarded = h.books.discarded }; is_settled = h.is_settled; free = vec_len h.free } };
+
+    ghost invariant = { λ h. (h.books.decoded ≡ h.counted.present.shared.books.decoded)
+        × (h.is_settled ≡ false → h.books.written ≡ h.counted.present.shared.books.written)
+        × (h.is_settled ≡ false → h.books.discarded ≡ h.counted.present.shared.books.discarded)
+        × (length h.books.decoded ≡ 8) × (length h.books.written ≡ 8) × (length h.books.discarded ≡ 8)
+        × All (λ s. (s.number < 4) × (s.made ≡ 0)) h.free.items };
+}
+
+impl<L: Ledgers> Held<L> {
+    ghost use Rattle.std.specs.Prelude.{◌≡◌, ◌⊎◌, ◌+◌, ◌-◌, ◌<◌, ◌↔◌, [], ◌∷◌, ◌++◌, None, false, IfErr, IfOk, IfSome, IsErr, OnErr, OnOk};
+    ghost use Rattle.held_player.specs.Blanks.{AreFor};
+    ghost use Rattle.partition.specs.History.{folded, joined_by, with_room};
+    ghost use Rattle.partition.specs.Legal.{IsPast};
+    ghost use Rattle.partition.specs.Lent.{Records};
+    ghost use Rattle.player_state.specs.Outputs.{empty_books};
+    ghost use Rattle.command_plan.specs.Shelves.{nothing_heard};
+    ghost use Rattle.partition.specs.Step.{limit_of, told as told_of};
+    ghost use Rattle.player_events.specs.declared.event.Event.TheVariants.{End, Line};
+    ghost use Rattle.command_plan.specs.declared.asked.Stand.TheVariants.{Alone};
+    ghost use Rattle.held_player.specs.News.{event_of, kept_at};
+    ghost use Rattle.counted_player.specs.Seats.{after_events};
+    ghost use Rattle.counted_player.specs.Counts.{AnswersSomewhere, IsFresh, own_in, song_of};
+    ghost use Rattle.held_player.specs.Views.{IsRefusedFor, IsSpared, IsUnwritten, Stops, TellsSomewhere, entry};
+    ghost use Rattle.song_queue.specs.State.{queue_of};
+    ghost use Rattle.held_player.specs.Waiting.{first_for, without_first};
+
+    /// A player of which no seat made an event yet, with the four seats that callers are given.
+    pub fn open(
+        alloc: Global,
+        blanks: Blanks,
+        partition: Partition,
+    ) -> Result<(Self, CrewShares<L>), AllocError>
+        requires fresh { IsFresh partition.present }
+        requires blanks { AreFor L.names blanks }
+        ensures held { IfOk result (λ r. r.0 ≡ record { player = partition; waiting = []; books = empty_books; is_settled = false; free = 4 }) }
+        ensures parts { IfOk result (λ r. (r.1.decoded.parts ≡ 1) × (r.1.outputs.written.parts ≡ 9) × (r.1.outputs.discarded.parts ≡ 9)) }
+        ensures amounts { IfOk result (λ r. (r.1.decoded.amount ≡ 0) × (r.1.outputs.written.amount ≡ 0) × (r.1.outputs.discarded.amount ≡ 0)) }
+    {
+        let opened = match new_books::<L>(alloc, blanks) {
+            Ok(opened) => opened,
+            Err(fault) => {
+                let_go(partition);
+                return Err(fault);
+            }
+        };
+        let NewBooks {
+            seats,
+            free,
+            books,
+            shares,
+        } = opened;
+        let held = Held {
+            alloc,
+            counted: Counted::new(partition, seats),
+            waiting: Vec::new(alloc),
+            books,
+            free,
+            is_settled: false,
+            changes: 0,
+        };
+        Ok((held, shares))
+    }
+
+    /// A seat that made no event yet. It takes no memory.
+    ///
+    /// # Errors
+    ///
+    /// [`NoSeat`] where all four are given.
+    pub fn seat(&mut self) -> Result<Seat<L>, NoSeat>
+        ensures seat { IfOk result (λ s. (s.number < 4) × (s.made ≡ 0)) }
+        ensures err { IsErr result ↔ (self.old.free ≡ 0) }
+        ensures given { OnOk result (self.new ≡ record self.old { free = self.old.free - 1 }) }
+        ensures same { OnErr result (self.new ≡ self.old) }
+    {
+        match self.free.pop() {
+            Some(seat) => Ok(seat),
+            None => Err(NoSeat),
+        }
+    }
+
+    /// The events of the window. The value is a past's, and the books of frames are its numbers; once an output was settled, those of
+    /// written and discarded frames also count what no event told of.
+    pub fn history(&self) -> &[Happened]
+        ensures window { result.now ≡ self.now.player.window }
+        ensures legal { IsPast self.now.player }
+        ensures decoded { self.now.books.decoded ≡ self.now.player.present.shared.books.decoded }
+        ensures books { self.now.is_settled ≡ false → self.now.books ≡ self.now.player.present.shared.books }
+    {
+        let _is_settled = self.is_settled;
+        self.counted.history()
+    }
+
+    /// One line of a client. Its waiting notice is handed out in front of the reply.
+    ///
+    /// # Errors
+    ///
+    /// As [`Partition::apply`]: nothing has changed, but that a full window may have been folded. A notice that waits goes on waiting.
+    pub fn command<S: Shelf>(
+        &mut self,
+        seat: &mut Seat<L>,
+        shelf: &mut S,
+        client: u32,
+        request: Request,
+    ) -> Result<Answered, PartitionFault>
+        // The caller's count is the number of its seat's events, and the value that the lock found is a past's.
+        ensures found { seat.old.number < 4 → own_in seat.old.number self.old.player.present ≡ seat.old.made }
+        ensures legal { IsPast self.old.player }
+
+        // The reply, the world after it and what became of the lent shelf are the one-thread player's.
+        ensures base { OnOk result (self.new.player.base ≡ (with_room self.old.player).base) }
+        ensures limit { self.new.player.limit ≡ self.old.player.limit }
+        ensures ok { IfOk result (λ a. Records S.standing S.failed self.old.player.present self.new.player.present (with_room self.old.player).window self.new.player.window shelf.old shelf.new seat.old.number (Line client Alone request nothing_heard) a.told) }
+
+        // The client's notice is handed out, and those that the event made wait.
+        ensures front { IfOk result (λ a. a.front ≡ first_for client self.old.waiting) }
+        ensures own { IfOk result (λ a. IfSome a.front (λ notice. notice.client ≡ client)) }
+        ensures waiting { IfOk result (λ a. self.new.waiting ≡ without_first client self.old.waiting ++ a.told.notices) }
+        ensures kept { OnErr result (self.new.waiting ≡ self.old.waiting) }
+
+        // It is one event more of the seat, and brings no frames.
+        ensures made { OnOk result (seat.new ≡ after_events seat.old 1) }
+        ensures seat { OnErr result (seat.new ≡ seat.old) }
+        ensures books { (self.new.books ≡ self.old.books) × (self.new.is_settled ≡ self.old.is_settled) × (self.new.free ≡ self.old.free) }
+
+        // A fault changes nothing but a fold.
+        ensures refused { IfErr result (λ fault. Stops S.standing S.failed self.old.player self.new.player shelf.old shelf.new seat.old.number (Line client Alone request nothing_heard) fault) }
+        ensures spared { OnErr result (IsSpared self.old.player self.new.player) }
+        ensures unwritten { OnErr result (IsUnwritten S.standing S.failed shelf.old shelf.new) }
+
+        ensures somewhere { IfOk result (λ a. seat.old.number < 4 → AnswersSomewhere S.standing S.failed shelf.old shelf.new seat.old.number seat.old.made (Line client Alone request nothing_heard) a.told.answer) }
+    {
+        let Held {
+            alloc: _alloc,
+            counted,
+            waiting,
+            books: _books,
+            free: _free,
+            is_settled: _is_settled,
+            changes,
+        } = self;
+        let pulse = counted.pulse();
+        let outcome = hear_line(counted, waiting, seat, shelf, client, request)?;
+        let front = take_first(waiting, client);
+        put_all(waiting, outcome.notices());
+        count_change(changes, counted.pulse() != pulse);
+        Ok(Answered { front, outcome })
+    }
+
+    /// A piece of news. The notice of a client that goes is dropped.
+    ///
+    /// # Errors
+    ///
+    /// As [`Held::command`].
+    pub fn notice(&mut self, seat: &mut Seat<L>, news: News) -> Result<Reported, PartitionFault>
+        ensures found { seat.old.number < 4 → own_in seat.old.number self.old.player.present ≡ seat.old.made }
+        ensures legal { IsPast self.old.player }
+        ensures told { IfOk result (λ told. told ≡ told_of self.old.player.present (event_of news)) }
+        ensures player { IfOk result (λ told. self.new.player ≡ joined_by self.old.player (entry seat.old.number (event_of news) told)) }
+        ensures within { OnOk result (limit_of seat.old.number self.old.player.present (event_of news) ≡ None) }
+        ensures waiting { IfOk result (λ told. self.new.waiting ≡ kept_at news self.old.waiting ++ told.notices) }
+        ensures kept { OnErr result (self.new.waiting ≡ self.old.waiting) }
+        ensures made { OnOk result (seat.new ≡ after_events seat.old 1) }
+        ensures seat { OnErr result (seat.new ≡ seat.old) }
+        ensures books { (self.new.books ≡ self.old.books) × (self.new.is_settled ≡ self.old.is_settled) × (self.new.free ≡ self.old.free) }
+        ensures refused { IfErr result (λ fault. IsRefusedFor self.old.player seat.old.number (event_of news) fault) }
+        ensures spared { OnErr result (IsSpared self.old.player self.new.player) }
+        ensures somewhere { IfOk result (λ told. TellsSomewhere seat.old (event_of news) told) }
+    {
+        let Held {
+            alloc: _alloc,
+            counted,
+            waiting,
+            books: _books,
+            free: _free,
+            is_settled: _is_settled,
+            changes,
+        } = self;
+        let pulse = counted.pulse();
+        let gone = news.gone();
+        let outcome = hear_news(counted, waiting, seat, news)?;
+        drop_gone(waiting, gone);
+        put_all(waiting, outcome.notices());
+        count_change(changes, counted.pulse() != pulse);
+        Ok(Reported {
+            outcome,
+            changes: *changes,
+        })
+    }
+
+    /// The end: from now on nothing is decoded and no scan begins.
+    ///
+    /// # Errors
+    ///
+    /// As [`Held::command`].
+    pub fn end(&mut self, seat: &mut Seat<L>) -> Result<(), PartitionFault>
+        ensures found { seat.old.number < 4 → own_in seat.old.number self.old.player.present ≡ seat.old.made }
+        ensures legal { IsPast self.old.player }
+        ensures player { OnOk result (self.new.player ≡ joined_by self.old.player (entry seat.old.number End (told_of self.old.player.present End))) }
+        ensures within { OnOk result (limit_of seat.old.number self.old.player.present End ≡ None) }
+        ensures waiting { OnOk result (self.new.waiting ≡ self.old.waiting ++ (told_of self.old.player.present End).notices) }
+        ensures kept { OnErr result (self.new.waiting ≡ self.old.waiting) }
+        ensures made { OnOk result (seat.new ≡ after_events seat.old 1) }
+        ensures seat { OnErr result (seat.new ≡ seat.old) }
+        ensures books { (self.new.books ≡ self.old.books) × (self.new.is_settled ≡ self.old.is_settled) × (self.new.free ≡ self.old.free) }
+        ensures refused { IfErr result (λ fault. IsRefusedFor self.old.player seat.old.number End fault) }
+        ensures spared { OnErr result (IsSpared self.old.player self.new.player) }
+    {
+        let Held {
+            alloc: _alloc,
+            counted,
+            waiting,
+            books: _books,
+            free: _free,
+            is_settled: _is_settled,
+            changes,
+        } = self;
+        let outcome = hear_end(counted, waiting, seat)?;
+        put_all(waiting, outcome.notices());
+        count_change(changes, true);
+        Ok(())
+    }
+
+    /// Folds the history where the texts of its window take more than 16 MiB. Where there is no memory for that, nothing changes.
+    pub fn lighten(&mut self)
+        ensures player { (self.new.player ≡ self.old.player) ⊎ (self.new.player ≡ folded self.old.player) }
+        ensures waiting { self.new.waiting ≡ self.old.waiting }
+        ensures books { (self.new.books ≡ self.old.books) × (self.new.is_settled ≡ self.old.is_settled) × (self.new.free ≡ self.old.free) }
+    {
+        let Held {
+            alloc: _alloc,
+            counted,
+            waiting: _waiting,
+            books: _books,
+            free: _free,
+            is_settled: _is_settled,
+            changes: _changes,
+        } = self;
+        counted.lighten();
+    }
+
+    /// Whether the daemon has ended.
+    pub fn has_ended(&self) -> bool
+        ensures ended { result ≡ self.now.player.present.shared.ended }
+        ensures legal { IsPast self.now.player }
+    {
+        self.counted.has_ended()
+    }
+
+    /// How often something changed that a thread at rest is woken for.
+    pub fn changes(&self) -> u64 {
+        self.changes
+    }
+
+    /// Whether a song is being played.
+    pub fn plays(&self) -> bool {
+        self.counted.plays()
+    }
+
+    /// Whether a notice waits for a client.
+    pub fn has_notices(&self) -> bool
+        ensures { (result ≡ false) ↔ (self.now.waiting ≡ []) }
+    {
+        !self.waiting.is_empty()
+    }
+
+    /// The song of the entry of the present queue that has this id. It is no event.
+    pub fn song(&self, id: u32) -> Result<Option<SharedSong>, AllocError>
+        ensures song { IfOk result (λ song. song ≡ song_of id (queue_of self.now.player.present.part.queue)) }
+        ensures legal { IsPast self.now.player }
+    {
+        self.counted.song(id)
+    }
+
+    /// The client's waiting notice, which is taken out. It is no event and takes no memory.
+    pub fn outbox(&mut self, client: u32) -> Option<Notice>
+        ensures notice { result ≡ first_for client self.old.waiting }
+        ensures own { IfSome result (λ notice. notice.client ≡ client) }
+        ensures waiting { self.new.waiting ≡ without_first client self.old.waiting }
+        ensures player { self.new.player ≡ self.old.player }
+        ensures books { (self.new.books ≡ self.old.books) × (self.new.is_settled ≡ self.old.is_settled) × (self.new.free ≡ self.old.free) }
+    {
+        take_first(&mut self.waiting, client)
+    }
+}

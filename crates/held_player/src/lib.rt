@@ -1,0 +1,22 @@
+//! What the house's lock holds: the player, the notices that wait, and the books of its events and its frames.
+#![tactic(auto)]
+
+mod answered;
+mod changes;
+mod fates;
+mod fed;
+mod happen;
+mod held;
+mod list;
+mod listed;
+mod new_books;
+mod news;
+mod output;
+mod settlement;
+mod waiting;
+
+pub use answered::{Answered, AnsweredList, Reported};
+pub use fed::Fed;
+pub use held::{Blanks, CrewShares, Held};
+pub use news::News;
+pub use settlement::Settlement;

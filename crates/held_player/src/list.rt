@@ -1,0 +1,76 @@
+//! Command lists under one taking of the lock.
+use crate::answered::AnsweredList;
+use crate::changes::count_change;
+use crate::held::Held;
+use crate::listed::hear_list;
+use crate::waiting::{put_each, take_first};
+use command_lists::ListForm;
+use counted_player::{Ledgers, Seat};
+use mpd_command::Request;
+use partition::ListFault;
+use shelf::Shelf;
+
+impl<L: Ledgers> Held<L> {
+    ghost use Rattle.std.specs.Prelude.{◌≡◌, ◌<◌, ◌++◌, length, IfErr, IfOk, IfSome};
+    ghost use Rattle.partition.specs.Legal.{IsPast};
+    ghost use Rattle.partition.specs.Lists.{RunsList};
+    ghost use Rattle.held_player.specs.Lists.{StopsHere, StopsListSomewhere, TellsListSomewhere, notices_in};
+    ghost use Rattle.counted_player.specs.Seats.{after_events};
+    ghost use Rattle.counted_player.specs.Counts.{own_in};
+    ghost use Rattle.held_player.specs.Waiting.{first_for, without_first};
+
+    /// The commands of a client's list, side by side in the history, up to the first that ends the list. The client's waiting notice
+    /// is handed out in front of the answers.
+    ///
+    /// # Errors
+    ///
+    /// As [`Partition::run_list`]: the commands before the one that was refused stand, and a notice that waits goes on waiting.
+    pub fn list<S: Shelf>(
+        &mut self,
+        seat: &mut Seat<L>,
+        shelf: &mut S,
+        client: u32,
+        form: ListForm,
+        requests: Vec<Request>,
+    ) -> Result<AnsweredList, ListFault>
+        ensures found { seat.old.number < 4 → own_in seat.old.number self.old.player.present ≡ seat.old.made }
+        ensures legal { IsPast self.old.player }
+        ensures ok { IfOk result (λ a. RunsList S.standing S.failed self.old.player self.new.player shelf.old shelf.new seat.old.number client form requests.items a.tolds) }
+        ensures err { IfErr result (λ stop. StopsHere S.standing S.failed self.old.player self.new.player shelf.old shelf.new seat.old.number client form requests.items stop) }
+        ensures front { IfOk result (λ a. a.front ≡ first_for client self.old.waiting) }
+        ensures own { IfOk result (λ a. IfSome a.front (λ notice. notice.client ≡ client)) }
+        ensures waiting { IfOk result (λ a. self.new.waiting ≡ without_first client self.old.waiting ++ notices_in a.tolds) }
+        ensures kept { IfErr result (λ stop. self.new.waiting ≡ self.old.waiting ++ notices_in stop.tolds) }
+        ensures made { IfOk result (λ a. seat.new ≡ after_events seat.old (length a.tolds)) }
+        ensures done { IfErr result (λ stop. seat.new ≡ after_events seat.old stop.done) }
+        ensures books { (self.new.books ≡ self.old.books) × (self.new.is_settled ≡ self.old.is_settled) × (self.new.free ≡ self.old.free) }
+        ensures somewhere { IfOk result (λ a. seat.old.number < 4 → TellsListSomewhere S.standing S.failed shelf.old shelf.new seat.old.number seat.old.made client form requests.items a.tolds) }
+        ensures stopped { IfErr result (λ stop. seat.old.number < 4 → StopsListSomewhere S.standing S.failed shelf.old shelf.new seat.old.number seat.old.made client form requests.items stop) }
+    {
+        let Held {
+            alloc,
+            counted,
+            waiting,
+            books: _books,
+            free: _free,
+            is_settled: _is_settled,
+            changes,
+        } = self;
+        let pulse = counted.pulse();
+        match hear_list(
+            *alloc, counted, waiting, seat, shelf, client, form, requests,
+        ) {
+            Ok(outcome) => {
+                let front = take_first(waiting, client);
+                put_each(waiting, outcome.outcomes());
+                count_change(changes, counted.pulse() != pulse);
+                Ok(AnsweredList { front, outcome })
+            }
+            Err(fault) => {
+                put_each(waiting, &fault.outcomes);
+                count_change(changes, counted.pulse() != pulse);
+                Err(fault)
+            }
+        }
+    }
+}

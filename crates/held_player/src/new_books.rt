@@ -1,0 +1,58 @@
+//! The books and seats of a new house.
+ghost use Rattle.std.specs.Prelude.{◌≡◌, ◌<◌, [], ◌∷◌, All, IfOk, vec_len};
+ghost use Rattle.held_player.specs.Blanks.{AreFor};
+ghost use Rattle.player_state.specs.Outputs.{empty_books};
+
+use crate::held::{Blanks, CrewShares};
+use counted_player::{Decoded, Discarded, Ledgers, Seat, SeatBooks, Written};
+use frame_ledger::Books;
+use partition::Partition;
+use player_state::MAX_OUTPUTS;
+use std::alloc::{AllocError, Global};
+
+/// The books of a house in which nothing happened, the seats that callers are given, and the shares of the house's own threads.
+#[derive(Drop)]
+pub(crate) struct NewBooks<L: Ledgers> {
+    pub(crate) seats: SeatBooks<L>,
+    pub(crate) free: Vec<Seat<L>>,
+    pub(crate) books: Books<Decoded<L>, Written<L>, Discarded<L>>,
+    pub(crate) shares: CrewShares<L>,
+}
+
+/// Opens all ledgers.
+pub(crate) fn new_books<L: Ledgers>(
+    alloc: Global,
+    blanks: Blanks,
+) -> Result<NewBooks<L>, AllocError>
+    requires blanks { AreFor L.names blanks }
+    ensures seats { IfOk result (λ n. n.seats ≡ 0 ∷ 0 ∷ 0 ∷ 0 ∷ []) }
+    ensures free { IfOk result (λ n. All (λ s. (s.number < 4) × (s.made ≡ 0)) n.free.items × (vec_len n.free ≡ 4)) }
+    ensures books { IfOk result (λ n. (n.books.decoded ≡ empty_books.decoded) × (n.books.written ≡ empty_books.written) × (n.books.discarded ≡ empty_books.discarded)) }
+    ensures parts { IfOk result (λ n. (n.shares.decoded.parts ≡ 1) × (n.shares.outputs.written.parts ≡ 9) × (n.shares.outputs.discarded.parts ≡ 9)) }
+    ensures amounts { IfOk result (λ n. (n.shares.decoded.amount ≡ 0) × (n.shares.outputs.written.amount ≡ 0) × (n.shares.outputs.discarded.amount ≡ 0)) }
+{
+    let Blanks {
+        first,
+        second,
+        third,
+        fourth,
+        frames,
+    } = blanks;
+    let mut free = Vec::new(alloc);
+    free.reserve(4)?;
+    let (books, decoded, outputs) = Books::<Decoded<L>, Written<L>, Discarded<L>>::open(
+        alloc,
+        frames,
+        MAX_OUTPUTS,
+    )?;
+    let seats = SeatBooks::open(first, second, third, fourth, &mut free);
+    Ok(NewBooks {
+        seats,
+        free,
+        books,
+        shares: CrewShares { decoded, outputs },
+    })
+}
+
+/// Drops a player. It is a function of its own so that the proof of what holds one does not go through all that it has.
+pub(crate) fn let_go(_partition: Partition) {}

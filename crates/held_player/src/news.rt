@@ -1,0 +1,49 @@
+//! What the house is told beside lines and frames.
+ghost use Rattle.std.specs.Prelude.{◌≡◌};
+ghost use Rattle.held_player.specs.News.{event_of, gone_of};
+
+use player_events::Event;
+use song_db::SharedDb;
+
+/// A piece of news, which is one event.
+#[derive(Drop)]
+pub enum News {
+    /// A client comes under a number of its own.
+    Comes(u32),
+    /// A client goes.
+    Goes(u32),
+    /// A scanner asks whether a scan is to be made.
+    AsksToScan,
+    /// The library that a scan found; one that failed found none.
+    Scanned(Option<SharedDb>),
+    /// The decoder wants a job; whether a feeder still owes frames of an earlier one.
+    Wants(bool),
+    /// The song of a job could not be read, or where this is so, that of its partner in a fade.
+    Failed(u64, bool),
+}
+
+impl News {
+    /// The client that goes, if one goes.
+    pub(crate) fn gone(&self) -> Option<u32>
+        ensures { result ≡ gone_of self.now }
+    {
+        match self {
+            News::Goes(client) => Some(*client),
+            _ => None,
+        }
+    }
+
+    /// The event that it is.
+    pub(crate) fn into_event(self) -> Event
+        ensures { result ≡ event_of self }
+    {
+        match self {
+            News::Comes(client) => Event::Connect(client),
+            News::Goes(client) => Event::Disconnect(client),
+            News::AsksToScan => Event::ScanQuestion,
+            News::Scanned(songs) => Event::ScanResult(songs),
+            News::Wants(owes) => Event::Want(owes),
+            News::Failed(number, partner) => Event::Failed(number, partner),
+        }
+    }
+}

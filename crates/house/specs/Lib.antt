@@ -1,6 +1,0 @@
-pub mod Seats
-pub mod Waiting
-pub mod Views
-pub mod News
-pub mod Lists
-pub mod Settling

@@ -1,0 +1,7 @@
+pub mod Alike
+pub mod Empty
+pub mod Listeners
+pub mod Quiet
+pub mod Rises
+pub mod Songs
+pub mod Tells

@@ -1,0 +1,206 @@
+-- Who is told of what changed, and what becomes of the clients (MPD protocol reference, Querying MPD's status, `idle`).
+use Rattle.std.specs.Prelude.{ℕ, ◌+◌, ◌<◌, ◌==◌, nat_eq, nat_lt, Bool, true, false, not, ◌&&◌, List, [], ◌∷◌, Option, Some, None, is_some, map, filter, insert, length, if◌then◌else◌}
+use Rattle.std.specs.Bool.{beq}
+use Rattle.std.specs.List.{flat_map, position_or_len}
+use Rattle.std.specs.Str.{bytes_eq}
+use lib.Pointwise.{pointwise}
+use Rattle.mpd_text.specs.Songs.Song.{SongData}
+use Rattle.idle_notes.specs.declared.pending.Pending.{Pending}
+use Rattle.idle_notes.specs.declared.sets.Subsystems.{Subsystems}
+use Rattle.idle_notes.specs.Sets.{none}
+use Rattle.idle_notes.specs.Channels.{MemberData, messages_of, pairs}
+use Rattle.idle_notes.specs.Notes.{fresh, noted, waits, cancelled, notice_of, settled}
+use Rattle.song_queue.specs.declared.entry.Entry.{Entry}
+use Rattle.song_queue.specs.Entries.{same_queue, same_song}
+use Rattle.song_queue.specs.State.{queue_of, differ}
+use Rattle.play_order.specs.declared.modes.Single.{Single}
+use Rattle.play_order.specs.declared.modes.Single.TheVariants as single_mode
+use Rattle.play_order.specs.declared.modes.Consume.{Consume}
+use Rattle.play_order.specs.declared.modes.Consume.TheVariants as consume_mode
+use Rattle.player_core.specs.declared.state.Playback.{Playback}
+use Rattle.player_core.specs.declared.state.Playback.TheVariants.{Stop, Play, Pause}
+use Rattle.player_core.specs.Player.{PlayerState}
+use Rattle.command_plan.specs.declared.reply.Move.{Move}
+use Rattle.command_plan.specs.declared.reply.Move.TheVariants.{Stay, Wait, Learn, Resume, Join}
+use Rattle.command_plan.specs.declared.reply.Next.{Next}
+use Rattle.command_plan.specs.declared.reply.Next.TheVariants.{Goes, Waits, Closes}
+use Rattle.idle_clients.specs.declared.notices.Notice.{Notice}
+use Rattle.player_state.specs.declared.state.Client.{Client}
+use Rattle.player_state.specs.declared.state.Library.{Library}
+use Rattle.player_state.specs.declared.state.Part.{Part}
+use Rattle.command_plan.specs.Answers.{Said}
+use Rattle.idle_clients.specs.declared.signs.Options.{Options}
+use Rattle.player_state.specs.Outputs.{OutputsData}
+use Rattle.command_plan.specs.Shelves.{changes_lists, changes_stickers}
+use Rattle.command_plan.specs.declared.shelf_calls.ShelfWrite.{ShelfWrite}
+
+-- the client of a number, if it is there
+abbrev pub client_of : ℕ → List Client → Option Client
+client_of number [] = None
+client_of number (client ∷ clients) = if client.number == number then Some client else client_of number clients
+
+-- the parts of a player that its subsystems speak of
+pub record Parts : Type 0 where
+  pub library : Library
+  pub queue : List Entry
+  pub player : PlayerState
+  pub volume : ℕ
+  pub outputs : OutputsData
+  pub channels : List MemberData
+
+abbrev pub parts_of : Part → Library → Parts
+parts_of part library = record { library = library; queue = queue_of part.queue; player = part.player; volume = part.volume; outputs = part.outputs; channels = part.channels }
+
+-- numbers by which states and modes are compared
+abbrev pub playback_number : Playback → ℕ
+playback_number Stop = 0
+playback_number Play = 1
+playback_number Pause = 2
+
+abbrev pub single_number : Single → ℕ
+single_number single_mode.Off = 0
+single_number single_mode.On = 1
+single_number single_mode.Oneshot = 2
+
+abbrev pub consume_number : Consume → ℕ
+consume_number consume_mode.Off = 0
+consume_number consume_mode.On = 1
+consume_number consume_mode.Oneshot = 2
+
+abbrev pub id_number : Option ℕ → ℕ
+id_number None = 0
+id_number (Some id) = id + 1
+
+abbrev pub same_error : Option (List ℕ) → Option (List ℕ) → Bool
+same_error None None = true
+same_error None (Some b) = false
+same_error (Some a) None = false
+same_error (Some a) (Some b) = bytes_eq a b
+
+-- the part of the player that `player` speaks of: the state, the current song, the starts, the cuts, the error
+pub record Playing : Type 0 where
+  pub playback : Playback
+  pub current : Option ℕ
+  pub starts : ℕ
+  pub cuts : ℕ
+  pub error : Option (List ℕ)
+
+abbrev pub playing : PlayerState → Playing
+playing p = record { playback = p.playback; current = p.current; starts = p.starts; cuts = p.cuts; error = p.error }
+
+abbrev pub same_playing : Playing → Playing → Bool
+same_playing p q =
+    nat_eq (playback_number p.playback) (playback_number q.playback) && (nat_eq (id_number p.current) (id_number q.current)
+    && (nat_eq p.starts q.starts && (nat_eq p.cuts q.cuts && same_error p.error q.error)))
+
+-- the part that `options` speaks of: the modes, and the seconds of a fade
+abbrev pub options : PlayerState → Options
+options p = record { modes = p.modes; crossfade = p.crossfade }
+
+abbrev pub same_options : Options → Options → Bool
+same_options p q =
+    beq p.modes.repeat q.modes.repeat && (beq p.modes.random q.modes.random
+    && (nat_eq (single_number p.modes.single) (single_number q.modes.single)
+    && (nat_eq (consume_number p.modes.consume) (consume_number q.modes.consume) && nat_eq p.crossfade q.crossfade)))
+
+-- whether the same outputs are enabled
+unfoldable pub same_enabled : List Bool → List Bool → Bool
+same_enabled = pointwise beq
+
+-- whether two libraries have the same songs
+unfoldable pub same_songs : List SongData → List SongData → Bool
+same_songs = pointwise same_song
+
+abbrev pub same_pair : ℕ × List ℕ → ℕ × List ℕ → Bool
+same_pair p q = nat_eq p.0 q.0 && bytes_eq p.1 q.1
+
+-- whether the same clients listen to the same channels
+unfoldable pub same_pairs : List (ℕ × List ℕ) → List (ℕ × List ℕ) → Bool
+same_pairs = pointwise same_pair
+
+abbrev pub has_messages : ℕ → List MemberData → Bool
+has_messages number channels = not (length (messages_of number channels) == 0)
+
+-- the first message waits for a client
+abbrev pub begins_to_have : ℕ → List MemberData → List MemberData → Bool
+begins_to_have number before after = not (has_messages number before) && has_messages number after
+
+-- the subsystems whose parts differ before and after an event, for a client: the songs, whether a scan runs, the stored playlists,
+-- the queue, what is played, the volume, which outputs are enabled, the modes and the seconds of a fade, the stickers, who listens
+-- to which channel. A client hears of messages where it had none waiting and has some
+abbrev pub raised : ShelfWrite → Parts → Parts → ℕ → Subsystems
+raised written before after number = record none {
+  database = not (same_songs before.library.songs after.library.songs);
+  update = differ before.library.scan.runs after.library.scan.runs;
+  stored_playlist = changes_lists written;
+  playlist = not (same_queue before.queue after.queue);
+  player = not (same_playing (playing before.player) (playing after.player));
+  mixer = not (nat_eq before.volume after.volume);
+  output = not (same_enabled before.outputs.enabled after.outputs.enabled);
+  options = not (same_options (options before.player) (options after.player));
+  sticker = changes_stickers written;
+  subscription = not (same_pairs (pairs before.channels) (pairs after.channels));
+  message = begins_to_have number before.channels after.channels;
+}
+
+abbrev pub is_other : ℕ → Client → Bool
+is_other number client = not (client.number == number)
+
+-- what is pending for a client grows by what was raised; it is told what it waits for, and has then nothing pending
+abbrev pub notified : (ℕ → Subsystems) → Client → Client
+notified raised client = record client { pending = settled (noted (raised client.number) client.pending) }
+
+abbrev pub notice_to : ℕ → Option Subsystems → List Notice
+notice_to number None = []
+notice_to number (Some names) = record { client = number; names = names } ∷ []
+
+abbrev pub notice_for : (ℕ → Subsystems) → Client → List Notice
+notice_for raised client = notice_to client.number (notice_of (noted (raised client.number) client.pending))
+
+-- what one client does to what is pending for it
+abbrev pub at : ℕ → (Pending → Pending) → Client → Client
+at number change client = if client.number == number then record client { pending = change client.pending } else client
+
+-- a client that is not there comes before the first with a greater number
+abbrev pub joined : ℕ → List Client → List Client
+joined number clients =
+    if is_some (client_of number clients) then clients
+    else insert clients (position_or_len (λ client. nat_lt number client.number) clients) (record { number = number; pending = fresh })
+
+abbrev pub moved : ℕ → Move → List Client → List Client
+moved number Stay clients = clients
+moved number (Wait names) clients = map (at number (waits names)) clients
+moved number Learn clients = map (at number (λ p. fresh)) clients
+moved number Resume clients = map (at number cancelled) clients
+moved number Join clients = joined number clients
+
+abbrev pub closes : Next → Bool
+closes Goes = false
+closes Waits = false
+closes Closes = true
+
+-- a client whose answer closes it is gone, and makes no move
+abbrev pub staying : ℕ → Said → List Client → List Client
+staying number said clients = if closes said.answer.next then filter (is_other number) clients else clients
+
+abbrev pub move_of : Said → Move
+move_of said = if closes said.answer.next then Stay else said.move
+
+-- the clients after an event that comes from a client and raises these for each: those that stay hear of it, and then the client does
+-- what it does
+abbrev pub clients_after : ℕ → (ℕ → Subsystems) → Said → List Client → List Client
+clients_after number raised said clients = moved number (move_of said) (map (notified raised) (staying number said clients))
+
+-- the notices of an event, by rising client
+abbrev pub notices_after : ℕ → (ℕ → Subsystems) → Said → List Client → List Notice
+notices_after number raised said clients = flat_map (notice_for raised) (staying number said clients)
+
+-- every client's number is above this
+abbrev pub AllAbove : ℕ → List Client → Type 0
+AllAbove number [] = Unit {0}
+AllAbove number (client ∷ clients) = (number < client.number) × AllAbove number clients
+
+-- the clients are in the order of their numbers
+abbrev pub Rising : List Client → Type 0
+Rising [] = Unit {0}
+Rising (client ∷ clients) = AllAbove client.number clients × Rising clients

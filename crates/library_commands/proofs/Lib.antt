@@ -1,0 +1,2 @@
+pub mod Uris
+pub mod Windows

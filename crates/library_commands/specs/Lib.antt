@@ -1,0 +1,2 @@
+pub mod Library
+pub mod Shelf

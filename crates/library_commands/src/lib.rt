@@ -1,0 +1,6 @@
+//! The commands of the library, of stored playlists and of stickers, and what they ask of a shelf.
+#![tactic(auto)]
+
+pub mod asking;
+pub mod library;
+pub mod stored;

@@ -1,0 +1,291 @@
+//! The commands that ask for songs and folders of the library, and add songs of it (MPD protocol reference, The music database).
+ghost use Rattle.std.specs.Prelude.{◌≡◌, ◌++◌, [], Some, IfOk, OnOk, map, take, drop};
+ghost use Rattle.std.specs.Option.{option_copied};
+ghost use Rattle.filters.specs.Expressions.{Under};
+ghost use Rattle.std.specs.List.{flat_map};
+ghost use Rattle.mpd_text.specs.Answers.Answer.{pair_line};
+ghost use Rattle.mpd_text.specs.Songs.Tags.{tag_text};
+ghost use Rattle.library_commands.specs.Library.{count_songs as count_songs_lem, find as find_lem, find_add as find_add_lem, lines_of_folders, lines_of_songs, lines_of_texts, lines_of_uris, list as list_lem, list_all as list_all_lem, list_info as list_info_lem, list_texts as list_texts_lem, no_such_directory as no_such_directory_lem, show_folder as show_folder_lem, unreadable as unreadable_lem, update as update_lem, uri_or_all as uri_or_all_lem, windowed as windowed_lem};
+ghost use Rattle.command_plan.specs.Turns.{turn_by};
+ghost use Rattle.player_state.specs.Plans.{Fits};
+
+use command_plan::{Asked, Plan};
+use filters::{Case, Filter, Test};
+use mpd_command::{Uri, Wanted, Window};
+use mpd_text::{Answer, ErrorNumber, TagName};
+use player_state::{Library, Part};
+use queue_commands::queue_edits::add_found;
+use song_db::{SharedSong, push_song};
+use song_search::{counted, find as find_songs, is_folder, list_folder, listed, under};
+use std::alloc::{AllocError, Global};
+
+pub fn find(
+    alloc: Global,
+    asked: Asked,
+    library: &Library,
+    case: Case,
+    wanted: &Wanted,
+    window: Option<Window>,
+) -> Result<Plan, AllocError>
+    ensures { IfOk result (λ plan. plan ≡ turn_by (find_lem asked library.now case wanted.now window)) }
+{
+    match wanted {
+        Wanted::Meeting(filter) => {
+            let songs = find_songs(alloc, library.songs.db(), filter, case)?;
+            let mut lines = Answer::new(alloc);
+            push_songs(alloc, &mut lines, library, windowed(&songs, window))?;
+            Plan::shows(asked, lines)
+        }
+        Wanted::Refused(text) => unreadable(alloc, asked, text.as_str()),
+    }
+}
+
+/// A filter that cannot be read.
+fn unreadable(alloc: Global, asked: Asked, text: &str) -> Result<Plan, AllocError>
+    ensures { IfOk result (λ plan. plan ≡ turn_by (unreadable_lem asked text.now)) }
+{
+    Plan::refuses(alloc, asked, ErrorNumber::Argument, text)
+}
+
+/// The songs that a window shows. It ends with the last of them.
+#[tactic(auto, using(crate::proofs::Windows::shown))]
+fn windowed<'a, 'b>(songs: &'b [&'a SharedSong], window: Option<Window>) -> &'b [&'a SharedSong]
+    ensures { map (λ song. song.now) result.now ≡ windowed_lem window (map (λ song. song.now) songs.now) }
+{
+    let Some(window) = window else {
+        return songs;
+    };
+    let count = window.end.saturating_sub(window.start);
+    first(after(songs, window.start as usize), count as usize)
+}
+
+/// The songs from a place on.
+fn after<'a, 'b>(songs: &'b [&'a SharedSong], start: usize) -> &'b [&'a SharedSong]
+    ensures { result.now ≡ drop start songs.now }
+{
+    if start >= songs.len() {
+        return &[];
+    }
+    &songs[start..]
+}
+
+/// The first songs, up to so many.
+fn first<'a, 'b>(songs: &'b [&'a SharedSong], count: usize) -> &'b [&'a SharedSong]
+    ensures { result.now ≡ take count songs.now }
+{
+    if count >= songs.len() {
+        return songs;
+    }
+    &songs[..count]
+}
+
+/// Appends the lines of songs that were found.
+#[tactic(auto, unfolding(crate::specs::Library::lines_of_songs))]
+fn push_songs(
+    alloc: Global,
+    lines: &mut Answer,
+    library: &Library,
+    songs: &[&SharedSong],
+) -> Result<(), AllocError>
+    ensures { OnOk result (lines.new ≡ lines.old ++ lines_of_songs library.now.rate (map (λ song. song.now) songs.now)) }
+{
+    for song in songs {
+        push_song(alloc, lines, song.song(), &library.rate)?;
+    }
+    Ok(())
+}
+
+pub fn find_add(
+    alloc: Global,
+    asked: Asked,
+    part: &Part,
+    library: &Library,
+    case: Case,
+    wanted: &Wanted,
+) -> Result<Plan, AllocError>
+    ensures plan { IfOk result (λ plan. plan ≡ turn_by (find_add_lem asked part.now library.now case wanted.now)) }
+    ensures fits { IfOk result (λ plan. Fits part.now plan.doing) }
+{
+    match wanted {
+        Wanted::Meeting(filter) => {
+            let songs = find_songs(alloc, library.songs.db(), filter, case)?;
+            add_found(alloc, asked, part, &songs)
+        }
+        Wanted::Refused(text) => unreadable(alloc, asked, text.as_str()),
+    }
+}
+
+pub fn list(
+    alloc: Global,
+    asked: Asked,
+    library: &Library,
+    name: TagName,
+    wanted: Option<&Wanted>,
+) -> Result<Plan, AllocError>
+    ensures { IfOk result (λ plan. plan ≡ turn_by (list_lem asked library.now name (option_copied wanted.entry))) }
+{
+    match wanted {
+        None => list_texts(alloc, asked, library, name, &all_songs(alloc)?),
+        Some(Wanted::Meeting(filter)) => list_texts(alloc, asked, library, name, filter),
+        Some(Wanted::Refused(text)) => unreadable(alloc, asked, text.as_str()),
+    }
+}
+
+/// The filter that all songs meet.
+fn all_songs(alloc: Global) -> Result<Filter, AllocError>
+    ensures { IfOk result (λ filter. filter ≡ Under []) }
+{
+    match Filter::of_pairs(alloc, &[], Test::Equals) {
+        Ok(filter) => Ok(filter),
+        Err(_) => Err(AllocError),
+    }
+}
+
+/// The texts of a tag among the songs that meet a filter.
+fn list_texts(
+    alloc: Global,
+    asked: Asked,
+    library: &Library,
+    name: TagName,
+    filter: &Filter,
+) -> Result<Plan, AllocError>
+    ensures { IfOk result (λ plan. plan ≡ turn_by (list_texts_lem asked library.now name filter.now)) }
+{
+    let texts = listed(alloc, library.songs.db(), name, filter)?;
+    let lines = text_lines(alloc, name, &texts)?;
+    Plan::shows(asked, lines)
+}
+
+#[tactic(auto, unfolding(crate::specs::Library::lines_of_texts))]
+fn text_lines(alloc: Global, name: TagName, texts: &[&str]) -> Result<Answer, AllocError>
+    ensures { IfOk result (λ lines. lines ≡ lines_of_texts name (map (λ text. text.now) texts.now)) }
+{
+    let mut lines = Answer::new(alloc);
+    for text in texts {
+        lines.pair(name.text(), *text)?;
+    }
+    Ok(lines)
+}
+
+pub fn count(
+    alloc: Global,
+    asked: Asked,
+    library: &Library,
+    wanted: &Wanted,
+) -> Result<Plan, AllocError>
+    ensures { IfOk result (λ plan. plan ≡ turn_by (count_songs_lem asked library.now wanted.now)) }
+{
+    match wanted {
+        Wanted::Meeting(filter) => {
+            let count = counted(library.songs.db(), filter, &library.rate);
+            let mut lines = Answer::new(alloc);
+            lines.pair("songs", count.songs)?;
+            lines.pair("playtime", count.seconds)?;
+            Plan::shows(asked, lines)
+        }
+        Wanted::Refused(text) => unreadable(alloc, asked, text.as_str()),
+    }
+}
+
+pub fn list_info(
+    alloc: Global,
+    asked: Asked,
+    library: &Library,
+    uri: Option<&Uri>,
+) -> Result<Plan, AllocError>
+    ensures { IfOk result (λ plan. plan ≡ turn_by (list_info_lem asked library.now (option_copied uri.entry))) }
+{
+    let uri = uri_or_all(uri);
+    match library.songs.db().get(uri) {
+        Some(song) => {
+            let mut lines = Answer::new(alloc);
+            push_song(alloc, &mut lines, song, &library.rate)?;
+            Plan::shows(asked, lines)
+        }
+        None => show_folder(alloc, asked, library, uri),
+    }
+}
+
+/// The URI that is asked for: the whole library, where none is.
+fn uri_or_all(uri: Option<&Uri>) -> &str
+    ensures { result.now ≡ uri_or_all_lem (option_copied uri.entry) }
+{
+    match uri {
+        Some(uri) => uri.0.as_str(),
+        None => "",
+    }
+}
+
+/// Shows the folders and songs right in a folder.
+fn show_folder(
+    alloc: Global,
+    asked: Asked,
+    library: &Library,
+    folder: &str,
+) -> Result<Plan, AllocError>
+    ensures { IfOk result (λ plan. plan ≡ turn_by (show_folder_lem asked library.now folder.now)) }
+{
+    if !is_folder(library.songs.db(), folder) {
+        return no_such_directory(alloc, asked);
+    }
+    let found = list_folder(alloc, library.songs.db(), folder)?;
+    let mut lines = folder_lines(alloc, &found.folders)?;
+    push_songs(alloc, &mut lines, library, &found.songs)?;
+    Plan::shows(asked, lines)
+}
+
+fn no_such_directory(alloc: Global, asked: Asked) -> Result<Plan, AllocError>
+    ensures { IfOk result (λ plan. plan ≡ turn_by (no_such_directory_lem asked)) }
+{
+    Plan::refuses(alloc, asked, ErrorNumber::NoExist, "no such directory")
+}
+
+#[tactic(auto, unfolding(crate::specs::Library::lines_of_folders))]
+fn folder_lines(alloc: Global, folders: &[&str]) -> Result<Answer, AllocError>
+    ensures { IfOk result (λ lines. lines ≡ lines_of_folders (map (λ text. text.now) folders.now)) }
+{
+    let mut lines = Answer::new(alloc);
+    for folder in folders {
+        lines.pair("directory", *folder)?;
+    }
+    Ok(lines)
+}
+
+pub fn list_all(
+    alloc: Global,
+    asked: Asked,
+    library: &Library,
+    uri: Option<&Uri>,
+) -> Result<Plan, AllocError>
+    ensures { IfOk result (λ plan. plan ≡ turn_by (list_all_lem asked library.now (option_copied uri.entry))) }
+{
+    let folder = uri_or_all(uri);
+    if !is_folder(library.songs.db(), folder) {
+        return no_such_directory(alloc, asked);
+    }
+    let lines = uri_lines(alloc, under(library.songs.db(), folder))?;
+    Plan::shows(asked, lines)
+}
+
+#[tactic(auto, unfolding(crate::specs::Library::lines_of_uris))]
+fn uri_lines(alloc: Global, songs: &[SharedSong]) -> Result<Answer, AllocError>
+    ensures { IfOk result (λ lines. lines ≡ lines_of_uris songs.now) }
+{
+    let mut lines = Answer::new(alloc);
+    for song in songs {
+        lines.pair("file", song.song().uri())?;
+    }
+    Ok(lines)
+}
+
+pub fn update(alloc: Global, asked: Asked, library: &Library) -> Result<Plan, AllocError>
+    ensures { IfOk result (λ plan. plan ≡ turn_by (update_lem asked library.now)) }
+{
+    if library.scan.running().is_some() {
+        let text = "already updating";
+        return Plan::refuses(alloc, asked, ErrorNumber::UpdateAlready, text);
+    }
+    let mut lines = Answer::new(alloc);
+    lines.pair("updating_db", library.scan.next())?;
+    Plan::begins_scan(asked, lines)
+}

@@ -1,0 +1,4 @@
+pub mod Gathers
+mod Parts
+pub mod Outputs
+mod Asks

@@ -1,0 +1,14 @@
+use Rattle.std.proofs.Common.{◌∙◌, arith, refl}
+use Rattle.mpd_answers.specs.Answers.{Answers, Caller, HasGrown}
+use Rattle.mpd_answers.proofs.Outputs.{both_over, one_over}
+use Rattle.mpd_answers.proofs.laws.outputs_join_over.Goals as goal
+
+stays : {S : Type 0} (p : Caller S) → HasGrown p p
+stays p = (refl, omega arith)
+
+grows : {S : Type 0} (p q r : Caller S) → HasGrown p q → HasGrown q r → HasGrown p r
+grows p q r (n, m) (n', m') = (n' ∙ n, omega (arith, m, m'))
+
+pub returns : goal.returns
+returns g c = λ asker.
+    (one_over (Answers g.S.Shelf.standing g.S.Shelf.failed asker) HasGrown stays grows, both_over (Answers g.S.Shelf.standing g.S.Shelf.failed asker) HasGrown stays grows)

@@ -1,0 +1,5 @@
+pub mod Requests
+pub mod Notices
+pub mod Answers
+pub mod Output
+pub mod Owing

@@ -1,0 +1,29 @@
+//! Laws of what is asked, and of what may be written for it. A caller that calls one may use it; each does nothing.
+ghost use Rattle.mpd_answers.specs.Answers.{Answers, HasGrown};
+ghost use Rattle.mpd_answers.specs.Output.{OutputsJoin, OutputsJoinOver};
+ghost use Rattle.mpd_answers.specs.Requests.{LinesAskFor, LinesInAnyCut};
+ghost use Rattle.mpd_answers.specs.declared.asker.Asker.{Asker};
+
+use shelf::Shelf;
+
+/// What is asked for by lines is read off whole lists of them.
+pub fn lines_ask_for()
+    ensures { LinesAskFor }
+{
+    command_lists::parts_are_taken();
+}
+
+/// Where lines are cut does not matter.
+pub fn any_cut_of_lines()
+    ensures { LinesInAnyCut }
+{}
+
+/// What is written for some of what is asked, and then for the rest, is what is written for all of it.
+pub fn outputs_join<S: Shelf>()
+    ensures { (asker : Asker) → OutputsJoin (Answers S.standing S.failed asker) }
+{}
+
+/// What turns write one behind the other is written over many turns, whoever is served between them.
+pub fn outputs_join_over<S: Shelf>()
+    ensures { (asker : Asker) → OutputsJoinOver (Answers S.standing S.failed asker) HasGrown }
+{}

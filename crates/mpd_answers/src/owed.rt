@@ -1,0 +1,145 @@
+//! What a session owes its client and has not yet put behind its unsent bytes, for want of memory.
+ghost use Rattle.std.specs.Prelude.{◌≡◌, ◌++◌, [], true, IfOk, OnOk};
+ghost use Rattle.mpd_text.specs.Answers.Answer.{ack_line};
+ghost use Rattle.partition.specs.Lists.{fault_text, text_with};
+ghost use Rattle.mpd_answers.specs.Answers.{list_end};
+ghost use Rattle.mpd_answers.specs.Notices.{notice_bytes, notice_text};
+ghost use Rattle.mpd_answers.specs.Owing.{owed_bytes};
+
+use command_plan::Next;
+use held_player::{Answered, AnsweredList};
+use idle_clients::Notice;
+use mpd_text::{Answer, ErrorNumber};
+use partition::{ListFault, PartitionFault};
+use std::alloc::{AllocError, Global};
+
+/// Bytes for the client. To hold them takes no memory.
+#[derive(Drop)]
+pub enum Owed {
+    Nothing,
+    /// A notice alone.
+    Told(Notice),
+    /// The answer to a line.
+    Line(Answered),
+    /// The answer to a list, and the place of the first of its lines that could not be read for want of memory.
+    List(AnsweredList, Option<usize>),
+    /// An empty list is answered without an event.
+    EmptyList,
+    /// Why a line, which names this command if it names one, made no event.
+    LineFault(&'static str, PartitionFault),
+    /// Why a list stopped.
+    ListFault(ListFault),
+}
+
+impl Owed {
+    pub fn of_notice(notice: Option<Notice>) -> Owed
+        ensures { owed_bytes result ≡ notice_bytes notice }
+    {
+        match notice {
+            Some(notice) => Owed::Told(notice),
+            None => Owed::Nothing,
+        }
+    }
+
+    pub fn is_nothing(&self) -> bool
+        ensures { result ≡ true → owed_bytes self.now ≡ [] }
+    {
+        matches!(self, Owed::Nothing)
+    }
+
+    /// Whether its client waits for a notice once this is its answer; whether it waited before is given.
+    pub fn leaves_waiting(&self, waited: bool) -> bool {
+        match self {
+            Owed::Line(answered) => matches!(answered.reply().next(), Next::Waits),
+            _ => waited,
+        }
+    }
+
+    /// Its bytes, behind others.
+    pub fn push_to(&self, alloc: Global, bytes: &mut Vec<u8>) -> Result<(), AllocError>
+        ensures ok { OnOk result (bytes.new.items ≡ bytes.old.items ++ owed_bytes self.now) }
+    {
+        match self {
+            Owed::Nothing => Ok(()),
+            Owed::Told(notice) => push_notice(alloc, *notice, bytes),
+            Owed::Line(answered) => push_line(alloc, answered, bytes),
+            Owed::List(answered, unread) => push_list(alloc, answered, *unread, bytes),
+            Owed::EmptyList => bytes.extend_from_slice(b"OK\n"),
+            Owed::LineFault(command, fault) => push_fault(alloc, command, *fault, bytes),
+            Owed::ListFault(fault) => fault.push_text(alloc, bytes),
+        }
+    }
+}
+
+fn push_notice(alloc: Global, notice: Notice, bytes: &mut Vec<u8>) -> Result<(), AllocError>
+    ensures { OnOk result (bytes.new.items ≡ bytes.old.items ++ notice_text notice) }
+{
+    let mut answer = Answer::new(alloc);
+    notice.names.push_lines(&mut answer)?;
+    answer.ok()?;
+    bytes.extend_from_slice(answer.bytes())
+}
+
+/// The notice that waited, if one did.
+fn push_front(alloc: Global, front: Option<Notice>, bytes: &mut Vec<u8>) -> Result<(), AllocError>
+    ensures { OnOk result (bytes.new.items ≡ bytes.old.items ++ notice_bytes front) }
+{
+    match front {
+        Some(notice) => push_notice(alloc, notice, bytes),
+        None => Ok(()),
+    }
+}
+
+/// The answer to a line, with the notice that waited in front.
+fn push_line(alloc: Global, answered: &Answered, bytes: &mut Vec<u8>) -> Result<(), AllocError>
+    ensures { OnOk result (bytes.new.items ≡ bytes.old.items ++ (notice_bytes answered.now.front ++ answered.now.told.answer.text)) }
+{
+    let front = answered.front();
+    push_front(alloc, front, bytes)?;
+    bytes.extend_from_slice(answered.reply().text().as_bytes())
+}
+
+/// The answers of a list, with the notice that waited in front, and behind them their end where all succeeded.
+fn push_list(
+    alloc: Global,
+    answered: &AnsweredList,
+    unread: Option<usize>,
+    bytes: &mut Vec<u8>,
+) -> Result<(), AllocError>
+    ensures { OnOk result (bytes.new.items ≡ bytes.old.items ++ (notice_bytes answered.now.front ++ text_with (list_end unread) answered.now.tolds)) }
+{
+    let end = end_of(alloc, unread)?;
+    push_front(alloc, answered.front(), bytes)?;
+    answered.answers().push_text_with(end.as_str(), bytes)
+}
+
+/// What follows the answers of a list where all succeed.
+fn end_of(alloc: Global, unread: Option<usize>) -> Result<Answer, AllocError>
+    ensures { IfOk result (λ end. end ≡ list_end unread) }
+{
+    let mut end = Answer::new(alloc);
+    match unread {
+        Some(place) => end.ack(
+            ErrorNumber::System,
+            place,
+            "",
+            PartitionFault::NoMemory.text(),
+        )?,
+        None => end.ok()?,
+    }
+    Ok(end)
+}
+
+/// The line of a line that made no event.
+fn push_fault(
+    alloc: Global,
+    command: &str,
+    fault: PartitionFault,
+    bytes: &mut Vec<u8>,
+) -> Result<(), AllocError>
+    ensures { OnOk result (bytes.new.items ≡ bytes.old.items ++ ack_line 52 0 command.now (fault_text fault)) }
+{
+    let mut answer = Answer::new(alloc);
+    answer.ack(ErrorNumber::System, 0, command, fault.text())?;
+    bytes.extend_from_slice(answer.bytes())
+}

@@ -1,9 +1,0 @@
-mod Blame
-mod Gathers
-mod Parts
-mod Outputs
-mod Sending
-mod Pends
-mod Runs
-mod Cuts
-mod Asks

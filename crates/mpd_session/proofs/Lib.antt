@@ -1,0 +1,5 @@
+mod Blame
+mod Sending
+mod Pends
+mod Runs
+mod Cuts

@@ -1,0 +1,217 @@
+-- What a session holds, and what a turn does.
+use Rattle.std.specs.Prelude.{◌≡◌, ◌⊎◌, ◌<◌, ◌≤◌, ◌-◌, ◌^◌, ℕ, List, [], ◌∷◌, ◌++◌, length, map, Option, Some, None, Bool, false, true}
+use Rattle.std.specs.Io.KnownBytes.{Appends, Consumes}
+use Rattle.mpd_text.specs.Lines.Cut.{Split, split_from}
+use Rattle.mpd_text.specs.Lines.Split.{line_of, views}
+use Rattle.counted_devices.specs.declared.tally.Tally.{Tally}
+use Rattle.command_lists.specs.Lists.{LineData}
+use Rattle.mpd_answers.specs.declared.asker.Asker.{Asker}
+use Rattle.mpd_answers.specs.declared.asker.Sequel.{Sequel}
+use Rattle.mpd_answers.specs.declared.asker.Sequel.TheVariants.{Stays, Leaves, Kills}
+use Rattle.mpd_session.specs.declared.conversation.Conversation.{Conversation}
+use Rattle.mpd_session.specs.declared.end.End.{End}
+use Rattle.mpd_session.specs.declared.end.End.TheVariants.{Left, Killed, LongLine, LargeList, Unsent, NoPeer, ReadFault, WriteFault}
+use Rattle.mpd_answers.specs.Notices.{AreNotices}
+use Rattle.mpd_answers.specs.Output.{IsOutput, IsLastOutput, greeting}
+use Rattle.mpd_answers.specs.Owing.{owed_bytes}
+use Rattle.mpd_answers.specs.Requests.{Asking, ListState, Within, Over, gather}
+
+-- what came of the stream and is not answered: what has come of a list, lines, the start of a line, and a piece that was not split
+pub record Pending : Type 0 where
+  pub list : ListState
+  pub lines : List LineData
+  pub next : Option (List ℕ)
+  pub piece : List ℕ
+
+-- the lines that a piece ends; nothing changes where nothing came
+abbrev pub fed : Option (List ℕ) → List ℕ → Split
+fed next [] = record { lines = []; next = next }
+fed next (b ∷ bs) = split_from next (b ∷ bs)
+
+-- all that is asked in what came, what has come of a list behind that, and the start of a line behind that
+pub record Coming : Type 0 where
+  pub asked : List Asking
+  pub list : ListState
+  pub next : Option (List ℕ)
+
+abbrev pub coming_from : ListState → List LineData → Option (List ℕ) → Coming
+coming_from state lines next = record { asked = (gather state lines).asked; list = (gather state lines).list; next = next }
+
+unfoldable pub coming : Pending → Coming
+coming p = coming_from p.list (p.lines ++ map line_of (fed p.next p.piece).lines) (fed p.next p.piece).next
+
+abbrev pub ahead : List Asking → Coming → Coming
+ahead asked c = record { asked = asked ++ c.asked; list = c.list; next = c.next }
+
+-- the same with more bytes behind
+abbrev pub read_on : Pending → List ℕ → Pending
+read_on p bytes = record { list = p.list; lines = p.lines; next = p.next; piece = p.piece ++ bytes }
+
+-- what a session holds: what is not answered, the bytes that are not written, and why it is closed
+pub record Held : Type 0 where
+  pub pending : Pending
+  pub unsent : List ℕ
+  pub ended : Option End
+
+abbrev pub pending_of : Conversation → Pending
+pending_of c = record { list = c.gatherer; lines = views c.lines.items; next = c.splitter; piece = c.piece.items }
+
+abbrev pub held_of : Conversation → Held
+held_of c = record { pending = pending_of c; unsent = c.unsent ++ owed_bytes c.owed; ended = c.ended }
+
+-- whose session it is, and what it holds
+pub record SessionData : Type 0 where
+  pub asker : Asker
+  pub held : Held
+
+abbrev pub session_of : Conversation → SessionData
+session_of c = record { asker = c.asker; held = held_of c }
+
+-- what was written and what is not grow by the output, and bytes go from the second to the first
+abbrev pub Grows : Option (List ℕ) → List ℕ → Option (List ℕ) → List ℕ → List ℕ → Type 0
+Grows old unsent new unsent' output = (sent : List ℕ) × Appends old new sent × (unsent ++ output ≡ sent ++ unsent')
+
+abbrev pub with_read : Held → List ℕ → Held
+with_read h bytes = record { pending = read_on h.pending bytes; unsent = h.unsent; ended = h.ended }
+
+-- `P` is what the caller has, and changes with each answer.
+module _ {P : Type 0} (Answers : P → Asking → List ℕ → Sequel → P → Type 0) where
+  -- The first of what was asked is answered, and the rest is left.
+  abbrev pub Continues : Coming → P → Coming → P → List ℕ → Type 0
+  Continues whole p left q output = (asked : List Asking) × (whole ≡ ahead asked left) × IsOutput Answers p asked output q
+
+  -- The first of what was asked is answered, and the rest never is.
+  abbrev pub StopsIn : List Asking → P → P → List ℕ → Type 0
+  StopsIn asked p q output = (front more : List Asking) × (asked ≡ front ++ more) × IsOutput Answers p front output q
+
+  -- This was asked, and its answer is the last.
+  abbrev pub EndsAt : Sequel → List Asking → P → P → List ℕ → Type 0
+  EndsAt next asked p q output =
+      (front more : List Asking) × (last : Asking) × (asked ≡ front ++ last ∷ more) × IsLastOutput Answers p front last next output q
+
+  -- what was answered where a session was closed
+  abbrev pub EndsBy : End → Coming → P → P → List ℕ → List ℕ → Type 0
+  -- by an answer
+  EndsBy Left whole p q output unsent = EndsAt Leaves whole.asked p q output
+  EndsBy Killed whole p q output unsent = EndsAt Kills whole.asked p q output
+  -- by a line that is too long: all before it is answered
+  EndsBy LongLine whole p q output unsent = IsOutput Answers p whole.asked output q × (whole.next ≡ None)
+  -- by a list that is too large: all before it is answered
+  EndsBy LargeList whole p q output unsent = IsOutput Answers p whole.asked output q × (whole.list ≡ Over)
+  -- by the peer: all that came is answered
+  EndsBy NoPeer whole p q output unsent = IsOutput Answers p whole.asked output q
+  -- by too many bytes that are not written
+  EndsBy Unsent whole p q output unsent = StopsIn whole.asked p q output × (16777216 < length unsent)
+  -- by a device
+  EndsBy ReadFault whole p q output unsent = StopsIn whole.asked p q output
+  EndsBy WriteFault whole p q output unsent = StopsIn whole.asked p q output
+
+  abbrev pub StepsTo : Option End → Coming → P → Held → P → List ℕ → Type 0
+  StepsTo None whole p new q output = Continues whole p (coming new.pending) q output
+  StepsTo (Some end) whole p new q output = EndsBy end whole p q output new.unsent
+
+  -- what was answered of all that came
+  abbrev pub Steps : Coming → P → Held → P → List ℕ → Type 0
+  Steps whole p new q output = StepsTo new.ended whole p new q output
+
+  -- without a writer
+  abbrev pub Says : Held → P → Held → P → Type 0
+  Says old p new q = (output : List ℕ) × Steps (coming old.pending) p new q output × (new.unsent ≡ old.unsent ++ output)
+
+  -- with a writer that holds these bytes before and after
+  abbrev pub Runs : Held → P → Option (List ℕ) → Held → P → Option (List ℕ) → Type 0
+  Runs old p written new q written' =
+      (output : List ℕ) × Steps (coming old.pending) p new q output × Grows written old.unsent written' new.unsent output
+
+  -- A turn: some bytes are read, and what is written or held unsent grows by an output for what is asked in all that came.
+  abbrev pub Turns : Held → P → Option (List ℕ) → Option (List ℕ) → Held → P → Option (List ℕ) → Option (List ℕ) → Type 0
+  Turns old p unread written new q unread' written' =
+      (read : List ℕ) × Consumes unread unread' read × Runs (with_read old read) p written new q written'
+
+  -- Two turns, one behind the other, write what one turn may write that reads the bytes of both.
+  abbrev pub TurnsJoin : Type 0
+  TurnsJoin = (old mid new : Held) (p q r : P) (unread unread' unread'' written written' written'' : Option (List ℕ)) → mid.ended ≡ None
+      → Turns old p unread written mid q unread' written' → Turns mid q unread' written' new r unread'' written'' → Turns old p unread written new r unread'' written''
+
+-- A turn of a closed session: nothing is read, run or said.
+abbrev pub StaysClosed : Held → Option (List ℕ) → Held → Option (List ℕ) → Type 0
+StaysClosed old written new written' = (new.pending ≡ old.pending) × (new.ended ≡ old.ended) × Grows written old.unsent written' new.unsent []
+
+-- a session that greets its client, of which nothing came
+abbrev pub opening : Held
+opening = record { pending = record { list = Within None; lines = []; next = Some []; piece = [] }; unsent = greeting; ended = None }
+
+-- the unsent bytes grow by notices, or by none
+abbrev pub TellsOf : List ℕ → List ℕ → Type 0
+TellsOf old new = (notices : List ℕ) × AreNotices notices × (new ≡ old ++ notices)
+
+-- a read leaves a session open, or ends it and gives nothing
+abbrev pub ReadsAs : Option End → List ℕ → Option End → Type 0
+ReadsAs old piece new = (new ≡ old) ⊎ ((piece ≡ []) × ((new ≡ Some NoPeer) ⊎ (new ≡ Some ReadFault)))
+
+-- what bytes that are read leave of all that came: it stays; or the peer sends no more, and nothing is asked any more; or the reader failed
+abbrev pub ReadsTo : Option End → Coming → Held → Type 0
+ReadsTo None whole new = whole ≡ coming new.pending
+ReadsTo (Some NoPeer) whole new = whole.asked ≡ []
+ReadsTo (Some ReadFault) whole new = Unit {0}
+ReadsTo (Some _) whole new = ⊥
+
+-- bytes are read, and perhaps split; nothing is answered
+abbrev pub ReadsOn : Held → Option (List ℕ) → Held → Option (List ℕ) → Type 0
+ReadsOn old unread new unread' =
+    (read : List ℕ) × Consumes unread unread' read × ReadsTo new.ended (coming (read_on old.pending read)) new × (new.unsent ≡ old.unsent)
+
+-- what a write leaves: an open session is ended where the writer fails, or where too much is left
+abbrev pub SentAs : Option End → List ℕ → Option End → List ℕ → Type 0
+SentAs old unsent new unsent' =
+    ((new ≡ old) × (old ≡ Some Unsent → unsent' ≡ unsent))
+    ⊎ ((old ≡ None) × ((new ≡ Some WriteFault) ⊎ ((new ≡ Some Unsent) × (16777216 < length unsent'))))
+
+abbrev pub Sends : Held → Option (List ℕ) → Held → Option (List ℕ) → Type 0
+Sends old written new written' =
+    (new.pending ≡ old.pending) × Grows written old.unsent written' new.unsent [] × SentAs old.ended old.unsent new.ended new.unsent
+
+-- a call of the device failed since, and not for having to wait; or their count is at its greatest value
+abbrev pub HasFailedSince : Tally → Tally → Type 0
+HasFailedSince old new = (old.failures < new.failures) ⊎ (2 ^ 64 - 1 ≤ new.failures)
+
+-- a session is ended for no device's fault
+abbrev pub BlamesNone : Option End → Type 0
+BlamesNone (Some ReadFault) = ⊥
+BlamesNone (Some WriteFault) = ⊥
+BlamesNone _ = Unit {0}
+
+-- a session is ended for its reader's fault only where that failed, and for no writer's
+abbrev pub BlamesReader : Option End → Tally → Tally → Type 0
+BlamesReader (Some ReadFault) old new = HasFailedSince old new
+BlamesReader (Some WriteFault) old new = ⊥
+BlamesReader _ old new = Unit {0}
+
+abbrev pub BlamesWriter : Option End → Tally → Tally → Type 0
+BlamesWriter (Some ReadFault) old new = ⊥
+BlamesWriter (Some WriteFault) old new = HasFailedSince old new
+BlamesWriter _ old new = Unit {0}
+
+-- a session is ended for a device's fault only where that device failed: the reader, or the writer
+abbrev pub Blames : Option End → Tally → Tally → Tally → Tally → Type 0
+Blames (Some ReadFault) reader reader' writer writer' = HasFailedSince reader reader'
+Blames (Some WriteFault) reader reader' writer writer' = HasFailedSince writer writer'
+Blames _ reader reader' writer writer' = Unit {0}
+
+abbrev pub end_by : Sequel → Option End
+end_by Stays = None
+end_by Leaves = Some Left
+end_by Kills = Some Killed
+
+abbrev pub end_in_list : Bool → Option End
+end_in_list true = Some LargeList
+end_in_list false = None
+
+-- what comes with more bytes
+abbrev pub then_read : Coming → List ℕ → Coming
+then_read c bytes = ahead c.asked (coming (record { list = c.list; lines = []; next = c.next; piece = bytes }))
+
+-- What comes of bytes is the same in whatever pieces they are read.
+abbrev pub BytesInAnyCut : Type 0
+BytesInAnyCut = (pending : Pending) (bytes more : List ℕ)
+    → (coming (read_on pending bytes) ≡ then_read (coming pending) bytes) × (coming (read_on pending (bytes ++ more)) ≡ then_read (coming (read_on pending bytes)) more)

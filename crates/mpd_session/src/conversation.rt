@@ -1,0 +1,481 @@
+//! What a session does, over its parts.
+ghost use Rattle.std.specs.Prelude.{◌≡◌, ◌≢◌, ◌++◌, ◌<◌, ◌≤◌, ◌+◌, ◌⊎◌, [], List, ℕ, length, take, drop, map, Some, None, Ok, Err, true, false, OnOk, OnErr, IfOk, IsErr};
+ghost use Rattle.std.specs.Io.KnownBytes.{Appends, Consumes};
+ghost use Rattle.mpd_text.specs.Lines.Split.{views, line_of};
+ghost use Rattle.mpd_text.specs.Lines.Cut.{split_from};
+ghost use Rattle.counted_devices.specs.Tally.{NoFewer};
+ghost use Rattle.mpd_answers.specs.Answers.{Answers, caller};
+ghost use Rattle.mpd_answers.specs.Output.{greeting};
+ghost use Rattle.mpd_answers.specs.Owing.{owed_bytes};
+ghost use Rattle.mpd_session.specs.declared.end.End.{End};
+ghost use Rattle.mpd_session.specs.Sessions.{Blames, BlamesNone, BlamesReader, BlamesWriter, HasFailedSince, ReadsAs, ReadsOn, Runs, Says, Sends, StaysClosed, TellsOf, Turns, coming, end_by as end_by_lem, end_in_list as end_in_list_lem, held_of, opening, pending_of};
+
+use crate::end::{End, Goes, SessionFault};
+use crate::unsent::Unsent;
+use counted_devices::{Sink, Source};
+use counted_player::{Ledgers, Seat};
+use house::House;
+use mpd_answers::{Asker, Gatherer, Owed, Sequel, ask};
+use mpd_text::{Line, SplitFault, Splitter};
+use shelf::Shelf;
+use std::alloc::{AllocError, Global};
+use std::collections::VecDeque;
+use std::io::ErrorKind;
+use std::sync::Wait;
+
+/// The most bytes that are held unsent behind a turn (this profile's).
+const MAX_UNSENT: usize = 16_777_216;
+
+/// How many bytes a turn reads at most. What the lines in so many bytes ask for is what others may have to wait for.
+const PIECE: usize = 4_096;
+
+const GREETING: &str = "OK MPD 0.23.0\n";
+
+/// What a session has: of its client's bytes what is not answered, and of its answers what is not written.
+#[derive(Drop)]
+pub(crate) struct Conversation {
+    alloc: Global,
+    pub(crate) asker: Asker,
+    /// What was read and is not split, for want of memory.
+    piece: Vec<u8>,
+    splitter: Splitter,
+    /// Lines that are not run, for want of memory.
+    lines: VecDeque<Line>,
+    gatherer: Gatherer,
+    owed: Owed,
+    unsent: Unsent,
+    ended: Option<End>,
+    /// Whether its client may wait for a notice.
+    waits: bool,
+}
+
+impl Conversation {
+    /// That of a client that has connected. The greeting is not written yet.
+    pub(crate) fn new(alloc: Global, asker: Asker) -> Result<Conversation, AllocError>
+        ensures held { IfOk result (λ c. held_of c ≡ opening) }
+        ensures asker { IfOk result (λ c. c.asker ≡ asker) }
+    {
+        Ok(Conversation {
+            alloc,
+            asker,
+            piece: Vec::new(alloc),
+            splitter: Splitter::new(alloc),
+            lines: VecDeque::new(alloc),
+            gatherer: Gatherer::new(),
+            owed: Owed::Nothing,
+            unsent: Unsent::of(alloc, GREETING.as_bytes())?,
+            ended: None,
+            waits: false,
+        })
+    }
+
+    /// Why it is closed, if it is.
+    pub(crate) fn end(&self) -> Option<End>
+        ensures { result ≡ self.now.ended }
+    {
+        self.ended
+    }
+
+    /// Whether bytes for the client wait to be written, or to be put behind those.
+    pub(crate) fn has_unsent(&self) -> bool
+        ensures { result ≡ false → (held_of self.now).unsent ≡ [] }
+    {
+        !self.unsent.as_slice().is_empty() || !self.owed.is_nothing()
+    }
+
+    /// Whether its client may wait for a notice.
+    pub(crate) fn may_wait(&self) -> bool {
+        self.waits && self.ended.is_none()
+    }
+
+    /// Reads once, runs the lines that this ends, and writes until the writer would block.
+    pub(crate) fn turn<L: Ledgers, I: Source, O: Sink, S: Shelf, R: Wait>(
+        &mut self,
+        rt: &R,
+        reader: &mut I,
+        writer: &mut O,
+        house: &House<L>,
+        seat: &mut Seat<L>,
+        shelf: &mut S,
+    ) -> Result<Goes, SessionFault>
+        ensures asker { self.new.asker ≡ self.old.asker }
+        ensures turns { self.old.ended ≡ None → Turns (Answers S.standing S.failed self.old.asker) (held_of self.old) (caller seat.old shelf.old) (I.remaining reader.old) (O.contents writer.old) (held_of self.new) (caller seat.new shelf.new) (I.remaining reader.new) (O.contents writer.new) }
+        ensures closed { self.old.ended ≢ None → StaysClosed (held_of self.old) (O.contents writer.old) (held_of self.new) (O.contents writer.new) }
+        ensures goes { result ≡ Ok Goes.On → (self.new.ended ≡ None) × (self.new.lines.items ≡ []) × (self.new.piece.items ≡ []) }
+        ensures ends { (end : End) → result ≡ Ok (Goes.Closed end) → self.new.ended ≡ Some end }
+        ensures read_fault { result ≡ Err SessionFault.ReadFault → self.new.ended ≡ Some End.ReadFault }
+        ensures write_fault { result ≡ Err SessionFault.WriteFault → self.new.ended ≡ Some End.WriteFault }
+        ensures blamed { self.old.ended ≡ None → Blames self.new.ended (I.tally reader.old) (I.tally reader.new) (O.tally writer.old) (O.tally writer.new) }
+    {
+        if let Some(end) = self.ended {
+            let _settled = self.settle();
+            self.send(writer);
+            return Ok(Goes::Closed(end));
+        }
+        let heard = self.hear(rt, reader, writer, house, seat, shelf);
+        self.send(writer);
+        let all = heard.is_ok() && self.piece.is_empty();
+        answer_of(self.ended, all)
+    }
+
+    /// Reads once, and runs the lines that this ends.
+    fn hear<L: Ledgers, I: Source, O: Sink, S: Shelf, R: Wait>(
+        &mut self,
+        rt: &R,
+        reader: &mut I,
+        writer: &mut O,
+        house: &House<L>,
+        seat: &mut Seat<L>,
+        shelf: &mut S,
+    ) -> Result<(), AllocError>
+        requires { self.old.ended ≡ None }
+        ensures asker { self.new.asker ≡ self.old.asker }
+        ensures turns { Turns (Answers S.standing S.failed self.old.asker) (held_of self.old) (caller seat.old shelf.old) (I.remaining reader.old) (O.contents writer.old) (held_of self.new) (caller seat.new shelf.new) (I.remaining reader.new) (O.contents writer.new) }
+        ensures all { OnOk result (self.new.ended ≡ None → self.new.lines.items ≡ []) }
+        ensures calm { (O.tally writer.old).failures ≤ (O.tally writer.new).failures }
+        ensures blamed { Blames self.new.ended (I.tally reader.old) (I.tally reader.new) (O.tally writer.old) (O.tally writer.new) }
+    {
+        self.settle()?;
+        self.tell(rt, house)?;
+        self.take_in(reader)?;
+        if self.ended.is_some() {
+            return Ok(());
+        }
+        self.run(rt, writer, house, seat, shelf)
+    }
+
+    /// Reads once where nothing waits, and splits what was read.
+    fn take_in<I: Source>(&mut self, reader: &mut I) -> Result<(), AllocError>
+        requires { self.old.ended ≡ None }
+        ensures frame { self.new ≡ record self.old { splitter = self.new.splitter; lines = self.new.lines; piece = self.new.piece; ended = self.new.ended } }
+        ensures reads { ReadsOn (held_of self.old) (I.remaining reader.old) (held_of self.new) (I.remaining reader.new) }
+        ensures blamed { BlamesReader self.new.ended (I.tally reader.old) (I.tally reader.new) }
+    {
+        if !self.lines.is_empty() {
+            return Ok(());
+        }
+        self.read_in(reader)?;
+        self.split()
+    }
+
+    /// Reads once, but not where a piece waits to be split.
+    fn read_in<I: Source>(&mut self, reader: &mut I) -> Result<(), AllocError>
+        requires goes { self.old.ended ≡ None }
+        requires lines { self.old.lines.items ≡ [] }
+        ensures frame { self.new ≡ record self.old { piece = self.new.piece; ended = self.new.ended } }
+        ensures reads { ReadsOn (held_of self.old) (I.remaining reader.old) (held_of self.new) (I.remaining reader.new) }
+        ensures blamed { BlamesReader self.new.ended (I.tally reader.old) (I.tally reader.new) }
+    {
+        if !self.piece.is_empty() {
+            return Ok(());
+        }
+        self.read(reader)
+    }
+
+    /// Puts what is owed behind the unsent bytes.
+    fn settle(&mut self) -> Result<(), AllocError>
+        ensures frame { self.new ≡ record self.old { unsent = self.new.unsent; owed = self.new.owed } }
+        ensures held { held_of self.new ≡ held_of self.old }
+        ensures nothing { OnOk result (owed_bytes self.new.owed ≡ []) }
+    {
+        let mut bytes = Vec::new(self.alloc);
+        self.owed.push_to(self.alloc, &mut bytes)?;
+        self.unsent.push(bytes.as_slice())?;
+        self.owed = Owed::Nothing;
+        Ok(())
+    }
+
+    /// Takes the notice that waits.
+    fn tell<L: Ledgers, R: Wait>(&mut self, rt: &R, house: &House<L>) -> Result<(), AllocError>
+        requires { owed_bytes self.old.owed ≡ [] }
+        ensures frame { self.new ≡ record self.old { unsent = self.new.unsent; owed = self.new.owed; waits = self.new.waits } }
+        ensures told { TellsOf (held_of self.old).unsent (held_of self.new).unsent }
+        ensures nothing { OnOk result (owed_bytes self.new.owed ≡ []) }
+    {
+        let notice = house.outbox(rt, self.asker.client);
+        self.waits = self.waits && notice.is_none();
+        self.owed = Owed::of_notice(notice);
+        self.settle()
+    }
+
+    /// Reads once.
+    fn read<I: Source>(&mut self, reader: &mut I) -> Result<(), AllocError>
+        requires goes { self.old.ended ≡ None }
+        requires none { self.old.piece.items ≡ [] }
+        ensures frame { self.new ≡ record self.old { piece = self.new.piece; ended = self.new.ended } }
+        ensures was { self.old.piece.items ≡ [] }
+        ensures reads { Consumes (I.remaining reader.old) (I.remaining reader.new) self.new.piece.items }
+        ensures ends { ReadsAs self.old.ended self.new.piece.items self.new.ended }
+        ensures blamed { BlamesReader self.new.ended (I.tally reader.old) (I.tally reader.new) }
+    {
+        self.piece.resize(PIECE, 0)?;
+        let Got { count, end } = read_some(reader, self.piece.as_mut_slice());
+        self.piece.truncate(count);
+        self.ended = end;
+        Ok(())
+    }
+
+    /// Splits what was read into lines.
+    fn split(&mut self) -> Result<(), AllocError>
+        requires { self.old.lines.items ≡ [] }
+        ensures frame { self.new ≡ record self.old { splitter = self.new.splitter; lines = self.new.lines; piece = self.new.piece } }
+        ensures coming { coming (pending_of self.new) ≡ coming (pending_of self.old) }
+        ensures all { OnOk result (self.new.piece.items ≡ []) }
+    {
+        if self.piece.is_empty() {
+            return Ok(());
+        }
+        let lines = split_piece(&mut self.splitter, self.piece.as_slice())?;
+        self.lines = VecDeque::from(lines);
+        self.piece.clear();
+        Ok(())
+    }
+
+    /// Runs the lines that wait.
+    fn run<L: Ledgers, O: Sink, S: Shelf, R: Wait>(
+        &mut self,
+        rt: &R,
+        writer: &mut O,
+        house: &House<L>,
+        seat: &mut Seat<L>,
+        shelf: &mut S,
+    ) -> Result<(), AllocError>
+        requires goes { self.old.ended ≡ None }
+        requires nothing { owed_bytes self.old.owed ≡ [] }
+        ensures asker { self.new.asker ≡ self.old.asker }
+        ensures runs { Runs (Answers S.standing S.failed self.old.asker) (held_of self.old) (caller seat.old shelf.old) (O.contents writer.old) (held_of self.new) (caller seat.new shelf.new) (O.contents writer.new) }
+        ensures all { OnOk result (self.new.ended ≡ None → self.new.lines.items ≡ []) }
+        ensures calm { (O.tally writer.old).failures ≤ (O.tally writer.new).failures }
+        ensures blamed { BlamesWriter self.new.ended (O.tally writer.old) (O.tally writer.new) }
+    {
+        while self.has_work() {
+            self.step(rt, house, seat, shelf)?;
+            if self.unsent.as_slice().len() > MAX_UNSENT {
+                self.send(writer);
+            }
+        }
+        self.end_lines();
+        Ok(())
+    }
+
+    /// Whether a line waits in an open session.
+    fn has_work(&self) -> bool
+        ensures works { result ≡ true → (self.now.ended ≡ None) × (self.now.lines.items ≢ []) }
+        ensures rests { result ≡ false → self.now.ended ≡ None → self.now.lines.items ≡ [] }
+    {
+        self.ended.is_none() && !self.lines.is_empty()
+    }
+
+    /// Closes an open session where a line was too long, once all lines before it are run.
+    fn end_lines(&mut self)
+        requires { self.old.ended ≡ None → self.old.lines.items ≡ [] }
+        ensures frame { self.new ≡ record self.old { ended = self.new.ended } }
+        ensures ends { (self.new.ended ≡ self.old.ended) ⊎ ((self.old.ended ≡ None) × (self.new.ended ≡ Some End.LongLine) × (self.old.lines.items ≡ []) × (self.old.piece.items ≡ []) × (self.old.splitter ≡ None)) }
+    {
+        if self.ended.is_none() && self.piece.is_empty() && self.splitter.is_closed() {
+            self.ended = Some(End::LongLine);
+        }
+    }
+
+    /// Takes the first line that waits, and runs what it completes.
+    fn step<L: Ledgers, S: Shelf, R: Wait>(
+        &mut self,
+        rt: &R,
+        house: &House<L>,
+        seat: &mut Seat<L>,
+        shelf: &mut S,
+    ) -> Result<(), AllocError>
+        requires goes { self.old.ended ≡ None }
+        requires nothing { owed_bytes self.old.owed ≡ [] }
+        requires some { self.old.lines.items ≢ [] }
+        ensures asker { self.new.asker ≡ self.old.asker }
+        ensures says { Says (Answers S.standing S.failed self.old.asker) (held_of self.old) (caller seat.old shelf.old) (held_of self.new) (caller seat.new shelf.new) }
+        ensures nothing { OnOk result (owed_bytes self.new.owed ≡ []) }
+        ensures shorter { OnOk result (length self.new.lines.items + 1 ≡ length self.old.lines.items) }
+        ensures piece { self.new.piece ≡ self.old.piece }
+        ensures blameless { BlamesNone self.new.ended }
+    {
+        self.tell(rt, house)?;
+        let Some(asked) = self.gatherer.take(self.alloc, &mut self.lines)? else {
+            self.ended = end_in_list(self.gatherer.is_over());
+            return Ok(());
+        };
+        let (owed, sequel) = ask(rt, self.alloc, house, seat, shelf, self.asker, &asked);
+        self.waits = owed.leaves_waiting(self.waits);
+        self.owed = owed;
+        self.ended = end_by(sequel);
+        self.settle()
+    }
+
+    /// Writes until the writer would block, but not where that was given up.
+    fn send<O: Sink>(&mut self, writer: &mut O)
+        ensures frame { self.new ≡ record self.old { unsent = self.new.unsent; ended = self.new.ended } }
+        ensures sends { Sends (held_of self.old) (O.contents writer.old) (held_of self.new) (O.contents writer.new) }
+        ensures failed { self.new.ended ≡ Some End.WriteFault → (self.old.ended ≡ Some End.WriteFault) ⊎ HasFailedSince (O.tally writer.old) (O.tally writer.new) }
+        ensures calm { (O.tally writer.old).failures ≤ (O.tally writer.new).failures }
+    {
+        if is_given_up(self.ended) {
+            return;
+        }
+        let Sent { count, failed } = send_some(writer, self.unsent.as_slice());
+        self.unsent.drop_front(count);
+        self.ended = end_after(self.ended, failed, self.unsent.as_slice());
+    }
+}
+
+/// How many bytes a reader gave, and whether it ended or failed.
+#[derive(Clone, Copy)]
+struct Got {
+    count: usize,
+    end: Option<End>,
+}
+
+/// Reads once. To read nothing from a reader that would block is no fault.
+fn read_some<I: Source>(reader: &mut I, buf: &mut [u8]) -> Got
+    ensures count { result.count ≤ length buf.new }
+    ensures bytes { Consumes (I.remaining reader.old) (I.remaining reader.new) (take result.count buf.new) }
+    ensures ends { (result.end ≡ None) ⊎ ((result.count ≡ 0) × ((result.end ≡ Some End.NoPeer) ⊎ (result.end ≡ Some End.ReadFault))) }
+    ensures blamed { BlamesReader result.end (I.tally reader.old) (I.tally reader.new) }
+{
+    match reader.read_some(buf) {
+        Ok(0) => Got {
+            count: 0,
+            end: Some(End::NoPeer),
+        },
+        Ok(count) => Got { count, end: None },
+        Err(fault) => Got {
+            count: 0,
+            end: end_of_fault(fault.kind()),
+        },
+    }
+}
+
+/// The end by a read that failed so.
+fn end_of_fault(fault: ErrorKind) -> Option<End>
+    ensures { (result ≡ None) ⊎ ((result ≡ Some End.ReadFault) × (fault ≢ ErrorKind.WouldBlock)) }
+{
+    if is_failure(fault) {
+        Some(End::ReadFault)
+    } else {
+        None
+    }
+}
+
+/// Whether a device failed, and did not only have to wait.
+fn is_failure(fault: ErrorKind) -> bool
+    ensures { result ≡ true → fault ≢ ErrorKind.WouldBlock }
+{
+    fault != ErrorKind::WouldBlock
+}
+
+/// The lines that the piece ends, also where a longer one comes behind them.
+fn split_piece(splitter: &mut Splitter, piece: &[u8]) -> Result<Vec<Line>, AllocError>
+    ensures lines { IfOk result (λ lines. views lines.items ≡ map line_of (split_from splitter.old piece.now).lines) }
+    ensures next { OnOk result (splitter.new ≡ (split_from splitter.old piece.now).next) }
+    ensures err { OnErr result (splitter.new ≡ splitter.old) }
+{
+    match splitter.feed(piece) {
+        Ok(lines) => Ok(lines),
+        Err(SplitFault::LineTooLong(lines)) => Ok(lines),
+        Err(SplitFault::NoMemory) => Err(AllocError),
+    }
+}
+
+/// Whether nothing more is written to a session's client.
+fn is_given_up(ended: Option<End>) -> bool
+    ensures { result ≡ false → ended ≢ Some End.Unsent }
+{
+    matches!(ended, Some(End::Unsent | End::WriteFault))
+}
+
+/// What a turn answers that leaves a session so.
+fn answer_of(ended: Option<End>, all: bool) -> Result<Goes, SessionFault>
+    ensures goes { result ≡ Ok Goes.On → (ended ≡ None) × (all ≡ true) }
+    ensures ends { (end : End) → result ≡ Ok (Goes.Closed end) → ended ≡ Some end }
+    ensures read_fault { result ≡ Err SessionFault.ReadFault → ended ≡ Some End.ReadFault }
+    ensures write_fault { result ≡ Err SessionFault.WriteFault → ended ≡ Some End.WriteFault }
+{
+    match ended {
+        Some(End::ReadFault) => Err(SessionFault::ReadFault),
+        Some(End::WriteFault) => Err(SessionFault::WriteFault),
+        Some(end) => Ok(Goes::Closed(end)),
+        None => {
+            if all {
+                Ok(Goes::On)
+            } else {
+                Err(SessionFault::NoMemory)
+            }
+        }
+    }
+}
+
+/// The end of a session by what follows an answer.
+fn end_by(sequel: Sequel) -> Option<End>
+    ensures end { result ≡ end_by_lem sequel }
+    ensures blameless { BlamesNone result }
+{
+    match sequel {
+        Sequel::Stays => None,
+        Sequel::Leaves => Some(End::Left),
+        Sequel::Kills => Some(End::Killed),
+    }
+}
+
+/// The end of a session by a list that is too large.
+fn end_in_list(is_over: bool) -> Option<End>
+    ensures end { result ≡ end_in_list_lem is_over }
+    ensures blameless { BlamesNone result }
+{
+    if is_over { Some(End::LargeList) } else { None }
+}
+
+/// The end of a session after a write that leaves these bytes.
+fn end_after(ended: Option<End>, failed: bool, left: &[u8]) -> Option<End>
+    ensures end { (result ≡ ended) ⊎ ((ended ≡ None) × ((result ≡ Some End.WriteFault) ⊎ ((result ≡ Some End.Unsent) × (16777216 < length left.now)))) }
+    ensures failed { result ≡ Some End.WriteFault → (ended ≡ Some End.WriteFault) ⊎ (failed ≡ true) }
+{
+    if ended.is_some() {
+        return ended;
+    }
+    if failed {
+        return Some(End::WriteFault);
+    }
+    if left.len() > MAX_UNSENT {
+        return Some(End::Unsent);
+    }
+    None
+}
+
+/// How many bytes a writer took, and whether it failed then.
+#[derive(Clone, Copy)]
+struct Sent {
+    count: usize,
+    failed: bool,
+}
+
+/// Writes until the writer would block or fails.
+fn send_some<O: Sink>(writer: &mut O, bytes: &[u8]) -> Sent
+    ensures count { result.count ≤ length bytes.now }
+    ensures written { Appends (O.contents writer.old) (O.contents writer.new) (take result.count bytes.now) }
+    ensures failed { result.failed ≡ true → HasFailedSince (O.tally writer.old) (O.tally writer.new) }
+    ensures calm { (O.tally writer.old).failures ≤ (O.tally writer.new).failures }
+{
+    let mut count = 0;
+    while count < bytes.len() {
+        match writer.write_some(&bytes[count..]) {
+            Ok(0) => return Sent {
+                count,
+                failed: true,
+            },
+            Ok(n) => count += n,
+            Err(fault) => {
+                let failed = is_failure(fault.kind());
+                return Sent { count, failed };
+            }
+        }
+    }
+    Sent {
+        count,
+        failed: false,
+    }
+}

@@ -1,0 +1,93 @@
+//! One client's session.
+ghost use Rattle.std.specs.Prelude.{◌≡◌};
+
+use crate::conversation::Conversation;
+use crate::end::{End, Goes, SessionFault};
+use counted_devices::{Sink, Source};
+use counted_player::{Ledgers, Seat};
+use house::House;
+use mpd_answers::Asker;
+use shelf::Shelf;
+use std::alloc::{AllocError, Global};
+use std::marker::Model;
+use std::sync::Wait;
+
+/// One client's session. A clause sees whose it is, what came that is not answered, what is not written, and why it is closed.
+#[derive(Drop)]
+pub struct Session {
+    conversation: Conversation,
+}
+
+impl Model for Session {
+    ghost use Rattle.mpd_session.specs.Sessions.{SessionData, session_of};
+
+    ghost Value = { SessionData };
+
+    ghost view = { λ s. session_of s.conversation };
+}
+
+impl Session {
+    ghost use Rattle.std.specs.Prelude.{◌≡◌, ◌≢◌, [], None, Some, Ok, Err, false, IfOk};
+    ghost use Rattle.mpd_answers.specs.Answers.{Answers, caller};
+    ghost use Rattle.mpd_session.specs.Sessions.{Blames, StaysClosed, Turns, opening};
+    ghost use Rattle.mpd_session.specs.declared.end.End.{End};
+
+    /// The session of a client that the player let in. Nothing was read, and its greeting is not written yet.
+    pub fn new(alloc: Global, asker: Asker) -> Result<Session, AllocError>
+        ensures { IfOk result (λ s. s ≡ record { asker = asker; held = opening }) }
+    {
+        let conversation = Conversation::new(alloc, asker)?;
+        Ok(Session { conversation })
+    }
+
+    /// Why it is closed, if it is.
+    pub fn end(&self) -> Option<End>
+        ensures { result ≡ self.now.held.ended }
+    {
+        self.conversation.end()
+    }
+
+    /// Whether bytes for the client wait to be written.
+    pub fn has_unsent(&self) -> bool
+        ensures { result ≡ false → self.now.held.unsent ≡ [] }
+    {
+        self.conversation.has_unsent()
+    }
+
+    /// Whether a notice may come for its client. Where there is none to come, this may still be so.
+    pub fn may_wait(&self) -> bool {
+        self.conversation.may_wait()
+    }
+
+    /// Reads once, runs the lines that this ends, and writes until the writer would block.
+    ///
+    /// Some bytes are read. Of all that came so far, the first that is asked is answered, each by one answer that the player of one thread
+    /// may give, with notices between; what is not answered is held, so that nothing is lost or answered twice, wherever the bytes are
+    /// cut. What was written and what is held unsent grow by just these answers. A turn of a closed session only writes.
+    ///
+    /// # Errors
+    ///
+    /// [`SessionFault::ReadFault`] and [`SessionFault::WriteFault`] close the session. After [`SessionFault::NoMemory`] the next turn goes
+    /// on with what was kept before it reads.
+    pub fn turn<L: Ledgers, I: Source, O: Sink, S: Shelf, R: Wait>(
+        &mut self,
+        rt: &R,
+        reader: &mut I,
+        writer: &mut O,
+        house: &House<L>,
+        seat: &mut Seat<L>,
+        shelf: &mut S,
+    ) -> Result<Goes, SessionFault>
+        ensures asker { self.new.asker ≡ self.old.asker }
+        ensures turns { self.old.held.ended ≡ None → Turns (Answers S.standing S.failed self.old.asker) self.old.held (caller seat.old shelf.old) (I.remaining reader.old) (O.contents writer.old) self.new.held (caller seat.new shelf.new) (I.remaining reader.new) (O.contents writer.new) }
+        ensures closed { self.old.held.ended ≢ None → StaysClosed self.old.held (O.contents writer.old) self.new.held (O.contents writer.new) }
+        ensures goes { result ≡ Ok Goes.On → (self.new.held.ended ≡ None) × (self.new.held.pending.lines ≡ []) × (self.new.held.pending.piece ≡ []) }
+        ensures ends { (end : End) → result ≡ Ok (Goes.Closed end) → self.new.held.ended ≡ Some end }
+        ensures read_fault { result ≡ Err SessionFault.ReadFault → self.new.held.ended ≡ Some End.ReadFault }
+        ensures write_fault { result ≡ Err SessionFault.WriteFault → self.new.held.ended ≡ Some End.WriteFault }
+        ensures blamed { self.old.held.ended ≡ None → Blames self.new.held.ended (I.tally reader.old) (I.tally reader.new) (O.tally writer.old) (O.tally writer.new) }
+    {
+        self.conversation
+            .turn(rt, reader, writer, house, seat, shelf)
+    }
+}

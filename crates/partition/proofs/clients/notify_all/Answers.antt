@@ -1,9 +1,0 @@
-use Rattle.std.proofs.Common.{arith}
-use Rattle.std.proofs.lemmas.Grind.{common_steps}
-use Rattle.std.proofs.lemmas.List.Edits.{map_over_more}
-use Rattle.partition.specs.Clients.{notified}
-use Rattle.partition.specs.Signs.{raised_in}
-use Rattle.partition.proofs.clients.notify_all.Goals as goal
-
-pub loop-client-preserved : goal.loop-client-preserved
-loop-client-preserved c = rw c.notify.ensures (grind (arith, common_steps, map_over_more (notified (raised_in c.args.raised.now))))

@@ -1,8 +1,0 @@
-use Rattle.std.proofs.Common.{◌≡◌, ◌++◌, drop}
-use Rattle.std.specs.List.{flat_map}
-use Rattle.partition.specs.Commands.Messages.{message_lines}
-use Rattle.partition.proofs.commands.messages.push_messages.Given as goal
-
-abbrev pub invariant-loop-message : goal.invariant-loop-message
-invariant-loop-message l =
-    l.lines ++ flat_map message_lines (drop l.message-index l.messages) ≡ l.initial.lines ++ flat_map message_lines l.messages

@@ -1,0 +1,125 @@
+-- An event may go to another thread. A filter is a tree that holds itself, and `search` does not go through a command's many
+-- variants at one call: so each type between a filter and an event has its lemma.
+use denote.Param.Send.{IsSend, sendable, view_send}
+use denote.Param.SendFields.{declared_send, variants_send}
+use Rattle.std.proofs.Crossing.{crosses}
+use Rattle.filters.proofs.expression.Filter.TheLaws.TheKnot as filter
+use Rattle.mpd_command.proofs.name.Name.TheSendSync as name
+use Rattle.mpd_command.proofs.request.Ack.TheSendSync as ack
+use Rattle.mpd_command.specs.contracts.command.Command as Command
+use Rattle.mpd_command.specs.contracts.request.Request as Request
+use Rattle.mpd_command.specs.contracts.wanted.FilterHandle as Handle
+use Rattle.player_events.proofs.event.Outcome.TheSendSync as outcome
+use Rattle.command_plan.proofs.shelf_calls.Heard.TheSendSync as heard
+use Rattle.player_events.specs.contracts.event.Event as Event
+use Rattle.player_events.specs.contracts.event.Happened as Happened
+
+-- One field, or one variant, and the next.
+infixr 30 ◌⨟◌
+pub ◌⨟◌ : {A B : Type 0} → A → B → A × B
+a ⨟ b = (a, b)
+
+ruleset parts = (crosses, sendable)
+
+handle_send : IsSend Handle.the_row
+handle_send = search (filter.crosses, parts) depth 60 fits 20000
+
+ruleset with_filter = (handle_send, parts)
+
+command_send : IsSend Command.the_row
+command_send = variants_send Command.enum (
+    (search parts depth 60 fits 20000 ⨟ tt) ⨟
+    (search parts depth 60 fits 20000 ⨟ search parts depth 60 fits 20000 ⨟ tt) ⨟
+    tt ⨟
+    tt ⨟
+    tt ⨟
+    tt ⨟
+    (search parts depth 60 fits 20000 ⨟ tt) ⨟
+    (search parts depth 60 fits 20000 ⨟ tt) ⨟
+    (search with_filter depth 60 fits 20000 ⨟ tt) ⨟
+    (search parts depth 60 fits 20000 ⨟ tt) ⨟
+    tt ⨟
+    (search parts depth 60 fits 20000 ⨟ tt) ⨟
+    (search parts depth 60 fits 20000 ⨟ tt) ⨟
+    (search parts depth 60 fits 20000 ⨟ tt) ⨟
+    (search parts depth 60 fits 20000 ⨟ tt) ⨟
+    (search with_filter depth 60 fits 20000 ⨟ search parts depth 60 fits 20000 ⨟ tt) ⨟
+    (search with_filter depth 60 fits 20000 ⨟ tt) ⨟
+    tt ⨟
+    (search parts depth 60 fits 20000 ⨟ tt) ⨟
+    tt ⨟
+    (search parts depth 60 fits 20000 ⨟ search with_filter depth 60 fits 20000 ⨟ tt) ⨟
+    (search parts depth 60 fits 20000 ⨟ tt) ⨟
+    (search parts depth 60 fits 20000 ⨟ tt) ⨟
+    (search parts depth 60 fits 20000 ⨟ tt) ⨟
+    tt ⨟
+    (search parts depth 60 fits 20000 ⨟ search parts depth 60 fits 20000 ⨟ tt) ⨟
+    (search parts depth 60 fits 20000 ⨟ tt) ⨟
+    (search parts depth 60 fits 20000 ⨟ search parts depth 60 fits 20000 ⨟ tt) ⨟
+    (search parts depth 60 fits 20000 ⨟ search parts depth 60 fits 20000 ⨟ tt) ⨟
+    tt ⨟
+    tt ⨟
+    (search parts depth 60 fits 20000 ⨟ tt) ⨟
+    tt ⨟
+    (search parts depth 60 fits 20000 ⨟ tt) ⨟
+    tt ⨟
+    (search parts depth 60 fits 20000 ⨟ tt) ⨟
+    (search parts depth 60 fits 20000 ⨟ tt) ⨟
+    (search parts depth 60 fits 20000 ⨟ search parts depth 60 fits 20000 ⨟ tt) ⨟
+    (search parts depth 60 fits 20000 ⨟ tt) ⨟
+    (search parts depth 60 fits 20000 ⨟ search parts depth 60 fits 20000 ⨟ tt) ⨟
+    (search parts depth 60 fits 20000 ⨟ tt) ⨟
+    (search parts depth 60 fits 20000 ⨟ tt) ⨟
+    (search parts depth 60 fits 20000 ⨟ search parts depth 60 fits 20000 ⨟ search parts depth 60 fits 20000 ⨟ tt) ⨟
+    (search parts depth 60 fits 20000 ⨟ search parts depth 60 fits 20000 ⨟ tt) ⨟
+    (search parts depth 60 fits 20000 ⨟ search parts depth 60 fits 20000 ⨟ tt) ⨟
+    tt ⨟
+    (search parts depth 60 fits 20000 ⨟ search parts depth 60 fits 20000 ⨟ tt) ⨟
+    (search parts depth 60 fits 20000 ⨟ search parts depth 60 fits 20000 ⨟ tt) ⨟
+    (search parts depth 60 fits 20000 ⨟ tt) ⨟
+    tt ⨟
+    (search parts depth 60 fits 20000 ⨟ search parts depth 60 fits 20000 ⨟ tt) ⨟
+    (search parts depth 60 fits 20000 ⨟ tt) ⨟
+    (search parts depth 60 fits 20000 ⨟ tt) ⨟
+    (search parts depth 60 fits 20000 ⨟ tt) ⨟
+    (search parts depth 60 fits 20000 ⨟ tt) ⨟
+    (search with_filter depth 60 fits 20000 ⨟ search parts depth 60 fits 20000 ⨟ tt) ⨟
+    (search with_filter depth 60 fits 20000 ⨟ tt) ⨟
+    (search parts depth 60 fits 20000 ⨟ search parts depth 60 fits 20000 ⨟ tt) ⨟
+    (search parts depth 60 fits 20000 ⨟ tt) ⨟
+    (search parts depth 60 fits 20000 ⨟ search parts depth 60 fits 20000 ⨟ tt) ⨟
+    (search parts depth 60 fits 20000 ⨟ search parts depth 60 fits 20000 ⨟ tt) ⨟
+    (search parts depth 60 fits 20000 ⨟ tt) ⨟
+    (search parts depth 60 fits 20000 ⨟ tt) ⨟
+    (search parts depth 60 fits 20000 ⨟ tt) ⨟
+    tt ⨟
+    (search parts depth 60 fits 20000 ⨟ tt) ⨟
+    tt ⨟
+    (search parts depth 60 fits 20000 ⨟ tt) ⨟
+    (search parts depth 60 fits 20000 ⨟ search parts depth 60 fits 20000 ⨟ tt) ⨟
+    (search parts depth 60 fits 20000 ⨟ search parts depth 60 fits 20000 ⨟ tt) ⨟
+    tt ⨟
+    (search parts depth 60 fits 20000 ⨟ tt) ⨟
+    (search parts depth 60 fits 20000 ⨟ tt) ⨟
+    (search parts depth 60 fits 20000 ⨟ tt) ⨟
+    tt)
+
+request_send : IsSend Request.the_row
+request_send = variants_send Request.enum ((name.the_send ⨟ command_send ⨟ tt) ⨟ (ack.the_send ⨟ tt) ⨟ tt)
+
+event_send : IsSend Event.the_row
+event_send = variants_send Event.enum (
+    (search parts depth 60 fits 20000 ⨟ tt) ⨟
+    (search parts depth 60 fits 20000 ⨟ tt) ⨟
+    (search parts depth 60 fits 20000 ⨟ search parts depth 60 fits 20000 ⨟ request_send ⨟ heard.the_send ⨟ tt) ⨟
+    tt ⨟
+    (search parts depth 60 fits 20000 ⨟ tt) ⨟
+    (search parts depth 60 fits 20000 ⨟ tt) ⨟
+    (search parts depth 60 fits 20000 ⨟ search parts depth 60 fits 20000 ⨟ tt) ⨟
+    (search parts depth 60 fits 20000 ⨟ search parts depth 60 fits 20000 ⨟ tt) ⨟
+    (search parts depth 60 fits 20000 ⨟ search parts depth 60 fits 20000 ⨟ search parts depth 60 fits 20000 ⨟ search parts depth 60 fits 20000 ⨟ tt) ⨟
+    tt ⨟
+    tt)
+
+pub happened_send : IsSend Happened.the_row
+happened_send = declared_send Happened.the_type (search parts depth 60 fits 20000 ⨟ event_send ⨟ outcome.the_send ⨟ tt)

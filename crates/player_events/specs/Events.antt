@@ -1,0 +1,46 @@
+-- What can be read of an event, and of what it makes clients hear.
+use Rattle.std.specs.Prelude.{Bool, true, false, ◌||◌, Option, Some, None}
+use Rattle.mpd_command.specs.declared.name.Name.{Name}
+use Rattle.mpd_command.specs.declared.request.Request.{Request}
+use Rattle.mpd_command.specs.declared.request.Request.TheVariants.{Run, Refused}
+use Rattle.command_plan.specs.Shelves.{nothing_heard}
+use Rattle.command_plan.specs.declared.asked.Stand.{Stand}
+use Rattle.command_plan.specs.declared.asked.Stand.TheVariants.{Alone}
+use Rattle.command_plan.specs.declared.shelf_calls.Heard.{Heard}
+use Rattle.idle_clients.specs.Clients.{closes}
+use Rattle.player_events.specs.declared.event.Event.{Event}
+use Rattle.player_events.specs.declared.event.Event.TheVariants.{Line}
+use Rattle.player_events.specs.Told.{Told}
+
+-- a line is the one event that a shelf is lent to
+abbrev pub is_line : Event → Bool
+is_line (Line number stand request heard) = true
+is_line _ = false
+
+-- the command that a request names, if it names one
+abbrev pub name_of : Request → Option Name
+name_of (Run name command) = Some name
+name_of (Refused ack) = ack.command
+
+-- what a shelf answered to an event
+abbrev pub heard_at : Event → Heard
+heard_at (Line number stand request heard) = heard
+heard_at _ = nothing_heard
+
+-- how a line comes, and the command that it names, for what the shelf refuses
+abbrev pub stand_of : Event → Stand
+stand_of (Line number stand request heard) = stand
+stand_of _ = Alone
+
+abbrev pub name_at : Event → Option Name
+name_at (Line number stand request heard) = name_of request
+name_at _ = None
+
+-- the event, with what a shelf answered to it
+abbrev pub hearing : Event → Heard → Event
+hearing (Line number stand request before) heard = Line number stand request heard
+hearing event heard = event
+
+-- a list ends at its first refusal, and where its client is closed
+abbrev pub ends_list : Told → Bool
+ends_list t = t.answer.refused || closes t.answer.next

@@ -1,0 +1,141 @@
+//! Events, and what they make clients hear.
+ghost use Rattle.std.specs.Prelude.{◌≡◌, Some};
+ghost use Rattle.command_plan.specs.Shelves.{nothing_heard};
+ghost use Rattle.player_events.specs.Events.{hearing, heard_at};
+ghost use Rattle.player_events.specs.Events.{is_line as is_line_lem};
+ghost use Rattle.player_events.specs.declared.event.Event.{Event};
+
+use command_plan::{Heard, Next, Reply, Stand};
+use idle_clients::{Notice, Notices};
+use mpd_command::Request;
+use player_state::Report;
+use shelf::ShelfFault;
+use song_db::SharedDb;
+use std::marker::Model;
+
+/// Something that happens to the player. Each is applied whole.
+#[derive(Drop)]
+pub enum Event {
+    /// A client comes under a number of its own.
+    Connect(u32),
+    /// A client goes.
+    Disconnect(u32),
+    /// A line of a client, how it comes, and what the lent shelf answered to it. That is put in as the event is applied, in place of
+    /// whatever was there.
+    Line(u32, Stand, Request, Heard),
+    /// Whether a scan is to be made.
+    ScanQuestion,
+    /// The library that a scan found; one that failed found none.
+    ScanResult(Option<SharedDb>),
+    /// The decoder wants a job; whether a feeder still owes frames of an earlier one.
+    Want(bool),
+    /// So many frames of a job are decoded.
+    Have(u64, u64),
+    /// The song of a job could not be read, or where this is so, that of its partner in a fade.
+    Failed(u64, bool),
+    /// An output has its turn: its number, how many frames it wrote and discarded since its last one, and whether it failed.
+    OutputTurn(usize, u64, u64, bool),
+    /// The daemon ends: from now on nothing is decoded and no scan begins.
+    End,
+}
+
+impl Event {
+    /// A line of a client, before a shelf heard of it.
+    pub fn line(client: u32, stand: Stand, request: Request) -> Event
+        ensures { result ≡ Event.Line client stand request nothing_heard }
+    {
+        Event::Line(client, stand, request, Heard::nothing())
+    }
+
+    /// Whether a client said it. A shelf is lent to a line alone.
+    pub fn is_line(&self) -> bool
+        ensures { result ≡ is_line_lem self.now }
+    {
+        matches!(self, Event::Line(_, _, _, _))
+    }
+
+    /// Puts in what the shelf answered.
+    pub fn hear(&mut self, heard: Heard)
+        ensures { self.new ≡ hearing self.old heard }
+    {
+        match self {
+            Event::Line(_, _, _, before) => *before = heard,
+            _ => discard_heard(heard),
+        }
+    }
+}
+
+impl Event {
+    /// Puts in why the shelf refused what was to be written.
+    pub fn refuse(&mut self, fault: ShelfFault)
+        ensures { self.new ≡ hearing self.old (record (heard_at self.old) { refused = Some fault }) }
+    {
+        match self {
+            Event::Line(_, _, _, heard) => heard.refused = Some(fault),
+            _ => {}
+        }
+    }
+}
+
+/// Drops what a shelf answered. It is a function of its own, as [`discard`] is.
+fn discard_heard(_heard: Heard) {}
+
+/// Drops an event. It is a function of its own so that the proofs of what holds one do not go through every kind of event.
+pub fn discard(_event: Event) {}
+
+/// What an event makes clients hear.
+#[derive(Drop)]
+pub struct Outcome {
+    pub reply: Reply,
+    pub notices: Notices,
+    pub report: Report,
+}
+
+impl Model for Outcome {
+    ghost use Rattle.player_events.specs.Told.{Told};
+    ghost use Rattle.idle_clients.specs.Rooms.{listed};
+
+    ghost Value = { Told };
+
+    ghost view = { λ o. record { answer = o.reply; notices = listed o.notices; report = o.report } };
+}
+
+impl Outcome {
+    ghost use Rattle.player_events.specs.Events.{ends_list};
+
+    /// What the client is told that spoke, came or went.
+    pub fn reply(&self) -> &Reply
+        ensures { result.now ≡ self.now.answer }
+    {
+        &self.reply
+    }
+
+    /// Whether a command list ends with this outcome of one of its commands: it is a refusal, or it closes the client.
+    pub fn ends_list(&self) -> bool
+        ensures { result ≡ ends_list self.now }
+    {
+        self.reply.is_refusal() || matches!(self.reply.next(), Next::Closes)
+    }
+
+    /// What is told to a part of the daemon that is no client.
+    pub fn report(&self) -> Report
+        ensures { result ≡ self.now.report }
+    {
+        self.report
+    }
+
+    /// What others are told that waited, by rising client.
+    pub fn notices(&self) -> &[Notice]
+        ensures { result.now ≡ self.now.notices }
+    {
+        self.notices.as_slice()
+    }
+}
+
+/// One entry of the history: an event, whose it is, and what was told.
+#[derive(Drop)]
+pub struct Happened {
+    pub seat: u8,
+    pub event: Event,
+    pub told: Outcome,
+}

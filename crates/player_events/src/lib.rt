@@ -1,0 +1,8 @@
+//! Events, what they make clients hear, and how many bytes both have.
+#![tactic(auto)]
+
+mod event;
+mod sizes;
+
+pub use event::{Event, Happened, Outcome, discard};
+pub use sizes::event_bytes;

@@ -1,0 +1,16 @@
+//! The state of one player, and what an event does to it.
+#![tactic(auto)]
+
+mod books;
+mod doing;
+mod outputs;
+mod report;
+mod scan;
+mod state;
+
+pub use books::Books;
+pub use doing::{AudioStep, Doing, Effect, carry_out, done};
+pub use outputs::{MAX_OUTPUTS, Outputs};
+pub use report::{Feed, Report};
+pub use scan::{Scan, ScanMove};
+pub use state::{Client, Library, Part};

@@ -1,0 +1,3 @@
+pub mod Playback
+pub mod Queue
+pub mod Shown

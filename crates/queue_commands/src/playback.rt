@@ -1,0 +1,218 @@
+//! The commands that control what is played (MPD protocol reference, Controlling playback; `currentsong` and `clearerror`: Querying
+//! MPD's status).
+ghost use Rattle.std.specs.Prelude.{◌≡◌, ◌≤◌, ◌++◌, Some, IfOk, OnOk};
+ghost use Rattle.player_core.specs.Player.{is_stopped as is_stopped_lem};
+ghost use Rattle.queue_commands.specs.Playback.{clear_error as clear_error_lem, current_song as current_song_lem, elapsed as elapsed_lem, frame_at as frame_at_lem, lines_at, next as next_lem, pause as pause_lem, play as play_lem, play_id as play_id_lem, previous as previous_lem, seek as seek_lem, seek_cur as seek_cur_lem, seek_id as seek_id_lem, stop as stop_lem, time_of as time_of_lem};
+ghost use Rattle.command_plan.specs.Turns.{turn_by};
+
+use crate::queue_edits::current_place;
+use crate::queue_songs::push_entry;
+use command_plan::{Asked, Plan};
+use mpd_command::Seeking;
+use mpd_text::{Answer, Millis};
+use player_core::Playback;
+use player_state::{Effect, Library, Part};
+use song_db::{Rate, length_of};
+use std::alloc::{AllocError, Global};
+
+pub fn play(
+    alloc: Global,
+    asked: Asked,
+    part: &Part,
+    place: Option<u32>,
+) -> Result<Plan, AllocError>
+    ensures { IfOk result (λ plan. plan ≡ turn_by (play_lem asked part.now place)) }
+{
+    let Some(place) = place else {
+        return Plan::does(alloc, asked, Effect::Plays);
+    };
+    let place = place as usize;
+    if place >= part.queue.len() {
+        return Plan::bad_index(alloc, asked);
+    }
+    Plan::does(alloc, asked, Effect::PlaysPlace(place))
+}
+
+pub fn play_id(
+    alloc: Global,
+    asked: Asked,
+    part: &Part,
+    id: Option<u32>,
+) -> Result<Plan, AllocError>
+    ensures { IfOk result (λ plan. plan ≡ turn_by (play_id_lem asked part.now id)) }
+{
+    let Some(id) = id else {
+        return Plan::does(alloc, asked, Effect::Plays);
+    };
+    match part.queue.position_of(id) {
+        Some(place) => Plan::does(alloc, asked, Effect::PlaysPlace(place)),
+        None => Plan::no_such_song(alloc, asked),
+    }
+}
+
+pub fn pause(alloc: Global, asked: Asked, on: Option<bool>) -> Result<Plan, AllocError>
+    ensures { IfOk result (λ plan. plan ≡ turn_by (pause_lem asked on)) }
+{
+    match on {
+        Some(on) => Plan::does(alloc, asked, Effect::Pauses(on)),
+        None => Plan::does(alloc, asked, Effect::TogglesPause),
+    }
+}
+
+pub fn stop(alloc: Global, asked: Asked) -> Result<Plan, AllocError>
+    ensures { IfOk result (λ plan. plan ≡ turn_by (stop_lem asked)) }
+{
+    Plan::does(alloc, asked, Effect::Stops)
+}
+
+pub fn next(alloc: Global, asked: Asked, part: &Part) -> Result<Plan, AllocError>
+    ensures { IfOk result (λ plan. plan ≡ turn_by (next_lem asked part.now)) }
+{
+    if is_stopped(part) {
+        return Plan::not_playing(alloc, asked);
+    }
+    Plan::does(alloc, asked, Effect::GoesOn)
+}
+
+pub fn previous(alloc: Global, asked: Asked, part: &Part) -> Result<Plan, AllocError>
+    ensures { IfOk result (λ plan. plan ≡ turn_by (previous_lem asked part.now)) }
+{
+    if is_stopped(part) {
+        return Plan::not_playing(alloc, asked);
+    }
+    Plan::does(alloc, asked, Effect::GoesBack)
+}
+
+pub fn is_stopped(part: &Part) -> bool
+    ensures { result ≡ is_stopped_lem part.now.player.playback }
+{
+    match part.player.playback() {
+        Playback::Stop => true,
+        Playback::Play | Playback::Pause => false,
+    }
+}
+
+/// To a time in the song at a place.
+pub fn seek(
+    alloc: Global,
+    asked: Asked,
+    part: &Part,
+    library: &Library,
+    place: u32,
+    time: Millis,
+) -> Result<Plan, AllocError>
+    ensures { IfOk result (λ plan. plan ≡ turn_by (seek_lem asked part.now library.now place time.0)) }
+{
+    let place = place as usize;
+    if place >= part.queue.len() {
+        return Plan::bad_index(alloc, asked);
+    }
+    let frame = frame_at(&library.rate, u128::from(time.0));
+    Plan::does(alloc, asked, Effect::Seeks(place, frame))
+}
+
+/// To a time in the song with an id.
+pub fn seek_id(
+    alloc: Global,
+    asked: Asked,
+    part: &Part,
+    library: &Library,
+    id: u32,
+    time: Millis,
+) -> Result<Plan, AllocError>
+    ensures { IfOk result (λ plan. plan ≡ turn_by (seek_id_lem asked part.now library.now id time.0)) }
+{
+    let Some(place) = part.queue.position_of(id) else {
+        return Plan::no_such_song(alloc, asked);
+    };
+    let frame = frame_at(&library.rate, u128::from(time.0));
+    Plan::does(alloc, asked, Effect::Seeks(place, frame))
+}
+
+/// To a time in the current song, which may count from the time that has elapsed.
+pub fn seek_cur(
+    alloc: Global,
+    asked: Asked,
+    part: &Part,
+    library: &Library,
+    seeking: Seeking,
+) -> Result<Plan, AllocError>
+    ensures { IfOk result (λ plan. plan ≡ turn_by (seek_cur_lem asked part.now library.now seeking)) }
+{
+    if is_stopped(part) {
+        return Plan::not_playing(alloc, asked);
+    }
+    let Some(place) = current_place(part) else {
+        return Plan::not_playing(alloc, asked);
+    };
+    let time = time_of(elapsed(part, library), seeking);
+    let frame = frame_at(&library.rate, time);
+    Plan::does(alloc, asked, Effect::Seeks(place, frame))
+}
+
+/// The time that a place in a song is counted from, in thousandths of a second.
+fn elapsed(part: &Part, library: &Library) -> u128
+    ensures time { result ≡ elapsed_lem part.now library.now }
+    ensures short { result ≤ 18446744073709551615000 }
+{
+    length_of(part.player.place(), &library.rate)
+}
+
+/// A time that may count from another, in thousandths of a second.
+fn time_of(from: u128, seeking: Seeking) -> u128
+    requires { from ≤ 18446744073709551615000 }
+    ensures time { result ≡ time_of_lem from seeking }
+    ensures short { result ≤ 18465190817783261166615 }
+{
+    match seeking {
+        Seeking::To(time) => u128::from(time.0),
+        Seeking::Forward(time) => from + u128::from(time.0),
+        Seeking::Back(time) => from.saturating_sub(u128::from(time.0)),
+    }
+}
+
+/// The frame at a time in thousandths of a second, as far as frames can be counted.
+fn frame_at(rate: &Rate, time: u128) -> u64
+    requires { time ≤ 18465190817783261166615 }
+    ensures { result ≡ frame_at_lem rate.now time }
+{
+    let frame = time * u128::from(rate.frames()) / 1000;
+    frame.min(u128::from(u64::MAX)) as u64
+}
+
+/// The lines of the current song, if there is one.
+pub fn current_song(
+    alloc: Global,
+    asked: Asked,
+    part: &Part,
+    library: &Library,
+) -> Result<Plan, AllocError>
+    ensures { IfOk result (λ plan. plan ≡ turn_by (current_song_lem asked part.now library.now)) }
+{
+    let mut lines = Answer::new(alloc);
+    if let Some(place) = current_place(part) {
+        push_place_lines(alloc, &mut lines, part, library, place)?;
+    }
+    Plan::shows(asked, lines)
+}
+
+fn push_place_lines(
+    alloc: Global,
+    lines: &mut Answer,
+    part: &Part,
+    library: &Library,
+    place: usize,
+) -> Result<(), AllocError>
+    ensures { OnOk result (lines.new ≡ lines.old ++ lines_at library.now.rate part.now.queue (Some place)) }
+{
+    match part.queue.get(place) {
+        Some(entry) => push_entry(alloc, lines, library, place, entry),
+        None => Ok(()),
+    }
+}
+
+pub fn clear_error(alloc: Global, asked: Asked) -> Result<Plan, AllocError>
+    ensures { IfOk result (λ plan. plan ≡ turn_by (clear_error_lem asked)) }
+{
+    Plan::does(alloc, asked, Effect::ClearsError)
+}

@@ -1,0 +1,216 @@
+//! The commands that show the queue (MPD protocol reference, The queue).
+ghost use Rattle.std.specs.Prelude.{◌≡◌, ◌≤◌, ◌++◌, Some, IfOk, IfSome, OnOk, filter, length};
+ghost use Rattle.std.specs.List.{flat_map};
+ghost use Rattle.std.specs.Option.{option_copied};
+ghost use Rattle.song_queue.specs.Entries.{row_of, rows_at};
+ghost use Rattle.song_queue.specs.State.{queue_of, changed};
+ghost use Rattle.queue_commands.specs.Queue.{changed_places as changed_places_lem, changes as changes_lem, entry_lines, is_between, playlist_id as playlist_id_lem, playlist_info as playlist_info_lem, place_lines, priority_line, range_or_all, show_changed as show_changed_lem, show_places as show_places_lem};
+ghost use Rattle.queue_commands.specs.Shown.{row_lines};
+ghost use Rattle.command_plan.specs.Turns.{turn_by};
+
+use command_plan::{Asked, Plan};
+use mpd_text::{Answer, Range};
+use player_state::{Library, Part};
+use song_db::push_song;
+use song_queue::{Entry, Queue};
+use std::alloc::{AllocError, Global};
+use std::ops;
+
+/// What is shown of an entry.
+#[derive(Clone, Copy)]
+enum Shown {
+    /// Its song, place, id and priority.
+    Song,
+    /// Its place and id.
+    Place,
+}
+
+pub fn playlist_info(
+    alloc: Global,
+    asked: Asked,
+    part: &Part,
+    library: &Library,
+    range: Option<Range>,
+) -> Result<Plan, AllocError>
+    ensures { IfOk result (λ plan. plan ≡ turn_by (playlist_info_lem asked part.now library.now range)) }
+{
+    match places_of(range, part.queue.len()) {
+        Some(places) => show_places(alloc, asked, part, library, places),
+        None => Plan::bad_index(alloc, asked),
+    }
+}
+
+pub fn playlist_id(
+    alloc: Global,
+    asked: Asked,
+    part: &Part,
+    library: &Library,
+    id: Option<u32>,
+) -> Result<Plan, AllocError>
+    ensures { IfOk result (λ plan. plan ≡ turn_by (playlist_id_lem asked part.now library.now id)) }
+{
+    let Some(id) = id else {
+        return playlist_info(alloc, asked, part, library, None);
+    };
+    match part.queue.position_of(id) {
+        Some(place) => show_places(alloc, asked, part, library, place..place + 1),
+        None => Plan::no_such_song(alloc, asked),
+    }
+}
+
+/// The places of a range, or all, if they are in a list of so many items.
+pub(crate) fn places_of(range: Option<Range>, len: usize) -> Option<ops::Range<usize>>
+    ensures places { result ≡ range_or_all range len }
+    ensures inside { IfSome result (λ places. (places.start ≤ places.end) × (places.end ≤ len)) }
+{
+    match range {
+        Some(range) => range.within(len),
+        None => Some(0..len),
+    }
+}
+
+fn show_places(
+    alloc: Global,
+    asked: Asked,
+    part: &Part,
+    library: &Library,
+    places: ops::Range<usize>,
+) -> Result<Plan, AllocError>
+    ensures { IfOk result (λ plan. plan ≡ turn_by (show_places_lem asked part.now library.now (Some places))) }
+{
+    let places: Vec<usize> = places.collect(alloc)?;
+    let lines = rows(alloc, &part.queue, library, &places, Shown::Song)?;
+    Plan::shows(asked, lines)
+}
+
+pub fn changes(
+    alloc: Global,
+    asked: Asked,
+    part: &Part,
+    library: &Library,
+    version: u32,
+    range: Option<Range>,
+) -> Result<Plan, AllocError>
+    ensures { IfOk result (λ plan. plan ≡ turn_by (changes_lem asked part.now library.now version range)) }
+{
+    show_changed(alloc, asked, part, library, version, range, Shown::Song)
+}
+
+pub fn changed_places(
+    alloc: Global,
+    asked: Asked,
+    part: &Part,
+    library: &Library,
+    version: u32,
+    range: Option<Range>,
+) -> Result<Plan, AllocError>
+    ensures { IfOk result (λ plan. plan ≡ turn_by (changed_places_lem asked part.now version range)) }
+{
+    show_changed(alloc, asked, part, library, version, range, Shown::Place)
+}
+
+/// Shows the entries of a range whose places changed since a version.
+fn show_changed(
+    alloc: Global,
+    asked: Asked,
+    part: &Part,
+    library: &Library,
+    version: u32,
+    range: Option<Range>,
+    shown: Shown,
+) -> Result<Plan, AllocError>
+    ensures { IfOk result (λ plan. plan ≡ turn_by (show_changed_lem asked part.now (row_lines shown library.now.rate) version (range_or_all range (length (queue_of part.now.queue))))) }
+{
+    let Some(places) = places_of(range, part.queue.len()) else {
+        return Plan::bad_index(alloc, asked);
+    };
+    let changed = changed_within(alloc, &part.queue, version, &places)?;
+    let lines = rows(alloc, &part.queue, library, &changed, shown)?;
+    Plan::shows(asked, lines)
+}
+
+/// The changed places that lie in a range, rising.
+fn changed_within(
+    alloc: Global,
+    queue: &Queue,
+    version: u32,
+    within: &ops::Range<usize>,
+) -> Result<Vec<usize>, AllocError>
+    ensures { IfOk result (λ places. rows_at (queue_of queue.now) places.items ≡ filter (is_between within.now) (changed queue.now version)) }
+{
+    let changed = queue.changed_since(version)?;
+    let mut places = Vec::new(alloc);
+    for place in &changed {
+        if within.start <= *place && *place < within.end {
+            places.push(*place)?;
+        }
+    }
+    Ok(places)
+}
+
+/// The lines of the entries at these places.
+fn rows(
+    alloc: Global,
+    queue: &Queue,
+    library: &Library,
+    places: &[usize],
+    shown: Shown,
+) -> Result<Answer, AllocError>
+    ensures { IfOk result (λ lines. lines ≡ flat_map (row_lines shown library.now.rate) (rows_at (queue_of queue.now) places.now)) }
+{
+    let mut lines = Answer::new(alloc);
+    for place in places {
+        push_row(alloc, &mut lines, library, *place, queue.get(*place), shown)?;
+    }
+    Ok(lines)
+}
+
+fn push_row(
+    alloc: Global,
+    lines: &mut Answer,
+    library: &Library,
+    place: usize,
+    entry: Option<&Entry>,
+    shown: Shown,
+) -> Result<(), AllocError>
+    ensures { OnOk result (lines.new ≡ lines.old ++ flat_map (row_lines shown library.now.rate) (row_of place (option_copied entry.entry))) }
+{
+    let Some(entry) = entry else {
+        return Ok(());
+    };
+    match shown {
+        Shown::Song => push_entry(alloc, lines, library, place, entry),
+        Shown::Place => push_place(lines, place, entry),
+    }
+}
+
+pub(crate) fn push_entry(
+    alloc: Global,
+    lines: &mut Answer,
+    library: &Library,
+    place: usize,
+    entry: &Entry,
+) -> Result<(), AllocError>
+    ensures { OnOk result (lines.new ≡ lines.old ++ entry_lines library.now.rate (place, entry.now)) }
+{
+    push_song(alloc, lines, entry.song.song(), &library.rate)?;
+    lines.pair("Pos", place)?;
+    lines.pair("Id", entry.id)?;
+    push_priority(lines, entry.priority)
+}
+
+fn push_priority(lines: &mut Answer, priority: u8) -> Result<(), AllocError>
+    ensures { OnOk result (lines.new ≡ lines.old ++ priority_line priority) }
+{
+    if priority == 0 {
+        return Ok(());
+    }
+    lines.pair("Prio", priority)
+}
+
+fn push_place(lines: &mut Answer, place: usize, entry: &Entry) -> Result<(), AllocError>
+    ensures { OnOk result (lines.new ≡ lines.old ++ place_lines (place, entry.now)) }
+{
+    lines.pair("cpos", place)?;
+    lines.pair("Id", entry.id)
+}

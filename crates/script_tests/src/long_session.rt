@@ -1,0 +1,129 @@
+//! One long session: bodies that give up with want of memory from some size on meet every clause, so that only a run shows
+//! that they go on.
+
+use crate::runs::run_whole;
+use crate::wanted::wants;
+use std::alloc::{AllocError, Global};
+
+/// How many songs the library has.
+const SONGS: u32 = 1_100;
+
+/// How many entries are added, so that the answer to `plchangesposid 0` has more than 64 KiB.
+const ENTRIES: u32 = 3_500;
+
+/// How many lines follow that change nothing.
+const PINGS: usize = 1_500;
+
+/// The bytes of the client line that is the longest.
+const LONG_LINE: usize = 16_000;
+
+fn push_song(all: &mut String, alloc: Global, song: u32) -> Result<(), AllocError> {
+    let line = format!(in alloc; "! song folder/{song}.wav 8000 \"Title=Song {song}\"\n")?;
+    all.push_str(line.as_str())
+}
+
+fn push_add(all: &mut String, alloc: Global, song: u32) -> Result<(), AllocError> {
+    let line = format!(in alloc; "1 add folder/{song}.wav\n")?;
+    all.push_str(line.as_str())
+}
+
+/// A library of numbered songs, and entries that take them in turn.
+fn filling(alloc: Global) -> Result<String, AllocError> {
+    let mut all = String::new(alloc);
+    for song in 0..SONGS {
+        push_song(&mut all, alloc, song)?;
+    }
+    for entry in 0..ENTRIES {
+        push_add(&mut all, alloc, entry % SONGS)?;
+    }
+    Ok(all)
+}
+
+/// What the session says: after the filling all entries are shown, then come lines that change nothing, and one of 16,000 bytes
+/// that names no song. The first entry leaves, and another client comes.
+fn says(alloc: Global) -> Result<String, AllocError> {
+    let filling = filling(alloc)?;
+    let pings = "1 ping\n".repeat(alloc, PINGS)?;
+    let long = "x".repeat(alloc, LONG_LINE - 4)?;
+    format!(in alloc; "{filling}1 plchangesposid 0\n{pings}1 add {long}\n1 delete 0\n2 status\n")
+}
+
+fn push_row(all: &mut String, alloc: Global, place: u32) -> Result<(), AllocError> {
+    let id = place.saturating_add(1);
+    let rows = format!(in alloc; "1 cpos: {place}\n1 Id: {id}\n")?;
+    all.push_str(rows.as_str())
+}
+
+/// What shows all entries: the one at each place has the id that is one above it.
+fn rows(alloc: Global) -> Result<String, AllocError> {
+    let mut all = String::new(alloc);
+    for place in 0..ENTRIES {
+        push_row(&mut all, alloc, place)?;
+    }
+    all.push_str("1 OK\n")?;
+    Ok(all)
+}
+
+/// How many bytes that answer has, without the client's number and a space in each of its lines.
+fn size_of(rows: &str) -> usize {
+    rows.len().saturating_sub(2 * (2 * ENTRIES as usize + 1))
+}
+
+/// What is printed to the second client: the version is one above those of all edits.
+fn status(alloc: Global) -> Result<String, AllocError> {
+    let modes =
+        "2 volume: 100\n2 repeat: 0\n2 random: 0\n2 single: 0\n2 consume: 0\n2 partition: default";
+    let (version, length) = (ENTRIES + 2, ENTRIES - 1);
+    format!(in alloc;
+        "2 OK MPD 0.23.0\n{modes}\n2 playlist: {version}\n2 playlistlength: {length}\n2 state: stop\n2 OK\n"
+    )
+}
+
+/// How the session is to end, and all that it is to print around the rows.
+fn prints(alloc: Global, rows: &str) -> Result<String, AllocError> {
+    let added = "1 OK\n".repeat(alloc, ENTRIES as usize)?;
+    let pinged = "1 OK\n".repeat(alloc, PINGS)?;
+    let refused = "1 ACK [50@0] {add} no such song\n";
+    let status = status(alloc)?;
+    format!(in alloc; "ok\n1 OK MPD 0.23.0\n{added}{rows}{pinged}{refused}1 OK\n{status}")
+}
+
+/// Whether the answer that shows all entries has more than 64 KiB, and whether the session ends well and prints what is wanted.
+fn long_session(alloc: Global) -> Result<(bool, bool), AllocError> {
+    let rows = rows(alloc)?;
+    let wanted = prints(alloc, rows.as_str())?;
+    let told = run_whole(alloc, says(alloc)?.as_str())?;
+    let is_long = size_of(rows.as_str()) > 65_536;
+    Ok((is_long, told.as_str() == wanted.as_str()))
+}
+
+#[test]
+fn a_long_session(rt: HostRuntime) {
+    assert!(rt; long_session(rt.alloc()) == Ok((true, true)));
+}
+
+/// How many lines `add a.wav` a list of 2,097,152 bytes holds.
+const LIST_LINES: usize = 209_715;
+
+/// A list as large as a list may be, of which the queue takes 16,384 songs.
+fn largest_list(alloc: Global) -> Result<String, AllocError> {
+    let adds = "1 add a.wav\n".repeat(alloc, LIST_LINES)?;
+    format!(in alloc;
+        "! song a.wav 8000\n1 command_list_begin\n{adds}1 command_list_end\n1 plchangesposid 16385\n"
+    )
+}
+
+const LARGEST_LIST_PRINTS: &str =
+    "ok\n1 OK MPD 0.23.0\n1 ACK [51@16384] {add} playlist is full\n1 OK\n";
+
+#[test]
+fn the_largest_list_is_run(rt: HostRuntime) {
+    let script = largest_list(rt.alloc());
+    wants(&rt, printed(rt.alloc(), script), LARGEST_LIST_PRINTS);
+}
+
+/// What a script prints that is made.
+fn printed(alloc: Global, script: Result<String, AllocError>) -> Result<String, AllocError> {
+    let script = script?;
+    run_whole(alloc, script.as_str())
+}

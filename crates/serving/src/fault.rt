@@ -1,0 +1,69 @@
+//! Why the daemon is not started, or does not end well.
+use library_scan::ScanFault;
+use mpd_server::ServeFault;
+use partition::PartitionFault;
+use settings::SettingsFault;
+use std::alloc::AllocError;
+use thiserror::Error;
+
+/// Each is told in one line, which names the key, the file or the folder.
+#[derive(Debug, Drop, Error)]
+pub enum DaemonFault {
+    /// The file of settings cannot be read, or is no text.
+    #[error("cannot read {0}")]
+    CannotRead(String),
+    #[error("bad setting {0}")]
+    BadSetting(String),
+    /// The shelf's file cannot be opened or made, or is no shelf.
+    #[error("cannot open shelf")]
+    CannotOpenShelf,
+    #[error("cannot read folder {0}")]
+    NoFolder(String),
+    #[error("too many songs")]
+    TooManySongs,
+    #[error("cannot listen")]
+    CannotListen,
+    /// The summary was not written, or the shelf's file not closed.
+    #[error("write fault")]
+    WriteFault,
+    #[error("out of memory")]
+    NoMemory,
+    /// The player could not be ended.
+    #[error("{}", .0.text())]
+    Player(PartitionFault),
+}
+
+impl From<AllocError> for DaemonFault {
+    fn from(_fault: AllocError) -> DaemonFault {
+        DaemonFault::NoMemory
+    }
+}
+
+impl From<SettingsFault> for DaemonFault {
+    fn from(fault: SettingsFault) -> DaemonFault {
+        match fault {
+            SettingsFault::BadSetting(key) => DaemonFault::BadSetting(key),
+            SettingsFault::NoMemory => DaemonFault::NoMemory,
+        }
+    }
+}
+
+impl From<ServeFault> for DaemonFault {
+    fn from(fault: ServeFault) -> DaemonFault {
+        match fault {
+            ServeFault::ListenFault => DaemonFault::CannotListen,
+            ServeFault::NoMemory => DaemonFault::NoMemory,
+        }
+    }
+}
+
+impl DaemonFault {
+    /// Why the folder of the music was not scanned.
+    pub(crate) fn of_scan(fault: ScanFault, folder: String) -> DaemonFault {
+        match fault {
+            ScanFault::NoFolder => DaemonFault::NoFolder(folder),
+            ScanFault::TooMany => DaemonFault::TooManySongs,
+            ScanFault::NoMemory => DaemonFault::NoMemory,
+        }
+    }
+}

@@ -1,0 +1,62 @@
+//! A house with nobody in it yet.
+ghost use Rattle.std.specs.Prelude.{◌≡◌, ◌<◌};
+ghost use Rattle.held_player.specs.Blanks.{AreFor};
+ghost use Rattle.counted_player.specs.Counts.{IsFresh};
+
+use counted_player::{Ledgers, Seat};
+use held_player::{Blanks, CrewShares};
+use house::House;
+use partition::Partition;
+use std::alloc::{AllocError, Global};
+use std::sync::{Arc, Wait};
+
+/// A house, the seat of the thread that serves, and the shares of those that decode and write.
+#[derive(Drop)]
+pub(crate) struct Hall<L: Ledgers> {
+    pub(crate) house: Arc<House<L>, Global>,
+    pub(crate) seat: Seat<L>,
+    pub(crate) shares: CrewShares<L>,
+    ghost decoded: { 0 < shares.decoded.parts },
+    ghost written: { (8 < shares.outputs.written.parts) × (shares.outputs.written.amount ≡ 0) },
+    ghost discarded: { (8 < shares.outputs.discarded.parts) × (shares.outputs.discarded.amount ≡ 0) },
+}
+
+/// The house of a player to which nothing happened.
+pub(crate) fn open_hall<L: Ledgers, R: Wait>(
+    rt: &R,
+    alloc: Global,
+    blanks: Blanks,
+    player: Partition,
+) -> Result<Hall<L>, AllocError>
+    requires fresh { IsFresh player.present }
+    requires blanks { AreFor L.names blanks }
+{
+    let (house, shares) = House::<L>::open(alloc, blanks, player)?;
+    match seated(rt, alloc, house) {
+        Ok((house, seat)) => Ok(Hall {
+            house,
+            seat,
+            shares,
+        }),
+        Err(fault) => Err(fault),
+    }
+}
+
+/// The house, which several threads own from now on, and a seat in it.
+fn seated<L: Ledgers, R: Wait>(
+    rt: &R,
+    alloc: Global,
+    house: House<L>,
+) -> Result<(Arc<House<L>, Global>, Seat<L>), AllocError> {
+    let house = shared(alloc, house)?;
+    match house.seat(rt) {
+        Ok(seat) => Ok((house, seat)),
+        // A new house has all its seats.
+        Err(_) => Err(AllocError),
+    }
+}
+
+/// A value that several threads own.
+pub(crate) fn shared<T: Drop>(alloc: Global, value: T) -> Result<Arc<T, Global>, AllocError> {
+    Ok(Arc::new(alloc, value)?)
+}

@@ -1,0 +1,143 @@
+//! The run of a daemon, whatever its threads work with.
+ghost use Rattle.std.specs.Prelude.{◌≡◌, ◌<◌, ◌≤◌, vec_len};
+
+use crate::fault::DaemonFault;
+use crate::gear::Gear;
+use crate::hall::{Hall, shared};
+use crate::summary::print_summary;
+use counted_devices::{Media, Sink};
+use counted_player::{Ledgers, Seat};
+use crew::{Crew, Scanner, close, let_go, start_decoder, start_outputs, start_scanner};
+use crew_steps::{Open, SongSource, stations};
+use held_player::CrewShares;
+use house::House;
+use mpd_server::{ServeFault, Server, start_waker};
+use shelf::Shelf;
+use std::alloc::{AllocError, Global};
+use std::sync::{Arc, Wait};
+use std::thread::{JoinHandle, Threads};
+use std::time::Clock;
+
+/// How a daemon plays and serves.
+#[derive(Clone, Copy)]
+pub(crate) struct Manner {
+    /// Frames a second.
+    pub(crate) rate: u32,
+    /// How many frames the ring of an output holds.
+    pub(crate) ring: usize,
+    /// Whether a client may end the daemon.
+    pub(crate) may_kill: bool,
+}
+
+/// Starts the threads, serves until a client ends the daemon, and prints what became of each output's frames.
+pub(crate) fn run<
+    L: Ledgers + Send + Sync + 'static,
+    O: Sink + Drop + Send + 'static,
+    N: SongSource<M> + Drop + Send + 'static,
+    M: Media + Drop + Send + 'static,
+    C: Scanner + Drop + Send + 'static,
+    S: Shelf,
+    R: Threads + Wait + Clock + Copy + Send + 'static,
+>(
+    rt: R,
+    host: &HostRuntime,
+    hall: Hall<L>,
+    gear: Gear<O, N, C>,
+    server: Server,
+    shelf: &mut S,
+    manner: Manner,
+) -> Result<(), DaemonFault> {
+    let alloc = host.alloc();
+    let Hall {
+        house,
+        mut seat,
+        shares,
+    } = hall;
+    let Gear {
+        writers,
+        source,
+        scanner,
+    } = gear;
+    let mut server = server;
+    let mut crew = start_crew::<L, O, N, M, R>(rt, alloc, &house, writers, source, shares, manner)?;
+    // Without this thread the server looks for notices by itself.
+    let waking = start_waker(rt, &house, &mut server).ok();
+    let served = match start_scanner(rt, alloc, &house, &mut crew, scanner) {
+        Ok(()) => server.serve(&rt, alloc, &house, &mut seat, shelf, manner.may_kill),
+        Err(_) => Err(ServeFault::NoMemory),
+    };
+    end(&rt, host, &house, &mut seat, crew, waking, served)
+}
+
+/// Starts the threads of the outputs and of the decoder. All that they are given is made before the first of them.
+fn start_crew<
+    L: Ledgers + Send + Sync + 'static,
+    O: Sink + Drop + Send + 'static,
+    N: SongSource<M> + Drop + Send + 'static,
+    M: Media + Drop + Send + 'static,
+    R: Threads + Wait + Clock + Copy + Send + 'static,
+>(
+    rt: R,
+    alloc: Global,
+    house: &Arc<House<L>, Global>,
+    writers: Vec<O>,
+    source: N,
+    shares: CrewShares<L>,
+    manner: Manner,
+) -> Result<Crew<L>, AllocError>
+    requires few { vec_len writers ≤ 8 }
+    requires decoded { 0 < shares.decoded.parts }
+    requires written { (8 < shares.outputs.written.parts) × (shares.outputs.written.amount ≡ 0) }
+    requires discarded { (8 < shares.outputs.discarded.parts) × (shares.outputs.discarded.amount ≡ 0) }
+{
+    let CrewShares { decoded, outputs } = shares;
+    let rings = stations(alloc, manner.ring, writers)?;
+    let gate = shared(alloc, Open)?;
+    let (runs, feeders) = start_outputs(rt, alloc, house, &gate, rings, outputs)?;
+    start_decoder::<L, N, M, R>(
+        rt,
+        alloc,
+        house,
+        source,
+        manner.rate,
+        runs,
+        feeders,
+        decoded,
+    )
+}
+
+/// Ends the threads, and prints what became of each output's frames.
+fn end<L: Ledgers, R: Threads + Wait>(
+    rt: &R,
+    host: &HostRuntime,
+    house: &House<L>,
+    seat: &mut Seat<L>,
+    crew: Crew<L>,
+    waking: Option<JoinHandle<()>>,
+    served: Result<(), ServeFault>,
+) -> Result<(), DaemonFault> {
+    match close(rt, house, seat, crew) {
+        Ok(settled) => {
+            if let Some(waking) = waking {
+                waking.join(rt);
+            }
+            let printed = print_summary(host, &settled);
+            first_of(served, printed)
+        }
+        Err((crew, fault)) => {
+            let_go(crew);
+            Err(DaemonFault::Player(fault))
+        }
+    }
+}
+
+/// What became of the serving, and then of the summary.
+fn first_of(
+    served: Result<(), ServeFault>,
+    printed: Result<(), DaemonFault>,
+) -> Result<(), DaemonFault> {
+    match served {
+        Ok(()) => printed,
+        Err(fault) => Err(DaemonFault::from(fault)),
+    }
+}

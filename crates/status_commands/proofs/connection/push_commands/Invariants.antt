@@ -1,0 +1,9 @@
+use Rattle.std.proofs.Common.{◌≡◌, ◌++◌, drop}
+use Rattle.std.specs.List.{flat_map}
+use Rattle.status_commands.specs.Connection.{command_line}
+use Rattle.status_commands.proofs.connection.push_commands.Given as goal
+
+abbrev pub invariant-loop-name : goal.invariant-loop-name
+invariant-loop-name l =
+    l.answer ++ flat_map (command_line l.allow_kill l.forbidden) (drop l.name-index l.names)
+    ≡ l.initial.answer ++ flat_map (command_line l.allow_kill l.forbidden) l.names

@@ -1,0 +1,32 @@
+-- The commands of the connection, which need nothing of the player (MPD protocol reference, Connection settings; Reflection).
+use Rattle.std.specs.Prelude.{ℕ, Bool, true, false, List, [], codes, if◌then◌else◌}
+use Rattle.std.specs.Bool.{beq}
+use Rattle.std.specs.List.{flat_map}
+use Rattle.mpd_command.specs.Names.{all_names, is_forbidden, text_of}
+use Rattle.mpd_command.specs.declared.name.Name.{Name}
+use Rattle.mpd_text.specs.Answers.Answer.{pair_line}
+use Rattle.mpd_text.specs.Songs.Tags.{tag_names, tag_text}
+use Rattle.command_plan.specs.Answers.{Answer, succeeds}
+use Rattle.command_plan.specs.declared.asked.Asked.{Asked}
+
+abbrev pub ping : Asked → Answer
+ping asked = succeeds asked.stand (codes "")
+
+-- the names of tags, in their order
+abbrev pub tag_types : Asked → Answer
+tag_types asked = succeeds asked.stand (flat_map (λ name. pair_line (codes "tagtype") (tag_text name)) tag_names)
+
+-- a command's name, where it is forbidden or not as asked
+abbrev pub command_line : Bool → Bool → Name → List ℕ
+command_line allow_kill forbidden name =
+    if beq (is_forbidden name allow_kill) forbidden then pair_line (codes "command") (text_of name) else []
+
+-- the names of the commands that are forbidden, or of those that are not, in their order
+unfoldable pub command_lines : Bool → Bool → List ℕ
+command_lines allow_kill forbidden = flat_map (command_line allow_kill forbidden) all_names
+
+abbrev pub commands : Asked → Bool → Answer
+commands asked allow_kill = succeeds asked.stand (command_lines allow_kill false)
+
+abbrev pub not_commands : Asked → Bool → Answer
+not_commands asked allow_kill = succeeds asked.stand (command_lines allow_kill true)

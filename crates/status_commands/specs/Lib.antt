@@ -1,0 +1,5 @@
+pub mod Connection
+pub mod Devices
+pub mod Messages
+pub mod Options
+pub mod Status

@@ -1,0 +1,44 @@
+-- The commands that set the player (MPD protocol reference, Playback options).
+use Rattle.std.specs.Prelude.{ℕ, Bool, true, false, codes, decimal}
+use Rattle.mpd_command.specs.declared.forms.SingleMode.{SingleMode}
+use Rattle.mpd_command.specs.declared.forms.SingleMode.TheVariants as asked_mode
+use Rattle.mpd_text.specs.Answers.Answer.{pair_line}
+use Rattle.play_order.specs.declared.modes.Single.{Single}
+use Rattle.play_order.specs.declared.modes.Single.TheVariants as single_mode
+use Rattle.play_order.specs.declared.modes.Consume.{Consume}
+use Rattle.play_order.specs.declared.modes.Consume.TheVariants as consume_mode
+use Rattle.command_plan.specs.Deeds.{does, shows}
+use Rattle.player_state.specs.declared.doing.Effect.TheVariants.{SetsVolume, SetsRepeat, SetsRandom, SetsSingle, SetsConsume, SetsCrossfade}
+use Rattle.command_plan.specs.declared.asked.Asked.{Asked}
+use Rattle.player_state.specs.declared.state.Part.{Part}
+use Rattle.command_plan.specs.Turns.{Deed}
+
+abbrev pub repeat : Asked → Bool → Deed
+repeat asked on = does asked (SetsRepeat on)
+
+abbrev pub random : Asked → Bool → Deed
+random asked on = does asked (SetsRandom on)
+
+abbrev pub mode_of : SingleMode → Single
+mode_of asked_mode.Off = single_mode.Off
+mode_of asked_mode.On = single_mode.On
+mode_of asked_mode.Oneshot = single_mode.Oneshot
+
+abbrev pub single : Asked → SingleMode → Deed
+single asked mode = does asked (SetsSingle (mode_of mode))
+
+abbrev pub consume_of : Bool → Consume
+consume_of true = consume_mode.On
+consume_of false = consume_mode.Off
+
+abbrev pub consume : Asked → Bool → Deed
+consume asked on = does asked (SetsConsume (consume_of on))
+
+abbrev pub crossfade : Asked → ℕ → Deed
+crossfade asked seconds = does asked (SetsCrossfade seconds)
+
+abbrev pub set_volume : Asked → ℕ → Deed
+set_volume asked volume = does asked (SetsVolume volume)
+
+abbrev pub get_volume : Asked → Part → Deed
+get_volume asked part = shows asked (pair_line (codes "volume") (decimal part.volume))

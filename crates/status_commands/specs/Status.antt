@@ -1,0 +1,168 @@
+-- The commands that ask how the player is, and what changed (MPD protocol reference, Querying MPD's status).
+use Rattle.std.specs.Prelude.{ℕ, Bool, true, false, ◌==◌, List, [], ◌++◌, Option, Some, None, is_some, length, if◌then◌else◌, codes, decimal}
+use Rattle.idle_notes.specs.declared.sets.Subsystems.{Subsystems}
+use Rattle.idle_notes.specs.Names.{changed_lines}
+use Rattle.idle_notes.specs.Notes.{waits, notice_of}
+use Rattle.mpd_command.specs.declared.command.Command.{Command}
+use Rattle.mpd_command.specs.declared.command.Command.TheVariants.{Idle, NoIdle}
+use Rattle.mpd_text.specs.declared.answers.answer.ErrorNumber.TheVariants.{Argument}
+use Rattle.song_db.specs.Lines.{duration_text, millis}
+use Rattle.song_queue.specs.declared.entry.Entry.{Entry}
+use Rattle.song_queue.specs.State.{QueueState, queue_of, position_of}
+use Rattle.play_order.specs.declared.modes.Modes.{Modes}
+use Rattle.play_order.specs.declared.modes.Single.{Single}
+use Rattle.play_order.specs.declared.modes.Single.TheVariants as single_mode
+use Rattle.play_order.specs.declared.modes.Consume.{Consume}
+use Rattle.play_order.specs.declared.modes.Consume.TheVariants as consume_mode
+use Rattle.player_core.specs.declared.state.Playback.{Playback}
+use Rattle.player_core.specs.declared.state.Playback.TheVariants.{Stop, Play, Pause}
+use Rattle.player_core.specs.Player.{is_stopped}
+use Rattle.player_core.specs.Steps.{current_entry, peek}
+use Rattle.command_plan.specs.Answers.{Said, refuses, stays, tells}
+use Rattle.command_plan.specs.Deeds.{shows}
+use Rattle.command_plan.specs.declared.asked.Asked.{Asked}
+use Rattle.command_plan.specs.declared.reply.Move.TheVariants.{Wait, Learn, Resume}
+use Rattle.command_plan.specs.declared.reply.Next.TheVariants.{Waits}
+use Rattle.command_plan.specs.declared.asked.Stand.{Stand}
+use Rattle.command_plan.specs.declared.asked.Stand.TheVariants.{Alone, InList}
+use Rattle.player_state.specs.declared.state.Client.{Client}
+use Rattle.player_state.specs.declared.state.Part.{Part}
+use Rattle.player_state.specs.declared.state.Library.{Library}
+use Rattle.command_plan.specs.Turns.{Deed}
+use Rattle.player_state.specs.Scans.{running}
+use Rattle.mpd_text.specs.Answers.Answer.{pair_line}
+
+-- what a client asks that changes nothing but how it waits: to wait for these, or to wait no more
+pub data Wish : Type 0 where
+  ToWait : Subsystems → Wish
+  ToGoOn : Wish
+
+abbrev pub wish_of : Command → Option Wish
+wish_of (Idle named) = Some (ToWait named)
+wish_of NoIdle = Some ToGoOn
+wish_of _ = None
+
+abbrev pub notice_text : Subsystems → List ℕ
+notice_text names = changed_lines names ++ codes "OK\n"
+
+-- a client that asks for what changed already is told at once; else it waits
+abbrev pub idles : Subsystems → Option Subsystems → Said
+idles named None = record { answer = record { text = codes ""; next = Waits; refused = false }; move = Wait named }
+idles named (Some names) = record { answer = tells (notice_text names); move = Learn }
+
+-- a client that waits no more is answered OK; one that did not wait is not answered
+abbrev pub resumes : Client → Said
+resumes client = if is_some client.pending.waiting then record { answer = tells (codes "OK\n"); move = Resume } else stays (tells (codes ""))
+
+abbrev pub granted : Client → Wish → Said
+granted client (ToWait named) = idles named (notice_of (waits named client.pending))
+granted client ToGoOn = resumes client
+
+-- how a client waits is no matter of a list
+abbrev pub wished_at : Stand → Asked → Client → Wish → Said
+wished_at Alone asked client wish = granted client wish
+wished_at (InList form place) asked client wish = stays (refuses asked.stand (Some asked.name) Argument (codes "not allowed in a list"))
+
+abbrev pub wished : Asked → Client → Wish → Said
+wished asked client wish = wished_at asked.stand asked client wish
+
+abbrev pub digit : Bool → ℕ
+digit true = 1
+digit false = 0
+
+abbrev pub single_text : Single → List ℕ
+single_text single_mode.Off = codes "0"
+single_text single_mode.On = codes "1"
+single_text single_mode.Oneshot = codes "oneshot"
+
+abbrev pub consume_text : Consume → List ℕ
+consume_text consume_mode.Off = codes "0"
+consume_text consume_mode.On = codes "1"
+consume_text consume_mode.Oneshot = codes "oneshot"
+
+abbrev pub state_text : Playback → List ℕ
+state_text Stop = codes "stop"
+state_text Play = codes "play"
+state_text Pause = codes "pause"
+
+-- what the player is set to
+unfoldable pub mode_lines : ℕ → Modes → List ℕ
+mode_lines volume modes =
+    pair_line (codes "volume") (decimal volume) ++ (pair_line (codes "repeat") (decimal (digit modes.repeat))
+    ++ (pair_line (codes "random") (decimal (digit modes.random)) ++ (pair_line (codes "single") (single_text modes.single)
+    ++ pair_line (codes "consume") (consume_text modes.consume))))
+
+-- its queue, and whether it plays
+unfoldable pub queue_lines : ℕ → ℕ → Playback → List ℕ
+queue_lines version length playback =
+    pair_line (codes "partition") (codes "default") ++ (pair_line (codes "playlist") (decimal version)
+    ++ (pair_line (codes "playlistlength") (decimal length) ++ pair_line (codes "state") (state_text playback)))
+
+-- a song that is there, by its place and its id
+unfoldable pub song_place_lines : ℕ → ℕ → List ℕ
+song_place_lines place id = pair_line (codes "song") (decimal place) ++ pair_line (codes "songid") (decimal id)
+
+unfoldable pub next_place_lines : ℕ → ℕ → List ℕ
+next_place_lines place id = pair_line (codes "nextsong") (decimal place) ++ pair_line (codes "nextsongid") (decimal id)
+
+abbrev pub song_lines_at : Option ℕ → ℕ → List ℕ
+song_lines_at None id = []
+song_lines_at (Some place) id = song_place_lines place id
+
+abbrev pub next_lines_at : Option ℕ → ℕ → List ℕ
+next_lines_at None id = []
+next_lines_at (Some place) id = next_place_lines place id
+
+-- the current song
+abbrev pub current_lines : QueueState → Option ℕ → List ℕ
+current_lines queue None = []
+current_lines queue (Some id) = song_lines_at (position_of queue id) id
+
+-- the song that its natural end would start
+abbrev pub next_lines : QueueState → Option Entry → List ℕ
+next_lines queue None = []
+next_lines queue (Some entry) = next_lines_at (position_of queue entry.id) entry.id
+
+abbrev pub audio_text : ℕ → List ℕ
+audio_text rate = decimal rate ++ codes ":16:2"
+
+-- how far a song is, how long it is, and what its frames are
+unfoldable pub elapsed_line : ℕ → ℕ → List ℕ
+elapsed_line rate place = pair_line (codes "elapsed") (duration_text (millis rate place))
+
+unfoldable pub duration_line : ℕ → ℕ → List ℕ
+duration_line rate frames = pair_line (codes "duration") (duration_text (millis rate frames))
+
+unfoldable pub audio_line : ℕ → List ℕ
+audio_line rate = pair_line (codes "audio") (audio_text rate)
+
+abbrev pub duration_of : ℕ → Option Entry → List ℕ
+duration_of rate None = []
+duration_of rate (Some entry) = duration_line rate entry.song.frames
+
+-- these are shown where the player does not stand still
+abbrev pub progress_lines : ℕ → Part → List ℕ
+progress_lines rate part =
+    if is_stopped part.player.playback then []
+    else elapsed_line rate part.player.place ++ (duration_of rate (current_entry part.player (queue_of part.queue)) ++ audio_line rate)
+
+-- why the player stopped, where that was an error
+abbrev pub error_line : Option (List ℕ) → List ℕ
+error_line None = []
+error_line (Some text) = pair_line (codes "error") text
+
+-- the seconds of a fade, where there are any
+abbrev pub fade_line : ℕ → List ℕ
+fade_line seconds = if seconds == 0 then [] else pair_line (codes "xfade") (decimal seconds)
+
+-- the number of the scan that runs is shown while one does
+abbrev pub scan_line : Option ℕ → List ℕ
+scan_line None = []
+scan_line (Some number) = pair_line (codes "updating_db") (decimal number)
+
+abbrev pub status : Asked → Part → Library → Deed
+status asked part library =
+    shows asked (mode_lines part.volume part.player.modes ++ (queue_lines part.queue.version (length (queue_of part.queue)) part.player.playback
+    ++ (current_lines part.queue part.player.current ++ (next_lines part.queue (peek part.player (queue_of part.queue))
+    ++ (progress_lines library.rate part ++ (fade_line part.player.crossfade
+    ++ (scan_line (running library.scan) ++ error_line part.player.error)))))))

@@ -1,0 +1,94 @@
+//! The commands of the connection, which need nothing of the player (MPD protocol reference, Connection settings; Reflection).
+ghost use Rattle.std.specs.Prelude.{◌≡◌, ◌++◌, true, false, IfOk, OnOk, codes};
+ghost use Rattle.std.specs.List.{flat_map};
+ghost use Rattle.mpd_text.specs.Answers.Answer.{pair_line};
+ghost use Rattle.mpd_text.specs.Songs.Tags.{tag_names, tag_text};
+ghost use Rattle.command_plan.specs.Answers.{stays};
+ghost use Rattle.status_commands.specs.Connection.{command_line, command_lines, commands as commands_lem, not_commands as not_commands_lem, ping as ping_lem, tag_types as tag_types_lem};
+
+use command_plan::{Asked, Spoken, shows, succeeds};
+use mpd_command::{NAMES, Name};
+use mpd_text::{Answer, TAG_NAMES};
+use std::alloc::{AllocError, Global};
+
+pub fn ping(alloc: Global, asked: Asked) -> Result<Spoken, AllocError>
+    ensures { IfOk result (λ spoken. spoken ≡ stays (ping_lem asked)) }
+{
+    succeeds(alloc, asked)
+}
+
+pub fn tag_types(alloc: Global, asked: Asked) -> Result<Spoken, AllocError>
+    ensures { IfOk result (λ spoken. spoken ≡ stays (tag_types_lem asked)) }
+{
+    let mut answer = Answer::new(alloc);
+    push_types(&mut answer)?;
+    shows(asked, answer)
+}
+
+fn push_types(answer: &mut Answer) -> Result<(), AllocError>
+    ensures { OnOk result (answer.new ≡ answer.old ++ flat_map (λ name. pair_line (codes "tagtype") (tag_text name)) tag_names) }
+{
+    for name in TAG_NAMES {
+        answer.pair("tagtype", name.text())?;
+    }
+    Ok(())
+}
+
+/// The commands that may be run.
+pub fn commands(alloc: Global, asked: Asked, allow_kill: bool) -> Result<Spoken, AllocError>
+    ensures { IfOk result (λ spoken. spoken ≡ stays (commands_lem asked allow_kill)) }
+{
+    let mut answer = Answer::new(alloc);
+    push_all_commands(&mut answer, allow_kill, false)?;
+    shows(asked, answer)
+}
+
+/// The commands that may not be run.
+pub fn not_commands(alloc: Global, asked: Asked, allow_kill: bool) -> Result<Spoken, AllocError>
+    ensures { IfOk result (λ spoken. spoken ≡ stays (not_commands_lem asked allow_kill)) }
+{
+    let mut answer = Answer::new(alloc);
+    push_all_commands(&mut answer, allow_kill, true)?;
+    shows(asked, answer)
+}
+
+/// Shows the commands that are forbidden, or those that are not.
+#[tactic(auto, unfolding(crate::specs::Connection::command_lines))]
+fn push_all_commands(
+    answer: &mut Answer,
+    allow_kill: bool,
+    forbidden: bool,
+) -> Result<(), AllocError>
+    ensures { OnOk result (answer.new ≡ answer.old ++ command_lines allow_kill forbidden) }
+{
+    push_commands(answer, &NAMES, allow_kill, forbidden)
+}
+
+/// Shows those of some commands that are forbidden, or those that are not.
+fn push_commands(
+    answer: &mut Answer,
+    names: &[Name],
+    allow_kill: bool,
+    forbidden: bool,
+) -> Result<(), AllocError>
+    ensures { OnOk result (answer.new ≡ answer.old ++ flat_map (command_line allow_kill forbidden) names.now) }
+{
+    for name in names {
+        push_command(answer, *name, allow_kill, forbidden)?;
+    }
+    Ok(())
+}
+
+fn push_command(
+    answer: &mut Answer,
+    name: Name,
+    allow_kill: bool,
+    forbidden: bool,
+) -> Result<(), AllocError>
+    ensures { OnOk result (answer.new ≡ answer.old ++ command_line allow_kill forbidden name) }
+{
+    if name.is_forbidden(allow_kill) == forbidden {
+        answer.pair("command", name.text())?;
+    }
+    Ok(())
+}

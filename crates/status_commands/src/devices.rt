@@ -1,0 +1,101 @@
+//! The commands that look at outputs and turn them on and off (MPD protocol reference, Audio output devices).
+ghost use Rattle.std.specs.Prelude.{◌≡◌, ◌++◌, IfOk, OnOk};
+ghost use Rattle.std.specs.List.{enumerate_from, flat_map};
+ghost use Rattle.status_commands.specs.Devices.{no_such_output as no_such_output_lem, enabled_line, output_lines, output_name_lines, outputs as outputs_lem, plugin_line, switch_output as switch_output_lem, toggle_output as toggle_output_lem};
+ghost use Rattle.command_plan.specs.Turns.{turn_by};
+
+use crate::status::digit;
+use command_plan::{Asked, Plan};
+use mpd_text::{Answer, ErrorNumber};
+use player_state::{Effect, Outputs, Part};
+use std::alloc::{AllocError, Global};
+
+pub fn outputs(alloc: Global, asked: Asked, part: &Part) -> Result<Plan, AllocError>
+    ensures { IfOk result (λ plan. plan ≡ turn_by (outputs_lem asked part.now)) }
+{
+    Plan::shows(asked, lines_of(alloc, &part.outputs)?)
+}
+
+fn lines_of(alloc: Global, outputs: &Outputs) -> Result<Answer, AllocError>
+    ensures { IfOk result (λ lines. lines ≡ flat_map (output_lines outputs.now) (enumerate_from 0 outputs.now.names)) }
+{
+    let mut lines = Answer::new(alloc);
+    let mut number = 0;
+    for name in outputs.names() {
+        push_output(&mut lines, outputs, number, name.as_str())?;
+        number += 1;
+    }
+    Ok(lines)
+}
+
+fn push_output(
+    lines: &mut Answer,
+    outputs: &Outputs,
+    number: usize,
+    name: &str,
+) -> Result<(), AllocError>
+    ensures { OnOk result (lines.new ≡ lines.old ++ output_lines outputs.now (number, name.now)) }
+{
+    push_name(lines, number, name)?;
+    push_plugin(lines)?;
+    push_enabled(lines, digit(outputs.is_enabled(number)))
+}
+
+#[tactic(auto, unfolding(crate::specs::Devices::output_name_lines))]
+fn push_name(lines: &mut Answer, number: usize, name: &str) -> Result<(), AllocError>
+    ensures { OnOk result (lines.new ≡ lines.old ++ output_name_lines number name.now) }
+{
+    lines.pair("outputid", number)?;
+    lines.pair("outputname", name)
+}
+
+#[tactic(auto, unfolding(crate::specs::Devices::plugin_line))]
+fn push_plugin(lines: &mut Answer) -> Result<(), AllocError>
+    ensures { OnOk result (lines.new ≡ lines.old ++ plugin_line) }
+{
+    lines.pair("plugin", "raw")
+}
+
+#[tactic(auto, unfolding(crate::specs::Devices::enabled_line))]
+fn push_enabled(lines: &mut Answer, on: u8) -> Result<(), AllocError>
+    ensures { OnOk result (lines.new ≡ lines.old ++ enabled_line on) }
+{
+    lines.pair("outputenabled", on)
+}
+
+fn no_such_output(alloc: Global, asked: Asked) -> Result<Plan, AllocError>
+    ensures { IfOk result (λ plan. plan ≡ turn_by (no_such_output_lem asked)) }
+{
+    Plan::refuses(alloc, asked, ErrorNumber::NoExist, "no such output")
+}
+
+/// An output is turned on, unless it has failed, or off.
+pub fn switch_output(
+    alloc: Global,
+    asked: Asked,
+    part: &Part,
+    output: usize,
+    on: bool,
+) -> Result<Plan, AllocError>
+    ensures { IfOk result (λ plan. plan ≡ turn_by (switch_output_lem asked part.now output on)) }
+{
+    if !part.outputs.is_output(output) {
+        return no_such_output(alloc, asked);
+    }
+    if on && part.outputs.has_failed(output) {
+        return Plan::refuses(alloc, asked, ErrorNumber::System, "output has failed");
+    }
+    Plan::does(alloc, asked, Effect::Switches(output, on))
+}
+
+pub fn toggle_output(
+    alloc: Global,
+    asked: Asked,
+    part: &Part,
+    output: usize,
+) -> Result<Plan, AllocError>
+    ensures { IfOk result (λ plan. plan ≡ turn_by (toggle_output_lem asked part.now output)) }
+{
+    let on = !part.outputs.is_enabled(output);
+    switch_output(alloc, asked, part, output, on)
+}

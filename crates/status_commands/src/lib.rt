@@ -1,0 +1,8 @@
+//! The commands that show the player, and those of options, outputs, messages and the connection.
+#![tactic(auto)]
+
+pub mod connection;
+pub mod devices;
+pub mod messages;
+pub mod options;
+pub mod status;

@@ -1,0 +1,122 @@
+//! The commands by which clients send one another messages (MPD protocol reference, Client to client).
+ghost use Rattle.std.specs.Prelude.{◌≡◌, ◌++◌, IfOk, OnOk, map};
+ghost use Rattle.std.specs.List.{flat_map};
+ghost use Rattle.status_commands.specs.Messages.{channels as channels_lem, lines_of_channels, lines_of_messages, message_lines, read_messages as read_messages_lem, send_message as send_message_lem, subscribe as subscribe_lem, unsubscribe as unsubscribe_lem};
+ghost use Rattle.command_plan.specs.Turns.{turn_by};
+ghost use Rattle.player_state.specs.Plans.{Fits};
+
+use command_plan::{Asked, Plan};
+use idle_notes::{MAX_SUBSCRIPTIONS, Message, is_channel_name};
+use mpd_text::{Answer, ErrorNumber, Text};
+use player_state::{Effect, Part};
+use std::alloc::{AllocError, Global};
+
+pub fn subscribe(
+    alloc: Global,
+    asked: Asked,
+    part: &Part,
+    channel: &Text,
+) -> Result<Plan, AllocError>
+    ensures plan { IfOk result (λ plan. plan ≡ turn_by (subscribe_lem asked part.now channel.now)) }
+    ensures fits { IfOk result (λ plan. Fits part.now plan.doing) }
+{
+    if !is_channel_name(channel.as_str()) {
+        return Plan::bad_name(alloc, asked, channel.as_str());
+    }
+    if part.channels.listens(asked.client, channel.as_str()) {
+        return Plan::refuses(alloc, asked, ErrorNumber::Exist, "already subscribed");
+    }
+    if part.channels.count_of(asked.client) >= MAX_SUBSCRIPTIONS {
+        return Plan::refuses(alloc, asked, ErrorNumber::System, "too many subscriptions");
+    }
+    let name = Text::new(alloc, channel.as_str())?;
+    Plan::does(alloc, asked, Effect::Subscribes(asked.client, name))
+}
+
+pub fn unsubscribe(
+    alloc: Global,
+    asked: Asked,
+    part: &Part,
+    channel: &Text,
+) -> Result<Plan, AllocError>
+    ensures plan { IfOk result (λ plan. plan ≡ turn_by (unsubscribe_lem asked part.now channel.now)) }
+    ensures fits { IfOk result (λ plan. Fits part.now plan.doing) }
+{
+    if !is_channel_name(channel.as_str()) {
+        return Plan::bad_name(alloc, asked, channel.as_str());
+    }
+    if !part.channels.listens(asked.client, channel.as_str()) {
+        return Plan::refuses(alloc, asked, ErrorNumber::NoExist, "not subscribed");
+    }
+    let name = Text::new(alloc, channel.as_str())?;
+    Plan::does(alloc, asked, Effect::Unsubscribes(asked.client, name))
+}
+
+pub fn channels(alloc: Global, asked: Asked, part: &Part) -> Result<Plan, AllocError>
+    ensures { IfOk result (λ plan. plan ≡ turn_by (channels_lem asked part.now)) }
+{
+    let names = part.channels.channels(alloc)?;
+    let mut lines = Answer::new(alloc);
+    push_channels(&mut lines, &names)?;
+    Plan::shows(asked, lines)
+}
+
+#[tactic(auto, unfolding(crate::specs::Messages::lines_of_channels))]
+fn push_channels(lines: &mut Answer, names: &[&str]) -> Result<(), AllocError>
+    ensures { OnOk result (lines.new ≡ lines.old ++ lines_of_channels (map (λ name. name.now) names.now)) }
+{
+    for name in names {
+        lines.pair("channel", *name)?;
+    }
+    Ok(())
+}
+
+pub fn send_message(
+    alloc: Global,
+    asked: Asked,
+    part: &Part,
+    channel: &Text,
+    text: &Text,
+) -> Result<Plan, AllocError>
+    ensures plan { IfOk result (λ plan. plan ≡ turn_by (send_message_lem asked part.now channel.now text.now)) }
+    ensures fits { IfOk result (λ plan. Fits part.now plan.doing) }
+{
+    if !is_channel_name(channel.as_str()) {
+        return Plan::bad_name(alloc, asked, channel.as_str());
+    }
+    if !part.channels.hears(channel.as_str()) {
+        return Plan::refuses(alloc, asked, ErrorNumber::NoExist, "nobody is subscribed");
+    }
+    if !part.channels.has_room(channel.as_str()) {
+        return Plan::refuses(alloc, asked, ErrorNumber::NoExist, "no subscriber has room");
+    }
+    let name = Text::new(alloc, channel.as_str())?;
+    let text = Text::new(alloc, text.as_str())?;
+    Plan::does(alloc, asked, Effect::Sends(name, text))
+}
+
+pub fn read_messages(alloc: Global, asked: Asked, part: &Part) -> Result<Plan, AllocError>
+    ensures plan { IfOk result (λ plan. plan ≡ turn_by (read_messages_lem asked part.now)) }
+    ensures fits { IfOk result (λ plan. Fits part.now plan.doing) }
+{
+    let mut lines = Answer::new(alloc);
+    push_messages(&mut lines, part.channels.messages(asked.client))?;
+    Plan::does_and_shows(asked, Effect::ReadsMessages(asked.client), lines)
+}
+
+#[tactic(auto, unfolding(crate::specs::Messages::lines_of_messages))]
+fn push_messages(lines: &mut Answer, messages: &[Message]) -> Result<(), AllocError>
+    ensures { OnOk result (lines.new ≡ lines.old ++ lines_of_messages messages.now) }
+{
+    for message in messages {
+        push_message(lines, message)?;
+    }
+    Ok(())
+}
+
+fn push_message(lines: &mut Answer, message: &Message) -> Result<(), AllocError>
+    ensures { OnOk result (lines.new ≡ lines.old ++ message_lines message.now) }
+{
+    lines.pair("channel", message.channel.as_str())?;
+    lines.pair("message", message.text.as_str())
+}

@@ -1,0 +1,298 @@
+//! The commands that ask how the player is, and what changed (MPD protocol reference, Querying MPD's status).
+ghost use Rattle.std.specs.Prelude.{◌≡◌, Option, Some, None, IfOk, OnOk, ◌++◌, codes, length};
+ghost use Rattle.idle_notes.specs.Notes.{waits, notice_of};
+ghost use Rattle.std.specs.Option.{option_copied};
+ghost use Rattle.song_queue.specs.State.{queue_of};
+ghost use Rattle.player_core.specs.Steps.{current_entry, peek};
+ghost use Rattle.status_commands.specs.Status.{ToWait, ToGoOn, audio_line, consume_text as consume_text_lem, current_lines, digit as digit_lem, duration_line, duration_of, elapsed_line, error_line, fade_line, idles, mode_lines, next_lines, next_place_lines, progress_lines, queue_lines, resumes, scan_line, single_text as single_text_lem, song_place_lines, state_text as state_text_lem, status as status_lem, wished};
+ghost use Rattle.mpd_text.specs.declared.answers.answer.ErrorNumber.TheVariants.{Argument};
+ghost use Rattle.command_plan.specs.Answers.{refuses as refuses_lem, stays};
+ghost use Rattle.command_plan.specs.Turns.{turn_by};
+ghost use Rattle.player_state.specs.Scans.{running};
+
+use command_plan::{Asked, Move, Next, Plan, Spoken, Stand, refuses, tells};
+use idle_notes::Subsystems;
+use mpd_text::{Answer, ErrorNumber, SharedText};
+use play_order::{Consume, Modes, Single};
+use player_core::Playback;
+use player_state::{Client, Library, Part};
+use queue_commands::playback::is_stopped;
+use song_db::{Rate, duration, length_of};
+use std::alloc::{AllocError, Global};
+
+pub fn status(
+    alloc: Global,
+    asked: Asked,
+    part: &Part,
+    library: &Library,
+) -> Result<Plan, AllocError>
+    ensures { IfOk result (λ plan. plan ≡ turn_by (status_lem asked part.now library.now)) }
+{
+    let mut lines = Answer::new(alloc);
+    push_modes(&mut lines, part.volume.percent(), part.player.modes())?;
+    push_queue(&mut lines, part)?;
+    push_current(&mut lines, part)?;
+    push_next(&mut lines, part)?;
+    push_progress(alloc, &mut lines, part, library)?;
+    push_last(&mut lines, part, library)?;
+    Plan::shows(asked, lines)
+}
+
+#[tactic(auto, unfolding(crate::specs::Status::mode_lines))]
+fn push_modes(lines: &mut Answer, volume: u8, modes: Modes) -> Result<(), AllocError>
+    ensures { OnOk result (lines.new ≡ lines.old ++ mode_lines volume modes) }
+{
+    lines.pair("volume", volume)?;
+    lines.pair("repeat", digit(modes.repeat))?;
+    lines.pair("random", digit(modes.random))?;
+    lines.pair("single", single_text(modes.single))?;
+    lines.pair("consume", consume_text(modes.consume))
+}
+
+fn single_text(single: Single) -> &'static str
+    ensures { result.now ≡ single_text_lem single }
+{
+    match single {
+        Single::Off => "0",
+        Single::On => "1",
+        Single::Oneshot => "oneshot",
+    }
+}
+
+fn consume_text(consume: Consume) -> &'static str
+    ensures { result.now ≡ consume_text_lem consume }
+{
+    match consume {
+        Consume::Off => "0",
+        Consume::On => "1",
+        Consume::Oneshot => "oneshot",
+    }
+}
+
+#[tactic(auto, unfolding(crate::specs::Status::queue_lines))]
+fn push_queue(lines: &mut Answer, part: &Part) -> Result<(), AllocError>
+    ensures { OnOk result (lines.new ≡ lines.old ++ queue_lines part.now.queue.version (length (queue_of part.now.queue)) part.now.player.playback) }
+{
+    lines.pair("partition", "default")?;
+    lines.pair("playlist", part.queue.version())?;
+    lines.pair("playlistlength", part.queue.len())?;
+    lines.pair("state", state_text(part.player.playback()))
+}
+
+fn state_text(playback: Playback) -> &'static str
+    ensures { result.now ≡ state_text_lem playback }
+{
+    match playback {
+        Playback::Stop => "stop",
+        Playback::Play => "play",
+        Playback::Pause => "pause",
+    }
+}
+
+/// The current song, if there is one.
+fn push_current(lines: &mut Answer, part: &Part) -> Result<(), AllocError>
+    ensures { OnOk result (lines.new ≡ lines.old ++ current_lines part.now.queue part.now.player.current) }
+{
+    let Some(id) = part.player.current() else {
+        return Ok(());
+    };
+    match part.queue.position_of(id) {
+        Some(place) => push_song_place(lines, place, id),
+        None => Ok(()),
+    }
+}
+
+#[tactic(auto, unfolding(crate::specs::Status::song_place_lines))]
+fn push_song_place(lines: &mut Answer, place: usize, id: u32) -> Result<(), AllocError>
+    ensures { OnOk result (lines.new ≡ lines.old ++ song_place_lines place id) }
+{
+    lines.pair("song", place)?;
+    lines.pair("songid", id)
+}
+
+/// The song that the natural end of the current one would start, if there is one.
+fn push_next(lines: &mut Answer, part: &Part) -> Result<(), AllocError>
+    ensures { OnOk result (lines.new ≡ lines.old ++ next_lines part.now.queue (peek part.now.player (queue_of part.now.queue))) }
+{
+    let Some(entry) = part.player.peek(&part.queue) else {
+        return Ok(());
+    };
+    match part.queue.position_of(entry.id) {
+        Some(place) => push_next_place(lines, place, entry.id),
+        None => Ok(()),
+    }
+}
+
+#[tactic(auto, unfolding(crate::specs::Status::next_place_lines))]
+fn push_next_place(lines: &mut Answer, place: usize, id: u32) -> Result<(), AllocError>
+    ensures { OnOk result (lines.new ≡ lines.old ++ next_place_lines place id) }
+{
+    lines.pair("nextsong", place)?;
+    lines.pair("nextsongid", id)
+}
+
+/// How far the current song is, how long it is, and what its frames are, where the player does not stand still.
+fn push_progress(
+    alloc: Global,
+    lines: &mut Answer,
+    part: &Part,
+    library: &Library,
+) -> Result<(), AllocError>
+    ensures { OnOk result (lines.new ≡ lines.old ++ progress_lines library.now.rate part.now) }
+{
+    if is_stopped(part) {
+        return Ok(());
+    }
+    push_elapsed(alloc, lines, part.player.place(), &library.rate)?;
+    push_duration(alloc, lines, part, &library.rate)?;
+    push_audio(alloc, lines, &library.rate)
+}
+
+#[tactic(auto, unfolding(crate::specs::Status::elapsed_line))]
+fn push_elapsed(
+    alloc: Global,
+    lines: &mut Answer,
+    place: u64,
+    rate: &Rate,
+) -> Result<(), AllocError>
+    ensures { OnOk result (lines.new ≡ lines.old ++ elapsed_line rate.now place) }
+{
+    let text = duration(alloc, length_of(place, rate))?;
+    lines.pair("elapsed", text.as_str())
+}
+
+/// How long the current song is, if it is in the queue.
+fn push_duration(
+    alloc: Global,
+    lines: &mut Answer,
+    part: &Part,
+    rate: &Rate,
+) -> Result<(), AllocError>
+    ensures { OnOk result (lines.new ≡ lines.old ++ duration_of rate.now (current_entry part.now.player (queue_of part.now.queue))) }
+{
+    match part.player.current_entry(&part.queue) {
+        Some(entry) => push_duration_line(alloc, lines, entry.song.song().frames(), rate),
+        None => Ok(()),
+    }
+}
+
+#[tactic(auto, unfolding(crate::specs::Status::duration_line))]
+fn push_duration_line(
+    alloc: Global,
+    lines: &mut Answer,
+    frames: u64,
+    rate: &Rate,
+) -> Result<(), AllocError>
+    ensures { OnOk result (lines.new ≡ lines.old ++ duration_line rate.now frames) }
+{
+    let text = duration(alloc, length_of(frames, rate))?;
+    lines.pair("duration", text.as_str())
+}
+
+#[tactic(auto, unfolding(crate::specs::Status::audio_line))]
+fn push_audio(alloc: Global, lines: &mut Answer, rate: &Rate) -> Result<(), AllocError>
+    ensures { OnOk result (lines.new ≡ lines.old ++ audio_line rate.now) }
+{
+    let frames = rate.frames();
+    let text = format!(in alloc; "{frames}:16:2")?;
+    lines.pair("audio", text.as_str())
+}
+
+/// The seconds of fades, the scan that runs, and why the player stopped, each where it is there.
+fn push_last(lines: &mut Answer, part: &Part, library: &Library) -> Result<(), AllocError>
+    ensures { OnOk result (lines.new ≡ lines.old ++ (fade_line part.now.player.crossfade ++ (scan_line (running library.now.scan) ++ error_line part.now.player.error))) }
+{
+    push_fade(lines, part.player.crossfade())?;
+    push_scan(lines, library.scan.running())?;
+    push_error(lines, part.player.error())
+}
+
+/// Why the player stopped, if that was an error.
+fn push_error(lines: &mut Answer, error: Option<&str>) -> Result<(), AllocError>
+    ensures { OnOk result (lines.new ≡ lines.old ++ error_line (option_copied error.entry)) }
+{
+    match error {
+        Some(text) => lines.pair("error", text),
+        None => Ok(()),
+    }
+}
+
+/// Shows the seconds of fades, unless there are none.
+fn push_fade(lines: &mut Answer, seconds: u32) -> Result<(), AllocError>
+    ensures { OnOk result (lines.new ≡ lines.old ++ fade_line seconds) }
+{
+    if seconds == 0 {
+        return Ok(());
+    }
+    lines.pair("xfade", seconds)
+}
+
+/// Shows the number of the scan that runs.
+fn push_scan(lines: &mut Answer, number: Option<u64>) -> Result<(), AllocError>
+    ensures { OnOk result (lines.new ≡ lines.old ++ scan_line number) }
+{
+    match number {
+        Some(number) => lines.pair("updating_db", number),
+        None => Ok(()),
+    }
+}
+
+/// A mode as it is sent.
+pub(crate) fn digit(on: bool) -> u8
+    ensures { result ≡ digit_lem on }
+{
+    if on { 1 } else { 0 }
+}
+
+/// Tells a client at once of what changed already, or lets it wait.
+pub fn idle(
+    alloc: Global,
+    asked: Asked,
+    client: Client,
+    named: Subsystems,
+) -> Result<Spoken, AllocError>
+    ensures { IfOk result (λ spoken. spoken ≡ wished asked client (ToWait named)) }
+{
+    match asked.stand {
+        Stand::Alone => wait_for(alloc, client, named),
+        Stand::InList(_, _) => not_in_list(alloc, asked),
+    }
+}
+
+fn wait_for(alloc: Global, client: Client, named: Subsystems) -> Result<Spoken, AllocError>
+    ensures { IfOk result (λ spoken. spoken ≡ idles named (notice_of (waits named client.pending))) }
+{
+    let mut pending = client.pending;
+    let Some(names) = pending.wait(named) else {
+        let nothing = SharedText::of(String::new(alloc))?;
+        return Spoken::of(nothing, Next::Waits, false, Move::Wait(named));
+    };
+    let mut answer = Answer::new(alloc);
+    names.push_lines(&mut answer)?;
+    answer.ok()?;
+    tells(answer.into_string(), Move::Learn)
+}
+
+pub fn no_idle(alloc: Global, asked: Asked, client: Client) -> Result<Spoken, AllocError>
+    ensures { IfOk result (λ spoken. spoken ≡ wished asked client ToGoOn) }
+{
+    match asked.stand {
+        Stand::Alone => go_on(alloc, client),
+        Stand::InList(_, _) => not_in_list(alloc, asked),
+    }
+}
+
+fn go_on(alloc: Global, client: Client) -> Result<Spoken, AllocError>
+    ensures { IfOk result (λ spoken. spoken ≡ resumes client) }
+{
+    if !client.pending.is_waiting() {
+        return tells(String::new(alloc), Move::Stay);
+    }
+    tells(String::from_str(alloc, "OK\n")?, Move::Resume)
+}
+
+fn not_in_list(alloc: Global, asked: Asked) -> Result<Spoken, AllocError>
+    ensures { IfOk result (λ spoken. spoken ≡ stays (refuses_lem asked.stand (Some asked.name) Argument (codes "not allowed in a list"))) }
+{
+    refuses(alloc, asked, ErrorNumber::Argument, "not allowed in a list")
+}
