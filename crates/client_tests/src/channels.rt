@@ -350,8 +350,8 @@ news=for two
     );
 }
 
-/// What an image of channels answers to the last steps, where the first were done before it was taken, and the second to its
-/// source.
+/// What an image of channels answers to the last steps, where the first were done before it was taken, and
+/// the second to its source.
 fn answers_of_image(
     alloc: Global,
     before: &[Step],
@@ -404,7 +404,8 @@ news=one news=three
     );
 }
 
-/// What waits in an image for a client with as many channels and messages as it may have, when its source was left.
+/// What waits in an image for a client with as many channels and messages as it may have, when its source was
+/// left.
 fn full_image(alloc: Global) -> Result<String, AllocError> {
     let mut channels = Channels::new(alloc);
     if !is_subscribed_to_all(&mut channels, 1) || !are_sent(&mut channels, "p", 64) {

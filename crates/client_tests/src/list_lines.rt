@@ -50,8 +50,8 @@ fn is_open(collector: &ListCollector) -> &'static str {
     if collector.is_open() { " open\n" } else { "\n" }
 }
 
-/// What lines are taken as, and whether a list is open after each. `?` stands for a line that is no text, and at `!` the open
-/// list is dropped.
+/// What lines are taken as, and whether a list is open after each. `?` stands for a line that is no text, and
+/// at `!` the open list is dropped.
 fn session(alloc: Global, lines: &str) -> Result<String, AllocError> {
     let mut collector = ListCollector::new();
     let mut all = String::new(alloc);
@@ -91,7 +91,8 @@ fn other_lines_begin_and_end_no_list(rt: HostRuntime) {
     );
 }
 
-/// A list of lines of these lengths, and what the collector says of one more line: before it, of it, and whether a list is open.
+/// A list of lines of these lengths, and what the collector says of one more line: before it, of it, and
+/// whether a list is open.
 fn after_lines(
     alloc: Global,
     count: u32,

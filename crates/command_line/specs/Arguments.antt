@@ -1,5 +1,5 @@
--- The words that the program takes, as clap's definition for simple commands says them: commands, and the arguments of each
--- (this profile's).
+-- The words that the program takes, as clap's definition for simple commands says them: commands, and the
+-- arguments of each (this profile's).
 use Rattle.std.specs.Prelude.{[], ◌∷◌, codes, true, Some, pos}
 use Rattle.clap.specs.Words.{App, Rule, new_app, new_rule, with_rule, with_subcommand}
 use Rattle.clap.specs.declared.builder.ArgAction.TheVariants.{Set}

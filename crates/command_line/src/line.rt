@@ -14,7 +14,8 @@ use std::alloc::Global;
 
 /// The program that the words ask for, of which the first is the program's name.
 pub fn command_line<'a>(alloc: Global, words: &'a [String]) -> Result<Program<'a>, LineFault>
-    // Words are refused where clap's definition for simple commands refuses them, by its kind, and only there.
+    // Words are refused where clap's definition for simple commands refuses them, by its kind, and only
+    // there.
     ensures taken { IfOk result (λ program. fault_of arguments.daemon (map string_bytes words.now) ≡ []) }
     ensures refused { IfErr result (λ fault. IsRefusedBy (fault_of arguments.daemon (map string_bytes words.now)) fault) }
     // The program and its values are what that definition reads in the words.

@@ -1,4 +1,5 @@
--- What a client's lines are, of whole lists of lines: lines alone, and command lists between their words (MPD protocol reference, Command lists).
+-- What a client's lines are, of whole lists of lines: lines alone, and command lists between their words (MPD
+-- protocol reference, Command lists).
 use Rattle.std.specs.Prelude.{◌≡◌, ℕ, ◌+◌, ◌<◌, ◌≤◌, ◌↔◌, List, [], ◌∷◌, ◌++◌, map, flat_map, Option, Some, None}
 use Rattle.mpd_text.specs.Lines.Grammar.{AreBlanks}
 use Rattle.command_lists.specs.declared.collector.Taken.{Taken}
@@ -26,7 +27,8 @@ abbrev pub NoneEnds : List LineData → Type 0
 NoneEnds [] = Unit {0}
 NoneEnds (line ∷ lines) = EndsNone line × NoneEnds lines
 
--- the first line begins this list, and the others are all its lines; none of them ends it, and they are not too large together
+-- the first line begins this list, and the others are all its lines; none of them ends it, and they are not
+-- too large together
 abbrev pub Opens : LineData → List LineData → CommandList → Type 0
 Opens first others list =
     IsWord first (Begin list.form) × (list.lines ≡ map kept others) × NoneEnds others × (list_bytes list.lines ≤ 2097152)

@@ -1,4 +1,5 @@
--- Command lists as they stand among a client's lines (MPD protocol reference, Command lists; the limit is this profile's).
+-- Command lists as they stand among a client's lines (MPD protocol reference, Command lists; the limit is
+-- this profile's).
 use Rattle.std.specs.Prelude.{ℕ, ◌+◌, List, [], ◌∷◌, ◌++◌, length, sum_by, Bool, false, true, nat_le, if◌then◌else◌, Option, Some, None}
 use Rattle.command_lists.specs.declared.collector.Taken.{Taken}
 use Rattle.command_lists.specs.declared.collector.Taken.TheVariants.{Alone, Begun, Collected, Ended, TooLarge}

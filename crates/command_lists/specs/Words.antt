@@ -1,4 +1,5 @@
--- The words that begin and end a command list (MPD protocol reference, Command lists; that blanks may be round them is this profile's).
+-- The words that begin and end a command list (MPD protocol reference, Command lists; that blanks may be
+-- round them is this profile's).
 use Rattle.std.specs.Prelude.{ℕ, List, [], ◌∷◌, codes, Option, find, if◌then◌else◌}
 use Rattle.std.specs.List.{list_all}
 use Rattle.std.specs.Str.{bytes_eq}

@@ -20,7 +20,8 @@ pub enum Taken {
     Collected,
     /// It ends the open list, which is this.
     Ended(CommandList),
-    /// With it the open list would have more than 2,097,152 bytes. The list is dropped, and the client is to be closed.
+    /// With it the open list would have more than 2,097,152 bytes. The list is dropped, and the client is to
+    /// be closed.
     TooLarge,
 }
 
@@ -52,8 +53,8 @@ impl ListCollector {
         ListCollector { open_list: None }
     }
 
-    /// Takes a client's next line; `None` is a line that is not UTF-8. Only a line that is collected takes memory;
-    /// without memory nothing changes, as if the line had not come.
+    /// Takes a client's next line; `None` is a line that is not UTF-8. Only a line that is collected takes
+    /// memory; without memory nothing changes, as if the line had not come.
     pub fn take(&mut self, alloc: Global, line: Option<&str>) -> Result<Taken, AllocError>
         ensures ok { IfOk result (λ t. record { open_list = self.new; taken = t } ≡ outcome_of self.old (option_copied line.entry)) }
         ensures err { OnErr result (self.new ≡ self.old) }
@@ -77,8 +78,9 @@ impl ListCollector {
         }
     }
 
-    /// Whether the open list would be too large with a line. Asked before [`ListCollector::take`], it lets a caller close
-    /// the client first, and keep the list where it could not. What the line says is looked at only where there is no room.
+    /// Whether the open list would be too large with a line. Asked before [`ListCollector::take`], it lets a
+    /// caller close the client first, and keep the list where it could not. What the line says is looked at
+    /// only where there is no room.
     pub fn is_too_large_with(&self, line: Option<&str>) -> bool
         ensures { result ≡ is_too_large (outcome_of self.now (option_copied line.entry)).taken }
     {

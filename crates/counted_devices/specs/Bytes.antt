@@ -4,7 +4,8 @@ use Rattle.counted_devices.specs.Tally.{count_up}
 use Rattle.counted_devices.specs.declared.fail_at.FailurePoint.{FailurePoint}
 use Rattle.counted_devices.specs.declared.fail_at.FailurePoint.TheVariants.{Never, Call, Byte}
 
--- A seek to a place, where all bytes are known: at Ok those from the place on remain, and at Err what remained before.
+-- A seek to a place, where all bytes are known: at Ok those from the place on remain, and at Err what
+-- remained before.
 abbrev pub SeeksTo : {X E : Type 0} → Option (List ℕ) → ℕ → Option (List ℕ) → Option (List ℕ) → Result X E → Type 0
 SeeksTo bytes place old new r = IfSome bytes (λ all. MatchResult r (λ _. new ≡ Some (drop place all)) (λ _. new ≡ old))
 

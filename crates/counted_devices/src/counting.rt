@@ -8,7 +8,8 @@ use crate::{Failing, Media, ReadSeek, Sink, Source, Tally};
 use std::io;
 use std::io::{Read, Write};
 
-/// Counts how the calls of a device end. Each call hands on one call of the device, with the same bytes or place.
+/// Counts how the calls of a device end. Each call hands on one call of the device, with the same bytes or
+/// place.
 #[derive(Drop)]
 pub struct Counting<T> {
     inner: T,

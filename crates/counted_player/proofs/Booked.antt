@@ -2,10 +2,10 @@
 use Rattle.std.proofs.Common.{◌≡◌, ℕ, ◌+◌, ◌<◌, ◌≤◌, ◌^◌, Bool, true, false, ◌&&◌, ◌||◌, not, nat_le, List, length, Some, None, refl, ap, sym, subst, ◌∙◌, arith, if◌then◌else◌}
 use Rattle.std.specs.Prelude.{slice_index_or, sum}
 use Rattle.std.proofs.lemmas.Bool.Decides.{nat_tests}
-use Rattle.player_state.specs.declared.doing.Doing.{Doing}
-use Rattle.player_state.specs.declared.doing.Doing.TheVariants.{ByCommand, ByAudio}
-use Rattle.player_state.specs.declared.doing.Effect.TheVariants.{Rests}
-use Rattle.player_state.specs.declared.doing.AudioStep.TheVariants.{Accepts, Settles}
+use Rattle.player_state.specs.declared.effect.Effect.{Effect}
+use Rattle.player_state.specs.declared.effect.Effect.TheVariants.{ByCommand, ByAudio}
+use Rattle.player_state.specs.declared.effect.CommandEffect.TheVariants.{Rests}
+use Rattle.player_state.specs.declared.effect.AudioStep.TheVariants.{Accepts, Settles}
 use Rattle.player_events.specs.declared.event.Event.{Event}
 use Rattle.player_events.specs.declared.event.Event.TheVariants.{Have, OutputTurn}
 use Rattle.partition.specs.declared.partition.PartitionFault.TheVariants.{CutsAtLimit, AtLimit}
@@ -14,8 +14,8 @@ use Rattle.partition.specs.History.{Chronicle}
 use Rattle.partition.specs.Image.{Image}
 use Rattle.partition.specs.Legal.{IsPast}
 use Rattle.player_state.specs.Outputs.{FrameBooks, OutputsData, books_after, can_count, can_count_all, decoded_by, discarded_by, frames_fed, is_enabled, is_output, total, written_by}
-use Rattle.partition.specs.Step.{absent, counts_frames, keeps_limits, limit_of, next_image, turn}
-use Rattle.command_plan.specs.Turns.{acts, report_of}
+use Rattle.partition.specs.Step.{absent, counts_frames, keeps_limits, limit_of, next_image, transition}
+use Rattle.transitions.specs.Transitions.{acts, report_of}
 use Rattle.counted_player.proofs.Eight.{grown_none, grown_sum, total_sum}
 use Rattle.counted_player.proofs.Frameless.{is_frameless}
 
@@ -32,15 +32,15 @@ has_eight c past = record {
   discarded = ap (λ (b : FrameBooks). length b.discarded) past.books;
 }
 
-none_fed : (d : Doing) (report : Report) → is_frameless d ≡ true → frames_fed d report ≡ 0
+none_fed : (d : Effect) (report : Report) → is_frameless d ≡ true → frames_fed d report ≡ 0
 none_fed (ByAudio (Accepts number frames)) report e = cc
 none_fed _ report e = refl
 
-none_written : (d : Doing) (output : ℕ) → is_frameless d ≡ true → written_by d output ≡ 0
+none_written : (d : Effect) (output : ℕ) → is_frameless d ≡ true → written_by d output ≡ 0
 none_written (ByAudio (Settles k written discarded failed)) output e = cc
 none_written _ output e = refl
 
-none_discarded : (d : Doing) (output : ℕ) → is_frameless d ≡ true → discarded_by d output ≡ 0
+none_discarded : (d : Effect) (output : ℕ) → is_frameless d ≡ true → discarded_by d output ≡ 0
 none_discarded (ByAudio (Settles k written discarded failed)) output e = cc
 none_discarded _ output e = refl
 
@@ -50,59 +50,60 @@ share false n e = refl
 
 -- the books after an event
 pub books_next : (seat : ℕ) (i : Image) (e : Event)
-    → (next_image seat i e).shared.books ≡ books_after i.shared.books i.part.outputs (turn i e).doing (report_of i.part i.shared.library (turn i e))
+    → (next_image seat i e).shared.books ≡ books_after i.shared.books i.part.outputs (transition i e).effect (report_of i.part i.shared.library (transition i e))
 unfolding next_image
 books_next seat i e = refl
 
 module _ (seat : ℕ) (i after : Image) (e : Event) (eight : HasEight i.shared.books) (is : after ≡ next_image seat i e) where
   abbrev report : Report
-  report = report_of i.part i.shared.library (turn i e)
+  report = report_of i.part i.shared.library (transition i e)
 
-  books_are : after.shared.books ≡ books_after i.shared.books i.part.outputs (turn i e).doing report
+  books_are : after.shared.books ≡ books_after i.shared.books i.part.outputs (transition i e).effect report
   books_are = ap (λ (j : Image). j.shared.books) is ∙ books_next seat i e
 
-  decoded_stay : (frames_fed (turn i e).doing report ≡ 0) → after.shared.books.decoded ≡ i.shared.books.decoded
+  decoded_stay : (frames_fed (transition i e).effect report ≡ 0) → after.shared.books.decoded ≡ i.shared.books.decoded
   decoded_stay none =
       ap (λ (b : FrameBooks). b.decoded) books_are
-      ∙ grown_none (decoded_by i.part.outputs (turn i e).doing report) (λ n. share (is_enabled i.part.outputs n) _ none) i.shared.books.decoded eight.decoded
+      ∙ grown_none (decoded_by i.part.outputs (transition i e).effect report) (λ n. share (is_enabled i.part.outputs n) _ none) i.shared.books.decoded eight.decoded
 
-  written_stay : ((n : ℕ) → written_by (turn i e).doing n ≡ 0) → after.shared.books.written ≡ i.shared.books.written
+  written_stay : ((n : ℕ) → written_by (transition i e).effect n ≡ 0) → after.shared.books.written ≡ i.shared.books.written
   written_stay none =
-      ap (λ (b : FrameBooks). b.written) books_are ∙ grown_none (written_by (turn i e).doing) none i.shared.books.written eight.written
+      ap (λ (b : FrameBooks). b.written) books_are ∙ grown_none (written_by (transition i e).effect) none i.shared.books.written eight.written
 
-  discarded_stay : ((n : ℕ) → discarded_by (turn i e).doing n ≡ 0) → after.shared.books.discarded ≡ i.shared.books.discarded
+  discarded_stay : ((n : ℕ) → discarded_by (transition i e).effect n ≡ 0) → after.shared.books.discarded ≡ i.shared.books.discarded
   discarded_stay none =
-      ap (λ (b : FrameBooks). b.discarded) books_are ∙ grown_none (discarded_by (turn i e).doing) none i.shared.books.discarded eight.discarded
+      ap (λ (b : FrameBooks). b.discarded) books_are ∙ grown_none (discarded_by (transition i e).effect) none i.shared.books.discarded eight.discarded
 
   -- an event that brings no frames leaves all books
-  pub all_stay : is_frameless (turn i e).doing ≡ true → after.shared.books ≡ i.shared.books
+  pub all_stay : is_frameless (transition i e).effect ≡ true → after.shared.books ≡ i.shared.books
   all_stay frameless = λ k. record {
-    decoded = decoded_stay (none_fed (turn i e).doing report frameless) k;
-    written = written_stay (λ n. none_written (turn i e).doing n frameless) k;
-    discarded = discarded_stay (λ n. none_discarded (turn i e).doing n frameless) k;
+    decoded = decoded_stay (none_fed (transition i e).effect report frameless) k;
+    written = written_stay (λ n. none_written (transition i e).effect n frameless) k;
+    discarded = discarded_stay (λ n. none_discarded (transition i e).effect n frameless) k;
   }
 
   -- no number becomes smaller
   pub decoded_grows : sum i.shared.books.decoded ≤ sum after.shared.books.decoded
   decoded_grows = rw (ap (λ (b : FrameBooks). b.decoded) books_are)
-      (grown_sum (decoded_by i.part.outputs (turn i e).doing report) i.shared.books.decoded eight.decoded)
+      (grown_sum (decoded_by i.part.outputs (transition i e).effect report) i.shared.books.decoded eight.decoded)
 
   pub written_grows : sum i.shared.books.written ≤ sum after.shared.books.written
-  written_grows = rw (ap (λ (b : FrameBooks). b.written) books_are) (grown_sum (written_by (turn i e).doing) i.shared.books.written eight.written)
+  written_grows = rw (ap (λ (b : FrameBooks). b.written) books_are) (grown_sum (written_by (transition i e).effect) i.shared.books.written eight.written)
 
   pub discarded_grows : sum i.shared.books.discarded ≤ sum after.shared.books.discarded
-  discarded_grows = rw (ap (λ (b : FrameBooks). b.discarded) books_are) (grown_sum (discarded_by (turn i e).doing) i.shared.books.discarded eight.discarded)
+  discarded_grows = rw (ap (λ (b : FrameBooks). b.discarded) books_are) (grown_sum (discarded_by (transition i e).effect) i.shared.books.discarded eight.discarded)
 
--- an event that is within its limits is one of a seat that can be counted further, and its frames can be counted
+-- an event that is within its limits is one of a seat that can be counted further, and its frames can be
+-- counted
 within_by : (full counts keeps : Bool) → (if full || not counts then Some AtLimit else (if keeps then None else Some CutsAtLimit)) ≡ None → (full ≡ false) × (counts ≡ true)
 within_by true counts keeps e = cc
 within_by false true keeps e = (refl, refl)
 within_by false false keeps e = cc
 
 pub within : (seat : ℕ) (i : Image) (e : Event) → limit_of seat i e ≡ None
-    → (nat_le 9223372036854775807 (slice_index_or i.shared.made seat 0) ≡ false) × (counts_frames i (turn i e) ≡ true)
+    → (nat_le 9223372036854775807 (slice_index_or i.shared.made seat 0) ≡ false) × (counts_frames i (transition i e) ≡ true)
 unfolding limit_of
-within seat i e none = within_by (nat_le 9223372036854775807 (slice_index_or i.shared.made seat 0)) (counts_frames i (turn i e)) (keeps_limits i (turn i e)) none
+within seat i e none = within_by (nat_le 9223372036854775807 (slice_index_or i.shared.made seat 0)) (counts_frames i (transition i e)) (keeps_limits i (transition i e)) none
 
 below : (n : ℕ) → nat_le 9223372036854775807 n ≡ false → n + 1 < 2 ^ 63
 below n e = grind (arith, nat_tests)
@@ -137,15 +138,15 @@ few_by b eight can =
       discarded = counted_below b.discarded eight.discarded two.1;
     }
 
-eight_after : (b : FrameBooks) (outputs : OutputsData) (d : Doing) (report : Report) → HasEight (books_after b outputs d report)
+eight_after : (b : FrameBooks) (outputs : OutputsData) (d : Effect) (report : Report) → HasEight (books_after b outputs d report)
 eight_after b outputs d given = record { decoded = refl; written = refl; discarded = refl }
 
 pub few_after : (seat : ℕ) (i after : Image) (e : Event) → limit_of seat i e ≡ None → after ≡ next_image seat i e → AreFew after.shared.books
 few_after seat i after e none is =
-    let report : Report = report_of i.part i.shared.library (turn i e) in
-    let are : after.shared.books ≡ books_after i.shared.books i.part.outputs (turn i e).doing report = ap (λ (j : Image). j.shared.books) is ∙ books_next seat i e in
-    subst AreFew (sym are) (few_by (books_after i.shared.books i.part.outputs (turn i e).doing report)
-    (eight_after i.shared.books i.part.outputs (turn i e).doing report) (within seat i e none).1)
+    let report : Report = report_of i.part i.shared.library (transition i e) in
+    let are : after.shared.books ≡ books_after i.shared.books i.part.outputs (transition i e).effect report = ap (λ (j : Image). j.shared.books) is ∙ books_next seat i e in
+    subst AreFew (sym are) (few_by (books_after i.shared.books i.part.outputs (transition i e).effect report)
+    (eight_after i.shared.books i.part.outputs (transition i e).effect report) (within seat i e none).1)
 
 -- a have is no turn, and a turn feeds nothing
 no_fates : (ended : Bool) (number frames : ℕ) (output : ℕ)
@@ -158,13 +159,13 @@ pub have_fates : (seat : ℕ) (i after : Image) (number frames : ℕ) → HasEig
 have_fates seat i after number frames eight is =
     (written_stay seat i after (Have number frames) eight is (λ n. (no_fates i.shared.ended number frames n).0), discarded_stay seat i after (Have number frames) eight is (λ n. (no_fates i.shared.ended number frames n).1))
 
-turn_feeds : (i : Image) (output written discarded : ℕ) (failed : Bool) (report : Report) → frames_fed (turn i (OutputTurn output written discarded failed)).doing report ≡ 0
+turn_feeds : (i : Image) (output written discarded : ℕ) (failed : Bool) (report : Report) → frames_fed (transition i (OutputTurn output written discarded failed)).effect report ≡ 0
 turn_feeds i output written discarded failed report =
-    elim (is_output i.part.outputs output) as (λ b. frames_fed (if b then acts (Settles output written discarded failed) else absent).doing report ≡ 0)
+    elim (is_output i.part.outputs output) as (λ b. frames_fed (if b then acts (Settles output written discarded failed) else absent).effect report ≡ 0)
     [ true ↦ refl | false ↦ refl ]
 
 pub turn_decoded : (seat : ℕ) (i after : Image) (output written discarded : ℕ) (failed : Bool) → HasEight i.shared.books
     → after ≡ next_image seat i (OutputTurn output written discarded failed) → after.shared.books.decoded ≡ i.shared.books.decoded
 turn_decoded seat i after output written discarded failed eight is =
     decoded_stay seat i after (OutputTurn output written discarded failed) eight is
-    (turn_feeds i output written discarded failed (report_of i.part i.shared.library (turn i (OutputTurn output written discarded failed))))
+    (turn_feeds i output written discarded failed (report_of i.part i.shared.library (transition i (OutputTurn output written discarded failed))))

@@ -7,11 +7,11 @@ use Rattle.shelf.specs.Calls.{Call}
 use Rattle.shelf.specs.Maps.{Standing}
 use Rattle.player_events.specs.declared.event.Event.{Event}
 use Rattle.player_events.specs.declared.event.Event.TheVariants.{Line}
-use Rattle.player_events.specs.declared.event.Happened.{Happened}
-use Rattle.command_plan.specs.declared.asked.Stand.TheVariants.{InList}
+use Rattle.player_events.specs.declared.event.LogEntry.{LogEntry}
+use Rattle.transitions.specs.declared.asked.Stand.TheVariants.{InList}
 use Rattle.partition.specs.declared.partition.PartitionFault.{PartitionFault}
-use Rattle.command_plan.specs.declared.shelf_calls.Heard.{Heard}
-use Rattle.player_events.specs.Told.{Told}
+use Rattle.transitions.specs.declared.shelf_calls.StoreReply.{StoreReply}
+use Rattle.player_events.specs.Outcomes.{OutcomeData}
 use Rattle.partition.specs.History.{Chronicle, folded, is_full, replay, with_room}
 use Rattle.partition.specs.Image.{Image}
 use Rattle.partition.specs.Lent.{Refuses}
@@ -24,14 +24,14 @@ use Rattle.counted_player.proofs.Frameless.{line_frameless}
 use Rattle.counted_player.proofs.Owns.{Grows, grows_none, grows_on, next_grows}
 
 -- an entry of a seat, made by a line of a list
-pub record IsOf (seat client : ℕ) (form : ListForm) (h : Happened) : Type 0 where
+pub record IsOf (seat client : ℕ) (form : ListForm) (h : LogEntry) : Type 0 where
   pub mine : h.seat ≡ seat
   pub place : ℕ
   pub request : Request
-  pub heard : Heard
+  pub heard : StoreReply
   pub event : h.event ≡ Line client (InList form place) request heard
 
-abbrev pub AreOf : ℕ → ℕ → ListForm → List Happened → Type 0
+abbrev pub AreOf : ℕ → ℕ → ListForm → List LogEntry → Type 0
 AreOf seat client form [] = Unit {0}
 AreOf seat client form (h ∷ hs) = IsOf seat client form h × AreOf seat client form hs
 
@@ -45,14 +45,14 @@ entries_are_of seat i client form place (a ∷ more) =
           [ true ↦ tt | false ↦ entries_are_of seat (next_image seat i event) client form (place + 1) more ],
     )
 
-pub some_are_of : (seat client : ℕ) (form : ListForm) (n : ℕ) (hs : List Happened) → AreOf seat client form hs → AreOf seat client form (take n hs)
+pub some_are_of : (seat client : ℕ) (form : ListForm) (n : ℕ) (hs : List LogEntry) → AreOf seat client form hs → AreOf seat client form (take n hs)
 some_are_of seat client form zero hs all = tt
 some_are_of seat client form (suc n) [] all = tt
 some_are_of seat client form (suc n) (h ∷ hs) all = (all.0, some_are_of seat client form n hs all.1)
 
 module _ (seat client : ℕ) (form : ListForm) where
   -- the counts after such entries
-  pub replay_grows : (i : Image) (hs : List Happened) → seat < 16 → length i.shared.made ≡ 16 → AreOf seat client form hs
+  pub replay_grows : (i : Image) (hs : List LogEntry) → seat < 16 → length i.shared.made ≡ 16 → AreOf seat client form hs
       → Grows seat (length hs) i.shared.made (replay i hs).shared.made
   replay_grows i [] low many all = grows_none seat i.shared.made
   replay_grows i (h ∷ hs) low many all =
@@ -64,7 +64,7 @@ module _ (seat client : ℕ) (form : ListForm) where
       subst (λ (n : ℕ). Grows seat n i.shared.made (replay next hs).shared.made) longer (grows_on seat (length hs) i.shared.made next.shared.made (replay next hs).shared.made one more)
 
   -- they can be counted, where they pass no limit
-  pub replay_below : (i : Image) (hs : List Happened) → seat < 16 → length i.shared.made ≡ 16 → AreOf seat client form hs → AllWithin i hs
+  pub replay_below : (i : Image) (hs : List LogEntry) → seat < 16 → length i.shared.made ≡ 16 → AreOf seat client form hs → AllWithin i hs
       → slice_index_or i.shared.made seat 0 < 2 ^ 63 → slice_index_or i.shared.made seat 0 + length hs < 2 ^ 63
   replay_below i [] low many all within few = omega (arith, few)
   replay_below i (h ∷ hs) low many all within few =
@@ -77,7 +77,7 @@ module _ (seat client : ℕ) (form : ListForm) where
       omega (arith, own, rest)
 
   -- they bring no frames
-  pub replay_books : (i : Image) (hs : List Happened) → HasEight i.shared.books → AreOf seat client form hs → (replay i hs).shared.books ≡ i.shared.books
+  pub replay_books : (i : Image) (hs : List LogEntry) → HasEight i.shared.books → AreOf seat client form hs → (replay i hs).shared.books ≡ i.shared.books
   replay_books i [] eight all = refl
   replay_books i (h ∷ hs) eight all =
       let line : Event = Line client (InList form all.0.place) all.0.request all.0.heard in
@@ -86,17 +86,17 @@ module _ (seat client : ℕ) (form : ListForm) where
       all_stay h.seat i next line eight (ap (next_image h.seat i) all.0.event) (line_frameless i.shared.ended i.part i.shared.library i.clients client (InList form all.0.place) all.0.request all.0.heard) in
       replay_books next hs (subst HasEight (sym same) eight) all.1 ∙ same
 
-get_some : (hs : List Happened) (n : ℕ) → n < length hs → (h : Happened) × (slice_get hs n ≡ Some h)
+get_some : (hs : List LogEntry) (n : ℕ) → n < length hs → (h : LogEntry) × (slice_get hs n ≡ Some h)
 get_some [] n low = absurd (omega arith)
 get_some (h ∷ hs) zero low = (h, refl)
 get_some (h ∷ hs) (suc n) low = get_some hs n (omega arith)
 
-take_long : (hs : List Happened) (n : ℕ) → n ≤ length hs → length (take n hs) ≡ n
+take_long : (hs : List LogEntry) (n : ℕ) → n ≤ length hs → length (take n hs) ≡ n
 take_long hs zero low = refl
 take_long [] (suc n) low = absurd (omega arith)
 take_long (h ∷ hs) (suc n) low = ap suc (take_long hs n (omega arith))
 
-length-map : (hs : List Happened) → length (map (λ (h : Happened). h.told) hs) ≡ length hs
+length-map : (hs : List LogEntry) → length (map (λ (h : LogEntry). h.told) hs) ≡ length hs
 length-map [] = refl
 length-map (h ∷ hs) = ap suc (length-map hs)
 
@@ -111,7 +111,7 @@ pub record Leaves (seat n : ℕ) (before after : Image) : Type 0 where
 
 module _ {S : Type 0} (standing : S → Standing) (failed : S → S → Call → Type 0) (before after : Chronicle) (old new : S) (seat client : ℕ) (form : ListForm) (requests : List Request)
     (low : seat < 16) (many : length before.present.shared.made ≡ 16) (eight : HasEight before.present.shared.books) where
-  leaves : (hs : List Happened) (i : Image) (n : ℕ) → AreOf seat client form hs → AllWithin before.present hs → length hs ≡ n → i ≡ replay before.present hs → Leaves seat n before.present i
+  leaves : (hs : List LogEntry) (i : Image) (n : ℕ) → AreOf seat client form hs → AllWithin before.present hs → length hs ≡ n → i ≡ replay before.present hs → Leaves seat n before.present i
   leaves hs i n all within long is =
       subst (λ (k : ℕ). Leaves seat k before.present i) long (subst (Leaves seat (length hs) before.present) (sym is) (record {
         grows = replay_grows seat client form before.present hs low many all;
@@ -119,26 +119,26 @@ module _ {S : Type 0} (standing : S → Standing) (failed : S → S → Call →
         below = replay_below seat client form before.present hs low many all within;
       }))
 
-  pub leaves_run : (tolds : List Told) → RunsList standing failed before after old new seat client form requests tolds → Leaves seat (length tolds) before.present after.present
+  pub leaves_run : (tolds : List OutcomeData) → RunsList standing failed before after old new seat client form requests tolds → Leaves seat (length tolds) before.present after.present
   leaves_run tolds runs =
-      let entries : List Happened = entries_of seat before.present client form 0 runs.answered in
+      let entries : List LogEntry = entries_of seat before.present client form 0 runs.answered in
       leaves entries after.present (length tolds) (entries_are_of seat before.present client form 0 runs.answered) runs.joins.within
       (sym (ap length runs.told ∙ length-map entries)) runs.joins.present
 
-  stopped_at : (middle : Chronicle) (between : S) (h : Happened) (cause : PartitionFault) → Refuses standing failed middle after between new h.seat h.event cause → after.present ≡ middle.present
+  stopped_at : (middle : Chronicle) (between : S) (h : LogEntry) (cause : PartitionFault) → Refuses standing failed middle after between new h.seat h.event cause → after.present ≡ middle.present
   stopped_at middle between h cause (inl full) = ap (λ (c : Chronicle). c.present) full.1.1.0
   stopped_at middle between h cause (inr roomy) = ap (λ (c : Chronicle). c.present) roomy.0 ∙ room_keeps middle
 
   pub leaves_stop : (stop : Stop) → StopsList standing failed before after old new seat client form requests stop → Leaves seat stop.done before.present after.present
   leaves_stop stop stops =
-      let entries : List Happened = entries_of seat before.present client form 0 stops.answered in
+      let entries : List LogEntry = entries_of seat before.present client form 0 stops.answered in
       let at = get_some entries stop.done stops.more in
       leaves (take stop.done entries) after.present stop.done
       (some_are_of seat client form stop.done entries (entries_are_of seat before.present client form 0 stops.answered)) stops.joins.within
       (take_long entries stop.done (let more = stops.more in omega (arith, more)))
       (stopped_at stops.middle stops.between at.0 stop.cause (stops.cause at.0 at.1) ∙ stops.joins.present)
 
-  pub leaves_any : (r : Result (List Told) Stop) → IfOk r (λ tolds. RunsList standing failed before after old new seat client form requests tolds)
+  pub leaves_any : (r : Result (List OutcomeData) Stop) → IfOk r (λ tolds. RunsList standing failed before after old new seat client form requests tolds)
       → IfErr r (λ stop. StopsList standing failed before after old new seat client form requests stop) → Leaves seat (done_in r) before.present after.present
   leaves_any (Ok tolds) runs stops = leaves_run tolds runs
   leaves_any (Err stop) runs stops = leaves_stop stop stops

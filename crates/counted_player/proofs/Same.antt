@@ -6,16 +6,16 @@ use Rattle.mpd_command.specs.declared.request.Request.{Request}
 use Rattle.shelf.specs.Calls.{Call}
 use Rattle.shelf.specs.Maps.{Standing}
 use Rattle.player_events.specs.declared.event.Event.{Event}
-use Rattle.player_events.specs.declared.event.Happened.{Happened}
+use Rattle.player_events.specs.declared.event.LogEntry.{LogEntry}
 use Rattle.partition.specs.declared.partition.PartitionFault.{PartitionFault}
-use Rattle.player_events.specs.Told.{Told}
+use Rattle.player_events.specs.Outcomes.{OutcomeData}
 use Rattle.partition.specs.History.{Chronicle, with_room}
 use Rattle.partition.specs.Image.{Image}
 use Rattle.partition.specs.Lent.{Records, Refuses}
 use Rattle.partition.specs.Lists.{RunsList, Stop, StopsList}
 
 module _ {S : Type 0} (standing : S → Standing) (failed : S → S → Call → Type 0) (past before : Chronicle) (old new : S) (n m : ℕ) (same : past ≡ before) (number : n ≡ m) where
-  pub records_at : (after : Image) (later : List Happened) (event : Event) (outcome : Told) → Records standing failed past.present after (with_room past).window later old new n event outcome
+  pub records_at : (after : Image) (later : List LogEntry) (event : Event) (outcome : OutcomeData) → Records standing failed past.present after (with_room past).window later old new n event outcome
       → Records standing failed before.present after (with_room before).window later old new m event outcome
   records_at after later event outcome records =
       subst (λ (c : Chronicle). Records standing failed c.present after (with_room c).window later old new m event outcome) same
@@ -26,7 +26,7 @@ module _ {S : Type 0} (standing : S → Standing) (failed : S → S → Call →
       subst (λ (c : Chronicle). Refuses standing failed c after old new m event fault) same
       (subst (λ (k : ℕ). Refuses standing failed past after old new k event fault) number refuses)
 
-  pub runs_at : (after : Chronicle) (client : ℕ) (form : ListForm) (requests : List Request) (tolds : List Told) → RunsList standing failed past after old new n client form requests tolds
+  pub runs_at : (after : Chronicle) (client : ℕ) (form : ListForm) (requests : List Request) (tolds : List OutcomeData) → RunsList standing failed past after old new n client form requests tolds
       → RunsList standing failed before after old new m client form requests tolds
   runs_at after client form requests tolds runs =
       subst (λ (c : Chronicle). RunsList standing failed c after old new m client form requests tolds) same
@@ -38,13 +38,13 @@ module _ {S : Type 0} (standing : S → Standing) (failed : S → S → Call →
       subst (λ (c : Chronicle). StopsList standing failed c after old new m client form requests stop) same
       (subst (λ (k : ℕ). StopsList standing failed past after old new k client form requests stop) number stops)
 
-  pub all_runs_at : (after : Chronicle) (client : ℕ) (form : ListForm) (requests : List Request) (r : Result (List Told) Stop)
+  pub all_runs_at : (after : Chronicle) (client : ℕ) (form : ListForm) (requests : List Request) (r : Result (List OutcomeData) Stop)
       → IfOk r (λ tolds. RunsList standing failed past after old new n client form requests tolds)
       → IfOk r (λ tolds. RunsList standing failed before after old new m client form requests tolds)
   all_runs_at after client form requests (Ok tolds) runs = runs_at after client form requests tolds runs
   all_runs_at after client form requests (Err stop) runs = tt
 
-  pub all_stops_at : (after : Chronicle) (client : ℕ) (form : ListForm) (requests : List Request) (r : Result (List Told) Stop)
+  pub all_stops_at : (after : Chronicle) (client : ℕ) (form : ListForm) (requests : List Request) (r : Result (List OutcomeData) Stop)
       → IfErr r (λ stop. StopsList standing failed past after old new n client form requests stop)
       → IfErr r (λ stop. StopsList standing failed before after old new m client form requests stop)
   all_stops_at after client form requests (Ok tolds) stops = tt

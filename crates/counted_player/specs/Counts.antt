@@ -4,16 +4,16 @@ use Rattle.mpd_text.specs.Songs.Song.{SongData}
 use Rattle.shelf.specs.Calls.{Call}
 use Rattle.shelf.specs.Maps.{Standing}
 use Rattle.player_events.specs.declared.event.Event.{Event}
-use Rattle.command_plan.specs.declared.shelf_calls.Heard.{Heard}
-use Rattle.command_plan.specs.Answers.{Answer}
-use Rattle.player_events.specs.Told.{Told}
+use Rattle.transitions.specs.declared.shelf_calls.StoreReply.{StoreReply}
+use Rattle.transitions.specs.Answers.{Answer}
+use Rattle.player_events.specs.Outcomes.{OutcomeData}
 use Rattle.partition.specs.History.{Chronicle}
 use Rattle.partition.specs.Image.{Image, no_events}
 use Rattle.partition.specs.Legal.{IsPast}
 use Rattle.partition.specs.Lent.{question, writing}
 use Rattle.player_state.specs.Outputs.{empty_books}
-use Rattle.command_plan.specs.Shelves.{Serves}
-use Rattle.player_events.specs.Events.{hearing}
+use Rattle.transitions.specs.Shelves.{Serves}
+use Rattle.player_events.specs.Events.{with_store_reply}
 use Rattle.partition.specs.Step.{told}
 use Rattle.song_queue.specs.declared.entry.Entry.{Entry}
 use Rattle.partition.specs.Lists.{Stop}
@@ -36,15 +36,15 @@ abbrev pub IsFresh : Image → Type 0
 IsFresh i = (i.shared.made ≡ no_events) × (i.shared.books ≡ empty_books)
 
 -- how many commands of a list were run
-abbrev pub done_in : Result (List Told) Stop → ℕ
+abbrev pub done_in : Result (List OutcomeData) Stop → ℕ
 done_in (Ok tolds) = length tolds
 done_in (Err stop) = stop.done
 
 module _ {S : Type 0} (standing : S → Standing) (failed : S → S → Call → Type 0) where
-  -- An answer that the player of one thread gives to the event after some past in which the seat made so many events, by what the lent
-  -- shelf answered, which answered and changed as that past and the event say.
+  -- An answer that the player of one thread gives to the event after some past in which the seat made so many
+  -- events, by what the lent shelf answered, which answered and changed as that past and the event say.
   abbrev pub AnswersSomewhere : S → S → ℕ → ℕ → Event → Answer → Type 0
   AnswersSomewhere old new seat made event answer =
       (past : Chronicle) × IsPast past × (own_in seat past.present ≡ made)
-      × ((heard : Heard) × (answer ≡ (told past.present (hearing event heard)).answer)
+      × ((heard : StoreReply) × (answer ≡ (told past.present (with_store_reply event heard)).answer)
       × Serves standing failed old new (question past.present event) (writing past.present event heard) heard)

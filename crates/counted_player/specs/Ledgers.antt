@@ -2,8 +2,8 @@
 use Rattle.std.specs.Prelude.{ℕ, ◌≡◌, nat_lt, if◌then◌else◌}
 use Rattle.std.specs.declared.sync.ledger.Blank.{Blank}
 
--- How many parts a ledger has: those of the seats and of decoded frames one, those of written and discarded frames one for each output,
--- and one more.
+-- How many parts a ledger has: those of the seats and of decoded frames one, those of written and discarded
+-- frames one for each output, and one more.
 abbrev pub parts_at : ℕ → ℕ
 parts_at place = if nat_lt place 5 then 1 else 9
 

@@ -4,15 +4,15 @@ use Rattle.counted_player.specs.declared.mark.Mark.{Mark}
 use Rattle.counted_player.specs.declared.mark.Mark.TheVariants.{First, Second, Third, Fourth, Crew}
 
 -- a seat's number, and how many events its caller made with it
-pub record Place : Type 0 where
+pub record SeatCount : Type 0 where
   pub number : ℕ
   pub made : ℕ
 
-abbrev pub place : ℕ → ℕ → Place
+abbrev pub place : ℕ → ℕ → SeatCount
 place number made = record { number = number; made = made }
 
 -- a seat after so many events more; those of the house's own threads are not counted in their seats
-abbrev pub after_events : Place → ℕ → Place
+abbrev pub after_events : SeatCount → ℕ → SeatCount
 after_events p events = if nat_lt p.number 4 then place p.number (p.made + events) else p
 
 module _ {L : Type 0} where

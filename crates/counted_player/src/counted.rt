@@ -5,13 +5,13 @@ ghost use Rattle.counted_player.specs.Counts.{done_in, song_of};
 
 use crate::frames::{decoded_in, discarded_in, enabled_in, written_in};
 use crate::ledgers::Ledgers;
-use crate::pulse::Pulse;
 use crate::seat::{Seat, SeatBooks};
+use crate::wake_fingerprint::WakeFingerprint;
 use command_lists::ListForm;
 use mpd_command::Request;
 use partition::{ListFault, ListOutcome, Partition, PartitionFault};
 use player_core::Playback;
-use player_events::{Event, Happened, Outcome};
+use player_events::{Event, LogEntry, Outcome};
 use player_state::Client;
 use shelf::Shelf;
 use song_db::SharedSong;
@@ -19,7 +19,7 @@ use song_queue::Queue;
 use std::alloc::AllocError;
 use std::marker::Model;
 
-/// The most bytes of the window's texts, behind which the history is folded early.
+/// The most bytes of the window's texts, after which the history is folded early.
 const MOST_BYTES: u64 = 16_777_216;
 
 /// The player, each of whose events is one of a seat. Contracts see it as its history.
@@ -127,8 +127,9 @@ impl<L: Ledgers> Counted<L> {
         Ok(outcome)
     }
 
-    /// Folds the history where the texts of its window take more than 16 MiB. Where there is no memory for that, nothing changes.
-    pub fn lighten(&mut self)
+    /// Folds the history where the texts of its window take more than 16 MiB. Where there is no memory for
+    /// that, nothing changes.
+    pub fn compact_if_large(&mut self)
         ensures { (self.new ≡ self.old) ⊎ (self.new ≡ folded self.old) }
     {
         if self.partition.window_bytes() <= MOST_BYTES {
@@ -162,7 +163,7 @@ impl<L: Ledgers> Counted<L> {
     }
 
     /// The events of the window.
-    pub fn history(&self) -> &[Happened]
+    pub fn history(&self) -> &[LogEntry]
         ensures window { result.now ≡ self.now.window }
         ensures legal { IsPast self.now }
     {
@@ -170,8 +171,8 @@ impl<L: Ledgers> Counted<L> {
     }
 
     /// What a thread at rest is woken for, where it changes.
-    pub fn pulse(&self) -> Pulse {
-        Pulse::of(&self.partition)
+    pub fn wake_fingerprint(&self) -> WakeFingerprint {
+        WakeFingerprint::of(&self.partition)
     }
 
     /// Whether the daemon has ended.

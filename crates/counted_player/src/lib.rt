@@ -5,10 +5,10 @@ mod counted;
 mod frames;
 mod ledgers;
 mod mark;
-mod pulse;
 mod seat;
+mod wake_fingerprint;
 
 pub use counted::Counted;
 pub use ledgers::{At, Decoded, Discarded, First, Fourth, Ledgers, Second, Third, Written};
-pub use pulse::Pulse;
 pub use seat::{NoSeat, Seat, SeatBooks};
+pub use wake_fingerprint::WakeFingerprint;

@@ -21,9 +21,9 @@ pub struct Seat<L: Ledgers> {
 
 impl<L: Ledgers> Model for Seat<L> {
     ghost use Rattle.std.specs.Prelude.{◌<◌, ◌^◌};
-    ghost use Rattle.counted_player.specs.Seats.{Place, place, number_of, IsWhole};
+    ghost use Rattle.counted_player.specs.Seats.{SeatCount, place, number_of, IsWhole};
 
-    ghost Value = { Place };
+    ghost Value = { SeatCount };
 
     ghost view = { λ s. place (number_of s.mark) s.made };
 
@@ -149,7 +149,8 @@ impl<L: Ledgers> SeatBooks<L> {
         }
     }
 
-    /// Counts events of the seat. Its book had the seat's count. Those of the house's own threads are not counted.
+    /// Counts events of the seat. Its book had the seat's count. Those of the house's own threads are not
+    /// counted.
     pub(crate) fn count(&mut self, seat: &mut Seat<L>, events: u64)
         requires { seat.old.number < 4 → seat.old.made + events < 2 ^ 63 }
         ensures found { seat.old.number < 4 → slice_index self.old seat.old.number ≡ seat.old.made }

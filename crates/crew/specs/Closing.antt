@@ -8,7 +8,8 @@ use Rattle.held_player.specs.Settling.{AreOfSomePast, Settles, numbers_in}
 use Rattle.crew.specs.declared.output.OutputLeft.{OutputLeft}
 use Rattle.crew.specs.declared.output.OutputRun.{OutputRun}
 
--- A settlement is of the two ends of this ring, and of the books that hold the frames given after some past; its answer is right of them.
+-- A settlement is of the two ends of this ring, and of the books that hold the frames given after some past;
+-- its answer is right of them.
 pub record SettlesRing {L : Type 0} (feeder : Feeder) (drainer : Drainer) (output : ℕ) (s : Settlement L) : Type 0 where
   pub feeder_ends : EndsFeeder feeder s.end.value
   pub drainer_ends : SameDrainer drainer s.drainer.value

@@ -50,6 +50,6 @@ pub fn close<L: Ledgers, R: Threads + Wait>(
     Ok(settle_outputs(rt, house, lefts, ends, results))
 }
 
-/// Lets a crew go that was not closed: its threads go on. It is a function of its own so that a caller's proof does not go through all that a
-/// crew has.
+/// Lets a crew go that was not closed: its threads go on. It is a function of its own so that a caller's
+/// proof does not go through all that a crew has.
 pub fn let_go<L: Ledgers>(_crew: Crew<L>) {}

@@ -5,7 +5,7 @@ ghost use Rattle.output_ring.specs.Rings.{SameDrainer};
 use crate::output::{OfDrainer, OutputRun};
 use counted_devices::Sink;
 use counted_player::{Discarded, Ledgers, Written};
-use crew_steps::{Draining, Gate, OutputEnd, Station};
+use crew_steps::{Draining, Gate, OutputEnd, OutputSetup};
 use frame_ledger::OutputShares;
 use house::House;
 use output_ring::{Drainer, Feeder};
@@ -80,17 +80,17 @@ pub fn start_output<
     house: &Arc<House<L>, Global>,
     gate: &Arc<G, Global>,
     output: usize,
-    station: Station<O>,
+    output_setup: OutputSetup<O>,
     shares: OutputShares<Written<L>, Discarded<L>>,
 ) -> Result<(OutputRun<L>, Feeder), AllocError>
     requires { (0 < shares.written.parts) × (0 < shares.discarded.parts) }
-    ensures { IfOk result (λ r. (r.0.first.value ≡ station.feeder) × (r.0.handle.promise.0.value ≡ station.drainer) × (r.1 ≡ station.feeder)) }
+    ensures { IfOk result (λ r. (r.0.first.value ≡ output_setup.feeder) × (r.0.handle.promise.0.value ≡ output_setup.drainer) × (r.1 ≡ output_setup.feeder)) }
 {
-    let Station {
+    let OutputSetup {
         feeder,
         drainer,
         writer,
-    } = station;
+    } = output_setup;
     let house = Arc::try_clone(house)?;
     let gate = Arc::try_clone(gate)?;
     let first = Snapshot::of(&feeder);

@@ -1,13 +1,13 @@
 //! The threads of all outputs.
 ghost use Rattle.std.specs.Prelude.{◌≡◌, ◌<◌, map, IfOk, vec_len};
 ghost use Rattle.crew.specs.Rows.{first_of_run, drainer_of_run};
-ghost use Rattle.crew_steps.specs.Stations.{feeder_of_station, drainer_of_station};
+ghost use Rattle.crew_steps.specs.OutputSetups.{feeder_of_setup, drainer_of_setup};
 
 use crate::output::OutputRun;
 use crate::output_start::start_output;
 use counted_devices::Sink;
 use counted_player::{Discarded, Ledgers, Written};
-use crew_steps::{Gate, Station};
+use crew_steps::{Gate, OutputSetup};
 use frame_ledger::OutputShares;
 use house::House;
 use output_ring::Feeder;
@@ -27,14 +27,14 @@ pub fn start_outputs<
     alloc: Global,
     house: &Arc<House<L>, Global>,
     gate: &Arc<G, Global>,
-    stations: Vec<Station<O>>,
+    output_setups: Vec<OutputSetup<O>>,
     shares: OutputShares<Written<L>, Discarded<L>>,
 ) -> Result<(Vec<OutputRun<L>>, Vec<Feeder>), AllocError>
-    requires parts { (vec_len stations < shares.written.parts) × (vec_len stations < shares.discarded.parts) × (shares.written.amount ≡ 0) × (shares.discarded.amount ≡ 0) }
-    ensures runs { IfOk result (λ r. map first_of_run r.0.items ≡ map feeder_of_station stations.items) }
-    ensures drainers { IfOk result (λ r. map drainer_of_run r.0.items ≡ map drainer_of_station stations.items) }
-    ensures feeders { IfOk result (λ r. r.1.items ≡ map feeder_of_station stations.items) }
-    ensures count { IfOk result (λ r. (vec_len r.0 ≡ vec_len stations) × (vec_len r.1 ≡ vec_len stations)) }
+    requires parts { (vec_len output_setups < shares.written.parts) × (vec_len output_setups < shares.discarded.parts) × (shares.written.amount ≡ 0) × (shares.discarded.amount ≡ 0) }
+    ensures runs { IfOk result (λ r. map first_of_run r.0.items ≡ map feeder_of_setup output_setups.items) }
+    ensures drainers { IfOk result (λ r. map drainer_of_run r.0.items ≡ map drainer_of_setup output_setups.items) }
+    ensures feeders { IfOk result (λ r. r.1.items ≡ map feeder_of_setup output_setups.items) }
+    ensures count { IfOk result (λ r. (vec_len r.0 ≡ vec_len output_setups) × (vec_len r.1 ≡ vec_len output_setups)) }
 {
     let OutputShares {
         mut written,
@@ -42,13 +42,13 @@ pub fn start_outputs<
     } = shares;
     let mut runs = Vec::new(alloc);
     let mut feeders = Vec::new(alloc);
-    for station in stations {
+    for output_setup in output_setups {
         let (run, feeder) = start_output(
             rt,
             house,
             gate,
             runs.len(),
-            station,
+            output_setup,
             OutputShares {
                 written: written.split_off(1, 0),
                 discarded: discarded.split_off(1, 0),

@@ -121,7 +121,8 @@ fn start_thread<
     Ok(handle)
 }
 
-/// Starts a thread that scans until the end, and joins the crew. A crew that has a scanner keeps that one alone.
+/// Starts a thread that scans until the end, and joins the crew. A crew that has a scanner keeps that one
+/// alone.
 ///
 /// # Errors
 ///

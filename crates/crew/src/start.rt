@@ -33,7 +33,8 @@ pub struct Crew<L: Ledgers> {
     pub(crate) decoder: PromisedHandle<Vec<FeederEnd>, OfFeeders>,
     pub(crate) outputs: Vec<OutputRun<L>>,
     pub(crate) scanner: Option<JoinHandle<()>>,
-    /// Room for what the outputs leave, and for what they are settled with, so that nothing can fail behind the end.
+    /// Room for what the outputs leave, and for what they are settled with, so that nothing can fail after
+    /// the end.
     pub(crate) lefts: Vec<OutputLeft<L>>,
     pub(crate) results: Vec<Settlement<L>>,
     ghost rings: { map first_of_run outputs.items ≡ decoder.promise.0.value.items },
@@ -137,7 +138,8 @@ fn make_rooms<L: Ledgers>(
 ///
 /// # Errors
 ///
-/// Where there is no memory or no thread, the outputs go on until the end, and what they and the decoder hold is lost.
+/// Where there is no memory or no thread, the outputs go on until the end, and what they and the decoder hold
+/// is lost.
 pub fn start_decoder<
     L: Ledgers + Send + Sync + 'static,
     S: SongSource<M> + Drop + Send + 'static,

@@ -7,13 +7,13 @@ use Rattle.output_ring.specs.declared.frames.CutFrame.{CutFrame}
 use Rattle.output_ring.specs.declared.frames.Fates.{Fates}
 use Rattle.output_ring.specs.declared.frames.Totals.{Totals}
 use Rattle.player_core.specs.declared.state as player
-use Rattle.player_events.specs.Told.{Told}
+use Rattle.player_events.specs.Outcomes.{OutcomeData}
 use Rattle.player_events.specs.declared.event.Event.TheVariants.{OutputTurn}
 use Rattle.player_state.specs.declared.report.Report.{Report}
 use Rattle.player_state.specs.declared.report.Report.TheVariants.{Nothing, ToScan, ScanEnded, ToDecode, ToFeed, ToPlay, Ended}
-use Rattle.counted_player.specs.Seats.{Place}
+use Rattle.counted_player.specs.Seats.{SeatCount}
 use Rattle.held_player.specs.Views.{TellsSomewhere}
-use Rattle.crew_steps.specs.Turns.{Drains, Heeds, Keeps, Plays, Pops}
+use Rattle.crew_steps.specs.Turns.{Drains, Obeys, Keeps, Plays, Pops}
 
 same_refl : (d : Drainer) → SameDrainer d d
 same_refl d = ((refl, refl, refl, refl), refl)
@@ -40,25 +40,25 @@ fates_kept a b totals popped =
 
 module _ {W : Type 0} (contents : W → Option (List ℕ)) where
   -- nothing was told
-  pub idle : (seat : Place) (output : ℕ) (failed : Bool) (old new : Drainer) (w : W) (came : List CutFrame) → Pops old new came → Drains contents seat output failed old w new w
+  pub idle : (seat : SeatCount) (output : ℕ) (failed : Bool) (old new : Drainer) (w : W) (came : List CutFrame) → Pops old new came → Drains contents seat output failed old w new w
   idle seat output failed old new w came pops = inl ((pops.fates, refl), pops.unreported)
 
-  heeds_other : (r : Report) (old new : Drainer) (w : W) → ((live : player.Live.Live) → r ≡ ToPlay live → ⊥) → Keeps contents old w new w → Heeds contents r old w new w
-  heeds_other Nothing old new w other keeps = keeps
-  heeds_other (ToScan scan) old new w other keeps = keeps
-  heeds_other (ScanEnded ends) old new w other keeps = keeps
-  heeds_other (ToDecode job) old new w other keeps = keeps
-  heeds_other (ToFeed feed) old new w other keeps = keeps
-  heeds_other (ToPlay live) old new w other keeps = absurd (other live refl)
-  heeds_other Ended old new w other keeps = keeps
+  obeys_other : (r : Report) (old new : Drainer) (w : W) → ((live : player.Live.Live) → r ≡ ToPlay live → ⊥) → Keeps contents old w new w → Obeys contents r old w new w
+  obeys_other Nothing old new w other keeps = keeps
+  obeys_other (ToScan scan) old new w other keeps = keeps
+  obeys_other (ScanEnded ends) old new w other keeps = keeps
+  obeys_other (ToDecode job) old new w other keeps = keeps
+  obeys_other (ToFeed feed) old new w other keeps = keeps
+  obeys_other (ToPlay live) old new w other keeps = absurd (other live refl)
+  obeys_other Ended old new w other keeps = keeps
 
-  module _ (seat : Place) (output : ℕ) (failed : Bool) (old mid reported : Drainer) (w : W) (came : List CutFrame) (outcome : Told) (f : Fates) where
+  module _ (seat : SeatCount) (output : ℕ) (failed : Bool) (old mid reported : Drainer) (w : W) (came : List CutFrame) (outcome : OutcomeData) (f : Fates) where
     -- the end was told
     pub ended : Pops old mid came → f ≡ unreported_of mid → TellsSomewhere seat (OutputTurn output f.written f.discarded failed) outcome
         → ((live : player.Live.Live) → outcome.report ≡ ToPlay live → ⊥) → totals_of reported ≡ totals_of mid → popped_of reported ≡ popped_of mid → (v : W) → v ≡ w → Drains contents seat output failed old w reported v
     ended pops is tells other totals popped v same =
         let kept : fates_of reported ≡ fates_of mid = fates_kept mid reported totals popped in
-        inr (outcome, subst (λ (g : Fates). TellsSomewhere seat (OutputTurn output g.written g.discarded failed) outcome) (is ∙ pops.unreported) tells, subst (λ (u : W). Heeds contents outcome.report old w reported u) (sym same) (heeds_other outcome.report old reported w other (kept ∙ pops.fates, refl)))
+        inr (outcome, subst (λ (g : Fates). TellsSomewhere seat (OutputTurn output g.written g.discarded failed) outcome) (is ∙ pops.unreported) tells, subst (λ (u : W). Obeys contents outcome.report old w reported u) (sym same) (obeys_other outcome.report old reported w other (kept ∙ pops.fates, refl)))
 
     -- what the frames are for was told
     pub played : (live : player.Live.Live) → Pops old mid came → f ≡ unreported_of mid → TellsSomewhere seat (OutputTurn output f.written f.discarded failed) outcome
@@ -73,6 +73,6 @@ module _ {W : Type 0} (contents : W → Option (List ℕ)) where
         inr (
           outcome,
           subst (λ (g : Fates). TellsSomewhere seat (OutputTurn output g.written g.discarded failed) outcome) (is ∙ pops.unreported) tells,
-          subst (λ (u : W). Heeds contents outcome.report old w new u) (sym after)
-              (subst (λ (r : Report). Heeds contents r old w new v) (sym told) (came, all, plain)),
+          subst (λ (u : W). Obeys contents outcome.report old w new u) (sym after)
+              (subst (λ (r : Report). Obeys contents r old w new v) (sym told) (came, all, plain)),
         )

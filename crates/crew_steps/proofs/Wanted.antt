@@ -4,17 +4,17 @@ use Rattle.player_core.specs.declared.state.Job.{Job}
 use Rattle.player_core.specs.Decoding as decoding
 use Rattle.player_core.specs.Player.{PlayerState, is_playing}
 use Rattle.player_events.specs.declared.event.Event.TheVariants.{Want}
-use Rattle.player_state.specs.declared.doing.Doing.TheVariants.{ByCommand, ByAudio}
-use Rattle.player_state.specs.declared.doing.Effect.TheVariants.{Rests}
-use Rattle.player_state.specs.declared.doing.AudioStep.TheVariants.{Wants}
+use Rattle.player_state.specs.declared.effect.Effect.TheVariants.{ByCommand, ByAudio}
+use Rattle.player_state.specs.declared.effect.CommandEffect.TheVariants.{Rests}
+use Rattle.player_state.specs.declared.effect.AudioStep.TheVariants.{Wants}
 use Rattle.player_state.specs.declared.report.Report.TheVariants.{Ended, Nothing, ToDecode}
-use Rattle.player_state.specs.Doings.{entries, report_after, wanted}
+use Rattle.player_state.specs.Effects.{entries, report_after, wanted}
 use Rattle.player_state.specs.Outputs.{any_enabled}
 use Rattle.partition.specs.Image.{Image}
 use Rattle.player_state.specs.declared.state.Part.{Part}
-use Rattle.player_events.specs.Told.{Told}
+use Rattle.player_events.specs.Outcomes.{OutcomeData}
 use Rattle.partition.specs.Step.{told}
-use Rattle.counted_player.specs.Seats.{Place}
+use Rattle.counted_player.specs.Seats.{SeatCount}
 use Rattle.held_player.specs.Views.{TellsSomewhere}
 
 nothing_given : (a b : Bool) (p : PlayerState) (w : decoding.Wanted) → (if a && b && not true then w else decoding.nothing p).job ≡ None
@@ -38,6 +38,6 @@ unfolding told
 no_job_told i job h = told_no_job i.shared.ended i.shared.library.rate i.part job h
 
 -- a job is given only where nothing is owed
-pub owes_none : (seat : Place) (owes : Bool) (outcome : Told) (job : Job) → TellsSomewhere seat (Want owes) outcome → outcome.report ≡ ToDecode (Some job) → owes ≡ false
+pub owes_none : (seat : SeatCount) (owes : Bool) (outcome : OutcomeData) (job : Job) → TellsSomewhere seat (Want owes) outcome → outcome.report ≡ ToDecode (Some job) → owes ≡ false
 owes_none seat false outcome job tells h = refl
-owes_none seat true outcome job tells h = absurd (no_job_told tells.0.present job (ap (λ (t : Told). t.report) (sym tells.2) ∙ h))
+owes_none seat true outcome job tells h = absurd (no_job_told tells.0.present job (ap (λ (t : OutcomeData). t.report) (sym tells.2) ∙ h))

@@ -19,7 +19,7 @@ OwesNothing f = owed_of f ≡ []
 abbrev pub TakesNone : Feeder → Feeder → Type 0
 TakesNone old new = SameFeeder old new × (taken_of new ≡ taken_of old)
 
--- a ring that is fed took these frames behind those before, another none
+-- a ring that is fed took these frames after those before, another none
 abbrev pub TakesIf : Bool → List CutFrame → Feeder → Feeder → Type 0
 TakesIf fed frames old new = SameFeeder old new × (taken_of new ≡ taken_of old ++ (if fed then frames else []))
 
@@ -27,7 +27,8 @@ TakesIf fed frames old new = SameFeeder old new × (taken_of new ≡ taken_of ol
 abbrev pub TakesItsOwn : List Bool → List CutFrame → ℕ → Feeder → Feeder → Type 0
 TakesItsOwn outputs frames n old new = TakesIf (slice_index_or outputs n false) frames old new
 
--- a job's part of a fade, with the other song's frames; none where these are not as many as the job's, or end behind the fade
+-- a job's part of a fade, with the other song's frames; none where these are not as many as the job's, or end
+-- after the fade
 abbrev pub fading_of : Option FadePart → List (List ℤ) → ℕ → Option FadingData
 fading_of None others count = None
 fading_of (Some part) others count =

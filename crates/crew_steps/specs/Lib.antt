@@ -1,4 +1,4 @@
 pub mod Each
-pub mod Stations
+pub mod OutputSetups
 pub mod Feeding
 pub mod Turns

@@ -7,12 +7,12 @@ use Rattle.output_ring.specs.declared.drainer.Drainer.{Drainer}
 use Rattle.output_ring.specs.declared.frames.CutFrame.{CutFrame}
 use Rattle.output_ring.specs.declared.frames as ring
 use Rattle.player_core.specs.declared.state as player
-use Rattle.player_events.specs.Told.{Told}
+use Rattle.player_events.specs.Outcomes.{OutcomeData}
 use Rattle.player_events.specs.declared.event.Event.{Event}
 use Rattle.player_events.specs.declared.event.Event.TheVariants.{OutputTurn}
 use Rattle.player_state.specs.declared.report.Report.{Report}
 use Rattle.player_state.specs.declared.report.Report.TheVariants.{ToPlay}
-use Rattle.counted_player.specs.Seats.{Place}
+use Rattle.counted_player.specs.Seats.{SeatCount}
 use Rattle.held_player.specs.Views.{TellsSomewhere}
 
 -- these frames came from the ring into the hand, and none got its fate
@@ -28,13 +28,15 @@ pub record Pops (old new : Drainer) (came : List CutFrame) : Type 0 where
 abbrev pub live_at : player.Live.Live → ring.Live.Live
 live_at live = record { cut = record { number = live.cut }; enabled = live.enabled; paused = live.paused; ended = false }
 
--- what an output tells at its turn: how many frames got which fate since it told last, and whether its writer failed
+-- what an output tells at its turn: how many frames got which fate since it told last, and whether its writer
+-- failed
 abbrev pub turn_of : ℕ → Drainer → Bool → Event
 turn_of output drainer failed = OutputTurn output (unreported_of drainer).written (unreported_of drainer).discarded failed
 
 module _ {W : Type 0} (contents : W → Option (List ℕ)) where
-  -- The frames of a hand got their fates: after a failure of the writer all are discarded, in a pause they are kept; else those are written
-  -- that are heard, in order, up to the one in which the writer fails, and none is left.
+  -- The frames of a hand got their fates: after a failure of the writer all are discarded, in a pause they
+  -- are kept; else those are written that are heard, in order, up to the one in which the writer fails, and
+  -- none is left.
   pub record Plays (live : player.Live.Live) (hand : List CutFrame) (had_failed : Bool) (before : W) (new : Drainer) (after : W) : Type 0 where
     pub after_failure : had_failed ≡ true → (hand_of new ≡ []) × (after ≡ before)
     pub in_pause : had_failed ≡ false → live.paused ≡ true → (hand_of new ≡ hand) × (after ≡ before)
@@ -45,13 +47,14 @@ module _ {W : Type 0} (contents : W → Option (List ℕ)) where
   abbrev pub Keeps : Drainer → W → Drainer → W → Type 0
   Keeps old before new after = (fates_of new ≡ fates_of old) × (after ≡ before)
 
-  -- an output heeds what its turn was told; at the end it keeps all frames
-  abbrev pub Heeds : Report → Drainer → W → Drainer → W → Type 0
-  Heeds (ToPlay live) old before new after = (came : List CutFrame) × (popped_of new ≡ popped_of old ++ came) × Plays live (hand_of old ++ came) (has_failed old) before new after
-  Heeds _ old before new after = Keeps old before new after
+  -- an output obeys what its turn was told; at the end it keeps all frames
+  abbrev pub Obeys : Report → Drainer → W → Drainer → W → Type 0
+  Obeys (ToPlay live) old before new after = (came : List CutFrame) × (popped_of new ≡ popped_of old ++ came) × Plays live (hand_of old ++ came) (has_failed old) before new after
+  Obeys _ old before new after = Keeps old before new after
 
-  -- An output had no turn, and no frame got its fate; or it told of all fates since it told last, and heeded what it was told.
-  abbrev pub Drains : Place → ℕ → Bool → Drainer → W → Drainer → W → Type 0
+  -- An output had no turn, and no frame got its fate; or it told of all fates since it told last, and obeyed
+  -- what it was told.
+  abbrev pub Drains : SeatCount → ℕ → Bool → Drainer → W → Drainer → W → Type 0
   Drains seat output failed old before new after =
       (Keeps old before new after × (unreported_of new ≡ unreported_of old))
-      ⊎ ((outcome : Told) × TellsSomewhere seat (turn_of output old failed) outcome × Heeds outcome.report old before new after)
+      ⊎ ((outcome : OutcomeData) × TellsSomewhere seat (turn_of output old failed) outcome × Obeys outcome.report old before new after)

@@ -140,7 +140,8 @@ impl<'h, L: Ledgers, S: SongSource<M> + Drop, M: Media + Drop, R: Wait + Clock> 
         }
     }
 
-    /// Asks for a job. Where there is none it rests, and where there is no answer it waits a while. There is none while a ring owes frames.
+    /// Asks for a job. Where there is none it rests, and where there is no answer it waits a while. There is
+    /// none while a ring owes frames.
     #[tactic(auto, using(crate::proofs::Wanted::owes_none))]
     fn ask(&mut self, owes: bool) -> Next
         ensures { (job : Job) → result ≡ Decodes job → owes ≡ false }
@@ -197,7 +198,8 @@ impl<'h, L: Ledgers, S: SongSource<M> + Drop, M: Media + Drop, R: Wait + Clock> 
         }
     }
 
-    /// Reads the frames of a job; where there is no memory, again after a while. Its failure tells whether the partner has failed.
+    /// Reads the frames of a job; where there is no memory, again after a while. Its failure tells whether
+    /// the partner has failed.
     fn read(&mut self, job: &Job) -> Result<JobFrames, bool> {
         let rt = self.rt;
         for _ in rt.forever() {
@@ -223,7 +225,8 @@ impl<'h, L: Ledgers, S: SongSource<M> + Drop, M: Media + Drop, R: Wait + Clock> 
         self.songs.frames_of(self.alloc, job)
     }
 
-    /// Opens the song of an entry of the queue, as the current one or as its partner. One that left the queue has failed.
+    /// Opens the song of an entry of the queue, as the current one or as its partner. One that left the queue
+    /// has failed.
     fn open(&mut self, id: u32, partner: bool) -> Result<(), NoFrames> {
         match self.house.song(self.rt, id) {
             Ok(Some(song)) => self.songs.open(self.alloc, id, &song, partner),
@@ -261,8 +264,8 @@ impl<'h, L: Ledgers, S: SongSource<M> + Drop, M: Media + Drop, R: Wait + Clock> 
         }
     }
 
-    /// Rests until something changes. While frames still leave the rings it looks by time, since nothing tells of them, whether a song is
-    /// played or the last one has ended.
+    /// Rests until something changes. While frames still leave the rings it looks by time, since nothing
+    /// tells of them, whether a song is played or the last one has ended.
     fn rest(&mut self, seen: u64, owes: bool) {
         // Where several blocks went since the last rest, that was too long.
         self.wait = if self.streak > 1 {
@@ -285,7 +288,8 @@ impl<'h, L: Ledgers, S: SongSource<M> + Drop, M: Media + Drop, R: Wait + Clock> 
     }
 }
 
-/// Mixes the frames of a job that was accepted, and hands them to the outputs that they are for. Nothing waits for room in their rings.
+/// Mixes the frames of a job that was accepted, and hands them to the outputs that they are for. Nothing
+/// waits for room in their rings.
 #[tactic(auto, using(crate::proofs::Pushes::none_fed))]
 fn hand_out(feeders: &mut Vec<Feeder>, job: &Job, read: JobFrames, fed: &Option<Fed>)
     requires { All OwesNothing feeders.old.items }

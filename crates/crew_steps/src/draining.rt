@@ -106,7 +106,8 @@ impl<'h, L: Ledgers, O: Sink + Drop, G: Gate, R: Wait + Clock> Draining<'h, L, O
         }
     }
 
-    /// Where the gate lets it, pops frames, has a turn, and writes the frames out as it was told. False at the end.
+    /// Where the gate lets it, pops frames, has a turn, and writes the frames out as it was told. False at
+    /// the end.
     #[tactic(auto, using(crate::proofs::Turns::idle))]
     fn drain_once(&mut self, drainer: &mut Drainer) -> bool
         ensures ring { SameDrainer drainer.old drainer.new }
@@ -131,7 +132,8 @@ impl<'h, L: Ledgers, O: Sink + Drop, G: Gate, R: Wait + Clock> Draining<'h, L, O
         true
     }
 
-    /// Rests where no frame came and none got its fate. Once the writer has failed, the output is switched off at its next turn.
+    /// Rests where no frame came and none got its fate. Once the writer has failed, the output is switched
+    /// off at its next turn.
     fn go_on(&mut self, popped: usize, wrote: Wrote, changes: u64, enabled: bool)
         ensures writer { self.new.writer ≡ self.old.writer }
         ensures failed { self.new.failed ≡ (self.old.failed || wrote.failed) }
@@ -163,7 +165,8 @@ impl<'h, L: Ledgers, O: Sink + Drop, G: Gate, R: Wait + Clock> Draining<'h, L, O
         }
     }
 
-    /// Rests until something changes. It is woken before new frames are in its ring, so after a change it looks once more soon.
+    /// Rests until something changes. It is woken before new frames are in its ring, so after a change it
+    /// looks once more soon.
     fn rest(&mut self, changes: u64, enabled: bool)
         ensures { (self.new.writer ≡ self.old.writer) × (self.new.failed ≡ self.old.failed) }
     {

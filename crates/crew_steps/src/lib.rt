@@ -1,4 +1,5 @@
-//! What the crew's threads do, step by step: songs are decoded into the outputs' rings, and each output drains its own.
+//! What the crew's threads do, step by step: songs are decoded into the outputs' rings, and each output
+//! drains its own.
 #![tactic(auto)]
 
 mod decoder;
@@ -8,14 +9,14 @@ mod folder;
 mod mixing;
 mod new_rings;
 mod output;
+mod output_setup;
 mod song_source;
 mod songs;
-mod station;
 
 pub use decoder::Decoder;
 pub use draining::Draining;
 pub use folder::Folder;
-pub use new_rings::stations;
+pub use new_rings::output_setups;
 pub use output::{Gate, Open, OutputEnd};
+pub use output_setup::OutputSetup;
 pub use song_source::{SongFault, SongSource};
-pub use station::Station;

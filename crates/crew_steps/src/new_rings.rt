@@ -1,36 +1,40 @@
 //! The rings of the outputs.
 ghost use Rattle.std.specs.Prelude.{◌≡◌, ◌≤◌, IfOk, vec_len};
 ghost use Rattle.crew_steps.specs.Each.{Each};
-ghost use Rattle.crew_steps.specs.Stations.{IsStationOf};
+ghost use Rattle.crew_steps.specs.OutputSetups.{IsSetupOf};
 
-use crate::station::Station;
+use crate::output_setup::OutputSetup;
 use output_ring::ring;
 use std::alloc::{AllocError, Global};
 
 /// A ring of so many frames for each writer, with a hand of 1,024 frames.
-pub fn stations<O: Drop>(
+pub fn output_setups<O: Drop>(
     alloc: Global,
     frames: usize,
     writers: Vec<O>,
-) -> Result<Vec<Station<O>>, AllocError>
-    ensures count { IfOk result (λ stations. vec_len stations ≡ vec_len writers) }
-    ensures stations { IfOk result (λ stations. Each (IsStationOf frames) writers.items stations.items) }
+) -> Result<Vec<OutputSetup<O>>, AllocError>
+    ensures count { IfOk result (λ output_setups. vec_len output_setups ≡ vec_len writers) }
+    ensures output_setups { IfOk result (λ output_setups. Each (IsSetupOf frames) writers.items output_setups.items) }
 {
-    let mut stations = Vec::new(alloc);
-    stations.reserve(writers.len())?;
+    let mut output_setups = Vec::new(alloc);
+    output_setups.reserve(writers.len())?;
     for writer in writers {
-        let station = station(alloc, frames, writer)?;
-        stations.push_reserved(station);
+        let output_setup = output_setup(alloc, frames, writer)?;
+        output_setups.push_reserved(output_setup);
     }
-    Ok(stations)
+    Ok(output_setups)
 }
 
 /// A writer's ring.
-fn station<O: Drop>(alloc: Global, frames: usize, writer: O) -> Result<Station<O>, AllocError>
-    ensures { IfOk result (λ s. IsStationOf frames writer s) }
+fn output_setup<O: Drop>(
+    alloc: Global,
+    frames: usize,
+    writer: O,
+) -> Result<OutputSetup<O>, AllocError>
+    ensures { IfOk result (λ s. IsSetupOf frames writer s) }
 {
     let (feeder, drainer) = ring(alloc, frames, 1_024)?;
-    Ok(Station {
+    Ok(OutputSetup {
         feeder,
         drainer,
         writer,

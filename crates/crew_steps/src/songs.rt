@@ -82,7 +82,8 @@ impl<S: SongSource<M> + Drop, M: Media + Drop> Songs<S, M> {
         }
     }
 
-    /// Whether the current song has this id; a partner that has it becomes the current song where that has another.
+    /// Whether the current song has this id; a partner that has it becomes the current song where that has
+    /// another.
     pub(crate) fn is_current(&mut self, id: u32) -> bool {
         if !is_of(&self.current, id) && is_of(&self.partner, id) {
             self.current = self.partner.take();
@@ -140,7 +141,8 @@ impl<S: SongSource<M> + Drop, M: Media + Drop> Songs<S, M> {
         }
     }
 
-    /// The frames of a job whose songs are open. One that fails is closed, so that its file is opened anew when it is played again.
+    /// The frames of a job whose songs are open. One that fails is closed, so that its file is opened anew
+    /// when it is played again.
     pub(crate) fn frames_of(&mut self, alloc: Global, job: &Job) -> Result<JobFrames, NoFrames> {
         let read = self.read_frames(alloc, job);
         if let Err(NoFrames::Failed(partner)) = &read {

@@ -1,4 +1,5 @@
-//! An output that stands in a write delays no caller and no other output, and what it is not yet rid of is left at the end.
+//! An output that stands in a write delays no caller and no other output, and what it is not yet rid of is
+//! left at the end.
 use crate::door::behind_a_door;
 use crate::tunes::{Tone, Tune, listed, tune_of};
 use crate::wanted::wants;
@@ -80,8 +81,8 @@ pause 1
     day.told(alloc)
 }
 
-// The hall has 1,024 frames in its hand and 8,192 in its ring, and 1,024 are owed to it, so nothing more is decoded. It writes its hand,
-// and at the pause it keeps the rest.
+// The hall has 1,024 frames in its hand and 8,192 in its ring, and 1,024 are owed to it, so nothing more is
+// decoded. It writes its hand, and at the pause it keeps the rest.
 #[test]
 fn frames_are_left_at_the_end(rt: HostRuntime) -> Result<(), Fail> {
     wants(
@@ -157,7 +158,8 @@ play 1
     Ok(told)
 }
 
-// The hall was in the write of its first hand of 1,024 frames. All else of the first song is of an old cut, and is discarded.
+// The hall was in the write of its first hand of 1,024 frames. All else of the first song is of an old cut,
+// and is discarded.
 #[test]
 fn frames_of_an_old_cut(rt: HostRuntime) -> Result<(), Fail> {
     wants(

@@ -86,8 +86,8 @@ play
     told(rt, alloc, first, short, script, Tone::SawThenSteps)
 }
 
-// The partner has 100 frames of the 8,000 of its fade, so the first song is played to its end alone, and then what there is of the
-// second, whose file is opened once more.
+// The partner has 100 frames of the 8,000 of its fade, so the first song is played to its end alone, and then
+// what there is of the second, whose file is opened once more.
 #[test]
 fn a_partner_that_fails(rt: HostRuntime) -> Result<(), Fail> {
     wants(

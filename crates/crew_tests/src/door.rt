@@ -32,7 +32,8 @@ fn is_raised<R: Clock>(rt: &R, flag: &AtomicU32, most: u32) -> bool {
     false
 }
 
-/// A wire that may be behind a door: then its writes go on once the door is open, or after so many milliseconds.
+/// A wire that may be behind a door: then its writes go on once the door is open, or after so many
+/// milliseconds.
 #[derive(Drop)]
 struct Behind<R: Clock + Drop> {
     rt: R,
@@ -77,7 +78,8 @@ impl<R: Clock> Watch<R> for Rooms {
     }
 }
 
-/// Two outputs, of which the one with this number is behind a door that is shut. Its writer goes on after so many milliseconds.
+/// Two outputs, of which the one with this number is behind a door that is shut. Its writer goes on after so
+/// many milliseconds.
 fn writers_of<R: Clock + Copy + Drop>(
     rt: R,
     alloc: Global,

@@ -1,4 +1,5 @@
-//! Two songs that fade into each other, at half the volume, through two outputs: the bytes are those of the formulas.
+//! Two songs that fade into each other, at half the volume, through two outputs: the bytes are those of the
+//! formulas.
 use crate::rooms::{Blind, Stage, one_day, shared};
 use crate::tunes::{Tone, listed, tune_of};
 use crate::wanted::wants;

@@ -7,7 +7,7 @@ use crate::tunes::{Files, Tune, library};
 use counted_devices::Sink;
 use counted_player::{Ledgers, Seat};
 use crew::{Scanner, close, start_decoder, start_outputs, start_scanner};
-use crew_steps::{Gate, stations};
+use crew_steps::{Gate, output_setups};
 use frame_ledger::{SettleFault, Settled};
 use held_player::Blanks;
 use house::House;
@@ -24,7 +24,8 @@ use std::thread;
 use std::thread::Threads;
 use std::time::{Clock, Duration};
 
-/// What a house is opened with: its songs, what its two outputs `hall` and `attic` write to, what lets them go on, and what scans.
+/// What a house is opened with: its songs, what its two outputs `hall` and `attic` write to, what lets them
+/// go on, and what scans.
 #[derive(Drop)]
 pub(crate) struct Stage<O: Drop, G: Drop, N: Drop> {
     pub(crate) tunes: Vec<Tune>,
@@ -66,7 +67,8 @@ pub(crate) struct Day {
 }
 
 impl Day {
-    /// What was heard and seen, behind it the files that were opened, and a line for each output: frames decoded, written, discarded and left, and bytes torn.
+    /// What was heard and seen, behind it the files that were opened, and a line for each output: frames
+    /// decoded, written, discarded and left, and bytes torn.
     pub(crate) fn told(&self, alloc: Global) -> Result<String, PartitionFault> {
         let mut told = String::from_str(alloc, self.heard.as_str())?;
         told.push_str(format!(in alloc; "files opened: {}\n", self.opened)?.as_str())?;
@@ -83,8 +85,8 @@ impl Day {
         Ok(told)
     }
 
-    /// The frames that an output wrote, the bytes that were torn, and whether those that were written, discarded and left are the decoded
-    /// ones.
+    /// The frames that an output wrote, the bytes that were torn, and whether those that were written,
+    /// discarded and left are the decoded ones.
     pub(crate) fn balance(&self, alloc: Global, output: usize) -> Result<String, PartitionFault> {
         let Some(Ok(s)) = self.settled.get(output) else {
             return Ok(String::from_str(alloc, "not settled\n")?);
@@ -94,7 +96,8 @@ impl Day {
         Ok(format!(in alloc; "written {} torn {} balanced {same}\n", s.written, s.torn)?)
     }
 
-    /// Whether some frames of an output are left, and those that were written, discarded and left are the decoded ones.
+    /// Whether some frames of an output are left, and those that were written, discarded and left are the
+    /// decoded ones.
     pub(crate) fn rest(&self, alloc: Global, output: usize) -> Result<String, PartitionFault> {
         let Some(Ok(s)) = self.settled.get(output) else {
             return Ok(String::from_str(alloc, "not settled\n")?);
@@ -151,8 +154,9 @@ fn says_until<L: Ledgers, R: Wait + Clock>(
     Ok(false)
 }
 
-/// Goes through a script: a line `~ STEP` is a step of the test's own, `LINE ~ TEXT` is said until its answer has the text, and any
-/// other line is said once. What was heard, and for each wait whether what it is for came.
+/// Goes through a script: a line `~ STEP` is a step of the test's own, `LINE ~ TEXT` is said until its answer
+/// has the text, and any other line is said once. What was heard, and for each wait whether what it is for
+/// came.
 fn plays<L: Ledgers, V: Watch<R>, R: Wait + Clock>(
     rt: &R,
     alloc: Global,
@@ -203,15 +207,15 @@ fn run_day<
     let player = player(alloc, library(alloc, &tunes)?)?;
     let (house, shares) = House::<L>::open(alloc, blanks, player)?;
     let house = shared(alloc, house)?;
-    let stations = stations(alloc, 8_192, writers)?;
+    let output_setups = output_setups(alloc, 8_192, writers)?;
     // There are two, and a part of each book for eight.
-    if stations.len() > 8 {
+    if output_setups.len() > 8 {
         return Err(PartitionFault::NoMemory);
     }
     let Ok(mut seat) = house.seat(&rt) else {
         return Err(PartitionFault::NoMemory);
     };
-    let (runs, feeders) = start_outputs(rt, alloc, &house, &gate, stations, shares.outputs)?;
+    let (runs, feeders) = start_outputs(rt, alloc, &house, &gate, output_setups, shares.outputs)?;
     let opened = shared(alloc, AtomicU32::new(0))?;
     let files = Files {
         tunes,

@@ -13,7 +13,8 @@ use std::sync::atomic::{AtomicU32, Ordering};
 pub(crate) enum Tone {
     Saw,
     Steps,
-    /// 4,000 frames of the saw alone, 8,000 that fade into the steps, and 2,000 of the steps alone, all at half the volume.
+    /// 4,000 frames of the saw alone, 8,000 that fade into the steps, and 2,000 of the steps alone, all at
+    /// half the volume.
     Faded,
     /// 12,000 frames of the saw, and then the steps from their first frame.
     SawThenSteps,
@@ -43,8 +44,8 @@ fn steps(i: i32) -> (i32, i32) {
     (i % 50 - 2_000, 333)
 }
 
-/// A frame of two songs of which the second begins with frame 4,000 of the first: frame k of 8,000 of a fade is
-/// (a * (8000 - k) + b * k) / 8000, and half of that is heard, each cut toward zero.
+/// A frame of two songs of which the second begins with frame 4,000 of the first: frame k of 8,000 of a fade
+/// is (a * (8000 - k) + b * k) / 8000, and half of that is heard, each cut toward zero.
 fn faded(i: i32) -> (i32, i32) {
     let k = i.wrapping_sub(4_000);
     let (a, b) = (saw(i), steps(k));

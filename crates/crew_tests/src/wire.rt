@@ -8,7 +8,8 @@ use std::io::{ErrorKind, Write};
 use std::time::{Clock, Duration};
 use std::{io, thread};
 
-/// The end of a wire that an output writes to. It fails once it is full, and nobody empties it before the outputs are settled.
+/// The end of a wire that an output writes to. It fails once it is full, and nobody empties it before the
+/// outputs are settled.
 #[derive(Drop)]
 pub(crate) struct Wire {
     bytes: Producer<u8>,
@@ -39,8 +40,9 @@ pub(crate) fn new_wire(alloc: Global, room: usize) -> Result<(Wire, Consumer<u8>
     Ok((Wire { bytes }, taken))
 }
 
-/// The test's ends of the wires of both outputs. A step `hall N` waits until N frames came to the hall, `attic N`
-/// likewise, and `only N` says whether these and no more came to the attic by a twentieth of a second later.
+/// The test's ends of the wires of both outputs. A step `hall N` waits until N frames came to the hall,
+/// `attic N` likewise, and `only N` says whether these and no more came to the attic by a twentieth of a
+/// second later.
 #[derive(Drop)]
 pub(crate) struct Wires {
     pub(crate) hall: Consumer<u8>,

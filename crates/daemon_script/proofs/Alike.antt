@@ -15,13 +15,13 @@ use Rattle.script_lines.specs.declared.limit.LimitName.{LimitName}
 use Rattle.script_lines.specs.declared.limit.LimitName.TheVariants.{MaxQueue, MaxVersion, MaxId, MaxCut, History}
 use Rattle.script_lines.specs.declared.step.Step.{Step}
 use Rattle.script_lines.specs.declared.step.Step.TheVariants.{Song, Limit, Gone, Scanned, Want as WantStep, Have as HaveStep, Failed as FailedStep, Turn as TurnStep, Window}
-use Rattle.player_events.specs.Told.{Told}
+use Rattle.player_events.specs.Outcomes.{OutcomeData}
 use Rattle.player_events.specs.Events.{ends_list}
-use Rattle.command_plan.specs.Shelves.{nothing_heard}
+use Rattle.transitions.specs.Shelves.{no_store_reply}
 use Rattle.mpd_command.specs.Requests.{request_of}
 use Rattle.mpd_command.specs.declared.request.Request.{Request}
 use Rattle.player_events.specs.declared.event.Event.{Event}
-use Rattle.command_plan.specs.declared.asked.Stand.TheVariants.{InList}
+use Rattle.transitions.specs.declared.asked.Stand.TheVariants.{InList}
 use Rattle.player_events.specs.declared.event.Event.TheVariants.{Connect, Disconnect, Line, Want, Have, Failed, OutputTurn}
 use Rattle.partition.specs.declared.partition.PartitionFault.{PartitionFault}
 use Rattle.partition.specs.declared.state.Limits.{Limits}
@@ -33,7 +33,8 @@ use Rattle.script_reports.specs.Reports.{report_text, window_text}
 use Rattle.daemon_script.specs.Script.{Found, ScriptData, Shown, LineRun, bad, collects, lowers, limits_with, has_uri, told_for, notices_for, fault_of, found_at, found_first, found_then, refusal, sent_off, sends_off, applied, applies, scan_result, shown_step, shows_window, step_line, alone_line, request_run, asked_run, alone_run, request_in, read_of, end_of, closed_line, ListRun, list_goes, list_step, list_run, notices_by_number, lines_for, list_of, with_list, commands_run, collected_run, too_large_run, taken_run, line_run, connect_run, line_after, client_run, shown_client, shown_kind, shown_of}
 use Rattle.daemon_script.proofs.Ranges.{limit_at_least_one}
 
--- two kinds agree: a relation of their players holds at the opening and is kept by events, and related players answer alike
+-- two kinds agree: a relation of their players holds at the opening and is kept by events, and related
+-- players answer alike
 pub record Agree {P Q : Type 0} (m : PlayerKind P) (n : PlayerKind Q) (R : P → Q → Type 0) : Type 0 where
   pub opens : (limits : Limits) (songs : List SongData) → 1 ≤ limits.max_version → R (m.opens limits songs) (n.opens limits songs)
   pub there : (p : P) (q : Q) (number : ℕ) → R p q → m.is_there number p ≡ n.is_there number q
@@ -146,24 +147,24 @@ module _ {P Q : Type 0} (m : PlayerKind P) (n : PlayerKind Q) (R : P → Q → T
     tolds : a.tolds ≡ b.tolds
     ending : a.ending ≡ b.ending
 
-  goes_if : (ends : Bool) (p : P) (q : Q) (t : Told) (ending : List ℕ) (a : ListRun P) (b : ListRun Q) → R p q → SameList a b
+  goes_if : (ends : Bool) (p : P) (q : Q) (t : OutcomeData) (ending : List ℕ) (a : ListRun P) (b : ListRun Q) → R p q → SameList a b
       → SameList (if ends then record { player = p; tolds = t ∷ []; ending = ending } else record a { tolds = t ∷ a.tolds })
       (if ends then record { player = q; tolds = t ∷ []; ending = ending } else record b { tolds = t ∷ b.tolds })
   goes_if true p q t ending a b r rest = record { player = r; tolds = refl; ending = refl }
-  goes_if false p q t ending a b r rest = record { player = rest.player; tolds = ap (λ (ts : List Told). t ∷ ts) rest.tolds; ending = rest.ending }
+  goes_if false p q t ending a b r rest = record { player = rest.player; tolds = ap (λ (ts : List OutcomeData). t ∷ ts) rest.tolds; ending = rest.ending }
 
-  list_step_same : (p p' : P) (q q' : Q) (place : ℕ) (request : Request) (fault : Option PartitionFault) (t u : Told) (a : ListRun P) (b : ListRun Q)
+  list_step_same : (p p' : P) (q q' : Q) (place : ℕ) (request : Request) (fault : Option PartitionFault) (t u : OutcomeData) (a : ListRun P) (b : ListRun Q)
       → R p q → R p' q' → t ≡ u → SameList a b → SameList (list_step m p place request fault p' t a) (list_step n q place request fault q' u b)
   list_step_same p p' q q' place request (Some fault) t u a b r r' e rest = record { player = agree.left p q fault r; tolds = refl; ending = refl }
   list_step_same p p' q q' place request None t u a b r r' e rest =
-      subst (λ (v : Told). SameList (list_goes p' t a) (list_goes q' v b)) e (goes_if (ends_list t) p' q' t (closed_line t.answer.next) a b r' rest)
+      subst (λ (v : OutcomeData). SameList (list_goes p' t a) (list_goes q' v b)) e (goes_if (ends_list t) p' q' t (closed_line t.answer.next) a b r' rest)
 
   list_same : (p : P) (q : Q) (number : ℕ) (form : ListForm) (place : ℕ) (requests : List Request) (found : ℕ → Found) (end : List ℕ) → R p q
       → SameList (list_run m p number form place requests found end) (list_run n q number form place requests found end)
   unfolding list_run
   list_same p q number form place [] found end r = record { player = r; tolds = refl; ending = refl }
   list_same p q number form place (request ∷ requests) found end r =
-      let event : Event = Line number (InList form place) request nothing_heard in
+      let event : Event = Line number (InList form place) request no_store_reply in
       let after : R (m.after p event) (n.after q event) = agree.after p q event r in
       let rest = list_same (m.after p event) (n.after q event) number form (place + 1) requests found end after in
       subst (λ (fault : Option PartitionFault). SameList (list_run m p number form place (request ∷ requests) found end)
@@ -177,7 +178,7 @@ module _ {P Q : Type 0} (m : PlayerKind P) (n : PlayerKind Q) (R : P → Q → T
       record {
         player = ran.player;
         list = refl;
-        text = λ i. lines_for number (flat_map (λ (t : Told). t.answer.text) (ran.tolds i) ++ ran.ending i) ++ notices_by_number (ran.tolds i);
+        text = λ i. lines_for number (flat_map (λ (t : OutcomeData). t.answer.text) (ran.tolds i) ++ ran.ending i) ++ notices_by_number (ran.tolds i);
         connected = refl;
       }
 
@@ -223,7 +224,7 @@ module _ {P Q : Type 0} (m : PlayerKind P) (n : PlayerKind Q) (R : P → Q → T
       record {
         player = ran.player;
         list = ran.list;
-        text = ap (λ (t : Told). told_for number t ++ (line_run m (m.after p (Connect number)) list number line memory).text) (agree.told p q (Connect number) r)
+        text = ap (λ (t : OutcomeData). told_for number t ++ (line_run m (m.after p (Connect number)) list number line memory).text) (agree.told p q (Connect number) r)
             ∙ ap (λ (t : List ℕ). told_for number (n.told q (Connect number)) ++ t) ran.text;
         connected = ran.connected;
       }
@@ -250,7 +251,7 @@ module _ {P Q : Type 0} (m : PlayerKind P) (n : PlayerKind Q) (R : P → Q → T
   sent_same s p q number None above has r =
       record {
         script = same R (record s { player = Some (m.after p (Disconnect number)); lists = with_list number None s.lists }) (Some (n.after q (Disconnect number))) above (agree.after p q (Disconnect number) r);
-        text = ap (λ (t : Told). notices_for t.notices) (agree.told p q (Disconnect number) r);
+        text = ap (λ (t : OutcomeData). notices_for t.notices) (agree.told p q (Disconnect number) r);
       }
 
   -- by the player that is there
@@ -271,7 +272,7 @@ module _ {P Q : Type 0} (m : PlayerKind P) (n : PlayerKind Q) (R : P → Q → T
   applied_same s p q event None above has r =
       record {
         script = same R (record s { player = Some (m.after p event) }) (Some (n.after q event)) above (agree.after p q event r);
-        text = ap (λ (t : Told). report_text t.report ++ notices_for t.notices) (agree.told p q event r);
+        text = ap (λ (t : OutcomeData). report_text t.report ++ notices_for t.notices) (agree.told p q event r);
       }
 
   -- by the player that is there

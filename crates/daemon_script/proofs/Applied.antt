@@ -6,25 +6,25 @@ use Rattle.std.specs.Prelude.{◌||◌, nat_le, not, slice_index_or}
 use Rattle.std.proofs.lemmas.List.{length-append}
 use Rattle.shelf.specs.Maps.{Same, no_maps}
 use Rattle.shelf.specs.declared.memory.MemShelf.{MemShelf}
-use Rattle.player_events.specs.Told.{Told}
+use Rattle.player_events.specs.Outcomes.{OutcomeData}
 use Rattle.partition.specs.History.{Chronicle, folded, is_full, joined_by, with_room}
 use Rattle.partition.specs.Image.{Image}
 use Rattle.partition.specs.Lent.{IsFull, IsRefused, Records, Refuses, question, writing}
 use Rattle.partition.specs.Refusals.{MayRefuse}
-use Rattle.command_plan.specs.Shelves.{Serves}
-use Rattle.partition.specs.Step.{counts_frames, keeps_limits, limit_of, next_image, told, turn}
-use Rattle.player_events.specs.Events.{hearing}
+use Rattle.transitions.specs.Shelves.{Serves}
+use Rattle.partition.specs.Step.{counts_frames, keeps_limits, limit_of, next_image, told, transition}
+use Rattle.player_events.specs.Events.{with_store_reply}
 use Rattle.player_events.specs.declared.event.Event.{Event}
 use Rattle.partition.specs.declared.partition.PartitionFault.{PartitionFault}
 use Rattle.partition.specs.declared.partition.PartitionFault.TheVariants.{HistoryFull, CutsAtLimit, AtLimit, NoMemory}
-use Rattle.command_plan.specs.declared.shelf_calls.Heard.{Heard}
-use Rattle.player_events.specs.declared.event.Happened.{Happened}
+use Rattle.transitions.specs.declared.shelf_calls.StoreReply.{StoreReply}
+use Rattle.player_events.specs.declared.event.LogEntry.{LogEntry}
 use Rattle.daemon_script.specs.Contents.{Contents, by_bytes, by_uri_and_name, no_contents}
 use Rattle.daemon_script.specs.Kinds.{Shelved, images, window_in_room}
 use Rattle.daemon_script.specs.Pieces.{found_by}
 use Rattle.daemon_script.specs.Script.{NoneFold, fault_of, refusal}
 use Rattle.daemon_script.specs.Shelf.{heard_by, shelf_after}
-use Rattle.daemon_script.proofs.Served.{contents, holds, never_failed, served, spared, standing_of}
+use Rattle.daemon_script.proofs.Served.{contents, holds, never_failed, served, unchanged, standing_of}
 
 -- a player with its history, beside a shelf
 abbrev pub beside : Chronicle → MemShelf → Shelved Image
@@ -36,20 +36,20 @@ empty_shelf s same = holds s no_contents (record { lists = λ name. same.lists n
 
 -- the limit that an event would pass, what it makes of a player and a shelf, and what clients hear
 abbrev pub Gone : Type 0
-Gone = Option PartitionFault × (Shelved Image × Told)
+Gone = Option PartitionFault × (Shelved Image × OutcomeData)
 
 -- the same by what it heard
-abbrev pub gone : Chronicle → MemShelf → ℕ → Event → Heard → Gone
+abbrev pub gone : Chronicle → MemShelf → ℕ → Event → StoreReply → Gone
 gone c s window e heard = (
-  limit_of 0 c.present (hearing e heard),
-  (record { player = next_image 0 c.present (hearing e heard); shelf = shelf_after (contents s) c.present e heard; window = window; most = c.limit }, told c.present (hearing e heard)),
+  limit_of 0 c.present (with_store_reply e heard),
+  (record { player = next_image 0 c.present (with_store_reply e heard); shelf = shelf_after (contents s) c.present e heard; window = window; most = c.limit }, told c.present (with_store_reply e heard)),
 )
 
 -- the same by what became of the shelf
-abbrev pub served_so : Chronicle → Event → MemShelf → Heard → Gone
+abbrev pub served_so : Chronicle → Event → MemShelf → StoreReply → Gone
 served_so c e new heard = (
-  limit_of 0 c.present (hearing e heard),
-  (record { player = next_image 0 c.present (hearing e heard); shelf = contents new; window = length (with_room c).window + 1; most = c.limit }, told c.present (hearing e heard)),
+  limit_of 0 c.present (with_store_reply e heard),
+  (record { player = next_image 0 c.present (with_store_reply e heard); shelf = contents new; window = length (with_room c).window + 1; most = c.limit }, told c.present (with_store_reply e heard)),
 )
 
 -- the same of a player beside the contents of a shelf
@@ -61,34 +61,34 @@ in_room : (c : Chronicle) → length (with_room c).window ≡ (if is_full c then
 in_room c = elim (is_full c) as (λ b. length (if b then folded c else c).window ≡ (if b then 0 else length c.window)) [ true ↦ refl | false ↦ refl ]
 
 -- an event that a shelf served goes as it does beside the shelf's contents
-pub goes : (c : Chronicle) (e : Event) (old new : MemShelf) (heard : Heard)
+pub goes : (c : Chronicle) (e : Event) (old new : MemShelf) (heard : StoreReply)
     → Serves standing_of never_failed old new (question c.present e) (writing c.present e heard) heard
     → served_so c e new heard ≡ said_so c e old
 goes c e old new heard serves =
     let is = served c.present e old new heard serves in
-    let by : Contents → Gone = λ s. (limit_of 0 c.present (hearing e heard), (record { player = next_image 0 c.present (hearing e heard); shelf = s; window = length (with_room c).window + 1; most = c.limit }, told c.present (hearing e heard))) in
+    let by : Contents → Gone = λ s. (limit_of 0 c.present (with_store_reply e heard), (record { player = next_image 0 c.present (with_store_reply e heard); shelf = s; window = length (with_room c).window + 1; most = c.limit }, told c.present (with_store_reply e heard))) in
     ap by is.1
     ∙ ap (gone c old (length (with_room c).window + 1) e) is.0
     ∙ ap (λ (n : ℕ). gone c old (n + 1) e (heard_by (contents old) c.present e)) (in_room c)
 
 -- an event more in a window
-longer : (c : Chronicle) (h : Happened) → length ((with_room c).window ++ h ∷ []) ≡ length (with_room c).window + 1
+longer : (c : Chronicle) (h : LogEntry) → length ((with_room c).window ++ h ∷ []) ≡ length (with_room c).window + 1
 longer c h = length-append (with_room c).window (h ∷ [])
 
 -- an event that joined
-pub joined_beside : (c : Chronicle) (h : Happened) (s : MemShelf)
+pub joined_beside : (c : Chronicle) (h : LogEntry) (s : MemShelf)
     → beside (joined_by c h) s ≡ record { player = next_image h.seat c.present h.event; shelf = contents s; window = length (with_room c).window + 1; most = c.limit }
 joined_beside c h s = ap (λ (n : ℕ). record { player = next_image h.seat c.present h.event; shelf = contents s; window = n; most = c.limit }) (longer c h)
 
 -- an event that was applied
-pub applied : (c d : Chronicle) (old new : MemShelf) (e : Event) (outcome : Told) → d.limit ≡ c.limit
+pub applied : (c d : Chronicle) (old new : MemShelf) (e : Event) (outcome : OutcomeData) → d.limit ≡ c.limit
     → Records standing_of never_failed c.present d.present (with_room c).window d.window old new 0 e outcome
     → (images.limit (beside c old) e ≡ None) × ((beside d new ≡ images.after (beside c old) e) × (outcome ≡ images.told (beside c old) e))
 applied c d old new e outcome limit r =
     let is = goes c e old new r.heard r.shelf in
-    let h : Happened = record { seat = 0; event = hearing e r.heard; told = outcome } in
-    let after : beside d new ≡ record { player = next_image 0 c.present (hearing e r.heard); shelf = contents new; window = length (with_room c).window + 1; most = c.limit } =
-    λ i. record { player = r.present i; shelf = contents new; window = (ap (length {A = Happened}) r.window ∙ longer c h) i; most = limit i } in (
+    let h : LogEntry = record { seat = 0; event = with_store_reply e r.heard; told = outcome } in
+    let after : beside d new ≡ record { player = next_image 0 c.present (with_store_reply e r.heard); shelf = contents new; window = length (with_room c).window + 1; most = c.limit } =
+    λ i. record { player = r.present i; shelf = contents new; window = (ap (length {A = LogEntry}) r.window ∙ longer c h) i; most = limit i } in (
       sym (ap (λ (x : Gone). x.0) is) ∙ r.within,
       (after ∙ ap (λ (x : Gone). x.1.0) is, r.told_is ∙ ap (λ (x : Gone). x.1.1) is),
     )
@@ -117,36 +117,37 @@ never false false false e = cc
 never_full : (seat : ℕ) (i : Image) (event : Event) → limit_of seat i event ≡ Some HistoryFull → ⊥
 unfolding limit_of
 never_full seat i event e =
-    never (nat_le 9223372036854775807 (slice_index_or i.shared.made seat 0)) (not (counts_frames i (turn i event))) (keeps_limits i (turn i event)) e
+    never (nat_le 9223372036854775807 (slice_index_or i.shared.made seat 0)) (not (counts_frames i (transition i event))) (keeps_limits i (transition i event)) e
 
 module _ (seat : ℕ) (i : Image) (old new : MemShelf) (e : Event) where
-  abbrev heard : Heard
+  abbrev heard : StoreReply
   heard = heard_by (contents old) i e
 
   for_limit : (fault : PartitionFault) → (fault ≡ NoMemory → ⊥) → IsRefused standing_of never_failed i old new seat e fault
-      → limit_of seat i (hearing e heard) ≡ Some fault
+      → limit_of seat i (with_store_reply e heard) ≡ Some fault
   for_limit fault other r =
-      let is : limit_of seat i (hearing e r.heard) ≡ Some fault = limit_is (limit_of seat i (hearing e r.heard)) fault other r.refused in
-      let same : limit_of seat i (hearing e heard) ≡ limit_of seat i (hearing e r.heard) =
+      let is : limit_of seat i (with_store_reply e r.heard) ≡ Some fault = limit_is (limit_of seat i (with_store_reply e r.heard)) fault other r.refused in
+      let same : limit_of seat i (with_store_reply e heard) ≡ limit_of seat i (with_store_reply e r.heard) =
       elim r.cause [
         | inl none ↦ absurd (other none)
         | inr by ↦ elim by [
-          | inl at ↦ full seat i (hearing e heard) at ∙ sym (full seat i (hearing e r.heard) at)
-          | inr serves ↦ ap (λ (h : Heard). limit_of seat i (hearing e h)) (sym (served i e old new r.heard serves).0)
+          | inl at ↦ full seat i (with_store_reply e heard) at ∙ sym (full seat i (with_store_reply e r.heard) at)
+          | inr serves ↦ ap (λ (h : StoreReply). limit_of seat i (with_store_reply e h)) (sym (served i e old new r.heard serves).0)
         ]
       ] in
       same ∙ is
 
-  -- an event that was refused behind a window with room passes its limit by what the shelf's contents answer, or found no memory
+  -- an event that was refused after a window with room passes its limit by what the shelf's contents answer,
+  -- or found no memory
   pub refused_in_room : (window_full : Bool) (fault : PartitionFault) → IsRefused standing_of never_failed i old new seat e fault
-      → fault_of (found_by fault) window_full (limit_of seat i (hearing e heard)) ≡ Some fault
+      → fault_of (found_by fault) window_full (limit_of seat i (with_store_reply e heard)) ≡ Some fault
   refused_in_room window_full CutsAtLimit r = for_limit CutsAtLimit (λ f. cc) r
   refused_in_room window_full AtLimit r = for_limit AtLimit (λ f. cc) r
   refused_in_room window_full NoMemory r = refl
-  refused_in_room window_full HistoryFull r = absurd (never_full seat i (hearing e heard) (for_limit HistoryFull (λ f. cc) r))
+  refused_in_room window_full HistoryFull r = absurd (never_full seat i (with_store_reply e heard) (for_limit HistoryFull (λ f. cc) r))
 
   not_full : IsRefused standing_of never_failed i old new seat e HistoryFull → ⊥
-  not_full r = never_full seat i (hearing e heard) (for_limit HistoryFull (λ f. cc) r)
+  not_full r = never_full seat i (with_store_reply e heard) (for_limit HistoryFull (λ f. cc) r)
 
 -- a window in which there was no room for an event
 unfolded : (window_full : Bool) (limit : Option PartitionFault) → window_full ≡ true → fault_of NoneFold window_full limit ≡ Some HistoryFull
@@ -155,11 +156,11 @@ unfolded false limit e = cc
 
 -- an event that was refused, by what it found of memory
 pub refused : (seat : ℕ) (c d : Chronicle) (old new : MemShelf) (e : Event) (fault : PartitionFault) → Refuses standing_of never_failed c d old new seat e fault
-    → fault_of (found_by fault) (is_full c) (limit_of seat c.present (hearing e (heard_by (contents old) c.present e))) ≡ Some fault
+    → fault_of (found_by fault) (is_full c) (limit_of seat c.present (with_store_reply e (heard_by (contents old) c.present e))) ≡ Some fault
 refused seat c d old new e fault r =
     elim r [
-      | inl w ↦ subst (λ (f : PartitionFault). fault_of (found_by f) (is_full c) (limit_of seat c.present (hearing e (heard_by (contents old) c.present e))) ≡ Some f) (sym w.0)
-          (unfolded (is_full c) (limit_of seat c.present (hearing e (heard_by (contents old) c.present e))) w.1.0)
+      | inl w ↦ subst (λ (f : PartitionFault). fault_of (found_by f) (is_full c) (limit_of seat c.present (with_store_reply e (heard_by (contents old) c.present e))) ≡ Some f) (sym w.0)
+          (unfolded (is_full c) (limit_of seat c.present (with_store_reply e (heard_by (contents old) c.present e))) w.1.0)
       | inr w ↦ refused_in_room seat c.present old new e (is_full c) fault w.1
     ]
 
@@ -172,7 +173,7 @@ left_in_room : (seat : ℕ) (c : Chronicle) (old new : MemShelf) (e : Event) (fa
     → beside (with_room c) new ≡ images.left (beside c old) fault
 left_in_room seat c old new e fault r =
     let is : beside (with_room c) new ≡ record (beside c old) { window = window_in_room (beside c old) } =
-    folded_beside c new ∙ ap (λ (s : Contents). record { player = c.present; shelf = s; window = window_in_room (beside c old); most = c.limit }) (spared c.present e old new r.spared) in
+    folded_beside c new ∙ ap (λ (s : Contents). record { player = c.present; shelf = s; window = window_in_room (beside c old); most = c.limit }) (unchanged c.present e old new r.unchanged) in
     let by : (fault : PartitionFault) → IsRefused standing_of never_failed c.present old new seat e fault → beside (with_room c) new ≡ images.left (beside c old) fault =
     λ fault. elim fault as (λ fault. IsRefused standing_of never_failed c.present old new seat e fault → beside (with_room c) new ≡ images.left (beside c old) fault) [
       | HistoryFull ↦ λ r. absurd (not_full seat c.present old new e r)
@@ -207,7 +208,7 @@ if_err (Err e) P Q f p = f e p
 
 -- ---- results of an event, of a player that is read as this
 
-module _ (c d : Chronicle) (s t : MemShelf) (e : Event) (old new : Shelved Image) (was : beside c s ≡ old) (is : beside d t ≡ new) (r : Result Told PartitionFault) where
+module _ (c d : Chronicle) (s t : MemShelf) (e : Event) (old new : Shelved Image) (was : beside c s ≡ old) (is : beside d t ≡ new) (r : Result OutcomeData PartitionFault) where
   pub told_after : d.limit ≡ c.limit → IfOk r (Records standing_of never_failed c.present d.present (with_room c).window d.window s t 0 e) → IfOk r (λ outcome. outcome ≡ images.told old e)
   told_after limit did =
       subst (λ (o : Shelved Image). IfOk r (λ outcome. outcome ≡ images.told o e)) was

@@ -5,7 +5,7 @@ pub mod Edited
 pub mod Held
 pub mod ListRuns
 pub mod Listed
-pub mod Lives
+pub mod Traces
 pub mod Numbered
 pub mod Outputs
 pub mod Ran

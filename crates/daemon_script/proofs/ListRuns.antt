@@ -9,22 +9,22 @@ use Rattle.mpd_command.specs.Requests.{name_in}
 use Rattle.mpd_command.specs.declared.request.Request.{Request}
 use Rattle.mpd_text.specs.Answers.Answer.{ack_line}
 use Rattle.shelf.specs.declared.memory.MemShelf.{MemShelf}
-use Rattle.player_events.specs.Told.{Told}
+use Rattle.player_events.specs.Outcomes.{OutcomeData}
 use Rattle.idle_clients.specs.Clients.{closes}
 use Rattle.partition.specs.History.{Chronicle, is_full, joined, joined_by}
 use Rattle.partition.specs.Image.{Image}
 use Rattle.partition.specs.Lent.{ServesAll}
 use Rattle.partition.specs.Lists.{Answered, entries_of, fault_text, AllWithin, RunsList, Stop, StopsList}
 use Rattle.player_events.specs.Events.{ends_list}
-use Rattle.command_plan.specs.Shelves.{nothing_heard}
-use Rattle.player_events.specs.Events.{hearing}
+use Rattle.transitions.specs.Shelves.{no_store_reply}
+use Rattle.player_events.specs.Events.{with_store_reply}
 use Rattle.partition.specs.Step.{limit_of, told}
 use Rattle.player_events.specs.declared.event.Event.{Event}
 use Rattle.player_events.specs.declared.event.Event.TheVariants.{Line}
-use Rattle.player_events.specs.declared.event.Happened.{Happened}
-use Rattle.command_plan.specs.declared.reply.Next.{Next}
-use Rattle.command_plan.specs.declared.reply.Next.TheVariants.{Goes, Waits, Closes}
-use Rattle.command_plan.specs.declared.asked.Stand.TheVariants.{InList}
+use Rattle.player_events.specs.declared.event.LogEntry.{LogEntry}
+use Rattle.transitions.specs.declared.reply.Next.{Next}
+use Rattle.transitions.specs.declared.reply.Next.TheVariants.{Goes, Waits, Closes}
+use Rattle.transitions.specs.declared.asked.Stand.TheVariants.{InList}
 use Rattle.partition.specs.declared.partition.PartitionFault.{PartitionFault}
 use Rattle.partition.specs.declared.partition.PartitionFault.TheVariants.{HistoryFull, CutsAtLimit, AtLimit, NoMemory}
 use Rattle.daemon_script.specs.Kinds.{Shelved, images}
@@ -37,25 +37,25 @@ use Rattle.daemon_script.proofs.Applied.{Gone, beside, goes, joined_beside, left
 use Rattle.daemon_script.proofs.Served.{contents, never_failed, standing_of}
 
 -- what clients were told at some entries
-abbrev tolds_of : List Happened → List Told
-tolds_of hs = map (λ (h : Happened). h.told) hs
+abbrev tolds_of : List LogEntry → List OutcomeData
+tolds_of hs = map (λ (h : LogEntry). h.told) hs
 
 -- what requests asked, before the shelf heard of them
 abbrev asked_of : List Answered → List Request
 asked_of answered = map (λ (a : Answered). a.0) answered
 
 -- what a list makes of a player, as far as these entries go, with the shelf after them
-abbrev ran_to : Chronicle → MemShelf → List Happened → List ℕ → ListRun (Shelved Image)
+abbrev ran_to : Chronicle → MemShelf → List LogEntry → List ℕ → ListRun (Shelved Image)
 ran_to c s entries ending = record { player = beside (joined c entries) s; tolds = tolds_of entries; ending = ending }
 
 -- one entry before others
-before : (c : Chronicle) (s : MemShelf) (h : Happened) (entries : List Happened) (ending : List ℕ) (rest : ListRun (Shelved Image))
+before : (c : Chronicle) (s : MemShelf) (h : LogEntry) (entries : List LogEntry) (ending : List ℕ) (rest : ListRun (Shelved Image))
     → rest ≡ ran_to (joined_by c h) s entries ending
     → record rest { tolds = h.told ∷ rest.tolds } ≡ ran_to c s (h ∷ entries) ending
 before c s h entries ending rest e = ap (λ (r : ListRun (Shelved Image)). record r { tolds = h.told ∷ r.tolds }) e
 
 -- the same where the list was stopped, which left this
-abbrev stopped_to : Shelved Image → List Happened → List ℕ → ListRun (Shelved Image)
+abbrev stopped_to : Shelved Image → List LogEntry → List ℕ → ListRun (Shelved Image)
 stopped_to left entries ending = record { player = left; tolds = tolds_of entries; ending = ending }
 
 goes_no_further : (next : Next) (refused : Bool) (end : List ℕ) → (refused || closes next) ≡ true
@@ -85,7 +85,7 @@ abbrev event_at : ℕ → ListForm → ℕ → Answered → Event
 event_at number form place a = Line number (InList form place) a.0 a.1
 
 -- the entry of a request of a list
-abbrev entry_at : Image → ℕ → ListForm → ℕ → Answered → Happened
+abbrev entry_at : Image → ℕ → ListForm → ℕ → Answered → LogEntry
 entry_at i number form place a = record { seat = 0; event = event_at number form place a; told = told i (event_at number form place a) }
 
 -- one request of a list that the shelf served
@@ -117,12 +117,12 @@ unfolding entries_of list_run
 whole old new c number form place [] end within serves = ap (λ (s : MemShelf). ran_to c s [] end) (sym serves)
 whole old new c number form place (a ∷ more) end within serves =
     let event : Event = event_at number form place a in
-    let t : Told = told c.present event in
-    let first : Happened = entry_at c.present number form place a in
+    let t : OutcomeData = told c.present event in
+    let first : LogEntry = entry_at c.present number form place a in
     let d : Chronicle = joined_by c first in
     let mid : MemShelf = serves.0 in
     let rest : ListRun (Shelved Image) = list_run images (beside d mid) number form (place + 1) (asked_of more) ample end in
-    let others : List Happened = entries_of 0 d.present number form (place + 1) more in
+    let others : List LogEntry = entries_of 0 d.present number form (place + 1) more in
     let cases : (ends : Bool) → ends_list t ≡ ends → AllWithin d.present (if ends then [] else others) → ServesAll standing_of never_failed mid new d.present (if ends then [] else others)
     → (if ends then record { player = beside d mid; tolds = t ∷ []; ending = closed_line t.answer.next } else record rest { tolds = t ∷ rest.tolds })
     ≡ ran_to c new (first ∷ (if ends then [] else others)) (ending_of end (tolds_of (first ∷ (if ends then [] else others)))) =
@@ -137,18 +137,18 @@ whole old new c number form place (a ∷ more) end within serves =
           before c new first others (ending_of end (tolds_of others)) rest
           (whole mid new d number form (place + 1) more end fits last)
           ∙ ap (λ (ending : List ℕ). ran_to c new (first ∷ others) ending)
-          (two_ifs (closes t.answer.next) (ends_list t) (list_any (λ (u : Told). closes u.answer.next) (tolds_of others)) (list_any ends_list (tolds_of others)) end open_ e)
+          (two_ifs (closes t.answer.next) (ends_list t) (list_any (λ (u : OutcomeData). closes u.answer.next) (tolds_of others)) (list_any ends_list (tolds_of others)) end open_ e)
     ] in
-    one c old mid number form place a (asked_of more) ample end (goes c (Line number (InList form place) a.0 nothing_heard) old mid a.1 serves.1)
+    one c old mid number form place a (asked_of more) ample end (goes c (Line number (InList form place) a.0 no_store_reply) old mid a.1 serves.1)
     ∙ ap (λ (fault : Option PartitionFault). list_step images (beside c old) place a.0 fault (beside d mid) t rest) within.0
     ∙ cases (ends_list t) refl within.1 serves.2
 
 -- the entry after so many is refused for this cause, by what its place found of memory
-abbrev IsRefusedAt : Chronicle → MemShelf → List Happened → ℕ → Found → PartitionFault → Type 0
+abbrev IsRefusedAt : Chronicle → MemShelf → List LogEntry → ℕ → Found → PartitionFault → Type 0
 IsRefusedAt c s entries done found cause =
-    (entry : Happened) → slice_get entries done ≡ Some entry
+    (entry : LogEntry) → slice_get entries done ≡ Some entry
     → fault_of found (is_full (joined c (take done entries)))
-    (limit_of entry.seat (joined c (take done entries)).present (hearing entry.event (heard_by (contents s) (joined c (take done entries)).present entry.event))) ≡ Some cause
+    (limit_of entry.seat (joined c (take done entries)).present (with_store_reply entry.event (heard_by (contents s) (joined c (take done entries)).present entry.event))) ≡ Some cause
 
 -- a list whose command at some place is refused; other requests may follow those that were read
 pub stops : (old new : MemShelf) (c : Chronicle) (number : ℕ) (form : ListForm) (place : ℕ) (answered : List Answered) (others : List Request) (found : ℕ → Found) (end : List ℕ) (done : ℕ) (cause : PartitionFault)
@@ -162,13 +162,13 @@ pub stops : (old new : MemShelf) (c : Chronicle) (number : ℕ) (form : ListForm
 unfolding entries_of list_run
 stops old new c number form place [] others found end done cause elsewhere more within serves refusal = absurd (omega (arith, more))
 stops old new c number form place (a ∷ rest_of) others found end zero cause elsewhere more within serves refusal =
-    let event : Event = Line number (InList form place) a.0 nothing_heard in
+    let event : Event = Line number (InList form place) a.0 no_store_reply in
     let here : place + 0 ≡ place = omega arith in
-    let first : Happened = entry_at c.present number form place a in
+    let first : LogEntry = entry_at c.present number form place a in
     let after : Shelved Image = images.after (beside c old) event in
-    let t : Told = images.told (beside c old) event in
+    let t : OutcomeData = images.told (beside c old) event in
     let rest : ListRun (Shelved Image) = list_run images after number form (place + 1) (asked_of rest_of ++ others) found end in
-    let limit : MemShelf → Option PartitionFault = λ s. limit_of 0 c.present (hearing event (heard_by (contents s) c.present event)) in
+    let limit : MemShelf → Option PartitionFault = λ s. limit_of 0 c.present (with_store_reply event (heard_by (contents s) c.present event)) in
     let fault : fault_of (found (place + 0)) (is_full c) (limit old) ≡ Some cause =
     ap (λ (s : MemShelf). fault_of (found (place + 0)) (is_full c) (limit s)) (sym serves) ∙ refusal first refl in
     ap (λ (p : ℕ). list_step images (beside c old) place a.0 (fault_of (found p) (is_full c) (limit old)) after t rest) (sym here)
@@ -177,12 +177,12 @@ stops old new c number form place (a ∷ rest_of) others found end zero cause el
     ∙ ap (λ (s : MemShelf). stopped_to (images.left (beside c s) cause) [] (ack_line 52 (place + 0) (name_in a.0) (fault_text cause))) (sym serves)
 stops old new c number form place (a ∷ rest_of) others found end (suc done) cause elsewhere more within serves refusal =
     let event : Event = event_at number form place a in
-    let t : Told = told c.present event in
-    let first : Happened = entry_at c.present number form place a in
+    let t : OutcomeData = told c.present event in
+    let first : LogEntry = entry_at c.present number form place a in
     let d : Chronicle = joined_by c first in
     let mid : MemShelf = serves.0 in
     let rest : ListRun (Shelved Image) = list_run images (beside d mid) number form (place + 1) (asked_of rest_of ++ others) found end in
-    let entries : List Happened = entries_of 0 d.present number form (place + 1) rest_of in
+    let entries : List LogEntry = entries_of 0 d.present number form (place + 1) rest_of in
     let ending : List ℕ = ack_line 52 (place + suc done) (slice_index_or (map name_in (asked_of rest_of)) done []) (fault_text cause) in
     let from_here : place + 0 ≡ place = omega arith in
     let here : found place ≡ Enough = ap found (sym from_here) ∙ elsewhere 0 (omega arith) in
@@ -205,11 +205,11 @@ stops old new c number form place (a ∷ rest_of) others found end (suc done) ca
           (λ k less. ap found (sym (same k)) ∙ elsewhere (suc k) (omega (arith, less)))
           (omega (arith, few)) all.1 last
           (λ entry is. ap (λ (p : ℕ). fault_of (found p) (is_full (joined d (take done entries)))
-          (limit_of entry.seat (joined d (take done entries)).present (hearing entry.event (heard_by (contents new) (joined d (take done entries)).present entry.event)))) (sym (same done)) ∙ refusal entry is) in
+          (limit_of entry.seat (joined d (take done entries)).present (with_store_reply entry.event (heard_by (contents new) (joined d (take done entries)).present entry.event)))) (sym (same done)) ∙ refusal entry is) in
           ap (λ (r : ListRun (Shelved Image)). record r { tolds = t ∷ r.tolds })
           (go ∙ ap (λ (p : ℕ). stopped_to (images.left (beside (joined d (take done entries)) new) cause) (take done entries) (ack_line 52 p (slice_index_or (map name_in (asked_of rest_of)) done []) (fault_text cause))) (sym (same done)))
     ] in
-    one c old mid number form place a (asked_of rest_of ++ others) found end (goes c (Line number (InList form place) a.0 nothing_heard) old mid a.1 serves.1)
+    one c old mid number form place a (asked_of rest_of ++ others) found end (goes c (Line number (InList form place) a.0 no_store_reply) old mid a.1 serves.1)
     ∙ ap (λ (f : Found). list_step images (beside c old) place a.0 (fault_of f (is_full c) (limit_of 0 c.present event)) (beside d mid) t rest) here
     ∙ ap (λ (fault : Option PartitionFault). list_step images (beside c old) place a.0 fault (beside d mid) t rest) within.0
     ∙ cases (ends_list t) refl more within serves.2 refusal
@@ -227,7 +227,7 @@ pub take_more : {X Y : Type 0} (f : X → Y) (xs : List X) (i : ℕ) (d : X) →
 take_more f xs i d h = sym (take_suc f xs i d h) ∙ ap (λ (n : ℕ). take n (map f xs)) (one_more i)
 
 -- a list that ran
-pub runs_whole : (c d : Chronicle) (old new : MemShelf) (number : ℕ) (form : ListForm) (requests : List Request) (tolds : List Told)
+pub runs_whole : (c d : Chronicle) (old new : MemShelf) (number : ℕ) (form : ListForm) (requests : List Request) (tolds : List OutcomeData)
     → RunsList standing_of never_failed c d old new 0 number form requests tolds
     → RunsWhole (beside c old) (beside d new) number form requests tolds
 runs_whole c d old new number form requests tolds ran end =
@@ -251,16 +251,16 @@ pub stops_whole : (c d : Chronicle) (old new : MemShelf) (number : ℕ) (form : 
     → StopsList standing_of never_failed c d old new 0 number form requests stop
     → StopsWhole (beside c old) (beside d new) number form requests stop
 stops_whole c d old new number form requests stop ran others found end elsewhere by =
-    let entries : List Happened = entries_of 0 c.present number form 0 ran.answered in
+    let entries : List LogEntry = entries_of 0 c.present number form 0 ran.answered in
     let m : Chronicle = joined c (take stop.done entries) in
     let no_entry : IsRefusedAt c ran.between entries stop.done (found (0 + stop.done)) stop.cause =
     λ entry is.
     let why = for_some _ (slice_get entries stop.done) entry ran.cause is in
-    ap (λ (f : Found). fault_of f (is_full m) (limit_of entry.seat m.present (hearing entry.event (heard_by (contents ran.between) m.present entry.event)))) by
-    ∙ ap (λ (x : Chronicle). fault_of (found_by stop.cause) (is_full x) (limit_of entry.seat x.present (hearing entry.event (heard_by (contents ran.between) x.present entry.event)))) (sym ran.joins.chronicle)
+    ap (λ (f : Found). fault_of f (is_full m) (limit_of entry.seat m.present (with_store_reply entry.event (heard_by (contents ran.between) m.present entry.event)))) by
+    ∙ ap (λ (x : Chronicle). fault_of (found_by stop.cause) (is_full x) (limit_of entry.seat x.present (with_store_reply entry.event (heard_by (contents ran.between) x.present entry.event)))) (sym ran.joins.chronicle)
     ∙ refused entry.seat ran.middle d ran.between new entry.event stop.cause why in
     let last : beside d new ≡ images.left (beside ran.middle ran.between) stop.cause =
-    elim (slice_get entries stop.done) as (λ (o : Option Happened). slice_get entries stop.done ≡ o → beside d new ≡ images.left (beside ran.middle ran.between) stop.cause) [
+    elim (slice_get entries stop.done) as (λ (o : Option LogEntry). slice_get entries stop.done ≡ o → beside d new ≡ images.left (beside ran.middle ran.between) stop.cause) [
       | Some entry ↦ λ is. left_is entry.seat ran.middle d ran.between new entry.event stop.cause (for_some _ (slice_get entries stop.done) entry ran.cause is)
       | None ↦ λ is. absurd (none_there entries stop.done ran.more is)
     ] refl in
@@ -284,7 +284,7 @@ read_first (NoneToRun place) all = ([], sym (append-nil all))
 read_first (NoneToRead place) all = (drop place all, sym (take-append-drop place all))
 
 -- a list that ran, of requests that were read
-pub list_ran : (before after : Shelved Image) (number : ℕ) (form : ListForm) (read requests : List Request) (found : ℕ → Found) (end : List ℕ) (tolds : List Told)
+pub list_ran : (before after : Shelved Image) (number : ℕ) (form : ListForm) (read requests : List Request) (found : ℕ → Found) (end : List ℕ) (tolds : List OutcomeData)
     → requests ≡ read → ((place : ℕ) → found place ≡ Enough) → RunsWhole before after number form requests tolds
     → list_run images before number form 0 read found end ≡ record { player = after; tolds = tolds; ending = ending_of end tolds }
 list_ran before after number form read requests found end tolds same all ran =

@@ -9,14 +9,14 @@ use Rattle.shelf.specs.declared.faults.ShelfFault.{ShelfFault}
 use Rattle.shelf.specs.declared.faults.ShelfFault.TheVariants.{NoSuchList, Exists, BadName, NoSticker, StoreFault, NoMemory}
 use Rattle.shelf.specs.declared.memory.MemShelf.{MemShelf}
 use Rattle.player_events.specs.declared.event.Event.{Event}
-use Rattle.command_plan.specs.declared.shelf_calls.Heard.{Heard}
-use Rattle.command_plan.specs.declared.shelf_calls.Read.{Read}
-use Rattle.command_plan.specs.declared.shelf_calls.Read.TheVariants as read_variant
-use Rattle.command_plan.specs.declared.shelf_calls.ShelfWrite.{ShelfWrite}
-use Rattle.command_plan.specs.declared.shelf_calls.ShelfWrite.TheVariants.{Nothing, Put, Create, Rename, Remove, SetSticker, DeleteSticker, DeleteStickers}
+use Rattle.transitions.specs.declared.shelf_calls.StoreReply.{StoreReply}
+use Rattle.transitions.specs.declared.shelf_calls.Read.{Read}
+use Rattle.transitions.specs.declared.shelf_calls.Read.TheVariants as read_variant
+use Rattle.transitions.specs.declared.shelf_calls.ShelfWrite.{ShelfWrite}
+use Rattle.transitions.specs.declared.shelf_calls.ShelfWrite.TheVariants.{Nothing, Put, Create, Rename, Remove, SetSticker, DeleteSticker, DeleteStickers}
 use Rattle.partition.specs.Image.{Image}
 use Rattle.partition.specs.Lent.{question, writing}
-use Rattle.command_plan.specs.Shelves.{IsAnswered, IsCause, IsRead, Question, NoQuestion, AskNames, AskList, AskSticker, AskStickers, AskFound, Serves, Spares, answered, is_ok_write, is_wanting, is_written, maps_after}
+use Rattle.transitions.specs.Shelves.{IsAnswered, IsCause, IsRead, Question, NoQuestion, AskNames, AskList, AskSticker, AskStickers, AskFound, Serves, LeavesUnchanged, answered, is_ok_write, is_wanting, is_written, maps_after}
 use Rattle.daemon_script.specs.Contents.{Contents, contents_of, has_stickers, maps_in}
 use Rattle.daemon_script.specs.Shelf.{contents_after, contents_with, heard_by, list_read, read_in, refusal_in, shelf_after, sticker_read}
 use Rattle.daemon_script.proofs.Edited.{list_put, list_renamed, sticker_put, stickers_gone}
@@ -193,7 +193,7 @@ module _ (i : Image) (e : Event) (old new : MemShelf) where
   c = contents old
 
   -- what an event heard is what the contents answer, and the contents are those after it
-  pub served : (heard : Heard) → Serves standing_of never_failed old new (question i e) (writing i e heard) heard
+  pub served : (heard : StoreReply) → Serves standing_of never_failed old new (question i e) (writing i e heard) heard
       → (heard ≡ heard_by c i e) × (contents new ≡ shelf_after c i e heard)
   served heard serves =
       let before : contents serves.between ≡ c = asked old serves.between _ serves.asked in
@@ -206,5 +206,5 @@ module _ (i : Image) (e : Event) (old new : MemShelf) where
       )
 
   -- an event that was refused leaves the contents
-  pub spared : Spares standing_of never_failed old new → contents new ≡ contents old
-  spared spares = kept spares.between new spares.after spares.written ∙ asked old spares.between spares.was_read spares.asked
+  pub unchanged : LeavesUnchanged standing_of never_failed old new → contents new ≡ contents old
+  unchanged leaves_unchanged = kept leaves_unchanged.between new leaves_unchanged.after leaves_unchanged.written ∙ asked old leaves_unchanged.between leaves_unchanged.was_read leaves_unchanged.asked

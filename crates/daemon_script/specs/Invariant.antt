@@ -4,7 +4,8 @@ use Rattle.mpd_text.specs.Songs.Song.{SongData}
 use Rattle.song_db.specs.Library.{is_twice_named}
 use Rattle.partition.specs.declared.state.Limits.{Limits}
 
--- versions begin at 1, cuts are below 2 ^ 63, a window has room for an event, and the collected songs make a library
+-- versions begin at 1, cuts are below 2 ^ 63, a window has room for an event, and the collected songs make a
+-- library
 pub record IsScript (limits : Limits) (songs : List SongData) : Type 0 where
   pub version : 1 ≤ limits.max_version
   pub cut : limits.max_cut < 9223372036854775808

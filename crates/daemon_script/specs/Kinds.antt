@@ -1,17 +1,18 @@
--- Two kinds of player: one that has what commands read, and one that has its whole past. Beside each is a shelf in memory.
+-- Two kinds of player: one that has what commands read, and one that has its whole past. Beside each is a
+-- shelf in memory.
 use Rattle.std.specs.Prelude.{ℕ, ◌+◌, nat_le, slice_index_or, if◌then◌else◌, Bool, false, true, List, [], ◌∷◌, ◌++◌, Option, is_some, codes}
 use Rattle.mpd_text.specs.Songs.Song.{SongData}
-use Rattle.player_events.specs.Told.{Told}
+use Rattle.player_events.specs.Outcomes.{OutcomeData}
 use Rattle.partition.specs.Image.{Image, opening}
 use Rattle.idle_clients.specs.Clients.{client_of}
 use Rattle.player_state.specs.Outputs.{OutputsData, no_outputs, switched}
 use Rattle.player_state.specs.Scans.{never_scanned}
-use Rattle.player_events.specs.Events.{hearing}
+use Rattle.player_events.specs.Events.{with_store_reply}
 use Rattle.partition.specs.Step.{limit_of, next_image, told}
-use Rattle.partition.specs.World.{Life, Moment, is_there, image_of, life_after_event, opening_life}
+use Rattle.partition.specs.World.{Trace, WorldTransition, is_there, image_of, trace_after_event, opening_trace}
 use Rattle.player_events.specs.declared.event.Event.{Event}
-use Rattle.player_events.specs.declared.event.Happened.{Happened}
-use Rattle.command_plan.specs.declared.reply.Next.TheVariants.{Goes}
+use Rattle.player_events.specs.declared.event.LogEntry.{LogEntry}
+use Rattle.transitions.specs.declared.reply.Next.TheVariants.{Goes}
 use Rattle.partition.specs.History.{own}
 use Rattle.partition.specs.declared.partition.PartitionFault.{PartitionFault}
 use Rattle.partition.specs.declared.partition.PartitionFault.TheVariants.{HistoryFull, CutsAtLimit, AtLimit, NoMemory}
@@ -34,18 +35,19 @@ one_output = switched (record no_outputs { names = codes "out0" ∷ [] }) 0 true
 abbrev pub setup_of : Limits → Setup
 setup_of limits = record { limits = limits; random_start = 0; outputs = one_output }
 
--- what events make of a player: it is opened over a library; whether a client is there, which limit an event would pass, for which
--- it is refused, what an event makes of the player and makes clients hear, and how many events there were
+-- what events make of a player: it is opened over a library; whether a client is there, which limit an event
+-- would pass, for which it is refused, what an event makes of the player and makes clients hear, and how many
+-- events there were
 pub record EventKind (P : Type 0) : Type 0 where
   pub opens : Limits → List SongData → P
   pub is_there : ℕ → P → Bool
   pub limit : P → Event → Option PartitionFault
   pub after : P → Event → P
-  pub told : P → Event → Told
+  pub told : P → Event → OutcomeData
   pub own : P → ℕ
 
--- What a script asks of a player: the same, and of the window of its history whether it is full and how many events it has. An event
--- that is refused may leave a window that was folded.
+-- What a script asks of a player: the same, and of the window of its history whether it is full and how many
+-- events it has. An event that is refused may leave a window that was folded.
 pub record PlayerKind (P : Type 0) : Type 0 where
   pub opens : Limits → List SongData → P
   pub is_there : ℕ → P → Bool
@@ -53,11 +55,12 @@ pub record PlayerKind (P : Type 0) : Type 0 where
   pub limit : P → Event → Option PartitionFault
   pub after : P → Event → P
   pub left : P → PartitionFault → P
-  pub told : P → Event → Told
+  pub told : P → Event → OutcomeData
   pub window : P → ℕ
   pub own : P → ℕ
 
--- a player is what commands read: its queue has stamps and marks, and its clients have flags. All events are of seat 0
+-- a player is what commands read: its queue has stamps and marks, and its clients have flags. All events are
+-- of seat 0
 abbrev pub image_kind : EventKind Image
 image_kind = record {
   opens = λ limits songs. opening (setup_of limits) (library_of songs);
@@ -68,35 +71,35 @@ image_kind = record {
   own = λ i. slice_index_or i.shared.made 0 0;
 }
 
--- a life, and what happened in it
-pub record Lived : Type 0 where
-  pub life : Life
-  pub history : List Happened
+-- a trace, and what happened in it
+pub record Traced : Type 0 where
+  pub trace : Trace
+  pub history : List LogEntry
 
--- what commands read of a life
-abbrev pub seen : Lived → Image
-seen lived = image_of lived.life lived.history
+-- what commands read of a trace
+abbrev pub seen : Traced → Image
+seen traced = image_of traced.trace traced.history
 
--- what the latest of these moments made clients hear
-abbrev pub told_at : List Moment → Told
+-- what the latest of these transitions made clients hear
+abbrev pub told_at : List WorldTransition → OutcomeData
 told_at [] = record { answer = record { text = []; next = Goes; refused = false }; notices = []; report = Nothing }
-told_at (moment ∷ moments) = record { answer = moment.turn.said.answer; notices = moment.notices; report = moment.report }
+told_at (world_transition ∷ world_transitions) = record { answer = world_transition.transition.response.answer; notices = world_transition.notices; report = world_transition.report }
 
-abbrev pub lived_after : Lived → Event → Lived
-lived_after lived event =
-    let life = life_after_event lived.history lived.life event in
-    record { life = life; history = lived.history ++ record { seat = 0; event = event; told = told_at life.moments } ∷ [] }
+abbrev pub traced_after : Traced → Event → Traced
+traced_after traced event =
+    let trace = trace_after_event traced.history traced.trace event in
+    record { trace = trace; history = traced.history ++ record { seat = 0; event = event; told = told_at trace.world_transitions } ∷ [] }
 
--- a player is its life: every queue that it had, and every moment, at which clients hear what is said to them. All events
--- are of seat 0
-abbrev pub life_kind : EventKind Lived
-life_kind = record {
-  opens = λ limits songs. record { life = opening_life (opening (setup_of limits) (library_of songs)); history = [] };
-  is_there = λ number lived. is_there number lived.life.world;
-  limit = λ lived event. limit_of 0 (seen lived) event;
-  after = lived_after;
-  told = λ lived event. told_at (lived_after lived event).life.moments;
-  own = λ lived. own 0 lived.history;
+-- a player is its trace: every queue that it had, and every transition, at which clients hear what is said to
+-- them. All events are of seat 0
+abbrev pub trace_kind : EventKind Traced
+trace_kind = record {
+  opens = λ limits songs. record { trace = opening_trace (opening (setup_of limits) (library_of songs)); history = [] };
+  is_there = λ number traced. is_there number traced.trace.world;
+  limit = λ traced event. limit_of 0 (seen traced) event;
+  after = traced_after;
+  told = λ traced event. told_at (traced_after traced event).trace.world_transitions;
+  own = λ traced. own 0 traced.history;
 }
 
 -- a player beside a shelf, how many events the window of its history has, and how many it may have
@@ -123,7 +126,7 @@ left_by NoMemory p = record p { window = window_in_room p }
 module _ {P : Type 0} (kind : EventKind P) (read : P → Image) where
   -- an event with what the shelf answers to it
   abbrev pub heard : Shelved P → Event → Event
-  heard p event = hearing event (heard_by p.shelf (read p.player) event)
+  heard p event = with_store_reply event (heard_by p.shelf (read p.player) event)
 
   -- a player that is lent the shelf at each event
   abbrev pub beside_shelf : PlayerKind (Shelved P)
@@ -147,5 +150,5 @@ module _ {P : Type 0} (kind : EventKind P) (read : P → Image) where
 abbrev pub images : PlayerKind (Shelved Image)
 images = beside_shelf image_kind (λ i. i)
 
-abbrev pub lives : PlayerKind (Shelved Lived)
-lives = beside_shelf life_kind seen
+abbrev pub traces : PlayerKind (Shelved Traced)
+traces = beside_shelf trace_kind seen

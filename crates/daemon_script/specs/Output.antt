@@ -6,7 +6,7 @@ use Rattle.mpd_text.specs.Lines.Cut.{split}
 use Rattle.mpd_text.specs.Lines.Split.{line_of}
 use Rattle.partition.specs.Image.{Image}
 use Rattle.daemon_script.specs.declared.memory.Memory.{Memory}
-use Rattle.daemon_script.specs.Kinds.{PlayerKind, Lived, Shelved, images, lives, seen}
+use Rattle.daemon_script.specs.Kinds.{PlayerKind, Traced, Shelved, images, traces, seen}
 use Rattle.daemon_script.specs.Script.{ScriptData, shown_of, opening_script}
 
 -- lines, each with the memory that it found
@@ -61,17 +61,17 @@ WritesFront kind unread left old new =
 abbrev pub CalledTooOften : Tally → Tally → Type 0
 CalledTooOften old new = new.calls ≡ min (old.calls + 2 ^ 32) (2 ^ 64 - 1)
 
--- what commands read of a player's life, beside the same shelf
-abbrev pub seen_beside : Shelved Lived → Shelved Image
+-- what commands read of a player's trace, beside the same shelf
+abbrev pub seen_beside : Shelved Traced → Shelved Image
 seen_beside p = record { player = seen p.player; shelf = p.shelf; window = p.window; most = p.most }
 
--- what commands read of a script's life
-abbrev pub seen_script : ScriptData (Shelved Lived) → ScriptData (Shelved Image)
+-- what commands read of a script's trace
+abbrev pub seen_script : ScriptData (Shelved Traced) → ScriptData (Shelved Image)
 seen_script s = record { limits = s.limits; songs = s.songs; lists = s.lists; player = option_map seen_beside s.player }
 
--- what a run prints is what the life of its player tells, with every queue that it had and every moment; and what commands read
--- after it is what they read of that life
-abbrev pub RunsAreLived : Type 0
-RunsAreLived = (run : Run)
-    → (text_of images opening_script run ≡ text_of lives opening_script run)
-    × (script_after images opening_script run ≡ seen_script (script_after lives opening_script run))
+-- what a run prints is what the trace of its player tells, with every queue that it had and every transition;
+-- and what commands read after it is what they read of that trace
+abbrev pub RunsAreTraced : Type 0
+RunsAreTraced = (run : Run)
+    → (text_of images opening_script run ≡ text_of traces opening_script run)
+    × (script_after images opening_script run ≡ seen_script (script_after traces opening_script run))

@@ -14,7 +14,7 @@ use Rattle.daemon_script.specs.Script.{Found, Enough, NoneFold, NoneRun, ScriptD
 use Rattle.command_lists.specs.declared.word.ListForm.{ListForm}
 use Rattle.mpd_command.specs.declared.request.Request.{Request}
 use Rattle.mpd_text.specs.Answers.Answer.{ack_line}
-use Rattle.player_events.specs.Told.{Told}
+use Rattle.player_events.specs.Outcomes.{OutcomeData}
 use Rattle.partition.specs.Lists.{Stop, fault_text}
 
 -- what an event found of memory that was refused
@@ -29,7 +29,8 @@ abbrev pub found_in : Option PartitionFault → Found
 found_in None = Enough
 found_in (Some fault) = found_by fault
 
--- the memory that a list found, of which so many commands were run and the next was refused; its lines had found this
+-- the memory that a list found, of which so many commands were run and the next was refused; its lines had
+-- found this
 abbrev pub stopped_at : Memory → ℕ → PartitionFault → Memory
 stopped_at memory done CutsAtLimit = memory
 stopped_at memory done AtLimit = memory
@@ -51,11 +52,12 @@ pub record ShowsPiece (start : Option (List ℕ)) (piece : List ℕ) (old new : 
   pub text : after ≡ before ++ (text_of images old run ++ ending (split_from start piece).next)
 
 -- a list ran whole, and these are its answers, whatever its answer ends in
-abbrev pub RunsWhole : Shelved Image → Shelved Image → ℕ → ListForm → List Request → List Told → Type 0
+abbrev pub RunsWhole : Shelved Image → Shelved Image → ℕ → ListForm → List Request → List OutcomeData → Type 0
 RunsWhole before after number form requests tolds =
     (end : List ℕ) → list_run images before number form 0 requests (λ place. Enough) end ≡ record { player = after; tolds = tolds; ending = ending_of end tolds }
 
--- a list stopped at the command after so many, which was refused; other commands may follow those that were read
+-- a list stopped at the command after so many, which was refused; other commands may follow those that were
+-- read
 abbrev pub StopsWhole : Shelved Image → Shelved Image → ℕ → ListForm → List Request → Stop → Type 0
 StopsWhole before after number form requests stop =
     (others : List Request) (found : ℕ → Found) (end : List ℕ) → ((k : ℕ) → k < stop.done → found (0 + k) ≡ Enough)

@@ -1,4 +1,5 @@
--- What a script run prints (this profile's script), over the events of a player of one thread. What a player is, is left open: Kinds.antt has two.
+-- What a script run prints (this profile's script), over the events of a player of one thread. What a player
+-- is, is left open: Kinds.antt has two.
 use Rattle.std.specs.Prelude.{ℕ, ◌+◌, ◌==◌, Bool, true, false, not, ◌&&◌, nat_lt, List, [], ◌∷◌, ◌++◌, length, map, take, slice_index_or, slice_set, Option, Some, None, is_some, codes, decimal, if◌then◌else◌}
 use Rattle.std.specs.List.{filter, flat_map, list_any, onto_first}
 use Rattle.command_lists.specs.Lists.{outcome_of}
@@ -17,8 +18,8 @@ use Rattle.script_lines.specs.declared.limit.LimitName.{LimitName}
 use Rattle.script_lines.specs.declared.limit.LimitName.TheVariants.{MaxQueue, MaxVersion, MaxId, MaxCut, History}
 use Rattle.script_lines.specs.declared.step.Step.{Step}
 use Rattle.script_lines.specs.declared.step.Step.TheVariants.{Song, Limit, Gone, Scanned, Want as WantStep, Have as HaveStep, Failed as FailedStep, Turn as TurnStep, Window}
-use Rattle.command_plan.specs.Answers.{Answer}
-use Rattle.player_events.specs.Told.{Told}
+use Rattle.transitions.specs.Answers.{Answer}
+use Rattle.player_events.specs.Outcomes.{OutcomeData}
 use Rattle.status_commands.specs.Status.{notice_text}
 use Rattle.mpd_command.specs.Requests.{request_of, name_in}
 use Rattle.mpd_command.specs.declared.request.Request.{Request}
@@ -27,23 +28,23 @@ use Rattle.mpd_text.specs.declared.answers.answer.ErrorNumber.TheVariants.{Argum
 use Rattle.idle_clients.specs.Clients.{closes}
 use Rattle.player_events.specs.Events.{ends_list}
 use Rattle.partition.specs.Lists.{fault_text}
-use Rattle.command_plan.specs.declared.asked.Stand.TheVariants.{Alone, InList}
+use Rattle.transitions.specs.declared.asked.Stand.TheVariants.{Alone, InList}
 use Rattle.player_events.specs.declared.event.Event.{Event}
 use Rattle.player_events.specs.declared.event.Event.TheVariants.{Connect, Disconnect, Line, ScanResult, Want, Have, Failed, OutputTurn}
-use Rattle.command_plan.specs.declared.reply.Next.{Next}
-use Rattle.command_plan.specs.declared.reply.Next.TheVariants.{Goes, Waits, Closes}
+use Rattle.transitions.specs.declared.reply.Next.{Next}
+use Rattle.transitions.specs.declared.reply.Next.TheVariants.{Goes, Waits, Closes}
 use Rattle.idle_clients.specs.declared.notices.Notice.{Notice}
 use Rattle.partition.specs.declared.partition.PartitionFault.{PartitionFault}
 use Rattle.partition.specs.declared.partition.PartitionFault.TheVariants.{HistoryFull, NoMemory}
 use Rattle.partition.specs.declared.state.Limits.{Limits}
-use Rattle.command_plan.specs.Shelves.{nothing_heard}
+use Rattle.transitions.specs.Shelves.{no_store_reply}
 use Rattle.daemon_script.specs.Kinds.{PlayerKind}
 use Rattle.script_reports.specs.Reports.{report_text, window_text}
 use Rattle.daemon_script.specs.declared.memory.Memory.{Memory}
 use Rattle.daemon_script.specs.declared.memory.Memory.TheVariants.{NoneToConnect, NoneToFoldFirst, NoneToRead, NoneToRun, NoneToFold}
 
--- the limits and the songs that were collected, the command list that each client has open, by its number, and the player,
--- which is there from the first client line on
+-- the limits and the songs that were collected, the command list that each client has open, by its number,
+-- and the player, which is there from the first client line on
 pub record ScriptData (P : Type 0) : Type 0 where
   pub limits : Limits
   pub songs : List SongData
@@ -121,7 +122,7 @@ abbrev pub notices_for : List Notice → List ℕ
 notices_for notices = flat_map notice_lines notices
 
 -- what an event makes clients hear: the one that it comes from first, and then others
-abbrev pub told_for : ℕ → Told → List ℕ
+abbrev pub told_for : ℕ → OutcomeData → List ℕ
 told_for number told = reply_for number told.answer ++ notices_for told.notices
 
 -- an event that was refused prints its line of number 52
@@ -134,8 +135,8 @@ pub data Found : Type 0 where
   NoneFold : Found
   NoneRun : Found
 
--- why an event of the script's one seat is refused, if it is: for want of memory, to fold the window only where that is full, or else for
--- the limit that it would pass
+-- why an event of the script's one seat is refused, if it is: for want of memory, to fold the window only
+-- where that is full, or else for the limit that it would pass
 abbrev pub fault_of : Found → Bool → Option PartitionFault → Option PartitionFault
 fault_of Enough full limit = limit
 fault_of NoneFold full limit = Some (if full then HistoryFull else NoMemory)
@@ -145,8 +146,8 @@ fault_of NoneRun full limit = Some NoMemory
 abbrev pub refusal_text : PartitionFault → List ℕ
 refusal_text fault = codes "! refused " ++ (fault_text fault ++ codes "\n")
 
--- what a client line makes of the player and of the command list that its client has open, what it prints, and whether its
--- client was there when it was run
+-- what a client line makes of the player and of the command list that its client has open, what it prints,
+-- and whether its client was there when it was run
 pub record LineRun (P : Type 0) : Type 0 where
   pub player : P
   pub list : Option CommandList
@@ -168,10 +169,11 @@ found_then (NoneToRun place) = NoneRun
 found_then (NoneToFold place) = NoneFold
 found_then _ = Enough
 
--- what a command list makes of the player, what its commands made clients hear, and what follows their answers
+-- what a command list makes of the player, what its commands made clients hear, and what follows their
+-- answers
 pub record ListRun (P : Type 0) : Type 0 where
   pub player : P
-  pub tolds : List Told
+  pub tolds : List OutcomeData
   pub ending : List ℕ
 
 -- what a line of a list asks for
@@ -201,12 +203,13 @@ closed_line Goes = []
 closed_line Waits = []
 closed_line Closes = codes "closed\n"
 
--- what follows the answers of a list that ran: nothing where a refusal ended it, and `end` where all succeeded
-abbrev pub ending_of : List ℕ → List Told → List ℕ
+-- what follows the answers of a list that ran: nothing where a refusal ended it, and `end` where all
+-- succeeded
+abbrev pub ending_of : List ℕ → List OutcomeData → List ℕ
 ending_of end tolds = if list_any (λ t. closes t.answer.next) tolds then codes "closed\n" else (if list_any ends_list tolds then [] else end)
 
 -- a command that was run, and the rest of its list, which is run unless this ended it
-abbrev pub list_goes : {P : Type 0} → P → Told → ListRun P → ListRun P
+abbrev pub list_goes : {P : Type 0} → P → OutcomeData → ListRun P → ListRun P
 list_goes after told rest =
     if ends_list told then record { player = after; tolds = told ∷ []; ending = closed_line told.answer.next }
     else record rest { tolds = told ∷ rest.tolds }
@@ -228,7 +231,7 @@ abbrev pub client_numbers : List ℕ
 client_numbers = 1 ∷ 2 ∷ 3 ∷ 4 ∷ 5 ∷ 6 ∷ 7 ∷ 8 ∷ 9 ∷ []
 
 -- the notices of a list's commands, by rising client
-unfoldable pub notices_by_number : List Told → List ℕ
+unfoldable pub notices_by_number : List OutcomeData → List ℕ
 notices_by_number tolds = flat_map (λ number. notices_to number (flat_map (λ t. t.notices) tolds)) client_numbers
 
 -- the command list that a client has open, if it has one
@@ -240,7 +243,7 @@ with_list number list lists = slice_set lists number list
 
 -- a request in no list; the shelf answers to it when it is run
 abbrev pub alone_line : ℕ → Request → Event
-alone_line number request = Line number Alone request nothing_heard
+alone_line number request = Line number Alone request no_store_reply
 
 -- the scan that runs ends with all songs that were collected
 abbrev pub scan_result : {P : Type 0} → ScriptData P → Event
@@ -324,19 +327,21 @@ module _ {P : Type 0} (kind : PlayerKind P) where
   alone_run player number line (NoneToRead place) = record { player = player; list = None; text = fault_for number [] NoMemory; connected = true }
   alone_run player number line memory = asked_run player number (request_of line false) (found_then memory)
 
-  -- the requests of a list from this place on, one event after the other, up to the first that ends the list or finds no memory
-  abbrev pub list_step : P → ℕ → Request → Option PartitionFault → P → Told → ListRun P → ListRun P
+  -- the requests of a list from this place on, one event after the other, up to the first that ends the list
+  -- or finds no memory
+  abbrev pub list_step : P → ℕ → Request → Option PartitionFault → P → OutcomeData → ListRun P → ListRun P
   list_step player place request (Some fault) after told rest = list_stop (kind.left player fault) place request fault
   list_step player place request None after told rest = list_goes after told rest
 
   unfoldable pub list_run : P → ℕ → ListForm → ℕ → List Request → (ℕ → Found) → List ℕ → ListRun P
   list_run player number form place [] found end = record { player = player; tolds = []; ending = end }
   list_run player number form place (request ∷ requests) found end =
-      let event = Line number (InList form place) request nothing_heard in
+      let event = Line number (InList form place) request no_store_reply in
       list_step player place request (refusal player event (found place)) (kind.after player event) (kind.told player event)
       (list_run (kind.after player event) number form (place + 1) requests found end)
 
-  -- a list that has ended is run under other clients' eyes: first comes its whole answer, and then the notices to others
+  -- a list that has ended is run under other clients' eyes: first comes its whole answer, and then the
+  -- notices to others
   abbrev pub commands_run : P → ℕ → CommandList → Memory → LineRun P
   commands_run player number commands memory =
       let ran = list_run player number commands.form 0 (read_of memory (map request_in commands.lines)) (found_at memory) (end_of memory (length commands.lines)) in
@@ -385,8 +390,8 @@ module _ {P : Type 0} (kind : PlayerKind P) where
       if kind.is_there number player then line_run player list number line memory
       else line_after (connect_run player list number (refusal player (Connect number) (found_first memory))) number line memory
 
-  -- a client line, which opens the player over the songs so far if it is the first. Where the connect of a first line is
-  -- refused, no player is there
+  -- a client line, which opens the player over the songs so far if it is the first. Where the connect of a
+  -- first line is refused, no player is there
   abbrev pub shown_client : ScriptData P → Option P → ℕ → List ℕ → Memory → Shown P
   shown_client s (Some player) number line memory =
       let ran = client_run player (list_of number s.lists) number line memory in

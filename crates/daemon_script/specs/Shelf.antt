@@ -1,4 +1,5 @@
--- What a shelf in memory answers to an event, and its contents after it (MPD protocol reference, Stored playlists, Stickers).
+-- What a shelf in memory answers to an event, and its contents after it (MPD protocol reference, Stored
+-- playlists, Stickers).
 use Rattle.std.specs.Prelude.{ℕ, List, Option, Some, None, if◌then◌else◌}
 use Rattle.std.specs.FinMap as finite
 use Rattle.shelf.specs.declared.faults.ShelfFault.{ShelfFault}
@@ -6,14 +7,14 @@ use Rattle.shelf.specs.declared.faults.ShelfFault.TheVariants.{NoSuchList, NoSti
 use Rattle.shelf.specs.Maps.{refusal_of_list, refusal_of_put, refusal_of_create, refusal_of_rename, refusal_of_set, refusal_of_sticker}
 use Rattle.daemon_script.specs.Contents.{Contents, has_stickers, is_of_other, maps_in, put_in, stickers_named, stickers_of}
 use Rattle.player_events.specs.declared.event.Event.{Event}
-use Rattle.command_plan.specs.declared.shelf_calls.Heard.{Heard}
-use Rattle.command_plan.specs.declared.shelf_calls.Read.{Read}
-use Rattle.command_plan.specs.declared.shelf_calls.Read.TheVariants as read_variant
-use Rattle.command_plan.specs.declared.shelf_calls.ShelfWrite.{ShelfWrite}
-use Rattle.command_plan.specs.declared.shelf_calls.ShelfWrite.TheVariants.{Nothing, Put, Create, Rename, Remove, SetSticker, DeleteSticker, DeleteStickers}
+use Rattle.transitions.specs.declared.shelf_calls.StoreReply.{StoreReply}
+use Rattle.transitions.specs.declared.shelf_calls.Read.{Read}
+use Rattle.transitions.specs.declared.shelf_calls.Read.TheVariants as read_variant
+use Rattle.transitions.specs.declared.shelf_calls.ShelfWrite.{ShelfWrite}
+use Rattle.transitions.specs.declared.shelf_calls.ShelfWrite.TheVariants.{Nothing, Put, Create, Rename, Remove, SetSticker, DeleteSticker, DeleteStickers}
 use Rattle.partition.specs.Image.{Image}
 use Rattle.partition.specs.Lent.{question, writing}
-use Rattle.command_plan.specs.Shelves.{Question, NoQuestion, AskNames, AskList, AskSticker, AskStickers, AskFound}
+use Rattle.transitions.specs.Shelves.{Question, NoQuestion, AskNames, AskList, AskSticker, AskStickers, AskFound}
 
 abbrev pub list_read : Option (List (List ℕ)) → Read
 list_read None = read_variant.Refused NoSuchList
@@ -60,11 +61,11 @@ contents_after write None c = contents_with write c
 contents_after write (Some fault) c = c
 
 -- what the shelf answers to an event of a player: to its question, and then to what is to be written
-abbrev pub heard_by : Contents → Image → Event → Heard
+abbrev pub heard_by : Contents → Image → Event → StoreReply
 heard_by c i event =
     let read : Read = read_in c (question i event) in
     record { read = read; refused = refusal_in c (writing i event (record { read = read; refused = None })) }
 
 -- the shelf after an event that it answered so
-abbrev pub shelf_after : Contents → Image → Event → Heard → Contents
+abbrev pub shelf_after : Contents → Image → Event → StoreReply → Contents
 shelf_after c i event heard = contents_after (writing i event heard) heard.refused c

@@ -11,13 +11,13 @@ use crate::lists::run_commands;
 use crate::memory::Memory;
 use crate::player::Player;
 use command_lists::{ListCollector, Taken};
-use command_plan::{Next, Reply, Stand};
 use idle_clients::Notice;
 use mpd_command::Request;
 use mpd_text::{Answer, ErrorNumber};
 use partition::PartitionFault;
 use player_events::{Event, Outcome};
 use std::alloc::{AllocError, Global};
+use transitions::{Next, Reply, Stand};
 
 /// What a client line found of memory, and whether its client was there when it was run.
 #[derive(Clone, Copy)]
@@ -58,8 +58,8 @@ pub(crate) fn run_line(
     })
 }
 
-/// Connects a client that is not there, and appends what its connect prints. Gives what the connect found of memory where it
-/// was refused; `None` where it was not.
+/// Connects a client that is not there, and appends what its connect prints. Gives what the connect found of
+/// memory where it was refused; `None` where it was not.
 fn connect(
     alloc: Global,
     player: &mut Player,
@@ -122,7 +122,8 @@ fn run_connected_line(
     }
 }
 
-/// Disconnects a client whose open list would be too large with its line. Where the player refuses that, the list stays open.
+/// Disconnects a client whose open list would be too large with its line. Where the player refuses that, the
+/// list stays open.
 fn close_with_list(
     alloc: Global,
     player: &mut Player,

@@ -9,6 +9,6 @@ mod player;
 mod run;
 mod script;
 
-pub use laws::runs_are_lived;
+pub use laws::runs_are_traced;
 pub use memory::Memory;
 pub use run::{MAX_READS, ScriptFault, run_script};

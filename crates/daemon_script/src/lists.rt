@@ -20,8 +20,8 @@ use std::alloc::{AllocError, Global};
 /// The numbers of a script's clients.
 const CLIENT_NUMBERS: [u32; 9] = [1, 2, 3, 4, 5, 6, 7, 8, 9];
 
-/// Runs a command list, and appends what it prints: the whole answer to its client, and then the notices to others. The
-/// commands before one that cannot be read or run for want of memory stand.
+/// Runs a command list, and appends what it prints: the whole answer to its client, and then the notices to
+/// others. The commands before one that cannot be read or run for want of memory stand.
 pub(crate) fn run_commands(
     alloc: Global,
     player: &mut Player,
@@ -47,7 +47,8 @@ pub(crate) fn run_commands(
     }
 }
 
-/// What a list found of memory, of which `done` commands were run and the next was refused; its lines had found `memory`.
+/// What a list found of memory, of which `done` commands were run and the next was refused; its lines had
+/// found `memory`.
 fn stopped_at(memory: Memory, done: usize, cause: PartitionFault) -> Memory
     ensures memory { result ≡ stopped_at_lem memory done cause }
     ensures connects { found_first memory ≡ Enough → found_first result ≡ Enough }

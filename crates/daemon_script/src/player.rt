@@ -18,8 +18,8 @@ use std::marker::Model;
 /// The one seat of a script's events.
 const SEAT: u8 = 0;
 
-/// A player, and its shelf. A clause sees what commands read of the player, the contents of the shelf, and how many events the window of
-/// the history has and may have.
+/// A player, and its shelf. A clause sees what commands read of the player, the contents of the shelf, and
+/// how many events the window of the history has and may have.
 #[derive(Drop)]
 pub(crate) struct Player {
     partition: Partition,

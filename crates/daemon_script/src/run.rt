@@ -4,12 +4,12 @@ ghost use Rattle.std.specs.Io.KnownBytes.{Appends};
 ghost use Rattle.mpd_text.specs.Lines.Cut.{split_from};
 ghost use Rattle.counted_devices.specs.Tally.{HasFailed, NoFewer};
 ghost use Rattle.mpd_text.specs.Lines.Split.{views};
-ghost use Rattle.daemon_script.specs.Kinds.{images, lives};
+ghost use Rattle.daemon_script.specs.Kinds.{images, traces};
 ghost use Rattle.daemon_script.specs.Output.{WritesOutput, WritesAll, WritesFront, AppendsFront, CalledTooOften};
 ghost use Rattle.daemon_script.specs.Pieces.{ShowsLines, ShowsPiece};
 ghost use Rattle.daemon_script.specs.Script.{opening_script};
 
-use crate::laws::runs_are_lived;
+use crate::laws::runs_are_traced;
 use crate::script::Script;
 use counted_devices::{Sink, Source};
 use mpd_text::{Line, SplitFault, Splitter, any_cut};
@@ -45,27 +45,27 @@ impl From<AllocError> for ScriptFault {
 
 /// Reads a script to its end, or to a line that is too long, and writes what its lines print.
 ///
-/// Client lines that find no memory print their line of number 52 and change nothing, and the run goes on. What is
-/// written is told by the life of the script's player, with every queue that it had and every moment. The law
-/// [`runs_are_lived`] says the same of what commands read.
+/// Client lines that find no memory print their line of number 52 and change nothing, and the run goes on.
+/// What is written is told by the trace of the script's player, with every queue that it had and every
+/// transition. The law [`runs_are_traced`] says the same of what commands read.
 ///
-/// [`runs_are_lived`]: crate::runs_are_lived
+/// [`runs_are_traced`]: crate::runs_are_lived
 pub fn run_script<R: Source, W: Sink>(
     alloc: Global,
     reader: &mut R,
     writer: &mut W,
 ) -> Result<(), ScriptFault>
     // What is written is the output for the input, by what its lines found of memory.
-    ensures ok { OnOk result (IfSome (R.remaining reader.old) (WritesOutput lives (W.contents writer.old) (W.contents writer.new))) }
+    ensures ok { OnOk result (IfSome (R.remaining reader.old) (WritesOutput traces (W.contents writer.old) (W.contents writer.new))) }
     // After a read fault it is the whole output for what was read, and else a front of it.
-    ensures read { IsErrOf result ScriptFault.ReadFault → WritesAll lives (R.remaining reader.old) (R.remaining reader.new) (W.contents writer.old) (W.contents writer.new) }
-    ensures front { OnErr result (WritesFront lives (R.remaining reader.old) (R.remaining reader.new) (W.contents writer.old) (W.contents writer.new)) }
+    ensures read { IsErrOf result ScriptFault.ReadFault → WritesAll traces (R.remaining reader.old) (R.remaining reader.new) (W.contents writer.old) (W.contents writer.new) }
+    ensures front { OnErr result (WritesFront traces (R.remaining reader.old) (R.remaining reader.new) (W.contents writer.old) (W.contents writer.new)) }
     // A fault of a device comes only where it failed, or was read 2 ^ 32 times.
     ensures read_fault { IsErrOf result ScriptFault.ReadFault → HasFailed (R.tally reader.old) (R.tally reader.new) ⊎ CalledTooOften (R.tally reader.old) (R.tally reader.new) }
     ensures few_calls { (R.tally reader.new).calls ≤ (R.tally reader.old).calls + 2 ^ 32 }
     ensures write_fault { IsErrOf result ScriptFault.WriteFault → HasFailed (W.tally writer.old) (W.tally writer.new) }
 {
-    runs_are_lived();
+    runs_are_traced();
     let mut splitter = Splitter::new(alloc);
     let mut script = Script::new(alloc);
     let ran = run_pieces(alloc, reader, writer, &mut splitter, &mut script);
@@ -73,8 +73,8 @@ pub fn run_script<R: Source, W: Sink>(
     ran
 }
 
-/// Drops a script. It is a function of its own, and the run is lent the script, so that the proof of each way out does not go through
-/// all that a player owns.
+/// Drops a script. It is a function of its own, and the run is lent the script, so that the proof of each way
+/// out does not go through all that a player owns.
 fn discard(_script: Script) {}
 
 /// Reads a script to its end, piece by piece. What is written is told by what commands read of the player.

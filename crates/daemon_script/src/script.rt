@@ -180,7 +180,8 @@ impl Script {
         self.happen(Event::ScanResult(Some(songs)), shown)
     }
 
-    /// A step that is one event, once the player is there. Appends what the event tells, and then the notices to clients.
+    /// A step that is one event, once the player is there. Appends what the event tells, and then the notices
+    /// to clients.
     fn happen(&mut self, event: Event, shown: &mut Vec<u8>) -> Result<Memory, AllocError>
         ensures script { IfOk result (λ memory. self.new ≡ (event_line images self.old event memory).script) }
         ensures text { IfOk result (λ memory. shown.new.items ≡ shown.old.items ++ (event_line images self.old event memory).text) }
@@ -299,10 +300,12 @@ fn one_output(alloc: Global) -> Result<Outputs, AllocError>
     Ok(outputs)
 }
 
-/// Drops an event. It is a function of its own so that the proofs of what holds one do not go through every kind of event.
+/// Drops an event. It is a function of its own so that the proofs of what holds one do not go through every
+/// kind of event.
 fn discard_event(_event: Event) {}
 
-/// Drops a player. It is a function of its own so that the proof of what holds one does not go through all that it owns.
+/// Drops a player. It is a function of its own so that the proof of what holds one does not go through all
+/// that it owns.
 fn discard_player(_player: Player) {}
 
 /// The library of all songs that were collected.

@@ -76,7 +76,8 @@ ends_at n k (Finished e) h = cc
 ends_at n k (Word word) h = at_word n k (named_of word) word h
 ends_at n k _ h = cc
 
--- k bytes are the longest start with which some filter begins, where n bytes led to this place, and the text is no filter
+-- k bytes are the longest start with which some filter begins, where n bytes led to this place, and the text
+-- is no filter
 record Longest (n k : ℕ) (place : Place) (purposes : List Purpose) (text : List ℕ) : Type 0 where
   front : List ℕ
   back : List ℕ

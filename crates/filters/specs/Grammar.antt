@@ -1,7 +1,8 @@
--- The grammar of filters (MPD protocol reference, Filters; where spaces may be is this profile's). Each relation is of a text and what
--- is left of it: `IsBody s text rest` says that text is a B of this form, and then rest. In the grammar
---   F = "(" B ")"      B = TYPE OP STRING | "base" s STRING | "!" F | J      J = F | J s "AND" s F
--- s is one or more spaces. Spaces may also be at both ends inside a parenthesis and around `==` and `!=`; `contains` has s on both sides.
+-- The grammar of filters (MPD protocol reference, Filters; where spaces may be is this profile's). Each
+-- relation is of a text and what is left of it: `IsBody s text rest` says that text is a B of this form, and
+-- then rest. In the grammar F = "(" B ")" B = TYPE OP STRING | "base" s STRING | "!" F | J J = F | J s "AND"
+-- s F s is one or more spaces. Spaces may also be at both ends inside a parenthesis and around `==` and `!=`;
+-- `contains` has s on both sides.
 use Rattle.std.specs.Prelude.{◌≡◌, ◌≢◌, ℕ, zero, suc, ◌+◌, ◌<◌, ◌≤◌, max, List, [], ◌∷◌, ◌++◌, length, codes, Bool, true, false, is_some, ◌⊎◌, Option, Some, None}
 use Rattle.filters.specs.declared.expression.Field.{Field}
 use Rattle.filters.specs.declared.expression.Field.TheVariants.{Any}
@@ -42,7 +43,8 @@ AreLetters (b ∷ bs) = (is_letter b ≡ true) × AreLetters bs
 abbrev pub IsWord : Bool → List ℕ → Type 0
 IsWord base word = (0 < length word) × AreLetters word × (is_base word ≡ base)
 
--- between quotes is the text, each character itself or after a backslash; a quote and a backslash are always after one
+-- between quotes is the text, each character itself or after a backslash; a quote and a backslash are always
+-- after one
 abbrev pub IsInside : ℕ → List ℕ → List ℕ → Type 0
 IsInside quote inside [] = inside ≡ []
 IsInside quote inside (c ∷ text) = (rest : List ℕ) × (((inside ≡ c ∷ rest) × (c ≢ quote) × (c ≢ 92)) ⊎ (inside ≡ 92 ∷ c ∷ rest)) × IsInside quote rest text
@@ -133,7 +135,8 @@ abbrev pub FollowsAnd : ℕ → List ℕ → List ℕ → Type 0
 FollowsAnd n text rest =
     (j : Body) × (gap word second_gap : List ℕ) × IsBody j text gap × (is_joined j ≡ true) × HasKnownTags j × (n + depth j ≤ 33) × Gap gap word × (word ≡ codes "AND" ++ second_gap) × Gap second_gap rest
 
--- a parenthesis may open before the rest, where n are open: as the whole filter, or at once, after `!`, or after J and AND
+-- a parenthesis may open before the rest, where n are open: as the whole filter, or at once, after `!`, or
+-- after J and AND
 abbrev pub MayOpen : ℕ → List ℕ → List ℕ → Type 0
 MayOpen zero text rest = text ≡ rest
 MayOpen (suc n) text rest = (text ≡ rest) ⊎ ((text ≡ 33 ∷ rest) ⊎ FollowsAnd (suc n) text rest)

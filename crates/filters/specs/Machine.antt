@@ -1,5 +1,6 @@
--- A filter, read byte by byte: what comes before the next byte, and which parentheses are open. Where the rules are not
--- strict, any tag is known and any number of parentheses may be open: this is the grammar alone (MPD protocol reference, Filters).
+-- A filter, read byte by byte: what comes before the next byte, and which parentheses are open. Where the
+-- rules are not strict, any tag is known and any number of parentheses may be open: this is the grammar alone
+-- (MPD protocol reference, Filters).
 use Rattle.std.specs.Prelude.{◌≡◌, ◌<◌, ℕ, ◌+◌, List, [], ◌∷◌, ◌++◌, length, Bool, true, false, ◌&&◌, ◌||◌, ◌==◌, nat_le, nat_lt, codes, slice_index, Option, Some, None, option_map, Result, Ok, Err, if◌then◌else◌}
 use Rattle.std.specs.Str.{IsAscii, IsUtf8}
 use Rattle.filters.specs.declared.expression.Field.{Field}

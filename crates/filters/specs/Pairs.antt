@@ -1,4 +1,5 @@
--- What pairs of words ask for (MPD protocol reference, Filters, the older form; that `base` is no comparison is this profile's).
+-- What pairs of words ask for (MPD protocol reference, Filters, the older form; that `base` is no comparison
+-- is this profile's).
 use Rattle.std.specs.Prelude.{ℕ, Bool, ◌||◌, not, is_some, List, [], ◌∷◌, Option, Some, None, option_map, Result, Ok, Err, if◌then◌else◌}
 use Rattle.std.specs.List.{find, filter_map}
 use Rattle.filters.specs.declared.expression.Test.{Test}

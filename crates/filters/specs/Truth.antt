@@ -1,4 +1,5 @@
--- When a song meets a filter (MPD protocol reference, Filters; that an absent tag is the empty text is this profile's).
+-- When a song meets a filter (MPD protocol reference, Filters; that an absent tag is the empty text is this
+-- profile's).
 use Rattle.std.specs.Prelude.{◌≡◌, ℕ, List, [], ◌∷◌, ◌++◌, ◌⊎◌, ◌==◌, if◌then◌else◌, chars, encode_utf8_all}
 use Rattle.std.specs.Str.Iter.{HasSubslice}
 use Rattle.caseless.specs.Caseless.{default_case_fold}
@@ -31,7 +32,8 @@ HasIt P (Tag name) song = P (text_of_tag name song.tags)
 HasIt P File song = P song.uri
 HasIt P Any song = SomeTag P tag_names song.tags
 
--- a text as it is compared: where case is ignored, in the default case folding of the Unicode Standard, section 3.13
+-- a text as it is compared: where case is ignored, in the default case folding of the Unicode Standard,
+-- section 3.13
 abbrev pub folded : Case → List ℕ → List ℕ
 folded Heeded text = text
 folded Ignored text = encode_utf8_all (default_case_fold (chars text))

@@ -1,4 +1,5 @@
--- The words of filters: tags, and the words beside them (MPD protocol reference, Tags and Filters; that case is ignored in them is this profile's).
+-- The words of filters: tags, and the words beside them (MPD protocol reference, Tags and Filters; that case
+-- is ignored in them is this profile's).
 use Rattle.std.specs.Prelude.{ℕ, List, Bool, ◌&&◌, ◌||◌, nat_le, codes, Option, Some, None, if◌then◌else◌}
 use Rattle.std.specs.Str.{str_eq_ignore_ascii_case}
 use Rattle.mpd_text.specs.declared.songs.song.TagName.TheVariants.{Title, Artist, Album, Date, Genre, Comment}

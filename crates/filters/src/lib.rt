@@ -1,4 +1,5 @@
-//! Filter expressions over songs: what a text says, and of which songs it holds (MPD protocol reference, Filters).
+//! Filter expressions over songs: what a text says, and of which songs it holds (MPD protocol reference,
+//! Filters).
 #![tactic(auto)]
 
 mod expression;

@@ -14,8 +14,8 @@ use std::alloc::{AllocError, Global};
 pub enum Case {
     /// It does, as in `find`.
     Heeded,
-    /// It does not, as in `search`: texts are compared in their full default case folding (the Unicode Standard,
-    /// section 3.13). Folders are compared as they are.
+    /// It does not, as in `search`: texts are compared in their full default case folding (the Unicode
+    /// Standard, section 3.13). Folders are compared as they are.
     Ignored,
 }
 
@@ -121,7 +121,8 @@ fn has_it(
     }
 }
 
-/// Whether some tag of these names has a text with this relation to the wanted one. An absent tag is the empty text.
+/// Whether some tag of these names has a text with this relation to the wanted one. An absent tag is the
+/// empty text.
 fn some_tag(
     alloc: Global,
     tags: &[Tag],

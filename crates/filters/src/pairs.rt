@@ -21,8 +21,9 @@ pub struct Pair {
 }
 
 impl Filter {
-    /// The filter that all these pairs make together. Each compares as `test` says, save for `base`. No pairs ask
-    /// for nothing, so every song meets them. The fault is the first word from the left that names nothing.
+    /// The filter that all these pairs make together. Each compares as `test` says, save for `base`. No pairs
+    /// ask for nothing, so every song meets them. The fault is the first word from the left that names
+    /// nothing.
     pub fn of_pairs(alloc: Global, pairs: &[Pair], test: Test) -> Result<Filter, FilterFault>
         ensures { OrNoMemory result (pairs_meaning test pairs.now) }
     {

@@ -16,7 +16,8 @@ IsBlankOf blank name parts = (blank.name ≡ name) × (blank.parts ≡ parts)
 abbrev pub raised : List ℕ → ℕ → ℕ → List ℕ
 raised numbers output n = slice_set numbers output (slice_index numbers output + n)
 
--- whether what was written and what was discarded stay at or below 2^63-1 with these fates, all outputs together
+-- whether what was written and what was discarded stay at or below 2^63-1 with these fates, all outputs
+-- together
 abbrev pub has_room : List ℕ → List ℕ → Fates → Bool
 has_room written discarded f = nat_lt (sum written + f.written) (2 ^ 63) && nat_lt (sum discarded + f.discarded) (2 ^ 63)
 

@@ -1,4 +1,5 @@
-//! Books of frames: how many each output was given, wrote and discarded, and their settlement against the rings.
+//! Books of frames: how many each output was given, wrote and discarded, and their settlement against the
+//! rings.
 #![tactic(auto)]
 
 pub mod books;

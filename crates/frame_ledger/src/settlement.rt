@@ -31,7 +31,8 @@ pub enum SettleFault {
     Mismatch,
 }
 
-/// Compares an output's books with its ring, once the fates that were not reported are counted in them. It takes no memory.
+/// Compares an output's books with its ring, once the fates that were not reported are counted in them. It
+/// takes no memory.
 pub fn settle<E: Ledger, W: Ledger, X: Ledger>(
     end: FeederEnd,
     drainer: Drainer,

@@ -78,7 +78,8 @@ impl<L: Ledger> Tally<L> {
         Ok(())
     }
 
-    /// Sets the number of each output, and adds to the share what all together have grown. It takes no memory.
+    /// Sets the number of each output, and adds to the share what all together have grown. It takes no
+    /// memory.
     pub fn raise_to(&mut self, share: &mut Share<L>, numbers: &[u64])
         requires outputs { length numbers.now ≡ length self.old }
         requires grown { sum self.old ≤ sum numbers.now }

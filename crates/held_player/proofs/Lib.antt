@@ -1,6 +1,6 @@
 pub mod Crosses
 pub mod Few
-pub mod Heard
+pub mod StoreReply
 pub mod ListRooms
 pub mod Opening
 pub mod Quiet

@@ -1,4 +1,5 @@
--- How many notices a command list gives: a client that is told waits no more, and in a list none begins to wait.
+-- How many notices a command list gives: a client that is told waits no more, and in a list none begins to
+-- wait.
 use Rattle.std.proofs.Common.{◌≡◌, ℕ, zero, suc, ◌+◌, ◌≤◌, Bool, true, false, ◌&&◌, List, [], ◌∷◌, length, map, take, Option, Some, None, is_some, refl, ap, ◌∙◌, length-append, arith, if◌then◌else◌}
 use Rattle.std.specs.Prelude.{count_by, filter, not}
 use Rattle.std.specs.List.{flat_map}
@@ -14,64 +15,64 @@ use Rattle.mpd_command.specs.declared.request.Request.TheVariants as asks
 use Rattle.shelf.specs.declared.faults.ShelfFault.{ShelfFault}
 use Rattle.player_events.specs.declared.event.Event.{Event}
 use Rattle.player_events.specs.declared.event.Event.TheVariants.{Line}
-use Rattle.command_plan.specs.declared.reply.Move.{Move}
-use Rattle.command_plan.specs.declared.reply.Move.TheVariants.{Stay}
-use Rattle.command_plan.specs.declared.asked.Stand.TheVariants.{InList}
-use Rattle.command_plan.specs.declared.shelf_calls.Heard.{Heard}
-use Rattle.command_plan.specs.declared.shelf_calls.Read.{Read}
+use Rattle.transitions.specs.declared.reply.Move.{Move}
+use Rattle.transitions.specs.declared.reply.Move.TheVariants.{Stay}
+use Rattle.transitions.specs.declared.asked.Stand.TheVariants.{InList}
+use Rattle.transitions.specs.declared.shelf_calls.StoreReply.{StoreReply}
+use Rattle.transitions.specs.declared.shelf_calls.Read.{Read}
 use Rattle.player_state.specs.declared.state.Client.{Client}
 use Rattle.player_state.specs.declared.state.Library.{Library}
 use Rattle.player_state.specs.declared.state.Part.{Part}
-use Rattle.player_events.specs.declared.event.Happened.{Happened}
-use Rattle.command_plan.specs.Answers.{Said}
+use Rattle.player_events.specs.declared.event.LogEntry.{LogEntry}
+use Rattle.transitions.specs.Answers.{ResponseData}
 use Rattle.idle_clients.specs.Clients.{clients_after, closes, is_other, move_of, moved, notice_for, notice_to, notified, staying, client_of}
 use Rattle.status_commands.specs.Status.{Wish, wish_of}
-use Rattle.command_plan.specs.Turns.{Deed, Turn, departs}
+use Rattle.transitions.specs.Transitions.{CommandResult, TransitionData, departs}
 use Rattle.partition.specs.Image.{Image}
 use Rattle.partition.specs.Lists.{Answered, entries_of}
 use Rattle.player_events.specs.Events.{ends_list}
 use Rattle.idle_clients.specs.Rooms.{is_waiting, room_for}
-use Rattle.command_plan.specs.Shelves.{is_written}
-use Rattle.partition.specs.Step.{deed_of, ends_waiting, mover, next_image, once_written, raised_by, told, turn, turn_line, turn_of, turn_request, turn_wished, written_turn}
+use Rattle.transitions.specs.Shelves.{is_written}
+use Rattle.partition.specs.Step.{result_of, ends_waiting, mover, next_image, once_written, raised_by, told, transition, transition_line, transition_of, transition_request, transition_wished, written_transition}
 use Rattle.idle_clients.proofs.Tells.{fewer_wait}
 use Rattle.held_player.specs.Lists.{notices_in}
 use Rattle.held_player.proofs.Few.{told_notices}
 
-abbrev Stays : Turn → Type 0
-Stays t = t.said.move ≡ Stay
+abbrev Stays : TransitionData → Type 0
+Stays t = t.response.move ≡ Stay
 
 module _ (form : ListForm) (place : ℕ) where
-  wished : (name : Name) (client : Client) (deed : Deed) (wish : Option Wish)
-      → Stays (turn_wished (record { client = client.number; name = name; stand = InList form place }) client deed wish)
-  wished name client deed (Some wish) = refl
-  wished name client deed None = refl
+  wished : (name : Name) (client : Client) (command_result : CommandResult) (wish : Option Wish)
+      → Stays (transition_wished (record { client = client.number; name = name; stand = InList form place }) client command_result wish)
+  wished name client command_result (Some wish) = refl
+  wished name client command_result None = refl
 
-  requested : (part : Part) (library : Library) (client : Client) (request : Request) (read : Read) → Stays (turn_request part library client (InList form place) request read)
+  requested : (part : Part) (library : Library) (client : Client) (request : Request) (read : Read) → Stays (transition_request part library client (InList form place) request read)
   requested part library client (asks.Run name command) read =
-      wished name client (deed_of (record { client = client.number; name = name; stand = InList form place }) part library read command) (wish_of command)
+      wished name client (result_of (record { client = client.number; name = name; stand = InList form place }) part library read command) (wish_of command)
   requested part library client (asks.Refused ack) read = refl
 
-  said : (part : Part) (library : Library) (client : Option Client) (request : Request) (read : Read) → Stays (turn_line part library client (InList form place) request read)
-  said part library None request read = refl
-  said part library (Some client) request read =
+  response : (part : Part) (library : Library) (client : Option Client) (request : Request) (read : Read) → Stays (transition_line part library client (InList form place) request read)
+  response part library None request read = refl
+  response part library (Some client) request read =
       elim (is_some client.pending.waiting && not (ends_waiting (InList form place) request))
-      as (λ b. Stays (if b then departs client.number else turn_request part library client (InList form place) request read))
+      as (λ b. Stays (if b then departs client.number else transition_request part library client (InList form place) request read))
       [ true ↦ refl | false ↦ requested part library client request read ]
 
-  once : (request : Request) (refused : Option ShelfFault) (t : Turn) → Stays t → Stays (once_written (InList form place) request refused t)
+  once : (request : Request) (refused : Option ShelfFault) (t : TransitionData) → Stays t → Stays (once_written (InList form place) request refused t)
   once request None t e = e
   once request (Some fault) t e = refl
 
-  written : (request : Request) (refused : Option ShelfFault) (t : Turn) → Stays t → Stays (written_turn (InList form place) request refused t)
+  written : (request : Request) (refused : Option ShelfFault) (t : TransitionData) → Stays t → Stays (written_transition (InList form place) request refused t)
   written request refused t e =
       elim (is_written t.written) as (λ b. Stays (if b then once_written (InList form place) request refused t else t)) [ true ↦ once request refused t e | false ↦ e ]
 
   -- a command of a list makes its client neither wait nor go on
-  line_stays : (ended : Bool) (part : Part) (library : Library) (clients : List Client) (number : ℕ) (request : Request) (heard : Heard)
-      → Stays (turn_of ended part library clients (Line number (InList form place) request heard))
+  line_stays : (ended : Bool) (part : Part) (library : Library) (clients : List Client) (number : ℕ) (request : Request) (heard : StoreReply)
+      → Stays (transition_of ended part library clients (Line number (InList form place) request heard))
   line_stays ended part library clients number request heard =
-      written request heard.refused (turn_line part library (client_of number clients) (InList form place) request heard.read)
-      (said part library (client_of number clients) request heard.read)
+      written request heard.refused (transition_line part library (client_of number clients) (InList form place) request heard.read)
+      (response part library (client_of number clients) request heard.read)
 
 one_more : (client : Client) (clients : List Client) → count_by is_waiting (client ∷ clients) ≡ room_for client + count_by is_waiting clients
 one_more client clients =
@@ -103,41 +104,41 @@ all_less raised (k ∷ ks) =
     let long = length-append (notice_for raised k) (flat_map (notice_for raised) ks) in
     omega (arith, first, rest, before, after, long)
 
-stays_so : (number : ℕ) (said : Said) (clients : List Client) → said.move ≡ Stay → moved number (move_of said) clients ≡ clients
-stays_so number said clients stay =
-    elim (closes said.answer.next) as (λ b. moved number (if b then Stay else said.move) clients ≡ clients)
+stays_so : (number : ℕ) (response : ResponseData) (clients : List Client) → response.move ≡ Stay → moved number (move_of response) clients ≡ clients
+stays_so number response clients stay =
+    elim (closes response.answer.next) as (λ b. moved number (if b then Stay else response.move) clients ≡ clients)
     [ true ↦ refl | false ↦ ap (λ (m : Move). moved number m clients) stay ]
 
-fewer_stay : (number : ℕ) (said : Said) (clients : List Client) → count_by is_waiting (staying number said clients) ≤ count_by is_waiting clients
-fewer_stay number said clients =
+fewer_stay : (number : ℕ) (response : ResponseData) (clients : List Client) → count_by is_waiting (staying number response clients) ≤ count_by is_waiting clients
+fewer_stay number response clients =
     let less = fewer_wait number clients in
-    elim (closes said.answer.next) as (λ b. count_by is_waiting (if b then filter (is_other number) clients else clients) ≤ count_by is_waiting clients)
+    elim (closes response.answer.next) as (λ b. count_by is_waiting (if b then filter (is_other number) clients else clients) ≤ count_by is_waiting clients)
     [ true ↦ less | false ↦ omega arith ]
 
-next_clients : (seat : ℕ) (i : Image) (e : Event) → (next_image seat i e).clients ≡ clients_after (mover e) (raised_by i.part i.shared.library (turn i e)) (turn i e).said i.clients
+next_clients : (seat : ℕ) (i : Image) (e : Event) → (next_image seat i e).clients ≡ clients_after (mover e) (raised_by i.part i.shared.library (transition i e)) (transition i e).response i.clients
 unfolding next_image
 next_clients seat i e = refl
 
 -- each notice of an event that makes no client wait ends a client's waiting
-told_less : (seat : ℕ) (i : Image) (e : Event) → (turn i e).said.move ≡ Stay
+told_less : (seat : ℕ) (i : Image) (e : Event) → (transition i e).response.move ≡ Stay
     → length (told i e).notices + count_by is_waiting (next_image seat i e).clients ≤ count_by is_waiting i.clients
 told_less seat i e stay =
-    let raised : ℕ → Subsystems = raised_by i.part i.shared.library (turn i e) in
-    let there : List Client = staying (mover e) (turn i e).said i.clients in
+    let raised : ℕ → Subsystems = raised_by i.part i.shared.library (transition i e) in
+    let there : List Client = staying (mover e) (transition i e).response i.clients in
     let notices : length (told i e).notices ≡ length (flat_map (notice_for raised) there) = ap length (told_notices i e) in
-    let after : (next_image seat i e).clients ≡ map (notified raised) there = next_clients seat i e ∙ stays_so (mover e) (turn i e).said (map (notified raised) there) stay in
+    let after : (next_image seat i e).clients ≡ map (notified raised) there = next_clients seat i e ∙ stays_so (mover e) (transition i e).response (map (notified raised) there) stay in
     let waiting : count_by is_waiting (next_image seat i e).clients ≡ count_by is_waiting (map (notified raised) there) = ap (count_by is_waiting) after in
     let less = all_less raised there in
-    let fewer = fewer_stay (mover e) (turn i e).said i.clients in
+    let fewer = fewer_stay (mover e) (transition i e).response i.clients in
     omega (arith, notices, waiting, less, fewer)
 
-none_of : (n m : ℕ) → length (notices_in (map (λ (h : Happened). h.told) (take n []))) ≤ m
+none_of : (n m : ℕ) → length (notices_in (map (λ (h : LogEntry). h.told) (take n []))) ≤ m
 none_of zero m = omega arith
 none_of (suc n) m = omega arith
 
 -- the notices of the first entries of a list
 pub few_entries : (seat client : ℕ) (form : ListForm) (n place : ℕ) (i : Image) (answered : List Answered)
-    → length (notices_in (map (λ (h : Happened). h.told) (take n (entries_of seat i client form place answered)))) ≤ count_by is_waiting i.clients
+    → length (notices_in (map (λ (h : LogEntry). h.told) (take n (entries_of seat i client form place answered)))) ≤ count_by is_waiting i.clients
 unfolding entries_of
 few_entries seat client form zero place i answered = omega arith
 few_entries seat client form (suc n) place i [] = omega arith
@@ -145,12 +146,12 @@ few_entries seat client form (suc n) place i (a ∷ more) =
     let event : Event = Line client (InList form place) a.0 a.1 in
     let next : Image = next_image seat i event in
     let less = told_less seat i event (line_stays form place i.shared.ended i.part i.shared.library i.clients client a.0 a.1) in
-    let rest : List Happened = if ends_list (told i event) then [] else entries_of seat next client form (place + 1) more in
-    let few : length (notices_in (map (λ (h : Happened). h.told) (take n rest))) ≤ count_by is_waiting next.clients =
+    let rest : List LogEntry = if ends_list (told i event) then [] else entries_of seat next client form (place + 1) more in
+    let few : length (notices_in (map (λ (h : LogEntry). h.told) (take n rest))) ≤ count_by is_waiting next.clients =
     elim (ends_list (told i event))
-    as (λ b. length (notices_in (map (λ (h : Happened). h.told) (take n (if b then [] else entries_of seat next client form (place + 1) more)))) ≤ count_by is_waiting next.clients)
+    as (λ b. length (notices_in (map (λ (h : LogEntry). h.told) (take n (if b then [] else entries_of seat next client form (place + 1) more)))) ≤ count_by is_waiting next.clients)
     [ true ↦ none_of n (count_by is_waiting next.clients) | false ↦ few_entries seat client form n (place + 1) next more ] in
-    let long = length-append (told i event).notices (notices_in (map (λ (h : Happened). h.told) (take n rest))) in
+    let long = length-append (told i event).notices (notices_in (map (λ (h : LogEntry). h.told) (take n rest))) in
     omega (arith, less, few, long)
 
 -- those that wait are no more than all

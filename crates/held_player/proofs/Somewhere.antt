@@ -9,18 +9,18 @@ use Rattle.output_ring.specs.declared.feeder.FeederEnd.{FeederEnd}
 use Rattle.output_ring.specs.declared.frames.CutFrame.{CutFrame}
 use Rattle.player_events.specs.declared.event.Event.{Event}
 use Rattle.partition.specs.declared.partition.PartitionFault.{PartitionFault}
-use Rattle.player_events.specs.Told.{Told}
+use Rattle.player_events.specs.Outcomes.{OutcomeData}
 use Rattle.partition.specs.History.{Chronicle}
 use Rattle.partition.specs.Legal.{IsPast}
 use Rattle.player_state.specs.Outputs.{FrameBooks}
 use Rattle.partition.specs.Step.{told}
-use Rattle.counted_player.specs.Seats.{Place}
+use Rattle.counted_player.specs.Seats.{SeatCount}
 use Rattle.held_player.specs.Settling.{AreNumbers, Settles, with_fates}
 use Rattle.held_player.specs.Views.{TellsSomewhere}
 use Rattle.counted_player.specs.Counts.{own_in}
 
-module _ (past : Chronicle) (seat : Place) (legal : IsPast past) (own : seat.number < 4 → own_in seat.number past.present ≡ seat.made) where
-  pub tells : (event : Event) (r : Result Told PartitionFault) → IfOk r (λ outcome. outcome ≡ told past.present event) → IfOk r (λ outcome. TellsSomewhere seat event outcome)
+module _ (past : Chronicle) (seat : SeatCount) (legal : IsPast past) (own : seat.number < 4 → own_in seat.number past.present ≡ seat.made) where
+  pub tells : (event : Event) (r : Result OutcomeData PartitionFault) → IfOk r (λ outcome. outcome ≡ told past.present event) → IfOk r (λ outcome. TellsSomewhere seat event outcome)
   tells event (Ok outcome) is = (past, (legal, own), is)
   tells event (Err fault) is = tt
 

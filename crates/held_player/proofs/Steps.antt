@@ -3,10 +3,10 @@ use Rattle.std.proofs.Common.{◌≡◌, inl, inr, ℕ, ◌+◌, ◌<◌, ◌≤
 use Rattle.std.specs.Prelude.{Result, Ok, Err, IfErr, IfOk, OnErr, OnOk, sum}
 use Rattle.player_events.specs.declared.event.Event.{Event}
 use Rattle.partition.specs.declared.partition.PartitionFault.{PartitionFault}
-use Rattle.player_events.specs.Told.{Told}
+use Rattle.player_events.specs.Outcomes.{OutcomeData}
 use Rattle.partition.specs.History.{Chronicle, joined_by}
 use Rattle.partition.specs.Image.{Image}
-use Rattle.partition.specs.Step.{limit_of, next_image, told, turn, turn_of}
+use Rattle.partition.specs.Step.{limit_of, next_image, told, transition, transition_of}
 use Rattle.partition.specs.Steps.{RefusesStep}
 use Rattle.player_events.specs.Events.{is_line}
 use Rattle.player_state.specs.Outputs.{FrameBooks}
@@ -16,7 +16,7 @@ use Rattle.player_state.specs.declared.state.Part.{Part}
 use Rattle.held_player.specs.declared.news.News.{News}
 use Rattle.held_player.specs.declared.news.News.TheVariants as news
 use Rattle.held_player.specs.News.{event_of}
-use Rattle.held_player.specs.Views.{IsRefusedFor, IsSpared, entry}
+use Rattle.held_player.specs.Views.{IsRefusedFor, IsUnchangedOrFolded, entry}
 use Rattle.counted_player.proofs.Booked.{HasEight, all_stay, decoded_grows, discarded_grows, few_after, written_grows}
 use Rattle.counted_player.proofs.Frameless.{is_frameless}
 use Rattle.counted_player.proofs.ListEntries.{room_keeps}
@@ -31,7 +31,7 @@ news_steps (news.Scanned songs) = refl
 news_steps (news.Wants owes) = refl
 news_steps (news.Failed number partner) = refl
 
-pub news_frameless : (ended : Bool) (part : Part) (library : Library) (clients : List Client) (piece : News) → is_frameless (turn_of ended part library clients (event_of piece)).doing ≡ true
+pub news_frameless : (ended : Bool) (part : Part) (library : Library) (clients : List Client) (piece : News) → is_frameless (transition_of ended part library clients (event_of piece)).effect ≡ true
 news_frameless ended part library clients (news.Comes client) = refl
 news_frameless ended part library clients (news.Goes client) = refl
 news_frameless ended part library clients news.AsksToScan = refl
@@ -41,11 +41,11 @@ news_frameless false part library clients (news.Wants owes) = refl
 news_frameless ended part library clients (news.Failed number partner) = refl
 
 -- there is room for its notices
-pub has_room_for : (i : Image) (event : Event) (r : Result Told PartitionFault) (waiting capacity : ℕ) → waiting + length i.clients ≤ capacity
+pub has_room_for : (i : Image) (event : Event) (r : Result OutcomeData PartitionFault) (waiting capacity : ℕ) → waiting + length i.clients ≤ capacity
     → IfOk r (λ outcome. outcome ≡ told i event) → IfOk r (λ outcome. waiting + length outcome.notices ≤ capacity)
 has_room_for i event (Ok outcome) waiting capacity room is =
     let few = few_notices i event in
-    let same : length outcome.notices ≡ length (told i event).notices = ap (λ (t : Told). length t.notices) is in
+    let same : length outcome.notices ≡ length (told i event).notices = ap (λ (t : OutcomeData). length t.notices) is in
     omega (arith, room, few, same)
 has_room_for i event (Err fault) waiting capacity room is = tt
 
@@ -57,68 +57,68 @@ books_of c = c.present.shared.books
 
 module _ (before after : Chronicle) (seat : ℕ) (event : Event) where
   -- why it is refused, and what that leaves
-  pub refused_for : (r : Result Told PartitionFault) → IfErr r (λ fault. RefusesStep before after seat event fault) → IfErr r (λ fault. IsRefusedFor before seat event fault)
+  pub refused_for : (r : Result OutcomeData PartitionFault) → IfErr r (λ fault. RefusesStep before after seat event fault) → IfErr r (λ fault. IsRefusedFor before seat event fault)
   refused_for (Ok outcome) stops = tt
   refused_for (Err fault) (inl full) = inl (full.0, full.1.0)
   refused_for (Err fault) (inr roomy) = inr roomy.1
 
-  pub step_spares : (r : Result Told PartitionFault) → IfErr r (λ fault. RefusesStep before after seat event fault) → OnErr r (IsSpared before after)
-  step_spares (Ok outcome) stops = tt
-  step_spares (Err fault) (inl full) = inl full.1.1
-  step_spares (Err fault) (inr roomy) = inr roomy.0
+  pub step_leaves_unchanged : (r : Result OutcomeData PartitionFault) → IfErr r (λ fault. RefusesStep before after seat event fault) → OnErr r (IsUnchangedOrFolded before after)
+  step_leaves_unchanged (Ok outcome) stops = tt
+  step_leaves_unchanged (Err fault) (inl full) = inl full.1.1
+  step_leaves_unchanged (Err fault) (inr roomy) = inr roomy.0
 
-  abbrev Joins : Result Told PartitionFault → Type 0
+  abbrev Joins : Result OutcomeData PartitionFault → Type 0
   Joins r = IfOk r (λ outcome. after ≡ joined_by before (entry seat event outcome))
 
-  abbrev Spares : Result Told PartitionFault → Type 0
-  Spares r = OnErr r (IsSpared before after)
+  abbrev LeavesUnchanged : Result OutcomeData PartitionFault → Type 0
+  LeavesUnchanged r = OnErr r (IsUnchangedOrFolded before after)
 
-  spared_keeps : IsSpared before after → after.present ≡ before.present
-  spared_keeps (inl same) = ap (λ (c : Chronicle). c.present) same
-  spared_keeps (inr folded) = ap (λ (c : Chronicle). c.present) folded ∙ room_keeps before
+  unchanged_keeps : IsUnchangedOrFolded before after → after.present ≡ before.present
+  unchanged_keeps (inl same) = ap (λ (c : Chronicle). c.present) same
+  unchanged_keeps (inr folded) = ap (λ (c : Chronicle). c.present) folded ∙ room_keeps before
 
-  steps_to : (outcome : Told) → after ≡ joined_by before (entry seat event outcome) → after.present ≡ next_image seat before.present event
+  steps_to : (outcome : OutcomeData) → after ≡ joined_by before (entry seat event outcome) → after.present ≡ next_image seat before.present event
   steps_to outcome joins = ap (λ (c : Chronicle). c.present) joins
 
   -- at a fault the books of frames stay
-  pub step_keeps : (r : Result Told PartitionFault) → Spares r → OnErr r (books_of after ≡ books_of before)
-  step_keeps (Ok outcome) spares = tt
-  step_keeps (Err fault) spares = ap (λ (i : Image). i.shared.books) (spared_keeps spares)
+  pub step_keeps : (r : Result OutcomeData PartitionFault) → LeavesUnchanged r → OnErr r (books_of after ≡ books_of before)
+  step_keeps (Ok outcome) leaves_unchanged = tt
+  step_keeps (Err fault) leaves_unchanged = ap (λ (i : Image). i.shared.books) (unchanged_keeps leaves_unchanged)
 
   module _ (eight : HasEight before.present.shared.books) where
     -- an event that brings no frames leaves the books of frames
-    pub step_stays : is_frameless (turn before.present event).doing ≡ true → (r : Result Told PartitionFault) → Joins r → Spares r → books_of after ≡ books_of before
-    step_stays frameless (Ok outcome) joins spares = all_stay seat before.present after.present event eight (steps_to outcome joins) frameless
-    step_stays frameless (Err fault) joins spares = ap (λ (i : Image). i.shared.books) (spared_keeps spares)
+    pub step_stays : is_frameless (transition before.present event).effect ≡ true → (r : Result OutcomeData PartitionFault) → Joins r → LeavesUnchanged r → books_of after ≡ books_of before
+    step_stays frameless (Ok outcome) joins leaves_unchanged = all_stay seat before.present after.present event eight (steps_to outcome joins) frameless
+    step_stays frameless (Err fault) joins leaves_unchanged = ap (λ (i : Image). i.shared.books) (unchanged_keeps leaves_unchanged)
 
     -- what no event of this kind changes
-    pub step_part : {X : Type 0} (of_books : FrameBooks → X) (r : Result Told PartitionFault)
+    pub step_part : {X : Type 0} (of_books : FrameBooks → X) (r : Result OutcomeData PartitionFault)
         → ((i : Image) → i ≡ next_image seat before.present event → of_books i.shared.books ≡ of_books before.present.shared.books)
-        → Joins r → Spares r → of_books (books_of after) ≡ of_books (books_of before)
-    step_part of_books (Ok outcome) stays joins spares = stays after.present (steps_to outcome joins)
-    step_part of_books (Err fault) stays joins spares = ap (λ (i : Image). of_books i.shared.books) (spared_keeps spares)
+        → Joins r → LeavesUnchanged r → of_books (books_of after) ≡ of_books (books_of before)
+    step_part of_books (Ok outcome) stays joins leaves_unchanged = stays after.present (steps_to outcome joins)
+    step_part of_books (Err fault) stays joins leaves_unchanged = ap (λ (i : Image). of_books i.shared.books) (unchanged_keeps leaves_unchanged)
 
     -- no number of frames becomes smaller
     rises : (of_books : FrameBooks → List ℕ) → ((i : Image) → i ≡ next_image seat before.present event → sum (of_books before.present.shared.books) ≤ sum (of_books i.shared.books))
-        → (r : Result Told PartitionFault) → Joins r → Spares r → sum (of_books before.present.shared.books) ≤ sum (of_books after.present.shared.books)
-    rises of_books grows (Ok outcome) joins spares = grows after.present (steps_to outcome joins)
-    rises of_books grows (Err fault) joins spares = rw (spared_keeps spares) (at_most (sum (of_books before.present.shared.books)))
+        → (r : Result OutcomeData PartitionFault) → Joins r → LeavesUnchanged r → sum (of_books before.present.shared.books) ≤ sum (of_books after.present.shared.books)
+    rises of_books grows (Ok outcome) joins leaves_unchanged = grows after.present (steps_to outcome joins)
+    rises of_books grows (Err fault) joins leaves_unchanged = rw (unchanged_keeps leaves_unchanged) (at_most (sum (of_books before.present.shared.books)))
 
-    pub decoded_rise : (r : Result Told PartitionFault) → Joins r → Spares r → sum before.present.shared.books.decoded ≤ sum after.present.shared.books.decoded
+    pub decoded_rise : (r : Result OutcomeData PartitionFault) → Joins r → LeavesUnchanged r → sum before.present.shared.books.decoded ≤ sum after.present.shared.books.decoded
     decoded_rise = rises (λ (b : FrameBooks). b.decoded) (λ i is. decoded_grows seat before.present i event eight is)
 
-    pub written_rise : (r : Result Told PartitionFault) → Joins r → Spares r → sum before.present.shared.books.written ≤ sum after.present.shared.books.written
+    pub written_rise : (r : Result OutcomeData PartitionFault) → Joins r → LeavesUnchanged r → sum before.present.shared.books.written ≤ sum after.present.shared.books.written
     written_rise = rises (λ (b : FrameBooks). b.written) (λ i is. written_grows seat before.present i event eight is)
 
-    pub discarded_rise : (r : Result Told PartitionFault) → Joins r → Spares r → sum before.present.shared.books.discarded ≤ sum after.present.shared.books.discarded
+    pub discarded_rise : (r : Result OutcomeData PartitionFault) → Joins r → LeavesUnchanged r → sum before.present.shared.books.discarded ≤ sum after.present.shared.books.discarded
     discarded_rise = rises (λ (b : FrameBooks). b.discarded) (λ i is. discarded_grows seat before.present i event eight is)
 
   -- all of them can be counted
-  pub few_decoded : (r : Result Told PartitionFault) → OnOk r (limit_of seat before.present event ≡ None) → Joins r → OnOk r (sum after.present.shared.books.decoded < 2 ^ 63)
+  pub few_decoded : (r : Result OutcomeData PartitionFault) → OnOk r (limit_of seat before.present event ≡ None) → Joins r → OnOk r (sum after.present.shared.books.decoded < 2 ^ 63)
   few_decoded (Ok outcome) within joins = (few_after seat before.present after.present event within (steps_to outcome joins)).decoded
   few_decoded (Err fault) within joins = tt
 
-  pub few_fates : (r : Result Told PartitionFault) → OnOk r (limit_of seat before.present event ≡ None) → Joins r
+  pub few_fates : (r : Result OutcomeData PartitionFault) → OnOk r (limit_of seat before.present event ≡ None) → Joins r
       → OnOk r ((sum after.present.shared.books.written < 2 ^ 63) × (sum after.present.shared.books.discarded < 2 ^ 63))
   few_fates (Ok outcome) within joins =
       let all = few_after seat before.present after.present event within (steps_to outcome joins) in

@@ -8,7 +8,7 @@ use Rattle.shelf.specs.Calls.{Call}
 use Rattle.shelf.specs.Maps.{Standing}
 use Rattle.idle_clients.specs.declared.notices.Notice.{Notice}
 use Rattle.partition.specs.declared.partition.PartitionFault.TheVariants.{NoMemory}
-use Rattle.player_events.specs.Told.{Told}
+use Rattle.player_events.specs.Outcomes.{OutcomeData}
 use Rattle.partition.specs.History.{Chronicle}
 use Rattle.partition.specs.Legal.{IsPast}
 use Rattle.partition.specs.Lists.{RunsList, Stop, StopsList}
@@ -17,10 +17,10 @@ use Rattle.counted_player.specs.Counts.{own_in}
 -- what a command list is answered with: its client's waiting notice, and what each of its events told
 pub record HandedList : Type 0 where
   pub front : Option Notice
-  pub tolds : List Told
+  pub tolds : List OutcomeData
 
 -- the notices of several events, one after the other
-abbrev pub notices_in : List Told → List Notice
+abbrev pub notices_in : List OutcomeData → List Notice
 notices_in tolds = flat_map (λ t. t.notices) tolds
 
 -- a list that stopped before its first command
@@ -28,14 +28,15 @@ abbrev pub unbegun : List Request → Stop
 unbegun requests = record { done = 0; tolds = []; command = slice_index_or (map name_in requests) 0 []; cause = NoMemory }
 
 module _ {S : Type 0} (standing : S → Standing) (failed : S → S → Call → Type 0) where
-  -- What the player of one thread tells at the commands of a list, one after the other, after some past in which the seat made so many
-  -- events; the lent shelf answered and changed as that says.
-  abbrev pub TellsListSomewhere : S → S → ℕ → ℕ → ℕ → ListForm → List Request → List Told → Type 0
+  -- What the player of one thread tells at the commands of a list, one after the other, after some past in
+  -- which the seat made so many events; the lent shelf answered and changed as that says.
+  abbrev pub TellsListSomewhere : S → S → ℕ → ℕ → ℕ → ListForm → List Request → List OutcomeData → Type 0
   TellsListSomewhere old new seat made client form requests tolds =
       (past : Chronicle) × IsPast past × (own_in seat past.present ≡ made)
       × ((after : Chronicle) × RunsList standing failed past after old new seat client form requests tolds)
 
-  -- What a list leaves that stopped: before it was begun, for want of memory, all is as it was; else what the player says.
+  -- What a list leaves that stopped: before it was begun, for want of memory, all is as it was; else what the
+  -- player says.
   abbrev pub StopsHere : Chronicle → Chronicle → S → S → ℕ → ℕ → ListForm → List Request → Stop → Type 0
   StopsHere before after old new seat client form requests stop =
       ((stop ≡ unbegun requests) × ((after ≡ before) × (new ≡ old))) ⊎ StopsList standing failed before after old new seat client form requests stop

@@ -13,7 +13,8 @@ use Rattle.partition.specs.History.{Chronicle}
 use Rattle.partition.specs.Legal.{IsPast}
 use Rattle.player_state.specs.Outputs.{FrameBooks}
 
--- the books once the fates of an output that no turn told of are counted in both of them, or in none where they do not fit
+-- the books once the fates of an output that no turn told of are counted in both of them, or in none where
+-- they do not fit
 abbrev pub with_fates : Drainer → ℕ → FrameBooks → FrameBooks
 with_fates drainer output books = record {
   decoded = books.decoded;
@@ -26,8 +27,8 @@ abbrev pub AreNumbers : FrameBooks → ℕ → Settled → Type 0
 AreNumbers books output s =
     (slice_index books.decoded output ≡ s.decoded) × (slice_index books.written output ≡ s.written) × (slice_index books.discarded output ≡ s.discarded)
 
--- What is answered of two ends where the books said this: the numbers are the ring's and the books'; it is unsettled just where the end has
--- no token, and no mismatch where the books agree.
+-- What is answered of two ends where the books said this: the numbers are the ring's and the books'; it is
+-- unsettled just where the end has no token, and no mismatch where the books agree.
 pub record Settles (end : FeederEnd) (drainer : Drainer) (output : ℕ) (books : FrameBooks) (result : Result Settled SettleFault) : Type 0 where
   pub balances : IfOk result (λ s. Balances end drainer s)
   pub numbers : IfOk result (λ s. AreNumbers (with_fates drainer output books) output s)

@@ -1,12 +1,12 @@
 //! What the house answers.
-use command_plan::Reply;
 use idle_clients::Notice;
 use partition::ListOutcome;
 use player_events::Outcome;
 use player_state::Report;
 use std::marker::Model;
+use transitions::Reply;
 
-/// What a line of a client is answered: its waiting notice, if one waits, and behind it the reply.
+/// What a line of a client is answered: its waiting notice, if one waits, and after it the reply.
 #[derive(Drop)]
 pub struct Answered {
     pub(crate) front: Option<Notice>,
@@ -38,7 +38,8 @@ impl Answered {
     }
 }
 
-/// What a command list is answered: its client's waiting notice, if one waits, and behind it the answers of its commands.
+/// What a command list is answered: its client's waiting notice, if one waits, and after it the answers of
+/// its commands.
 #[derive(Drop)]
 pub struct AnsweredList {
     pub(crate) front: Option<Notice>,
@@ -79,9 +80,9 @@ pub struct Reported {
 }
 
 impl Model for Reported {
-    ghost use Rattle.player_events.specs.Told.{Told};
+    ghost use Rattle.player_events.specs.Outcomes.{OutcomeData};
 
-    ghost Value = { Told };
+    ghost Value = { OutcomeData };
 
     ghost view = { λ r. r.outcome };
 }

@@ -3,18 +3,17 @@ ghost use Rattle.std.specs.Prelude.{◌≡◌, ◌+◌, ◌<◌, ◌≤◌, ◌^
 ghost use Rattle.partition.specs.History.{joined_by, with_room};
 ghost use Rattle.partition.specs.Legal.{IsPast};
 ghost use Rattle.partition.specs.Lent.{Records};
-ghost use Rattle.command_plan.specs.Shelves.{nothing_heard};
+ghost use Rattle.transitions.specs.Shelves.{no_store_reply};
 ghost use Rattle.partition.specs.Step.{limit_of, told as told_of};
 ghost use Rattle.player_events.specs.Events.{is_line};
 ghost use Rattle.player_events.specs.declared.event.Event.TheVariants.{End, Line, Have, OutputTurn};
-ghost use Rattle.command_plan.specs.declared.asked.Stand.TheVariants.{Alone};
+ghost use Rattle.transitions.specs.declared.asked.Stand.TheVariants.{Alone};
 ghost use Rattle.held_player.specs.News.{event_of};
 ghost use Rattle.counted_player.specs.Seats.{after_events};
 ghost use Rattle.counted_player.specs.Counts.{AnswersSomewhere, own_in};
-ghost use Rattle.held_player.specs.Views.{IsRefusedFor, IsSpared, IsUnwritten, Stops, TellsSomewhere, entry};
+ghost use Rattle.held_player.specs.Views.{IsRefusedFor, IsUnchangedOrFolded, IsUnwritten, Stops, TellsSomewhere, entry};
 
 use crate::news::News;
-use command_plan::{Heard, Read, Stand};
 use counted_player::{Counted, Ledgers, Seat};
 use idle_clients::Notice;
 use mpd_command::Request;
@@ -22,11 +21,13 @@ use output_ring::Fates;
 use partition::PartitionFault;
 use player_events::{Event, Outcome};
 use shelf::Shelf;
+use transitions::{Read, Stand, StoreReply};
 
-/// Drops an event. It is a function of its own so that the proofs of what holds one do not go through every kind of event.
+/// Drops an event. It is a function of its own so that the proofs of what holds one do not go through every
+/// kind of event.
 fn discard(_event: Event) {}
 
-/// One event of a seat. There is room for its notices behind those that wait.
+/// One event of a seat. There is room for its notices after those that wait.
 pub(crate) fn happen<L: Ledgers, S: Shelf>(
     counted: &mut Counted<L>,
     waiting: &mut Vec<Notice>,
@@ -54,7 +55,7 @@ pub(crate) fn happen<L: Ledgers, S: Shelf>(
     counted.apply(seat, shelf, event)
 }
 
-/// An event of a seat that is no line: it asks no shelf. There is room for its notices behind those that wait.
+/// An event of a seat that is no line: it asks no shelf. There is room for its notices after those that wait.
 fn take_step<L: Ledgers>(
     counted: &mut Counted<L>,
     waiting: &mut Vec<Notice>,
@@ -70,7 +71,7 @@ fn take_step<L: Ledgers>(
     ensures made { OnOk result (seat.new ≡ after_events seat.old 1) }
     ensures seat { OnErr result (seat.new ≡ seat.old) }
     ensures refused { IfErr result (λ fault. IsRefusedFor counted.old seat.old.number event fault) }
-    ensures spared { OnErr result (IsSpared counted.old counted.new) }
+    ensures unchanged { OnErr result (IsUnchangedOrFolded counted.old counted.new) }
     ensures waiting { waiting.new.items ≡ waiting.old.items }
     ensures room { IfOk result (λ outcome. vec_len waiting.new + length outcome.notices ≤ vec_capacity waiting.new) }
 {
@@ -96,18 +97,18 @@ pub(crate) fn hear_line<L: Ledgers, S: Shelf>(
     ensures legal { IsPast counted.old }
     ensures base { OnOk result (counted.new.base ≡ (with_room counted.old).base) }
     ensures limit { counted.new.limit ≡ counted.old.limit }
-    ensures ok { IfOk result (λ outcome. Records S.standing S.failed counted.old.present counted.new.present (with_room counted.old).window counted.new.window shelf.old shelf.new seat.old.number (Line client Alone request nothing_heard) outcome) }
+    ensures ok { IfOk result (λ outcome. Records S.standing S.failed counted.old.present counted.new.present (with_room counted.old).window counted.new.window shelf.old shelf.new seat.old.number (Line client Alone request no_store_reply) outcome) }
     ensures made { OnOk result (seat.new ≡ after_events seat.old 1) }
     ensures seat { OnErr result (seat.new ≡ seat.old) }
-    ensures refused { IfErr result (λ fault. Stops S.standing S.failed counted.old counted.new shelf.old shelf.new seat.old.number (Line client Alone request nothing_heard) fault) }
-    ensures spared { OnErr result (IsSpared counted.old counted.new) }
+    ensures refused { IfErr result (λ fault. Stops S.standing S.failed counted.old counted.new shelf.old shelf.new seat.old.number (Line client Alone request no_store_reply) fault) }
+    ensures unchanged { OnErr result (IsUnchangedOrFolded counted.old counted.new) }
     ensures unwritten { OnErr result (IsUnwritten S.standing S.failed shelf.old shelf.new) }
     ensures books { counted.new.present.shared.books ≡ counted.old.present.shared.books }
     ensures waiting { waiting.new.items ≡ waiting.old.items }
     ensures room { IfOk result (λ outcome. vec_len waiting.new + length outcome.notices ≤ vec_capacity waiting.new) }
-    ensures somewhere { IfOk result (λ outcome. seat.old.number < 4 → AnswersSomewhere S.standing S.failed shelf.old shelf.new seat.old.number seat.old.made (Line client Alone request nothing_heard) outcome.answer) }
+    ensures somewhere { IfOk result (λ outcome. seat.old.number < 4 → AnswersSomewhere S.standing S.failed shelf.old shelf.new seat.old.number seat.old.made (Line client Alone request no_store_reply) outcome.answer) }
 {
-    let heard = Heard {
+    let heard = StoreReply {
         read: Read::Nothing,
         refused: None,
     };
@@ -130,7 +131,7 @@ pub(crate) fn hear_news<L: Ledgers>(
     ensures made { OnOk result (seat.new ≡ after_events seat.old 1) }
     ensures seat { OnErr result (seat.new ≡ seat.old) }
     ensures refused { IfErr result (λ fault. IsRefusedFor counted.old seat.old.number (event_of news) fault) }
-    ensures spared { OnErr result (IsSpared counted.old counted.new) }
+    ensures unchanged { OnErr result (IsUnchangedOrFolded counted.old counted.new) }
     ensures books { counted.new.present.shared.books ≡ counted.old.present.shared.books }
     ensures waiting { waiting.new.items ≡ waiting.old.items }
     ensures room { IfOk result (λ outcome. vec_len waiting.new + length outcome.notices ≤ vec_capacity waiting.new) }
@@ -153,7 +154,7 @@ pub(crate) fn hear_end<L: Ledgers>(
     ensures made { OnOk result (seat.new ≡ after_events seat.old 1) }
     ensures seat { OnErr result (seat.new ≡ seat.old) }
     ensures refused { IfErr result (λ fault. IsRefusedFor counted.old seat.old.number End fault) }
-    ensures spared { OnErr result (IsSpared counted.old counted.new) }
+    ensures unchanged { OnErr result (IsUnchangedOrFolded counted.old counted.new) }
     ensures books { counted.new.present.shared.books ≡ counted.old.present.shared.books }
     ensures waiting { waiting.new.items ≡ waiting.old.items }
     ensures room { IfOk result (λ outcome. vec_len waiting.new + length outcome.notices ≤ vec_capacity waiting.new) }
@@ -177,7 +178,7 @@ pub(crate) fn hear_frames<L: Ledgers>(
     ensures made { OnOk result (seat.new ≡ after_events seat.old 1) }
     ensures seat { OnErr result (seat.new ≡ seat.old) }
     ensures refused { IfErr result (λ fault. IsRefusedFor counted.old seat.old.number (Have number frames) fault) }
-    ensures spared { OnErr result (IsSpared counted.old counted.new) }
+    ensures unchanged { OnErr result (IsUnchangedOrFolded counted.old counted.new) }
     ensures same { OnErr result (counted.new.present.shared.books ≡ counted.old.present.shared.books) }
     ensures grown { sum counted.old.present.shared.books.decoded ≤ sum counted.new.present.shared.books.decoded }
     ensures fits { OnOk result (sum counted.new.present.shared.books.decoded < 2 ^ 63) }
@@ -190,7 +191,8 @@ pub(crate) fn hear_frames<L: Ledgers>(
     take_step(counted, waiting, seat, event)
 }
 
-/// An output had its turn. What it told of are the books' of frames written and discarded, where there is such an output.
+/// An output had its turn. What it told of are the books' of frames written and discarded, where there is
+/// such an output.
 pub(crate) fn hear_turn<L: Ledgers>(
     counted: &mut Counted<L>,
     waiting: &mut Vec<Notice>,
@@ -207,7 +209,7 @@ pub(crate) fn hear_turn<L: Ledgers>(
     ensures made { OnOk result (seat.new ≡ after_events seat.old 1) }
     ensures seat { OnErr result (seat.new ≡ seat.old) }
     ensures refused { IfErr result (λ fault. IsRefusedFor counted.old seat.old.number (OutputTurn output fates.written fates.discarded failed) fault) }
-    ensures spared { OnErr result (IsSpared counted.old counted.new) }
+    ensures unchanged { OnErr result (IsUnchangedOrFolded counted.old counted.new) }
     ensures same { OnErr result (counted.new.present.shared.books ≡ counted.old.present.shared.books) }
     ensures grown { (sum counted.old.present.shared.books.written ≤ sum counted.new.present.shared.books.written) × (sum counted.old.present.shared.books.discarded ≤ sum counted.new.present.shared.books.discarded) }
     ensures fits { OnOk result ((sum counted.new.present.shared.books.written < 2 ^ 63) × (sum counted.new.present.shared.books.discarded < 2 ^ 63)) }

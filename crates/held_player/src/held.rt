@@ -10,7 +10,7 @@ use frame_ledger::{Blanks as FrameBlanks, Books, OutputShares};
 use idle_clients::Notice;
 use mpd_command::Request;
 use partition::{Partition, PartitionFault};
-use player_events::Happened;
+use player_events::LogEntry;
 use shelf::Shelf;
 use song_db::SharedSong;
 use std::alloc::{AllocError, Global};
@@ -44,8 +44,8 @@ pub struct Held<L: Ledgers> {
     pub(crate) free: Vec<Seat<L>>,
     /// Whether an output was settled, whose last fates no event told of.
     pub(crate) is_settled: bool,
-    /// How often something changed that a thread at rest is woken for; it begins anew behind its greatest value. No contract speaks of
-    /// it.
+    /// How often something changed that a thread at rest is woken for; it begins anew after its greatest
+    /// value. No contract speaks of it.
     pub(crate) changes: u64,
 }
 
@@ -77,14 +77,14 @@ impl<L: Ledgers> Held<L> {
     ghost use Rattle.partition.specs.Legal.{IsPast};
     ghost use Rattle.partition.specs.Lent.{Records};
     ghost use Rattle.player_state.specs.Outputs.{empty_books};
-    ghost use Rattle.command_plan.specs.Shelves.{nothing_heard};
+    ghost use Rattle.transitions.specs.Shelves.{no_store_reply};
     ghost use Rattle.partition.specs.Step.{limit_of, told as told_of};
     ghost use Rattle.player_events.specs.declared.event.Event.TheVariants.{End, Line};
-    ghost use Rattle.command_plan.specs.declared.asked.Stand.TheVariants.{Alone};
+    ghost use Rattle.transitions.specs.declared.asked.Stand.TheVariants.{Alone};
     ghost use Rattle.held_player.specs.News.{event_of, kept_at};
     ghost use Rattle.counted_player.specs.Seats.{after_events};
     ghost use Rattle.counted_player.specs.Counts.{AnswersSomewhere, IsFresh, own_in, song_of};
-    ghost use Rattle.held_player.specs.Views.{IsRefusedFor, IsSpared, IsUnwritten, Stops, TellsSomewhere, entry};
+    ghost use Rattle.held_player.specs.Views.{IsRefusedFor, IsUnchangedOrFolded, IsUnwritten, Stops, TellsSomewhere, entry};
     ghost use Rattle.song_queue.specs.State.{queue_of};
     ghost use Rattle.held_player.specs.Waiting.{first_for, without_first};
 
@@ -142,9 +142,9 @@ impl<L: Ledgers> Held<L> {
         }
     }
 
-    /// The events of the window. The value is a past's, and the books of frames are its numbers; once an output was settled, those of
-    /// written and discarded frames also count what no event told of.
-    pub fn history(&self) -> &[Happened]
+    /// The events of the window. The value is a past's, and the books of frames are its numbers; once an
+    /// output was settled, those of written and discarded frames also count what no event told of.
+    pub fn history(&self) -> &[LogEntry]
         ensures window { result.now ≡ self.now.player.window }
         ensures legal { IsPast self.now.player }
         ensures decoded { self.now.books.decoded ≡ self.now.player.present.shared.books.decoded }
@@ -158,7 +158,8 @@ impl<L: Ledgers> Held<L> {
     ///
     /// # Errors
     ///
-    /// As [`Partition::apply`]: nothing has changed, but that a full window may have been folded. A notice that waits goes on waiting.
+    /// As [`Partition::apply`]: nothing has changed, but that a full window may have been folded. A notice
+    /// that waits goes on waiting.
     pub fn command<S: Shelf>(
         &mut self,
         seat: &mut Seat<L>,
@@ -166,14 +167,15 @@ impl<L: Ledgers> Held<L> {
         client: u32,
         request: Request,
     ) -> Result<Answered, PartitionFault>
-        // The caller's count is the number of its seat's events, and the value that the lock found is a past's.
+        // The caller's count is the number of its seat's events, and the value that the lock found is a
+        // past's.
         ensures found { seat.old.number < 4 → own_in seat.old.number self.old.player.present ≡ seat.old.made }
         ensures legal { IsPast self.old.player }
 
         // The reply, the world after it and what became of the lent shelf are the one-thread player's.
         ensures base { OnOk result (self.new.player.base ≡ (with_room self.old.player).base) }
         ensures limit { self.new.player.limit ≡ self.old.player.limit }
-        ensures ok { IfOk result (λ a. Records S.standing S.failed self.old.player.present self.new.player.present (with_room self.old.player).window self.new.player.window shelf.old shelf.new seat.old.number (Line client Alone request nothing_heard) a.told) }
+        ensures ok { IfOk result (λ a. Records S.standing S.failed self.old.player.present self.new.player.present (with_room self.old.player).window self.new.player.window shelf.old shelf.new seat.old.number (Line client Alone request no_store_reply) a.told) }
 
         // The client's notice is handed out, and those that the event made wait.
         ensures front { IfOk result (λ a. a.front ≡ first_for client self.old.waiting) }
@@ -187,11 +189,11 @@ impl<L: Ledgers> Held<L> {
         ensures books { (self.new.books ≡ self.old.books) × (self.new.is_settled ≡ self.old.is_settled) × (self.new.free ≡ self.old.free) }
 
         // A fault changes nothing but a fold.
-        ensures refused { IfErr result (λ fault. Stops S.standing S.failed self.old.player self.new.player shelf.old shelf.new seat.old.number (Line client Alone request nothing_heard) fault) }
-        ensures spared { OnErr result (IsSpared self.old.player self.new.player) }
+        ensures refused { IfErr result (λ fault. Stops S.standing S.failed self.old.player self.new.player shelf.old shelf.new seat.old.number (Line client Alone request no_store_reply) fault) }
+        ensures unchanged { OnErr result (IsUnchangedOrFolded self.old.player self.new.player) }
         ensures unwritten { OnErr result (IsUnwritten S.standing S.failed shelf.old shelf.new) }
 
-        ensures somewhere { IfOk result (λ a. seat.old.number < 4 → AnswersSomewhere S.standing S.failed shelf.old shelf.new seat.old.number seat.old.made (Line client Alone request nothing_heard) a.told.answer) }
+        ensures somewhere { IfOk result (λ a. seat.old.number < 4 → AnswersSomewhere S.standing S.failed shelf.old shelf.new seat.old.number seat.old.made (Line client Alone request no_store_reply) a.told.answer) }
     {
         let Held {
             alloc: _alloc,
@@ -202,11 +204,11 @@ impl<L: Ledgers> Held<L> {
             is_settled: _is_settled,
             changes,
         } = self;
-        let pulse = counted.pulse();
+        let wake_fingerprint = counted.wake_fingerprint();
         let outcome = hear_line(counted, waiting, seat, shelf, client, request)?;
         let front = take_first(waiting, client);
         put_all(waiting, outcome.notices());
-        count_change(changes, counted.pulse() != pulse);
+        count_change(changes, counted.wake_fingerprint() != wake_fingerprint);
         Ok(Answered { front, outcome })
     }
 
@@ -227,7 +229,7 @@ impl<L: Ledgers> Held<L> {
         ensures seat { OnErr result (seat.new ≡ seat.old) }
         ensures books { (self.new.books ≡ self.old.books) × (self.new.is_settled ≡ self.old.is_settled) × (self.new.free ≡ self.old.free) }
         ensures refused { IfErr result (λ fault. IsRefusedFor self.old.player seat.old.number (event_of news) fault) }
-        ensures spared { OnErr result (IsSpared self.old.player self.new.player) }
+        ensures unchanged { OnErr result (IsUnchangedOrFolded self.old.player self.new.player) }
         ensures somewhere { IfOk result (λ told. TellsSomewhere seat.old (event_of news) told) }
     {
         let Held {
@@ -239,12 +241,12 @@ impl<L: Ledgers> Held<L> {
             is_settled: _is_settled,
             changes,
         } = self;
-        let pulse = counted.pulse();
+        let wake_fingerprint = counted.wake_fingerprint();
         let gone = news.gone();
         let outcome = hear_news(counted, waiting, seat, news)?;
         drop_gone(waiting, gone);
         put_all(waiting, outcome.notices());
-        count_change(changes, counted.pulse() != pulse);
+        count_change(changes, counted.wake_fingerprint() != wake_fingerprint);
         Ok(Reported {
             outcome,
             changes: *changes,
@@ -267,7 +269,7 @@ impl<L: Ledgers> Held<L> {
         ensures seat { OnErr result (seat.new ≡ seat.old) }
         ensures books { (self.new.books ≡ self.old.books) × (self.new.is_settled ≡ self.old.is_settled) × (self.new.free ≡ self.old.free) }
         ensures refused { IfErr result (λ fault. IsRefusedFor self.old.player seat.old.number End fault) }
-        ensures spared { OnErr result (IsSpared self.old.player self.new.player) }
+        ensures unchanged { OnErr result (IsUnchangedOrFolded self.old.player self.new.player) }
     {
         let Held {
             alloc: _alloc,
@@ -284,8 +286,9 @@ impl<L: Ledgers> Held<L> {
         Ok(())
     }
 
-    /// Folds the history where the texts of its window take more than 16 MiB. Where there is no memory for that, nothing changes.
-    pub fn lighten(&mut self)
+    /// Folds the history where the texts of its window take more than 16 MiB. Where there is no memory for
+    /// that, nothing changes.
+    pub fn compact_if_large(&mut self)
         ensures player { (self.new.player ≡ self.old.player) ⊎ (self.new.player ≡ folded self.old.player) }
         ensures waiting { self.new.waiting ≡ self.old.waiting }
         ensures books { (self.new.books ≡ self.old.books) × (self.new.is_settled ≡ self.old.is_settled) × (self.new.free ≡ self.old.free) }
@@ -299,7 +302,7 @@ impl<L: Ledgers> Held<L> {
             is_settled: _is_settled,
             changes: _changes,
         } = self;
-        counted.lighten();
+        counted.compact_if_large();
     }
 
     /// Whether the daemon has ended.

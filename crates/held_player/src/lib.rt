@@ -1,4 +1,5 @@
-//! What the house's lock holds: the player, the notices that wait, and the books of its events and its frames.
+//! What the house's lock holds: the player, the notices that wait, and the books of its events and its
+//! frames.
 #![tactic(auto)]
 
 mod answered;

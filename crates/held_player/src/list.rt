@@ -19,12 +19,13 @@ impl<L: Ledgers> Held<L> {
     ghost use Rattle.counted_player.specs.Counts.{own_in};
     ghost use Rattle.held_player.specs.Waiting.{first_for, without_first};
 
-    /// The commands of a client's list, side by side in the history, up to the first that ends the list. The client's waiting notice
-    /// is handed out in front of the answers.
+    /// The commands of a client's list, side by side in the history, up to the first that ends the list. The
+    /// client's waiting notice is handed out in front of the answers.
     ///
     /// # Errors
     ///
-    /// As [`Partition::run_list`]: the commands before the one that was refused stand, and a notice that waits goes on waiting.
+    /// As [`Partition::run_list`]: the commands before the one that was refused stand, and a notice that
+    /// waits goes on waiting.
     pub fn list<S: Shelf>(
         &mut self,
         seat: &mut Seat<L>,
@@ -56,19 +57,19 @@ impl<L: Ledgers> Held<L> {
             is_settled: _is_settled,
             changes,
         } = self;
-        let pulse = counted.pulse();
+        let wake_fingerprint = counted.wake_fingerprint();
         match hear_list(
             *alloc, counted, waiting, seat, shelf, client, form, requests,
         ) {
             Ok(outcome) => {
                 let front = take_first(waiting, client);
                 put_each(waiting, outcome.outcomes());
-                count_change(changes, counted.pulse() != pulse);
+                count_change(changes, counted.wake_fingerprint() != wake_fingerprint);
                 Ok(AnsweredList { front, outcome })
             }
             Err(fault) => {
                 put_each(waiting, &fault.outcomes);
-                count_change(changes, counted.pulse() != pulse);
+                count_change(changes, counted.wake_fingerprint() != wake_fingerprint);
                 Err(fault)
             }
         }

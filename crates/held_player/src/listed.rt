@@ -15,7 +15,8 @@ use partition::{ListFault, ListOutcome, PartitionFault};
 use shelf::Shelf;
 use std::alloc::Global;
 
-/// The commands of a client's list. There is room for their notices behind those that wait, and they bring no frames.
+/// The commands of a client's list. There is room for their notices after those that wait, and they bring no
+/// frames.
 pub(crate) fn hear_list<L: Ledgers, S: Shelf>(
     alloc: Global,
     counted: &mut Counted<L>,

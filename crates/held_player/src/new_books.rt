@@ -10,7 +10,8 @@ use partition::Partition;
 use player_state::MAX_OUTPUTS;
 use std::alloc::{AllocError, Global};
 
-/// The books of a house in which nothing happened, the seats that callers are given, and the shares of the house's own threads.
+/// The books of a house in which nothing happened, the seats that callers are given, and the shares of the
+/// house's own threads.
 #[derive(Drop)]
 pub(crate) struct NewBooks<L: Ledgers> {
     pub(crate) seats: SeatBooks<L>,
@@ -54,5 +55,6 @@ pub(crate) fn new_books<L: Ledgers>(
     })
 }
 
-/// Drops a player. It is a function of its own so that the proof of what holds one does not go through all that it has.
+/// Drops a player. It is a function of its own so that the proof of what holds one does not go through all
+/// that it has.
 pub(crate) fn let_go(_partition: Partition) {}

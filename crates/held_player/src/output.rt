@@ -27,11 +27,11 @@ impl<L: Ledgers> Held<L> {
     ghost use Rattle.player_events.specs.declared.event.Event.TheVariants.{Have, OutputTurn};
     ghost use Rattle.counted_player.specs.Seats.{after_events};
     ghost use Rattle.held_player.specs.Settling.{AreOfSomePast, Settles, numbers_in};
-    ghost use Rattle.held_player.specs.Views.{IsRefusedFor, IsSpared, entry};
+    ghost use Rattle.held_player.specs.Views.{IsRefusedFor, IsUnchangedOrFolded, entry};
     ghost use Rattle.counted_player.specs.Counts.{own_in};
 
-    /// Frames of a job were decoded. Where they are not stale, they are for each output that is enabled: its book and the share grow by
-    /// them.
+    /// Frames of a job were decoded. Where they are not stale, they are for each output that is enabled: its
+    /// book and the share grow by them.
     ///
     /// # Errors
     ///
@@ -62,7 +62,7 @@ impl<L: Ledgers> Held<L> {
         ensures parts { share.new.parts ≡ share.old.parts }
         ensures same { OnErr result ((self.new.books ≡ self.old.books) × (share.new ≡ share.old)) }
         ensures refused { IfErr result (λ fault. IsRefusedFor self.old.player seat.old.number (Have number frames) fault) }
-        ensures spared { OnErr result (IsSpared self.old.player self.new.player) }
+        ensures unchanged { OnErr result (IsUnchangedOrFolded self.old.player self.new.player) }
     {
         let Held {
             alloc: _alloc,
@@ -87,8 +87,8 @@ impl<L: Ledgers> Held<L> {
         })
     }
 
-    /// An output had its turn: it wrote and discarded so many frames since its last one. Its books and the shares grow by them, unless
-    /// an output was settled before.
+    /// An output had its turn: it wrote and discarded so many frames since its last one. Its books and the
+    /// shares grow by them, unless an output was settled before.
     ///
     /// # Errors
     ///
@@ -120,7 +120,7 @@ impl<L: Ledgers> Held<L> {
         ensures parts { (shares.new.written.parts ≡ shares.old.written.parts) × (shares.new.discarded.parts ≡ shares.old.discarded.parts) }
         ensures same { OnErr result ((self.new.books ≡ self.old.books) × (shares.new ≡ shares.old)) }
         ensures refused { IfErr result (λ fault. IsRefusedFor self.old.player seat.old.number (OutputTurn output told_fates.written told_fates.discarded failed) fault) }
-        ensures spared { OnErr result (IsSpared self.old.player self.new.player) }
+        ensures unchanged { OnErr result (IsUnchangedOrFolded self.old.player self.new.player) }
     {
         let Held {
             alloc: _alloc,
@@ -131,24 +131,26 @@ impl<L: Ledgers> Held<L> {
             is_settled,
             changes,
         } = self;
-        let pulse = counted.pulse();
+        let wake_fingerprint = counted.wake_fingerprint();
         let outcome = hear_turn(counted, waiting, seat, output, told_fates, failed)?;
         put_all(waiting, outcome.notices());
         let written = counted.written();
         let discarded = counted.discarded();
         book_fates(books, shares, *is_settled, written, discarded);
-        count_change(changes, counted.pulse() != pulse);
+        count_change(changes, counted.wake_fingerprint() != wake_fingerprint);
         Ok(Reported {
             outcome,
             changes: *changes,
         })
     }
 
-    /// Compares the books of an output with its ring, once the fates that no turn told of are counted in them. It takes no memory.
+    /// Compares the books of an output with its ring, once the fates that no turn told of are counted in
+    /// them. It takes no memory.
     ///
     /// # Errors
     ///
-    /// `Unsettled` where the feeder's end has no token, `Mismatch` where a book says otherwise than the ring or would pass 2^63-1.
+    /// `Unsettled` where the feeder's end has no token, `Mismatch` where a book says otherwise than the ring
+    /// or would pass 2^63-1.
     pub fn settle(
         &mut self,
         end: FeederEnd,

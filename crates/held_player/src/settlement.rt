@@ -4,8 +4,8 @@ use frame_ledger::{Books, SettleFault, Settled};
 use output_ring::{Drainer, FeederEnd};
 use std::snapshot::Snapshot;
 
-/// What a settlement answered, with what it compared. That has no bytes, and contracts alone read it: it names the very ends and books, so
-/// that a refusal has to be theirs.
+/// What a settlement answered, with what it compared. That has no bytes, and contracts alone read it: it
+/// names the very ends and books, so that a refusal has to be theirs.
 #[derive(Drop)]
 pub struct Settlement<L: Ledgers> {
     pub result: Result<Settled, SettleFault>,

@@ -22,7 +22,7 @@ pub(crate) fn take_first(notices: &mut Vec<Notice>, client: u32) -> Option<Notic
     None
 }
 
-/// Puts these behind the others. There is room.
+/// Puts these after the others. There is room.
 pub(crate) fn put_all(notices: &mut Vec<Notice>, new: &[Notice])
     requires { vec_len notices.old + length new.now ≤ vec_capacity notices.old }
     ensures put { notices.new.items ≡ notices.old.items ++ new.now }
@@ -33,7 +33,7 @@ pub(crate) fn put_all(notices: &mut Vec<Notice>, new: &[Notice])
     }
 }
 
-/// Puts the notices of several events behind the others. There is room.
+/// Puts the notices of several events after the others. There is room.
 pub(crate) fn put_each(notices: &mut Vec<Notice>, outcomes: &[Outcome])
     requires { vec_len notices.old + length (notices_in outcomes.now) ≤ vec_capacity notices.old }
     ensures { notices.new.items ≡ notices.old.items ++ notices_in outcomes.now }

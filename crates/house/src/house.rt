@@ -4,9 +4,9 @@ ghost use Rattle.held_player.specs.Blanks.{AreFor};
 ghost use Rattle.output_ring.specs.Rings.{AreEndsAfter};
 ghost use Rattle.partition.specs.History.{Chronicle};
 ghost use Rattle.partition.specs.Legal.{IsPast};
-ghost use Rattle.command_plan.specs.Shelves.{nothing_heard};
+ghost use Rattle.transitions.specs.Shelves.{no_store_reply};
 ghost use Rattle.player_events.specs.declared.event.Event.TheVariants.{End, Have, Line, OutputTurn};
-ghost use Rattle.command_plan.specs.declared.asked.Stand.TheVariants.{Alone};
+ghost use Rattle.transitions.specs.declared.asked.Stand.TheVariants.{Alone};
 ghost use Rattle.held_player.specs.Lists.{StopsListSomewhere, TellsListSomewhere};
 ghost use Rattle.held_player.specs.News.{event_of};
 ghost use Rattle.counted_player.specs.Seats.{after_events};
@@ -39,9 +39,9 @@ const IDLE_REST: u64 = 1_000;
 pub struct House<L: Ledgers> {
     held: Mutex<Held<L>>,
     /// Rung where something changed that a thread at rest is woken for.
-    bell: Condvar,
+    state_changed: Condvar,
     /// Rung where a notice waits for a client.
-    door: Condvar,
+    notices_wait: Condvar,
 }
 
 // Written out, so that it is proved here once, and not again in each crate that lets a house go.
@@ -49,8 +49,8 @@ impl<L: Ledgers> Drop for House<L> {
     fn drop(self) {
         let House {
             held: _,
-            bell: _,
-            door: _,
+            state_changed: _,
+            notices_wait: _,
         } = self;
     }
 }
@@ -58,8 +58,8 @@ impl<L: Ledgers> Drop for House<L> {
 /// Which of the two is rung once the lock is free.
 #[derive(Clone, Copy)]
 struct Rung {
-    bell: bool,
-    door: bool,
+    state_changed: bool,
+    notices_wait: bool,
 }
 
 impl<L: Ledgers> House<L> {
@@ -78,8 +78,8 @@ impl<L: Ledgers> House<L> {
         Ok((
             House {
                 held: Mutex::new(held),
-                bell: Condvar::new(),
-                door: Condvar::new(),
+                state_changed: Condvar::new(),
+                notices_wait: Condvar::new(),
             },
             shares,
         ))
@@ -96,8 +96,9 @@ impl<L: Ledgers> House<L> {
         self.held.lock(rt).seat()
     }
 
-    /// One line of a client. The reply, the notice in front aside, is the one-thread player's after some past in which the caller's seat
-    /// had made the events that the caller made; the lent shelf answered and changed as that past and the line say.
+    /// One line of a client. The reply, the notice in front aside, is the one-thread player's after some past
+    /// in which the caller's seat had made the events that the caller made; the lent shelf answered and
+    /// changed as that past and the line say.
     ///
     /// # Errors
     ///
@@ -112,14 +113,14 @@ impl<L: Ledgers> House<L> {
     ) -> Result<Answered, PartitionFault>
         ensures made { OnOk result (seat.new ≡ after_events seat.old 1) }
         ensures fault { OnErr result ((seat.new ≡ seat.old) × IsUnwritten S.standing S.failed shelf.old shelf.new) }
-        ensures refused { IfErr result (λ fault. seat.old.number < 4 → StopsSomewhere S.standing S.failed shelf.old shelf.new seat.old.number seat.old.made (Line client Alone request nothing_heard) fault) }
-        ensures somewhere { IfOk result (λ a. seat.old.number < 4 → AnswersSomewhere S.standing S.failed shelf.old shelf.new seat.old.number seat.old.made (Line client Alone request nothing_heard) a.told.answer) }
+        ensures refused { IfErr result (λ fault. seat.old.number < 4 → StopsSomewhere S.standing S.failed shelf.old shelf.new seat.old.number seat.old.made (Line client Alone request no_store_reply) fault) }
+        ensures somewhere { IfOk result (λ a. seat.old.number < 4 → AnswersSomewhere S.standing S.failed shelf.old shelf.new seat.old.number seat.old.made (Line client Alone request no_store_reply) a.told.answer) }
         ensures front { IfOk result (λ a. IfSome a.front (λ notice. notice.client ≡ client)) }
     {
         let (told, rung) = {
             let mut held = self.held.lock(rt);
             let before = held.changes();
-            held.lighten();
+            held.compact_if_large();
             let told = held.command(seat, shelf, client, request);
             (told, rung_since(&*held, before))
         };
@@ -150,7 +151,7 @@ impl<L: Ledgers> House<L> {
         let (told, rung) = {
             let mut held = self.held.lock(rt);
             let before = held.changes();
-            held.lighten();
+            held.compact_if_large();
             let told = held.list(seat, shelf, client, form, requests);
             (told, rung_since(&*held, before))
         };
@@ -177,7 +178,7 @@ impl<L: Ledgers> House<L> {
         let (told, rung) = {
             let mut held = self.held.lock(rt);
             let before = held.changes();
-            held.lighten();
+            held.compact_if_large();
             let told = held.notice(seat, news);
             (told, rung_since(&*held, before))
         };
@@ -215,7 +216,7 @@ impl<L: Ledgers> House<L> {
         let (told, rung) = {
             let mut held = self.held.lock(rt);
             let before = held.changes();
-            held.lighten();
+            held.compact_if_large();
             let told = held.have(seat, number, frames, share);
             (told, rung_since(&*held, before))
         };
@@ -247,7 +248,7 @@ impl<L: Ledgers> House<L> {
         let (told, rung) = {
             let mut held = self.held.lock(rt);
             let before = held.changes();
-            held.lighten();
+            held.compact_if_large();
             let told = held.turn(seat, output, fates, failed, shares);
             (told, rung_since(&*held, before))
         };
@@ -275,7 +276,8 @@ impl<L: Ledgers> House<L> {
         self.held.lock(rt).settlement(end, drainer, output, shares)
     }
 
-    /// The end: from now on nothing is decoded and no scan begins. Each thread of the house is told of it at its next event.
+    /// The end: from now on nothing is decoded and no scan begins. Each thread of the house is told of it at
+    /// its next event.
     ///
     /// # Errors
     ///
@@ -286,8 +288,8 @@ impl<L: Ledgers> House<L> {
         ensures refused { IfErr result (λ fault. RefusesSomewhere seat.old End fault) }
     {
         let ended = self.held.lock(rt).end(seat);
-        self.bell.notify_all();
-        self.door.notify_all();
+        self.state_changed.notify_all();
+        self.notices_wait.notify_all();
         ended
     }
 
@@ -305,11 +307,12 @@ impl<L: Ledgers> House<L> {
         self.held.lock(rt).has_ended()
     }
 
-    /// Rests until something changed since the house had changed so often; while a song is played, no longer than the time that is
-    /// given, and else a second. Answers how often it has changed by then.
+    /// Rests until something changed since the house had changed so often; while a song is played, no longer
+    /// than the time that is given, and else a second. Answers how often it has changed by then.
     ///
-    /// What changes is what a thread has something to do for ([`Reported::changes`](held_player::Reported::changes)): whether and what is
-    /// played, which outputs are enabled, which scan runs, and the end. Frames in a ring are no change.
+    /// What changes is what a thread has something to do for
+    /// ([`Reported::changes`](held_player::Reported::changes)): whether and what is played, which outputs are
+    /// enabled, which scan runs, and the end. Frames in a ring are no change.
     pub fn rest<R: Wait + Clock>(&self, rt: &R, seen: u64, while_playing: Duration) -> u64 {
         let plays = self.held.lock(rt).plays();
         let most = if plays {
@@ -317,7 +320,7 @@ impl<L: Ledgers> House<L> {
         } else {
             Duration::from_millis(IDLE_REST)
         };
-        let (held, _is_late) = self.bell.wait_timeout_while(
+        let (held, _is_late) = self.state_changed.wait_timeout_while(
             rt,
             self.held.lock(rt),
             most,
@@ -326,9 +329,10 @@ impl<L: Ledgers> House<L> {
         held.changes()
     }
 
-    /// Waits until a notice waits for a client, the daemon ends, or the time is up, and says whether a notice waits.
+    /// Waits until a notice waits for a client, the daemon ends, or the time is up, and says whether a notice
+    /// waits.
     pub fn await_notice<R: Wait + Clock>(&self, rt: &R, most: Duration) -> bool {
-        let (held, _is_late) = self.door.wait_timeout_while(
+        let (held, _is_late) = self.notices_wait.wait_timeout_while(
             rt,
             self.held.lock(rt),
             most,
@@ -339,11 +343,11 @@ impl<L: Ledgers> House<L> {
 
     /// Wakes the threads that rest, if they are to be woken.
     fn ring(&self, rung: Rung) {
-        if rung.bell {
-            self.bell.notify_all();
+        if rung.state_changed {
+            self.state_changed.notify_all();
         }
-        if rung.door {
-            self.door.notify_all();
+        if rung.notices_wait {
+            self.notices_wait.notify_all();
         }
     }
 }
@@ -351,7 +355,7 @@ impl<L: Ledgers> House<L> {
 /// What is rung where the house had changed so often before a step.
 fn rung_since<L: Ledgers>(held: &Held<L>, before: u64) -> Rung {
     Rung {
-        bell: held.changes() != before,
-        door: held.has_notices(),
+        state_changed: held.changes() != before,
+        notices_wait: held.has_notices(),
     }
 }

@@ -16,7 +16,8 @@ use std::test::Fail;
 use std::thread;
 use std::thread::Threads;
 
-/// How many notices came from the outbox and how many in front of an answer, and how many more than one a change.
+/// How many notices came from the outbox and how many in front of an answer, and how many more than one a
+/// change.
 #[derive(Drop)]
 struct Notices {
     by_outbox: u32,
@@ -53,7 +54,8 @@ fn comes_by_outbox<L: Ledgers>(rt: &impl Wait, house: &House<L>, client: u32) ->
     false
 }
 
-/// A client waits for each of a hundred changes, and is told of it from the outbox, or in front of the answer to its `noidle`.
+/// A client waits for each of a hundred changes, and is told of it from the outbox, or in front of the answer
+/// to its `noidle`.
 fn waits<L: Ledgers>(
     rt: &impl Wait,
     house: &House<L>,

@@ -12,7 +12,7 @@ use Rattle.play_order.specs.declared.modes.Consume.{Consume}
 use Rattle.play_order.specs.declared.modes.Consume.TheVariants as consume_mode
 use Rattle.player_core.specs.declared.state.Playback.{Playback}
 use Rattle.player_core.specs.declared.state.Playback.TheVariants.{Stop, Play, Pause}
-use Rattle.idle_clients.specs.declared.signs.Options.{Options}
+use Rattle.idle_clients.specs.declared.fingerprint.Options.{Options}
 use Rattle.idle_clients.specs.Clients.{Playing, consume_number, id_number, playback_number, same_enabled, same_error, same_options, same_pair, same_pairs, same_playing, single_number}
 
 beq-one : (a b : Bool) → beq a b ≡ true → a ≡ b

@@ -7,12 +7,12 @@ use Rattle.std.proofs.lemmas.Bool.{eqb-true}
 use Rattle.std.proofs.lemmas.List.{length-append}
 use Rattle.idle_notes.specs.declared.channels.Message.{Message}
 use Rattle.idle_notes.specs.Channels.{MemberData, messages_in, names_in, changed, clients_with_messages, emptied, given, has_name, is_listening, left, listens, member_of, pairs, receives, sent, subscribed, unsubscribed, with_name, without_messages, without_name}
-use Rattle.player_state.specs.declared.doing.Doing.{Doing}
-use Rattle.player_state.specs.declared.doing.Doing.TheVariants.{ByCommand}
-use Rattle.player_state.specs.declared.doing.Effect.TheVariants.{Subscribes, Unsubscribes, Sends, ReadsMessages, Leaves}
+use Rattle.player_state.specs.declared.effect.Effect.{Effect}
+use Rattle.player_state.specs.declared.effect.Effect.TheVariants.{ByCommand}
+use Rattle.player_state.specs.declared.effect.CommandEffect.TheVariants.{Subscribes, Unsubscribes, Sends, ReadsMessages, Leaves}
 use Rattle.idle_clients.specs.Clients.{has_messages, same_pairs}
-use Rattle.player_state.specs.Doings.{channels_after}
-use Rattle.idle_clients.specs.Signs.{changes_subscriptions, is_among}
+use Rattle.player_state.specs.Effects.{channels_after}
+use Rattle.idle_clients.specs.Fingerprint.{changes_subscriptions, is_among}
 use Rattle.idle_clients.proofs.Alike.{more_than_none, same_pairs-refl, same_pairs-true}
 
 both_false : (b : Bool) → (b && false) ≡ false
@@ -83,7 +83,7 @@ abbrev Tells : {X : Type 0} → Bool → List X → List X → Type 0
 Tells true p q = length p < length q
 Tells false p q = p ≡ q
 
--- joined before a list, or behind it, they stay so
+-- joined before a list, or after it, they stay so
 before_all : {X : Type 0} (b : Bool) (p q r : List X) → Tells b p q → Tells b (r ++ p) (r ++ q)
 before_all true p q r less =
     let a = length-append r p in
@@ -246,7 +246,7 @@ by_test true p q less = other_known p q (λ same. absurd (omega (arith, less, sa
 by_test false p q e = same_known p q e
 
 -- what an event does tells whether the subscriptions are others
-pub changes : (channels : List MemberData) (doing : Doing) → not (same_pairs (pairs channels) (pairs (channels_after channels doing))) ≡ changes_subscriptions channels doing
+pub changes : (channels : List MemberData) (effect : Effect) → not (same_pairs (pairs channels) (pairs (channels_after channels effect))) ≡ changes_subscriptions channels effect
 changes channels (ByCommand (Subscribes client name)) =
     let more = subscribed_more client name channels in
     other_known (pairs channels) (pairs (subscribed client name channels)) (λ same. absurd (omega (arith, more, same)))

@@ -8,7 +8,7 @@ use Rattle.idle_notes.specs.Channels.{clients_with_messages, has_messages_beyond
 use Rattle.idle_notes.specs.Sets.{is_nonempty}
 use Rattle.idle_clients.specs.Clients.{has_messages}
 use Rattle.idle_clients.specs.Settled.{nothing}
-use Rattle.idle_clients.specs.Signs.{RaisedData, is_among, raised_in}
+use Rattle.idle_clients.specs.Fingerprint.{RaisedData, is_among, raised_in}
 use Rattle.idle_clients.proofs.Listeners.{among_waiting}
 use Rattle.idle_clients.proofs.Empty.{is_none}
 

@@ -6,10 +6,10 @@ use Rattle.std.proofs.lemmas.Bool.Decides.{nat_tests}
 use Rattle.idle_notes.specs.declared.pending.Pending.{Pending}
 use Rattle.idle_notes.specs.declared.sets.Subsystems.{Subsystems}
 use Rattle.idle_notes.specs.Notes.{fresh, waits, cancelled}
-use Rattle.command_plan.specs.declared.reply.Move.{Move}
-use Rattle.command_plan.specs.declared.reply.Move.TheVariants.{Stay, Wait, Learn, Resume, Join}
+use Rattle.transitions.specs.declared.reply.Move.{Move}
+use Rattle.transitions.specs.declared.reply.Move.TheVariants.{Stay, Wait, Learn, Resume, Join}
 use Rattle.player_state.specs.declared.state.Client.{Client}
-use Rattle.command_plan.specs.Answers.{Said}
+use Rattle.transitions.specs.Answers.{ResponseData}
 use Rattle.idle_clients.specs.Clients.{notified, is_other, at, joined, moved, closes, staying, move_of, clients_after, AllAbove, Rising}
 use Rattle.idle_clients.specs.Clients.{client_of}
 
@@ -101,11 +101,11 @@ rising_moved n Learn ks r = rising_map (at n (λ p. fresh)) (at_keeps n (λ p. f
 rising_moved n Resume ks r = rising_map (at n cancelled) (at_keeps n cancelled) ks r
 rising_moved n Join ks r = rising_joined n ks r
 
-pub rising_staying : (n : ℕ) (said : Said) (ks : List Client) → Rising ks → Rising (staying n said ks)
-rising_staying n said ks r =
-    elim (closes said.answer.next) as (λ b. Rising (if b then filter (is_other n) ks else ks)) [ true ↦ rising_filter (is_other n) ks r | false ↦ r ]
+pub rising_staying : (n : ℕ) (response : ResponseData) (ks : List Client) → Rising ks → Rising (staying n response ks)
+rising_staying n response ks r =
+    elim (closes response.answer.next) as (λ b. Rising (if b then filter (is_other n) ks else ks)) [ true ↦ rising_filter (is_other n) ks r | false ↦ r ]
 
-pub rising_after : (n : ℕ) (raised : ℕ → Subsystems) (said : Said) (ks : List Client) → Rising ks → Rising (clients_after n raised said ks)
-rising_after n raised said ks r =
-    rising_moved n (move_of said) (map (notified raised) (staying n said ks))
-    (rising_map (notified raised) (λ k. refl) (staying n said ks) (rising_staying n said ks r))
+pub rising_after : (n : ℕ) (raised : ℕ → Subsystems) (response : ResponseData) (ks : List Client) → Rising ks → Rising (clients_after n raised response ks)
+rising_after n raised response ks r =
+    rising_moved n (move_of response) (map (notified raised) (staying n response ks))
+    (rising_map (notified raised) (λ k. refl) (staying n response ks) (rising_staying n response ks r))

@@ -1,4 +1,5 @@
--- Who is told of what changed, and what becomes of the clients (MPD protocol reference, Querying MPD's status, `idle`).
+-- Who is told of what changed, and what becomes of the clients (MPD protocol reference, Querying MPD's
+-- status, `idle`).
 use Rattle.std.specs.Prelude.{ℕ, ◌+◌, ◌<◌, ◌==◌, nat_eq, nat_lt, Bool, true, false, not, ◌&&◌, List, [], ◌∷◌, Option, Some, None, is_some, map, filter, insert, length, if◌then◌else◌}
 use Rattle.std.specs.Bool.{beq}
 use Rattle.std.specs.List.{flat_map, position_or_len}
@@ -20,19 +21,19 @@ use Rattle.play_order.specs.declared.modes.Consume.TheVariants as consume_mode
 use Rattle.player_core.specs.declared.state.Playback.{Playback}
 use Rattle.player_core.specs.declared.state.Playback.TheVariants.{Stop, Play, Pause}
 use Rattle.player_core.specs.Player.{PlayerState}
-use Rattle.command_plan.specs.declared.reply.Move.{Move}
-use Rattle.command_plan.specs.declared.reply.Move.TheVariants.{Stay, Wait, Learn, Resume, Join}
-use Rattle.command_plan.specs.declared.reply.Next.{Next}
-use Rattle.command_plan.specs.declared.reply.Next.TheVariants.{Goes, Waits, Closes}
+use Rattle.transitions.specs.declared.reply.Move.{Move}
+use Rattle.transitions.specs.declared.reply.Move.TheVariants.{Stay, Wait, Learn, Resume, Join}
+use Rattle.transitions.specs.declared.reply.Next.{Next}
+use Rattle.transitions.specs.declared.reply.Next.TheVariants.{Goes, Waits, Closes}
 use Rattle.idle_clients.specs.declared.notices.Notice.{Notice}
 use Rattle.player_state.specs.declared.state.Client.{Client}
 use Rattle.player_state.specs.declared.state.Library.{Library}
 use Rattle.player_state.specs.declared.state.Part.{Part}
-use Rattle.command_plan.specs.Answers.{Said}
-use Rattle.idle_clients.specs.declared.signs.Options.{Options}
+use Rattle.transitions.specs.Answers.{ResponseData}
+use Rattle.idle_clients.specs.declared.fingerprint.Options.{Options}
 use Rattle.player_state.specs.Outputs.{OutputsData}
-use Rattle.command_plan.specs.Shelves.{changes_lists, changes_stickers}
-use Rattle.command_plan.specs.declared.shelf_calls.ShelfWrite.{ShelfWrite}
+use Rattle.transitions.specs.Shelves.{changes_lists, changes_stickers}
+use Rattle.transitions.specs.declared.shelf_calls.ShelfWrite.{ShelfWrite}
 
 -- the client of a number, if it is there
 abbrev pub client_of : ℕ → List Client → Option Client
@@ -77,7 +78,8 @@ same_error None (Some b) = false
 same_error (Some a) None = false
 same_error (Some a) (Some b) = bytes_eq a b
 
--- the part of the player that `player` speaks of: the state, the current song, the starts, the cuts, the error
+-- the part of the player that `player` speaks of: the state, the current song, the starts, the cuts, the
+-- error
 pub record Playing : Type 0 where
   pub playback : Playback
   pub current : Option ℕ
@@ -125,9 +127,10 @@ has_messages number channels = not (length (messages_of number channels) == 0)
 abbrev pub begins_to_have : ℕ → List MemberData → List MemberData → Bool
 begins_to_have number before after = not (has_messages number before) && has_messages number after
 
--- the subsystems whose parts differ before and after an event, for a client: the songs, whether a scan runs, the stored playlists,
--- the queue, what is played, the volume, which outputs are enabled, the modes and the seconds of a fade, the stickers, who listens
--- to which channel. A client hears of messages where it had none waiting and has some
+-- the subsystems whose parts differ before and after an event, for a client: the songs, whether a scan runs,
+-- the stored playlists, the queue, what is played, the volume, which outputs are enabled, the modes and the
+-- seconds of a fade, the stickers, who listens to which channel. A client hears of messages where it had none
+-- waiting and has some
 abbrev pub raised : ShelfWrite → Parts → Parts → ℕ → Subsystems
 raised written before after number = record none {
   database = not (same_songs before.library.songs after.library.songs);
@@ -146,7 +149,8 @@ raised written before after number = record none {
 abbrev pub is_other : ℕ → Client → Bool
 is_other number client = not (client.number == number)
 
--- what is pending for a client grows by what was raised; it is told what it waits for, and has then nothing pending
+-- what is pending for a client grows by what was raised; it is told what it waits for, and has then nothing
+-- pending
 abbrev pub notified : (ℕ → Subsystems) → Client → Client
 notified raised client = record client { pending = settled (noted (raised client.number) client.pending) }
 
@@ -180,20 +184,20 @@ closes Waits = false
 closes Closes = true
 
 -- a client whose answer closes it is gone, and makes no move
-abbrev pub staying : ℕ → Said → List Client → List Client
-staying number said clients = if closes said.answer.next then filter (is_other number) clients else clients
+abbrev pub staying : ℕ → ResponseData → List Client → List Client
+staying number response clients = if closes response.answer.next then filter (is_other number) clients else clients
 
-abbrev pub move_of : Said → Move
-move_of said = if closes said.answer.next then Stay else said.move
+abbrev pub move_of : ResponseData → Move
+move_of response = if closes response.answer.next then Stay else response.move
 
--- the clients after an event that comes from a client and raises these for each: those that stay hear of it, and then the client does
--- what it does
-abbrev pub clients_after : ℕ → (ℕ → Subsystems) → Said → List Client → List Client
-clients_after number raised said clients = moved number (move_of said) (map (notified raised) (staying number said clients))
+-- the clients after an event that comes from a client and raises these for each: those that stay hear of it,
+-- and then the client does what it does
+abbrev pub clients_after : ℕ → (ℕ → Subsystems) → ResponseData → List Client → List Client
+clients_after number raised response clients = moved number (move_of response) (map (notified raised) (staying number response clients))
 
 -- the notices of an event, by rising client
-abbrev pub notices_after : ℕ → (ℕ → Subsystems) → Said → List Client → List Notice
-notices_after number raised said clients = flat_map (notice_for raised) (staying number said clients)
+abbrev pub notices_after : ℕ → (ℕ → Subsystems) → ResponseData → List Client → List Notice
+notices_after number raised response clients = flat_map (notice_for raised) (staying number response clients)
 
 -- every client's number is above this
 abbrev pub AllAbove : ℕ → List Client → Type 0

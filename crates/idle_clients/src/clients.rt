@@ -4,14 +4,14 @@ ghost use Rattle.std.specs.List.{flat_map, position_or_len};
 ghost use Rattle.idle_notes.specs.Notes.{fresh, waits, cancelled};
 ghost use Rattle.idle_clients.specs.Clients.{at as at_lem, notified, is_other, joined, moved, notice_for};
 ghost use Rattle.idle_clients.specs.Clients.{client_of};
-ghost use Rattle.idle_clients.specs.Signs.{raised_in};
+ghost use Rattle.idle_clients.specs.Fingerprint.{raised_in};
 ghost use Rattle.idle_clients.specs.Rooms.{is_waiting, listed, room_for, room_in};
 
+use crate::fingerprint::Raised;
 use crate::notices::{Notice, Notices};
-use crate::signs::Raised;
-use command_plan::Move;
 use idle_notes::{Pending, Subsystems};
 use player_state::Client;
+use transitions::Move;
 
 /// The client of a number, if it is there.
 pub fn find_client(clients: &[Client], number: u32) -> Option<Client>

@@ -2,11 +2,11 @@
 #![tactic(auto)]
 
 mod clients;
+mod fingerprint;
 mod notices;
 mod same;
-mod signs;
 
 pub use clients::{find_client, leave, list_notices, make_move, notify_all, waiting};
+pub use fingerprint::{Fingerprint, Options, Raised, changes_subscriptions};
 pub use notices::{Notice, Notices};
 pub use same::changes_songs;
-pub use signs::{Options, Raised, Signs, changes_subscriptions};

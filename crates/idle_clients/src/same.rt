@@ -5,17 +5,17 @@ ghost use Rattle.idle_clients.specs.Clients.{same_songs as same_songs_lem};
 ghost use Rattle.player_state.specs.Libraries.{songs_after};
 ghost use lib.Pointwise.{pointwise};
 
-use command_plan::Plan;
 use mpd_text::{Song, Tag};
 use player_state::{Library, ScanMove};
 use song_db::SharedSong;
+use transitions::Transition;
 
-/// Whether a plan changes the songs of a library.
+/// Whether a transition changes the songs of a library.
 #[tactic(auto, using(crate::proofs::Songs::unchanged))]
-pub fn changes_songs(plan: &Plan, library: &Library) -> bool
-    ensures { result ≡ not (same_songs_lem library.now.songs (songs_after library.now plan.now.scan)) }
+pub fn changes_songs(transition: &Transition, library: &Library) -> bool
+    ensures { result ≡ not (same_songs_lem library.now.songs (songs_after library.now transition.now.scan)) }
 {
-    let ScanMove::End(Some(songs)) = &plan.scan else {
+    let ScanMove::End(Some(songs)) = &transition.scan else {
         return false;
     };
     if library.scan.running().is_none() {

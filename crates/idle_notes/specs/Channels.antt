@@ -1,6 +1,6 @@
--- The channels by which clients send one another messages (MPD protocol reference, Client to client; that a client listens to
--- at most 16 channels, that at most 64 messages wait for it, and that a listener with so many misses the further ones is this
--- profile's).
+-- The channels by which clients send one another messages (MPD protocol reference, Client to client; that a
+-- client listens to at most 16 channels, that at most 64 messages wait for it, and that a listener with so
+-- many misses the further ones is this profile's).
 use Rattle.std.specs.Prelude.{◌≡◌, ℕ, ◌<◌, ◌==◌, nat_lt, nat_le, Bool, true, not, ◌&&◌, ◌||◌, List, [], ◌∷◌, ◌++◌, Option, Some, None, is_some, find, filter, map, length, vec_len, vec_capacity, if◌then◌else◌}
 use Rattle.std.specs.List.{flat_map, list_any, list_all}
 use Rattle.std.specs.Str.{bytes_eq}
@@ -10,8 +10,8 @@ use Rattle.idle_notes.specs.declared.channels.ChannelFault.{ChannelFault}
 use Rattle.idle_notes.specs.declared.channels.ChannelFault.TheVariants.{Already, TooMany, NotSubscribed, Nobody, NoRoom}
 use Rattle.idle_notes.specs.Texts.{ascending}
 
--- a client that came to listen: the channels that it listens to, in the order in which it subscribed, and the messages that
--- wait for it, the oldest first
+-- a client that came to listen: the channels that it listens to, in the order in which it subscribed, and the
+-- messages that wait for it, the oldest first
 pub record MemberData : Type 0 where
   pub client : ℕ
   pub names : List (List ℕ)

@@ -1,5 +1,5 @@
--- What is pending for a client, and when it is told (MPD protocol reference, Querying MPD's status, `idle`; that a
--- notice clears also what was not named is this profile's).
+-- What is pending for a client, and when it is told (MPD protocol reference, Querying MPD's status, `idle`;
+-- that a notice clears also what was not named is this profile's).
 use Rattle.std.specs.Prelude.{Option, Some, None, if◌then◌else◌}
 use Rattle.idle_notes.specs.declared.pending.Pending.{Pending}
 use Rattle.idle_notes.specs.declared.sets.Subsystems.{Subsystems}

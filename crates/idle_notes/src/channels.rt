@@ -73,8 +73,8 @@ impl From<AllocError> for ChannelFault {
     }
 }
 
-/// Which client listens to which channel, and the messages that wait for each. A clause sees the clients in the order in which
-/// they came to listen.
+/// Which client listens to which channel, and the messages that wait for each. A clause sees the clients in
+/// the order in which they came to listen.
 #[derive(Drop)]
 pub struct Channels {
     members: Vec<Member>,
@@ -99,7 +99,8 @@ impl Channels {
         }
     }
 
-    /// Who listens to what, and what waits, a second time: what becomes of either leaves the other as it is. No message is copied.
+    /// Who listens to what, and what waits, a second time: what becomes of either leaves the other as it is.
+    /// No message is copied.
     pub fn image(&self) -> Result<Channels, AllocError>
         ensures { IfOk result (λ image. image ≡ self.now) }
     {
@@ -107,8 +108,9 @@ impl Channels {
         Ok(Channels { members })
     }
 
-    /// A client listens to a channel from now on (MPD protocol reference, `subscribe`). Where it is refused, nothing changes; want
-    /// of memory is the last cause. That a client listens to at most [`MAX_SUBSCRIPTIONS`] channels is this profile's.
+    /// A client listens to a channel from now on (MPD protocol reference, `subscribe`). Where it is refused,
+    /// nothing changes; want of memory is the last cause. That a client listens to at most
+    /// [`MAX_SUBSCRIPTIONS`] channels is this profile's.
     pub fn subscribe(&mut self, client: u32, name: &str) -> Result<(), ChannelFault>
         ensures ok { OnOk result (self.new ≡ subscribed client name.now self.old) }
         ensures within { OnOk result (subscribe_refusal client name.now self.old ≡ None) }
@@ -125,8 +127,8 @@ impl Channels {
         Ok(())
     }
 
-    /// A client listens to a channel no more (MPD protocol reference, `unsubscribe`); the messages that wait for it stay, and that
-    /// is this profile's. Where it is refused, nothing changes. Takes no memory.
+    /// A client listens to a channel no more (MPD protocol reference, `unsubscribe`); the messages that wait
+    /// for it stay, and that is this profile's. Where it is refused, nothing changes. Takes no memory.
     pub fn unsubscribe(&mut self, client: u32, name: &str) -> Result<(), ChannelFault>
         ensures ok { OnOk result (self.new ≡ unsubscribed client name.now self.old) }
         ensures within { OnOk result (unsubscribe_refusal client name.now self.old ≡ None) }
@@ -140,9 +142,9 @@ impl Channels {
         Ok(())
     }
 
-    /// A message to a channel joins, as the last, the messages of each client that listens to it and has room (MPD protocol
-    /// reference, `sendmessage`). Where it is refused, nothing changes; want of memory is the last cause. That at most
-    /// [`MAX_MESSAGES`] wait for a client is this profile's.
+    /// A message to a channel joins, as the last, the messages of each client that listens to it and has room
+    /// (MPD protocol reference, `sendmessage`). Where it is refused, nothing changes; want of memory is the
+    /// last cause. That at most [`MAX_MESSAGES`] wait for a client is this profile's.
     #[tactic(auto, unfolding(crate::specs::Channels::sent))]
     pub fn send(&mut self, name: &str, text: &str) -> Result<(), ChannelFault>
         ensures ok { OnOk result (self.new ≡ sent name.now text.now self.old) }
@@ -260,8 +262,8 @@ impl Channels {
         false
     }
 
-    /// Takes the messages that wait for a client, the oldest first (MPD protocol reference, `readmessages`); they wait no more.
-    /// Takes no memory.
+    /// Takes the messages that wait for a client, the oldest first (MPD protocol reference, `readmessages`);
+    /// they wait no more. Takes no memory.
     pub fn read(&mut self, client: u32) -> Vec<Message>
         ensures messages { result.items ≡ messages_of client self.old }
         ensures after { self.new ≡ emptied client self.old }
@@ -277,8 +279,8 @@ impl Channels {
         self.members.retain(|member| member.client != client);
     }
 
-    /// The names of the channels that somebody listens to, in byte order and each once (MPD protocol reference, `channels`; the
-    /// order is this profile's). No name is copied.
+    /// The names of the channels that somebody listens to, in byte order and each once (MPD protocol
+    /// reference, `channels`; the order is this profile's). No name is copied.
     pub fn channels(&self, alloc: Global) -> Result<Vec<&str>, AllocError>
         ensures { IfOk result (λ names. map (λ name. name.now) names.items ≡ channel_names self.now) }
     {
@@ -291,8 +293,8 @@ impl Channels {
     }
 }
 
-/// Whether a text is the name of a channel: one or more ASCII letters, digits, `_`, `-`, `.` and `:` (MPD protocol reference,
-/// Client to client).
+/// Whether a text is the name of a channel: one or more ASCII letters, digits, `_`, `-`, `.` and `:` (MPD
+/// protocol reference, Client to client).
 pub fn is_channel_name(name: &str) -> bool
     ensures { result ≡ is_channel_name_lem name.now }
 {
@@ -317,8 +319,8 @@ fn is_name_byte(byte: u8) -> bool
         || byte == b':'
 }
 
-/// The law that `channel_names` has the names that somebody listens to and no others, each before all that follow it in byte
-/// order.
+/// The law that `channel_names` has the names that somebody listens to and no others, each before all that
+/// follow it in byte order.
 pub fn channel_names_are_each_once()
     ensures order { (members : List MemberData) → IsStrictlySortedBy by_bytes (channel_names members) }
     ensures names { (members : List MemberData) (name : List ℕ) → Contains (channel_names members) name ↔ (hears name members ≡ true) }
@@ -333,7 +335,8 @@ pub fn clients_stay_apart()
     ensures left { (client : ℕ) (members : List MemberData) → ClientsDiffer members → ClientsDiffer (left client members) }
 {}
 
-/// The law that somebody listens to a channel exactly where a client does, as long as no client is there twice.
+/// The law that somebody listens to a channel exactly where a client does, as long as no client is there
+/// twice.
 pub fn hears_where_one_listens()
     ensures { (name : List ℕ) (members : List MemberData) → ClientsDiffer members → (hears name members ≡ true) ↔ ((client : ℕ) × (listens client name members ≡ true)) }
 {}

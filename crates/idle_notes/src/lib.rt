@@ -1,5 +1,5 @@
-//! What changed, and which clients wait to be told (MPD protocol reference, Querying MPD's status, `idle`); the channels by which
-//! clients send one another messages (Client to client).
+//! What changed, and which clients wait to be told (MPD protocol reference, Querying MPD's status, `idle`);
+//! the channels by which clients send one another messages (Client to client).
 #![tactic(auto)]
 
 mod channels;

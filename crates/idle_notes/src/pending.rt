@@ -4,7 +4,8 @@ ghost use Rattle.idle_notes.specs.Notes.{fresh, noted, waits, cancelled, notice_
 
 use crate::sets::Subsystems;
 
-/// What changed since a client's last notice, and what the client waits for, if it waits. Nothing here takes memory.
+/// What changed since a client's last notice, and what the client waits for, if it waits. Nothing here takes
+/// memory.
 #[derive(Clone, Copy, Debug, PartialEq, Eq)]
 pub struct Pending {
     waiting: Option<Subsystems>,
@@ -36,7 +37,8 @@ impl Pending {
         self.waiting = Some(named);
     }
 
-    /// The client waits for these. Where one of them changed already, that is its notice, and it does not wait.
+    /// The client waits for these. Where one of them changed already, that is its notice, and it does not
+    /// wait.
     pub fn wait(&mut self, named: Subsystems) -> Option<Subsystems>
         ensures notice { result ≡ notice_of (waits named self.old) }
         ensures after { self.new ≡ settled (waits named self.old) }
@@ -52,8 +54,8 @@ impl Pending {
         self.waiting = None;
     }
 
-    /// The client's notice, if it waits for something that changed: what changed of what it named. It then waits no
-    /// more, and nothing is pending, named or not.
+    /// The client's notice, if it waits for something that changed: what changed of what it named. It then
+    /// waits no more, and nothing is pending, named or not.
     pub fn notice(&mut self) -> Option<Subsystems>
         ensures notice { result ≡ notice_of self.old }
         ensures after { self.new ≡ settled self.old }

@@ -2,15 +2,15 @@
 ghost use Rattle.std.specs.Prelude.{◌≡◌, IfOk};
 ghost use Rattle.shelf.specs.Maps.{Trusted, Turns};
 ghost use Rattle.library_commands.specs.Shelf.{ask_all as ask_all_lem, ask_found as ask_found_lem, ask_list as ask_list_lem, ask_sticker as ask_sticker_lem, ask_stickers as ask_stickers_lem, question_by};
-ghost use Rattle.command_plan.specs.Shelves.{AskNames, IsRead, is_ok_read};
+ghost use Rattle.transitions.specs.Shelves.{AskNames, IsRead, is_ok_read};
 
 use crate::stored::{is_place, is_song};
-use command_plan::{Entries, Names, Read};
 use mpd_command::{Command, StickerCommand};
 use mpd_text::Text;
 use player_state::Library;
 use shelf::{Shelf, ShelfFault, is_list_name, is_sticker_name};
 use std::alloc::AllocError;
+use transitions::{Entries, Names, Read};
 
 /// Asks the shelf what a command asks of it.
 pub fn ask<S: Shelf>(

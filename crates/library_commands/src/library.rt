@@ -1,4 +1,5 @@
-//! The commands that ask for songs and folders of the library, and add songs of it (MPD protocol reference, The music database).
+//! The commands that ask for songs and folders of the library, and add songs of it (MPD protocol reference,
+//! The music database).
 ghost use Rattle.std.specs.Prelude.{◌≡◌, ◌++◌, [], Some, IfOk, OnOk, map, take, drop};
 ghost use Rattle.std.specs.Option.{option_copied};
 ghost use Rattle.filters.specs.Expressions.{Under};
@@ -6,10 +7,9 @@ ghost use Rattle.std.specs.List.{flat_map};
 ghost use Rattle.mpd_text.specs.Answers.Answer.{pair_line};
 ghost use Rattle.mpd_text.specs.Songs.Tags.{tag_text};
 ghost use Rattle.library_commands.specs.Library.{count_songs as count_songs_lem, find as find_lem, find_add as find_add_lem, lines_of_folders, lines_of_songs, lines_of_texts, lines_of_uris, list as list_lem, list_all as list_all_lem, list_info as list_info_lem, list_texts as list_texts_lem, no_such_directory as no_such_directory_lem, show_folder as show_folder_lem, unreadable as unreadable_lem, update as update_lem, uri_or_all as uri_or_all_lem, windowed as windowed_lem};
-ghost use Rattle.command_plan.specs.Turns.{turn_by};
-ghost use Rattle.player_state.specs.Plans.{Fits};
+ghost use Rattle.transitions.specs.Transitions.{transition_by};
+ghost use Rattle.player_state.specs.Fits.{Fits};
 
-use command_plan::{Asked, Plan};
 use filters::{Case, Filter, Test};
 use mpd_command::{Uri, Wanted, Window};
 use mpd_text::{Answer, ErrorNumber, TagName};
@@ -18,6 +18,7 @@ use queue_commands::queue_edits::add_found;
 use song_db::{SharedSong, push_song};
 use song_search::{counted, find as find_songs, is_folder, list_folder, listed, under};
 use std::alloc::{AllocError, Global};
+use transitions::{Asked, Transition};
 
 pub fn find(
     alloc: Global,
@@ -26,25 +27,25 @@ pub fn find(
     case: Case,
     wanted: &Wanted,
     window: Option<Window>,
-) -> Result<Plan, AllocError>
-    ensures { IfOk result (λ plan. plan ≡ turn_by (find_lem asked library.now case wanted.now window)) }
+) -> Result<Transition, AllocError>
+    ensures { IfOk result (λ transition. transition ≡ transition_by (find_lem asked library.now case wanted.now window)) }
 {
     match wanted {
         Wanted::Meeting(filter) => {
             let songs = find_songs(alloc, library.songs.db(), filter, case)?;
             let mut lines = Answer::new(alloc);
             push_songs(alloc, &mut lines, library, windowed(&songs, window))?;
-            Plan::shows(asked, lines)
+            Transition::shows(asked, lines)
         }
         Wanted::Refused(text) => unreadable(alloc, asked, text.as_str()),
     }
 }
 
 /// A filter that cannot be read.
-fn unreadable(alloc: Global, asked: Asked, text: &str) -> Result<Plan, AllocError>
-    ensures { IfOk result (λ plan. plan ≡ turn_by (unreadable_lem asked text.now)) }
+fn unreadable(alloc: Global, asked: Asked, text: &str) -> Result<Transition, AllocError>
+    ensures { IfOk result (λ transition. transition ≡ transition_by (unreadable_lem asked text.now)) }
 {
-    Plan::refuses(alloc, asked, ErrorNumber::Argument, text)
+    Transition::refuses(alloc, asked, ErrorNumber::Argument, text)
 }
 
 /// The songs that a window shows. It ends with the last of them.
@@ -102,9 +103,9 @@ pub fn find_add(
     library: &Library,
     case: Case,
     wanted: &Wanted,
-) -> Result<Plan, AllocError>
-    ensures plan { IfOk result (λ plan. plan ≡ turn_by (find_add_lem asked part.now library.now case wanted.now)) }
-    ensures fits { IfOk result (λ plan. Fits part.now plan.doing) }
+) -> Result<Transition, AllocError>
+    ensures transition { IfOk result (λ transition. transition ≡ transition_by (find_add_lem asked part.now library.now case wanted.now)) }
+    ensures fits { IfOk result (λ transition. Fits part.now transition.effect) }
 {
     match wanted {
         Wanted::Meeting(filter) => {
@@ -121,8 +122,8 @@ pub fn list(
     library: &Library,
     name: TagName,
     wanted: Option<&Wanted>,
-) -> Result<Plan, AllocError>
-    ensures { IfOk result (λ plan. plan ≡ turn_by (list_lem asked library.now name (option_copied wanted.entry))) }
+) -> Result<Transition, AllocError>
+    ensures { IfOk result (λ transition. transition ≡ transition_by (list_lem asked library.now name (option_copied wanted.entry))) }
 {
     match wanted {
         None => list_texts(alloc, asked, library, name, &all_songs(alloc)?),
@@ -148,12 +149,12 @@ fn list_texts(
     library: &Library,
     name: TagName,
     filter: &Filter,
-) -> Result<Plan, AllocError>
-    ensures { IfOk result (λ plan. plan ≡ turn_by (list_texts_lem asked library.now name filter.now)) }
+) -> Result<Transition, AllocError>
+    ensures { IfOk result (λ transition. transition ≡ transition_by (list_texts_lem asked library.now name filter.now)) }
 {
     let texts = listed(alloc, library.songs.db(), name, filter)?;
     let lines = text_lines(alloc, name, &texts)?;
-    Plan::shows(asked, lines)
+    Transition::shows(asked, lines)
 }
 
 #[tactic(auto, unfolding(crate::specs::Library::lines_of_texts))]
@@ -172,8 +173,8 @@ pub fn count(
     asked: Asked,
     library: &Library,
     wanted: &Wanted,
-) -> Result<Plan, AllocError>
-    ensures { IfOk result (λ plan. plan ≡ turn_by (count_songs_lem asked library.now wanted.now)) }
+) -> Result<Transition, AllocError>
+    ensures { IfOk result (λ transition. transition ≡ transition_by (count_songs_lem asked library.now wanted.now)) }
 {
     match wanted {
         Wanted::Meeting(filter) => {
@@ -181,7 +182,7 @@ pub fn count(
             let mut lines = Answer::new(alloc);
             lines.pair("songs", count.songs)?;
             lines.pair("playtime", count.seconds)?;
-            Plan::shows(asked, lines)
+            Transition::shows(asked, lines)
         }
         Wanted::Refused(text) => unreadable(alloc, asked, text.as_str()),
     }
@@ -192,15 +193,15 @@ pub fn list_info(
     asked: Asked,
     library: &Library,
     uri: Option<&Uri>,
-) -> Result<Plan, AllocError>
-    ensures { IfOk result (λ plan. plan ≡ turn_by (list_info_lem asked library.now (option_copied uri.entry))) }
+) -> Result<Transition, AllocError>
+    ensures { IfOk result (λ transition. transition ≡ transition_by (list_info_lem asked library.now (option_copied uri.entry))) }
 {
     let uri = uri_or_all(uri);
     match library.songs.db().get(uri) {
         Some(song) => {
             let mut lines = Answer::new(alloc);
             push_song(alloc, &mut lines, song, &library.rate)?;
-            Plan::shows(asked, lines)
+            Transition::shows(asked, lines)
         }
         None => show_folder(alloc, asked, library, uri),
     }
@@ -222,8 +223,8 @@ fn show_folder(
     asked: Asked,
     library: &Library,
     folder: &str,
-) -> Result<Plan, AllocError>
-    ensures { IfOk result (λ plan. plan ≡ turn_by (show_folder_lem asked library.now folder.now)) }
+) -> Result<Transition, AllocError>
+    ensures { IfOk result (λ transition. transition ≡ transition_by (show_folder_lem asked library.now folder.now)) }
 {
     if !is_folder(library.songs.db(), folder) {
         return no_such_directory(alloc, asked);
@@ -231,13 +232,13 @@ fn show_folder(
     let found = list_folder(alloc, library.songs.db(), folder)?;
     let mut lines = folder_lines(alloc, &found.folders)?;
     push_songs(alloc, &mut lines, library, &found.songs)?;
-    Plan::shows(asked, lines)
+    Transition::shows(asked, lines)
 }
 
-fn no_such_directory(alloc: Global, asked: Asked) -> Result<Plan, AllocError>
-    ensures { IfOk result (λ plan. plan ≡ turn_by (no_such_directory_lem asked)) }
+fn no_such_directory(alloc: Global, asked: Asked) -> Result<Transition, AllocError>
+    ensures { IfOk result (λ transition. transition ≡ transition_by (no_such_directory_lem asked)) }
 {
-    Plan::refuses(alloc, asked, ErrorNumber::NoExist, "no such directory")
+    Transition::refuses(alloc, asked, ErrorNumber::NoExist, "no such directory")
 }
 
 #[tactic(auto, unfolding(crate::specs::Library::lines_of_folders))]
@@ -256,15 +257,15 @@ pub fn list_all(
     asked: Asked,
     library: &Library,
     uri: Option<&Uri>,
-) -> Result<Plan, AllocError>
-    ensures { IfOk result (λ plan. plan ≡ turn_by (list_all_lem asked library.now (option_copied uri.entry))) }
+) -> Result<Transition, AllocError>
+    ensures { IfOk result (λ transition. transition ≡ transition_by (list_all_lem asked library.now (option_copied uri.entry))) }
 {
     let folder = uri_or_all(uri);
     if !is_folder(library.songs.db(), folder) {
         return no_such_directory(alloc, asked);
     }
     let lines = uri_lines(alloc, under(library.songs.db(), folder))?;
-    Plan::shows(asked, lines)
+    Transition::shows(asked, lines)
 }
 
 #[tactic(auto, unfolding(crate::specs::Library::lines_of_uris))]
@@ -278,14 +279,14 @@ fn uri_lines(alloc: Global, songs: &[SharedSong]) -> Result<Answer, AllocError>
     Ok(lines)
 }
 
-pub fn update(alloc: Global, asked: Asked, library: &Library) -> Result<Plan, AllocError>
-    ensures { IfOk result (λ plan. plan ≡ turn_by (update_lem asked library.now)) }
+pub fn update(alloc: Global, asked: Asked, library: &Library) -> Result<Transition, AllocError>
+    ensures { IfOk result (λ transition. transition ≡ transition_by (update_lem asked library.now)) }
 {
     if library.scan.running().is_some() {
         let text = "already updating";
-        return Plan::refuses(alloc, asked, ErrorNumber::UpdateAlready, text);
+        return Transition::refuses(alloc, asked, ErrorNumber::UpdateAlready, text);
     }
     let mut lines = Answer::new(alloc);
     lines.pair("updating_db", library.scan.next())?;
-    Plan::begins_scan(asked, lines)
+    Transition::begins_scan(asked, lines)
 }

@@ -1,16 +1,15 @@
-//! The commands over stored playlists and stickers (MPD protocol reference, Stored playlists, Stickers). What the shelf answered to a command's
-//! question is there; what is to be written is part of the plan.
+//! The commands over stored playlists and stickers (MPD protocol reference, Stored playlists, Stickers). What
+//! the shelf answered to a command's question is there; what is to be written is part of the transition.
 ghost use Rattle.std.specs.Prelude.{◌≡◌, IfOk, not};
 ghost use Rattle.std.specs.Option.{option_copied};
-ghost use Rattle.command_plan.specs.Deeds.{writes as writes_lem};
+ghost use Rattle.transitions.specs.CommandResults.{writes as writes_lem};
 ghost use Rattle.library_commands.specs.Shelf.{append as append_lem, append_folder as append_folder_lem, is_place as is_place_lem, is_song as is_song_lem, list_playlist as list_playlist_lem, list_playlist_info as list_playlist_info_lem, list_playlists as list_playlists_lem, load as load_lem, load_range as load_range_lem, misread as misread_lem, playlist_add as playlist_add_lem, playlist_clear as playlist_clear_lem, playlist_delete as playlist_delete_lem, playlist_move as playlist_move_lem, put_with as put_with_lem, refused as refused_lem, remove as remove_lem, rename as rename_lem, same_uris, save as save_lem, sticker as sticker_lem};
-ghost use Rattle.command_plan.specs.declared.shelf_calls.Read.{Read};
-ghost use Rattle.command_plan.specs.declared.shelf_calls.ShelfWrite.{ShelfWrite};
+ghost use Rattle.transitions.specs.declared.shelf_calls.Read.{Read};
+ghost use Rattle.transitions.specs.declared.shelf_calls.ShelfWrite.{ShelfWrite};
 ghost use Rattle.mpd_command.specs.declared.sticker.StickerCommand.{StickerCommand};
-ghost use Rattle.command_plan.specs.Turns.{turn_by};
-ghost use Rattle.player_state.specs.Plans.{Fits};
+ghost use Rattle.transitions.specs.Transitions.{transition_by};
+ghost use Rattle.player_state.specs.Fits.{Fits};
 
-use command_plan::{Asked, Plan, Read, ShelfWrite, shelf_refuses};
 use mpd_command::{Comparison, StickerCommand, Uri};
 use mpd_text::{ErrorNumber, Range, Text};
 use player_state::{Library, Part};
@@ -23,21 +22,22 @@ use shelf_contents::{
 use song_db::SharedSong;
 use song_search::{is_folder, under};
 use std::alloc::{AllocError, Global};
+use transitions::{Asked, Read, ShelfWrite, Transition, shelf_refuses};
 
 /// The most entries of a stored playlist.
 const MAX_ENTRIES: usize = 16_384;
 
 /// The shelf refused the question.
-fn refused(alloc: Global, asked: Asked, fault: ShelfFault) -> Result<Plan, AllocError>
-    ensures { IfOk result (λ plan. plan ≡ turn_by (refused_lem asked fault)) }
+fn refused(alloc: Global, asked: Asked, fault: ShelfFault) -> Result<Transition, AllocError>
+    ensures { IfOk result (λ transition. transition ≡ transition_by (refused_lem asked fault)) }
 {
     let name = Some(asked.name);
-    Ok(Plan::only(shelf_refuses(alloc, asked.stand, name, fault)?))
+    Ok(Transition::only(shelf_refuses(alloc, asked.stand, name, fault)?))
 }
 
 /// The shelf answered another question, which no shelf does that is as it should be.
-fn misread(alloc: Global, asked: Asked) -> Result<Plan, AllocError>
-    ensures { IfOk result (λ plan. plan ≡ turn_by (misread_lem asked)) }
+fn misread(alloc: Global, asked: Asked) -> Result<Transition, AllocError>
+    ensures { IfOk result (λ transition. transition ≡ transition_by (misread_lem asked)) }
 {
     refused(alloc, asked, ShelfFault::StoreFault)
 }
@@ -47,14 +47,14 @@ pub fn list_playlist(
     asked: Asked,
     read: &Read,
     name: &Text,
-) -> Result<Plan, AllocError>
-    ensures { IfOk result (λ plan. plan ≡ turn_by (list_playlist_lem asked read.now name.now)) }
+) -> Result<Transition, AllocError>
+    ensures { IfOk result (λ transition. transition ≡ transition_by (list_playlist_lem asked read.now name.now)) }
 {
     if !is_list_name(name.as_str()) {
-        return Plan::bad_name(alloc, asked, name.as_str());
+        return Transition::bad_name(alloc, asked, name.as_str());
     }
     match read {
-        Read::List(uris) => Plan::shows(asked, list_lines(alloc, uris)?),
+        Read::List(uris) => Transition::shows(asked, list_lines(alloc, uris)?),
         Read::Refused(fault) => refused(alloc, asked, *fault),
         _ => misread(alloc, asked),
     }
@@ -66,27 +66,27 @@ pub fn list_playlist_info(
     library: &Library,
     read: &Read,
     name: &Text,
-) -> Result<Plan, AllocError>
-    ensures { IfOk result (λ plan. plan ≡ turn_by (list_playlist_info_lem asked library.now read.now name.now)) }
+) -> Result<Transition, AllocError>
+    ensures { IfOk result (λ transition. transition ≡ transition_by (list_playlist_info_lem asked library.now read.now name.now)) }
 {
     if !is_list_name(name.as_str()) {
-        return Plan::bad_name(alloc, asked, name.as_str());
+        return Transition::bad_name(alloc, asked, name.as_str());
     }
     match read {
         Read::List(uris) => {
             let lines = list_info_lines(alloc, uris, library.songs.db(), &library.rate)?;
-            Plan::shows(asked, lines)
+            Transition::shows(asked, lines)
         }
         Read::Refused(fault) => refused(alloc, asked, *fault),
         _ => misread(alloc, asked),
     }
 }
 
-pub fn list_playlists(alloc: Global, asked: Asked, read: &Read) -> Result<Plan, AllocError>
-    ensures { IfOk result (λ plan. plan ≡ turn_by (list_playlists_lem asked read.now)) }
+pub fn list_playlists(alloc: Global, asked: Asked, read: &Read) -> Result<Transition, AllocError>
+    ensures { IfOk result (λ transition. transition ≡ transition_by (list_playlists_lem asked read.now)) }
 {
     match read {
-        Read::Names(names) => Plan::shows(asked, name_lines(alloc, names.as_slice())?),
+        Read::Names(names) => Transition::shows(asked, name_lines(alloc, names.as_slice())?),
         Read::Refused(fault) => refused(alloc, asked, *fault),
         _ => misread(alloc, asked),
     }
@@ -100,12 +100,12 @@ pub fn load(
     read: &Read,
     name: &Text,
     range: Option<Range>,
-) -> Result<Plan, AllocError>
-    ensures plan { IfOk result (λ plan. plan ≡ turn_by (load_lem asked part.now library.now read.now name.now range)) }
-    ensures fits { IfOk result (λ plan. Fits part.now plan.doing) }
+) -> Result<Transition, AllocError>
+    ensures transition { IfOk result (λ transition. transition ≡ transition_by (load_lem asked part.now library.now read.now name.now range)) }
+    ensures fits { IfOk result (λ transition. Fits part.now transition.effect) }
 {
     if !is_list_name(name.as_str()) {
-        return Plan::bad_name(alloc, asked, name.as_str());
+        return Transition::bad_name(alloc, asked, name.as_str());
     }
     match read {
         Read::List(uris) => load_range(alloc, asked, part, library, range, uris),
@@ -121,55 +121,60 @@ fn load_range(
     library: &Library,
     range: Option<Range>,
     uris: &UriList,
-) -> Result<Plan, AllocError>
-    ensures plan { IfOk result (λ plan. plan ≡ turn_by (load_range_lem asked part.now library.now range uris.now)) }
-    ensures fits { IfOk result (λ plan. Fits part.now plan.doing) }
+) -> Result<Transition, AllocError>
+    ensures transition { IfOk result (λ transition. transition ≡ transition_by (load_range_lem asked part.now library.now range uris.now)) }
+    ensures fits { IfOk result (λ transition. Fits part.now transition.effect) }
 {
     let all = uris.len();
     let places = match range {
         None => 0..all,
         Some(range) => match range.within(all) {
             Some(places) => places,
-            None => return Plan::bad_index(alloc, asked),
+            None => return Transition::bad_index(alloc, asked),
         },
     };
     let songs = loaded(alloc, library.songs.db(), uris, places.start, places.end)?;
     add_loaded(alloc, asked, part, songs)
 }
 
-pub fn save(alloc: Global, asked: Asked, part: &Part, name: &Text) -> Result<Plan, AllocError>
-    ensures { IfOk result (λ plan. plan ≡ turn_by (save_lem asked part.now name.now)) }
+pub fn save(alloc: Global, asked: Asked, part: &Part, name: &Text) -> Result<Transition, AllocError>
+    ensures { IfOk result (λ transition. transition ≡ transition_by (save_lem asked part.now name.now)) }
 {
     if !is_list_name(name.as_str()) {
-        return Plan::bad_name(alloc, asked, name.as_str());
+        return Transition::bad_name(alloc, asked, name.as_str());
     }
     let uris = uris_of_queue(alloc, &part.queue)?;
     let name = Text::new(alloc, name.as_str())?;
-    Plan::writes(alloc, asked, ShelfWrite::Create(name, uris))
+    Transition::writes(alloc, asked, ShelfWrite::Create(name, uris))
 }
 
-pub fn remove(alloc: Global, asked: Asked, name: &Text) -> Result<Plan, AllocError>
-    ensures { IfOk result (λ plan. plan ≡ turn_by (remove_lem asked name.now)) }
+pub fn remove(alloc: Global, asked: Asked, name: &Text) -> Result<Transition, AllocError>
+    ensures { IfOk result (λ transition. transition ≡ transition_by (remove_lem asked name.now)) }
 {
     if !is_list_name(name.as_str()) {
-        return Plan::bad_name(alloc, asked, name.as_str());
+        return Transition::bad_name(alloc, asked, name.as_str());
     }
     let name = Text::new(alloc, name.as_str())?;
-    Plan::writes(alloc, asked, ShelfWrite::Remove(name))
+    Transition::writes(alloc, asked, ShelfWrite::Remove(name))
 }
 
-pub fn rename(alloc: Global, asked: Asked, name: &Text, new: &Text) -> Result<Plan, AllocError>
-    ensures { IfOk result (λ plan. plan ≡ turn_by (rename_lem asked name.now new.now)) }
+pub fn rename(
+    alloc: Global,
+    asked: Asked,
+    name: &Text,
+    new: &Text,
+) -> Result<Transition, AllocError>
+    ensures { IfOk result (λ transition. transition ≡ transition_by (rename_lem asked name.now new.now)) }
 {
     if !is_list_name(name.as_str()) {
-        return Plan::bad_name(alloc, asked, name.as_str());
+        return Transition::bad_name(alloc, asked, name.as_str());
     }
     if !is_list_name(new.as_str()) {
-        return Plan::bad_name(alloc, asked, new.as_str());
+        return Transition::bad_name(alloc, asked, new.as_str());
     }
     let name = Text::new(alloc, name.as_str())?;
     let new = Text::new(alloc, new.as_str())?;
-    Plan::writes(alloc, asked, ShelfWrite::Rename(name, new))
+    Transition::writes(alloc, asked, ShelfWrite::Rename(name, new))
 }
 
 pub fn playlist_add(
@@ -179,11 +184,11 @@ pub fn playlist_add(
     read: &Read,
     name: &Text,
     uri: &Uri,
-) -> Result<Plan, AllocError>
-    ensures { IfOk result (λ plan. plan ≡ turn_by (playlist_add_lem asked library.now read.now name.now uri.now.0)) }
+) -> Result<Transition, AllocError>
+    ensures { IfOk result (λ transition. transition ≡ transition_by (playlist_add_lem asked library.now read.now name.now uri.now.0)) }
 {
     if !is_list_name(name.as_str()) {
-        return Plan::bad_name(alloc, asked, name.as_str());
+        return Transition::bad_name(alloc, asked, name.as_str());
     }
     match library.songs.db().share(uri.0.as_str())? {
         Some(song) => append(alloc, asked, read, name, &[song]),
@@ -198,11 +203,11 @@ fn append_folder(
     read: &Read,
     name: &Text,
     folder: &str,
-) -> Result<Plan, AllocError>
-    ensures { IfOk result (λ plan. plan ≡ turn_by (append_folder_lem asked library.now read.now name.now folder.now)) }
+) -> Result<Transition, AllocError>
+    ensures { IfOk result (λ transition. transition ≡ transition_by (append_folder_lem asked library.now read.now name.now folder.now)) }
 {
     if !is_folder(library.songs.db(), folder) {
-        return Plan::no_such_song(alloc, asked);
+        return Transition::no_such_song(alloc, asked);
     }
     append(alloc, asked, read, name, under(library.songs.db(), folder))
 }
@@ -214,8 +219,8 @@ fn append(
     read: &Read,
     name: &Text,
     songs: &[SharedSong],
-) -> Result<Plan, AllocError>
-    ensures { IfOk result (λ plan. plan ≡ turn_by (append_lem asked read.now name.now songs.now)) }
+) -> Result<Transition, AllocError>
+    ensures { IfOk result (λ transition. transition ≡ transition_by (append_lem asked read.now name.now songs.now)) }
 {
     match read {
         Read::List(uris) => put_with(alloc, asked, name, uris, songs, !songs.is_empty()),
@@ -234,11 +239,11 @@ fn put_with(
     uris: &UriList,
     songs: &[SharedSong],
     changes: bool,
-) -> Result<Plan, AllocError>
-    ensures { IfOk result (λ plan. plan ≡ turn_by (put_with_lem asked name.now uris.now songs.now changes)) }
+) -> Result<Transition, AllocError>
+    ensures { IfOk result (λ transition. transition ≡ transition_by (put_with_lem asked name.now uris.now songs.now changes)) }
 {
     if uris.len().saturating_add(songs.len()) > MAX_ENTRIES {
-        return Plan::refuses(alloc, asked, ErrorNumber::PlaylistMax, "playlist is full");
+        return Transition::refuses(alloc, asked, ErrorNumber::PlaylistMax, "playlist is full");
     }
     let longer = with_songs(uris, songs)?;
     put(alloc, asked, name, longer, changes)
@@ -251,11 +256,11 @@ fn put(
     name: &Text,
     uris: UriList,
     changes: bool,
-) -> Result<Plan, AllocError>
-    ensures { IfOk result (λ plan. plan ≡ turn_by (writes_lem asked (ShelfWrite.Put name.now uris changes))) }
+) -> Result<Transition, AllocError>
+    ensures { IfOk result (λ transition. transition ≡ transition_by (writes_lem asked (ShelfWrite.Put name.now uris changes))) }
 {
     let name = Text::new(alloc, name.as_str())?;
-    Plan::writes(alloc, asked, ShelfWrite::Put(name, uris, changes))
+    Transition::writes(alloc, asked, ShelfWrite::Put(name, uris, changes))
 }
 
 pub fn playlist_clear(
@@ -263,11 +268,11 @@ pub fn playlist_clear(
     asked: Asked,
     read: &Read,
     name: &Text,
-) -> Result<Plan, AllocError>
-    ensures { IfOk result (λ plan. plan ≡ turn_by (playlist_clear_lem asked read.now name.now)) }
+) -> Result<Transition, AllocError>
+    ensures { IfOk result (λ transition. transition ≡ transition_by (playlist_clear_lem asked read.now name.now)) }
 {
     if !is_list_name(name.as_str()) {
-        return Plan::bad_name(alloc, asked, name.as_str());
+        return Transition::bad_name(alloc, asked, name.as_str());
     }
     match read {
         Read::List(uris) => put(alloc, asked, name, UriList::new(alloc), !uris.is_empty()),
@@ -282,16 +287,16 @@ pub fn playlist_delete(
     read: &Read,
     name: &Text,
     place: u32,
-) -> Result<Plan, AllocError>
-    ensures { IfOk result (λ plan. plan ≡ turn_by (playlist_delete_lem asked read.now name.now place)) }
+) -> Result<Transition, AllocError>
+    ensures { IfOk result (λ transition. transition ≡ transition_by (playlist_delete_lem asked read.now name.now place)) }
 {
     if !is_list_name(name.as_str()) {
-        return Plan::bad_name(alloc, asked, name.as_str());
+        return Transition::bad_name(alloc, asked, name.as_str());
     }
     match read {
         Read::List(uris) => {
             if place as usize >= uris.len() {
-                return Plan::bad_index(alloc, asked);
+                return Transition::bad_index(alloc, asked);
             }
             let rest = without(alloc, uris, place as usize)?;
             put(alloc, asked, name, rest, true)
@@ -308,16 +313,16 @@ pub fn playlist_move(
     name: &Text,
     from: u32,
     to: u32,
-) -> Result<Plan, AllocError>
-    ensures { IfOk result (λ plan. plan ≡ turn_by (playlist_move_lem asked read.now name.now from to)) }
+) -> Result<Transition, AllocError>
+    ensures { IfOk result (λ transition. transition ≡ transition_by (playlist_move_lem asked read.now name.now from to)) }
 {
     if !is_list_name(name.as_str()) {
-        return Plan::bad_name(alloc, asked, name.as_str());
+        return Transition::bad_name(alloc, asked, name.as_str());
     }
     match read {
         Read::List(uris) => {
             if from as usize >= uris.len() || to as usize >= uris.len() {
-                return Plan::bad_index(alloc, asked);
+                return Transition::bad_index(alloc, asked);
             }
             let others = moved(alloc, uris, from as usize, to as usize)?;
             let changes = differ(uris, &others);
@@ -355,8 +360,8 @@ pub fn sticker(
     library: &Library,
     read: &Read,
     command: &StickerCommand,
-) -> Result<Plan, AllocError>
-    ensures { IfOk result (λ plan. plan ≡ turn_by (sticker_lem asked library.now read.now command.now)) }
+) -> Result<Transition, AllocError>
+    ensures { IfOk result (λ transition. transition ≡ transition_by (sticker_lem asked library.now read.now command.now)) }
 {
     match command {
         StickerCommand::Get(uri, name) => get_sticker(alloc, asked, library, read, uri, name),
@@ -380,19 +385,19 @@ fn get_sticker(
     read: &Read,
     uri: &Uri,
     name: &Text,
-) -> Result<Plan, AllocError>
-    ensures { IfOk result (λ plan. plan ≡ turn_by (sticker_lem asked library.now read.now (StickerCommand.Get uri.now name.now))) }
+) -> Result<Transition, AllocError>
+    ensures { IfOk result (λ transition. transition ≡ transition_by (sticker_lem asked library.now read.now (StickerCommand.Get uri.now name.now))) }
 {
     if !is_song(library, uri.0.as_str()) {
-        return Plan::no_such_song(alloc, asked);
+        return Transition::no_such_song(alloc, asked);
     }
     if !is_sticker_name(name.as_str()) {
-        return Plan::bad_name(alloc, asked, name.as_str());
+        return Transition::bad_name(alloc, asked, name.as_str());
     }
     match read {
         Read::Value(value) => {
             let line = sticker_line(alloc, name.as_str(), value.as_str())?;
-            Plan::shows(asked, line)
+            Transition::shows(asked, line)
         }
         Read::Refused(fault) => refused(alloc, asked, *fault),
         _ => misread(alloc, asked),
@@ -407,14 +412,14 @@ fn set_sticker(
     uri: &Uri,
     name: &Text,
     value: &Text,
-) -> Result<Plan, AllocError>
-    ensures { IfOk result (λ plan. plan ≡ turn_by (sticker_lem asked library.now read.now (StickerCommand.Set uri.now name.now value.now))) }
+) -> Result<Transition, AllocError>
+    ensures { IfOk result (λ transition. transition ≡ transition_by (sticker_lem asked library.now read.now (StickerCommand.Set uri.now name.now value.now))) }
 {
     if !is_song(library, uri.0.as_str()) {
-        return Plan::no_such_song(alloc, asked);
+        return Transition::no_such_song(alloc, asked);
     }
     if !is_sticker_name(name.as_str()) {
-        return Plan::bad_name(alloc, asked, name.as_str());
+        return Transition::bad_name(alloc, asked, name.as_str());
     }
     let changes = match read {
         Read::Value(before) => before.as_str() != value.as_str(),
@@ -425,7 +430,7 @@ fn set_sticker(
     let uri = Text::new(alloc, uri.0.as_str())?;
     let name = Text::new(alloc, name.as_str())?;
     let value = Text::new(alloc, value.as_str())?;
-    Plan::writes(
+    Transition::writes(
         alloc,
         asked,
         ShelfWrite::SetSticker(uri, name, value, changes),
@@ -438,21 +443,21 @@ fn delete_stickers(
     library: &Library,
     uri: &Uri,
     name: Option<&Text>,
-) -> Result<Plan, AllocError>
-    ensures { IfOk result (λ plan. plan ≡ turn_by (sticker_lem asked library.now Read.Nothing (StickerCommand.Delete uri.now (option_copied name.entry)))) }
+) -> Result<Transition, AllocError>
+    ensures { IfOk result (λ transition. transition ≡ transition_by (sticker_lem asked library.now Read.Nothing (StickerCommand.Delete uri.now (option_copied name.entry)))) }
 {
     if !is_song(library, uri.0.as_str()) {
-        return Plan::no_such_song(alloc, asked);
+        return Transition::no_such_song(alloc, asked);
     }
     let song = Text::new(alloc, uri.0.as_str())?;
     let Some(name) = name else {
-        return Plan::writes(alloc, asked, ShelfWrite::DeleteStickers(song));
+        return Transition::writes(alloc, asked, ShelfWrite::DeleteStickers(song));
     };
     if !is_sticker_name(name.as_str()) {
-        return Plan::bad_name(alloc, asked, name.as_str());
+        return Transition::bad_name(alloc, asked, name.as_str());
     }
     let name = Text::new(alloc, name.as_str())?;
-    Plan::writes(alloc, asked, ShelfWrite::DeleteSticker(song, name))
+    Transition::writes(alloc, asked, ShelfWrite::DeleteSticker(song, name))
 }
 
 fn list_stickers(
@@ -461,14 +466,17 @@ fn list_stickers(
     library: &Library,
     read: &Read,
     uri: &Uri,
-) -> Result<Plan, AllocError>
-    ensures { IfOk result (λ plan. plan ≡ turn_by (sticker_lem asked library.now read.now (StickerCommand.List uri.now))) }
+) -> Result<Transition, AllocError>
+    ensures { IfOk result (λ transition. transition ≡ transition_by (sticker_lem asked library.now read.now (StickerCommand.List uri.now))) }
 {
     if !is_song(library, uri.0.as_str()) {
-        return Plan::no_such_song(alloc, asked);
+        return Transition::no_such_song(alloc, asked);
     }
     match read {
-        Read::Entries(entries) => Plan::shows(asked, sticker_lines(alloc, entries.as_slice())?),
+        Read::Entries(entries) => Transition::shows(
+            asked,
+            sticker_lines(alloc, entries.as_slice())?,
+        ),
         Read::Refused(fault) => refused(alloc, asked, *fault),
         _ => misread(alloc, asked),
     }
@@ -482,14 +490,14 @@ fn find_stickers(
     uri: &Uri,
     name: &Text,
     test: Option<&Comparison>,
-) -> Result<Plan, AllocError>
-    ensures { IfOk result (λ plan. plan ≡ turn_by (sticker_lem asked library.now read.now (StickerCommand.Find uri.now name.now (option_copied test.entry)))) }
+) -> Result<Transition, AllocError>
+    ensures { IfOk result (λ transition. transition ≡ transition_by (sticker_lem asked library.now read.now (StickerCommand.Find uri.now name.now (option_copied test.entry)))) }
 {
     if !is_place(library, uri.0.as_str()) {
-        return Plan::no_such_song(alloc, asked);
+        return Transition::no_such_song(alloc, asked);
     }
     if !is_sticker_name(name.as_str()) {
-        return Plan::bad_name(alloc, asked, name.as_str());
+        return Transition::bad_name(alloc, asked, name.as_str());
     }
     match read {
         Read::Entries(entries) => {
@@ -503,7 +511,7 @@ fn find_stickers(
                 entries.as_slice(),
                 test,
             )?;
-            Plan::shows(asked, found)
+            Transition::shows(asked, found)
         }
         Read::Refused(fault) => refused(alloc, asked, *fault),
         _ => misread(alloc, asked),

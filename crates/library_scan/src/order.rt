@@ -9,7 +9,8 @@ ghost use Rattle.library_scan.specs.declared.scanned.Refused.{Refused};
 use crate::scanned::Refused;
 use mpd_text::Song;
 
-/// Puts songs in byte order of URI, and keeps one of each URI. A folder that changes while it is listed may tell a name twice.
+/// Puts songs in byte order of URI, and keeps one of each URI. A folder that changes while it is listed may
+/// tell a name twice.
 pub(crate) fn sort_songs(songs: &mut Vec<Song>)
     ensures order { InByteOrder songs.new.items }
     ensures among { All (Contains songs.old.items) songs.new.items }

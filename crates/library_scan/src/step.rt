@@ -35,7 +35,8 @@ pub enum Step {
     Refuse,
 }
 
-/// What a scan does with the path of a URI, that is of the path from the scanned folder on, with `/` between names.
+/// What a scan does with the path of a URI, that is of the path from the scanned folder on, with `/` between
+/// names.
 pub fn step_of(uri: &str, kind: Kind) -> Step
     ensures { result ≡ step_of_lem uri.now kind }
 {

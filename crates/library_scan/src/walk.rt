@@ -34,10 +34,11 @@ impl Watcher for Unwatched {
 
 /// The songs of a folder at this rate, and the files that are none.
 ///
-/// Looked at are regular files and folders, down to sixteen below this one; links are followed, and so a folder that leads back
-/// to itself is listed at each depth. Of files those are read whose name ends in `.wav`, whatever the case of these letters. Passed
-/// over without a word are names that are not UTF-8 or have a byte below 0x20, URIs of more than 1,024 bytes, folders that lie deeper
-/// or cannot be listed, and files of no frames.
+/// Looked at are regular files and folders, down to sixteen below this one; links are followed, and so a
+/// folder that leads back to itself is listed at each depth. Of files those are read whose name ends in
+/// `.wav`, whatever the case of these letters. Passed over without a word are names that are not UTF-8 or
+/// have a byte below 0x20, URIs of more than 1,024 bytes, folders that lie deeper or cannot be listed, and
+/// files of no frames.
 pub fn scan<R: Files + AllocGlobal + Clone + Drop, W: Watcher>(
     rt: &R,
     alloc: Global,

@@ -11,8 +11,8 @@ use std::io::{Read, Seek, SeekFrom};
 /// How many bytes are read at a time.
 const WIDTH: usize = 4_096;
 
-/// A file whose bytes are read some kilobytes at a time, wherever they lie: the head of most files takes one read. Its length is
-/// the one that it had when it was looked at.
+/// A file whose bytes are read some kilobytes at a time, wherever they lie: the head of most files takes one
+/// read. Its length is the one that it had when it was looked at.
 #[derive(Drop)]
 pub struct Windowed<F: ReadSeek> {
     file: F,

@@ -159,7 +159,8 @@ fn numbered_song<R: Abort>(rt: &R, alloc: Global, place: u64) -> Song {
     song(rt, alloc, uri.as_str(), number)
 }
 
-/// Songs of the URIs 100000, 099999 and so on, each with its number in frames; the last is the first in byte order.
+/// Songs of the URIs 100000, 099999 and so on, each with its number in frames; the last is the first in byte
+/// order.
 fn numbered<R: Abort>(rt: &R, alloc: Global, count: u64) -> Vec<Song> {
     let mut songs = Vec::new(alloc);
     for place in 0..count {

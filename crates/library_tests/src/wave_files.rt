@@ -123,8 +123,8 @@ fn shown<R: Abort, M: Media + Drop>(rt: &R, alloc: Global, mut media: M, rate: u
 
 const HIGH: &str = "1 24 2|Title Hi [[1, 1], [-1, -1]]";
 
-/// Files, a line for each: the rate, the bytes in hexadecimal digits, and what is read of them. A line with `#` says of what
-/// kind the next ones are.
+/// Files, a line for each: the rate, the bytes in hexadecimal digits, and what is read of them. A line with
+/// `#` says of what kind the next ones are.
 const FILES: &str = "
 8000: 52494646 00000000 57415645 666d7420 10000000 0100 0100 401f0000 c05d0000 0300 1800 4c495354 10000000 494e464f 494e414d 03000000 486900 00 64617461 64000000 000100 ffffff 7f => 1 24 2|Title Hi [[1, 1], [-1, -1]]
 44100: 52494646 00000000 57415645 666d7420 10000000 0100 0100 401f0000 c05d0000 0300 1800 4c495354 10000000 494e464f 494e414d 03000000 486900 00 64617461 64000000 000100 ffffff 7f => Unsupported
@@ -169,8 +169,9 @@ const FILES: &str = "
 8000:  => NotRiff
 ";
 
-/// Files that sox 14.4.2 and ffmpeg 5.1.9 wrote from raw samples, as hexadecimal digits, and what `soxi`, `ffprobe`
-/// and `sox OUT.wav -t raw -` say of them: channels, bits, samples a channel, tags, and the samples.
+/// Files that sox 14.4.2 and ffmpeg 5.1.9 wrote from raw samples, as hexadecimal digits, and what `soxi`,
+/// `ffprobe` and `sox OUT.wav -t raw -` say of them: channels, bits, samples a channel, tags, and the
+/// samples.
 const REAL: &str = "
 # sox -D -t raw -r 8000 -e signed -b 16 -c 2 IN OUT.wav
 8000: 524946463000000057415645666d74201000000001000200401f0000007d000004001000646174610c0000000100ffff2c01d4feff7f0080 => 2 16 3 [[1, -1], [300, -300], [32767, -32768]]
@@ -267,8 +268,9 @@ fn long_text_told<R: Abort>(rt: &R, alloc: Global, len: u16) -> (usize, u64) {
     (head.tags().len(), calls(&media))
 }
 
-// The calls are the file's size, and a seek and a read for each of eleven: the first twelve bytes, three headers and the
-// format for the samples, three headers, the list's kind, an item's header and its text for the tags.
+// The calls are the file's size, and a seek and a read for each of eleven: the first twelve bytes, three
+// headers and the format for the samples, three headers, the list's kind, an item's header and its text for
+// the tags.
 #[test]
 fn the_longest_text(rt: HostRuntime) {
     holds(
@@ -318,8 +320,8 @@ fn are_counted(frames: &[Frame], first: i16) -> bool {
     true
 }
 
-/// How many frames a file of 2,000 has; of a block of 1,024, how many calls its reading took and how many frames it has; and
-/// whether they are those from frame 500 on.
+/// How many frames a file of 2,000 has; of a block of 1,024, how many calls its reading took and how many
+/// frames it has; and whether they are those from frame 500 on.
 fn block_told<R: Abort>(rt: &R, alloc: Global, rate: u32) -> (u64, u64, usize, bool) {
     let mut media = whole(counted_frames(rt, alloc, rate, 2_000));
     let head = head(rt, alloc, &mut media, rate);
@@ -415,7 +417,8 @@ fn is_head_refused(alloc: Global, media: &mut FailAt) -> bool {
     }
 }
 
-/// Whether the reading of a head ends in a fault where a call fails, and how many failures the device counts then.
+/// Whether the reading of a head ends in a fault where a call fails, and how many failures the device counts
+/// then.
 fn failed_head<R: Abort>(rt: &R, alloc: Global, call: u64) -> (bool, u64) {
     let mut media = device(rt, alloc, FIRST, FailurePoint::Call(call));
     (is_head_refused(alloc, &mut media), media.failures())

@@ -14,9 +14,9 @@ use Rattle.mpd_command.specs.declared.request.Request.{Request}
 use Rattle.mpd_text.specs.Answers.Answer.{ack_line}
 use Rattle.idle_clients.specs.Clients.{closes}
 use Rattle.partition.specs.Lists.{Stop, fault_text, stop_text, text_with}
-use Rattle.command_plan.specs.Shelves.{nothing_heard}
+use Rattle.transitions.specs.Shelves.{no_store_reply}
 use Rattle.player_events.specs.declared.event.Event.TheVariants.{Line}
-use Rattle.command_plan.specs.declared.asked.Stand.TheVariants.{Alone}
+use Rattle.transitions.specs.declared.asked.Stand.TheVariants.{Alone}
 use Rattle.partition.specs.declared.partition.PartitionFault.{PartitionFault}
 use Rattle.partition.specs.declared.partition.PartitionFault.TheVariants.{NoMemory}
 use Rattle.shelf.specs.Calls.{Call}
@@ -56,7 +56,7 @@ module _ {S : Type 0} (standing : S → Standing) (failed : S → S → Call →
   -- a line was run
   pub line_ran : (before after : Caller S) (line : LineData) (request : Request) (answered : Handed) (owed : List ℕ) (next : Sequel) → request ≡ read_line asker.may_kill line
       → owed ≡ notice_bytes answered.front ++ answered.told.answer.text → next ≡ sequel (closes answered.told.answer.next) (is_kill request) → after.seat ≡ after_events before.seat 1
-      → (before.seat.number < 4 → AnswersSomewhere standing failed before.shelf after.shelf before.seat.number before.seat.made (Line asker.client Alone request nothing_heard) answered.told.answer)
+      → (before.seat.number < 4 → AnswersSomewhere standing failed before.shelf after.shelf before.seat.number before.seat.made (Line asker.client Alone request no_store_reply) answered.told.answer)
       → IsOwed (Answers standing failed asker) before (Single line) owed next after
   line_ran before after line request answered owed next read is follows made somewhere = (
     notice_bytes answered.front,
@@ -68,7 +68,7 @@ module _ {S : Type 0} (standing : S → Standing) (failed : S → S → Call →
       refl,
       follows ∙ ap (λ (r : Request). sequel (closes answered.told.answer.next) (is_kill r)) read,
       made,
-      λ few. subst (λ (r : Request). AnswersSomewhere standing failed before.shelf after.shelf before.seat.number before.seat.made (Line asker.client Alone r nothing_heard) answered.told.answer) read (somewhere few),
+      λ few. subst (λ (r : Request). AnswersSomewhere standing failed before.shelf after.shelf before.seat.number before.seat.made (Line asker.client Alone r no_store_reply) answered.told.answer) read (somewhere few),
     ),
   )
 

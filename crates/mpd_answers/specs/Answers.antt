@@ -1,4 +1,5 @@
--- What the player of one thread may answer to what a client asks for (MPD protocol reference, Responses and Command lists).
+-- What the player of one thread may answer to what a client asks for (MPD protocol reference, Responses and
+-- Command lists).
 use Rattle.std.specs.Prelude.{◌≡◌, ◌⊎◌, ◌<◌, ◌≤◌, ◌+◌, ℕ, nat_eq, Bool, false, true, List, [], length, map, take, codes, Option, Some, None}
 use Rattle.std.specs.List.{list_any, position_or_len}
 use Rattle.command_lists.specs.Lists.{LineData}
@@ -6,7 +7,7 @@ use Rattle.command_lists.specs.declared.list.CommandList.{CommandList}
 use Rattle.command_lists.specs.declared.list.ListLine.{ListLine}
 use Rattle.command_lists.specs.declared.list.ListLine.TheVariants.{Text, NotText}
 use Rattle.held_player.specs.Lists.{StopsListSomewhere, TellsListSomewhere}
-use Rattle.counted_player.specs.Seats.{Place, after_events}
+use Rattle.counted_player.specs.Seats.{SeatCount, after_events}
 use Rattle.counted_player.specs.Counts.{AnswersSomewhere}
 use Rattle.held_player.specs.Views.{IsUnwritten}
 use Rattle.mpd_command.specs.Requests.{name_in, request_of}
@@ -16,13 +17,13 @@ use Rattle.mpd_command.specs.declared.request.Request.{Request}
 use Rattle.mpd_command.specs.declared.request.Request.TheVariants.{Run, Refused}
 use Rattle.mpd_text.specs.Answers.Answer.{ack_line}
 use Rattle.mpd_text.specs.declared.answers.answer.ErrorNumber.TheVariants.{Argument}
-use Rattle.command_plan.specs.Answers.{Answer}
-use Rattle.player_events.specs.Told.{Told}
+use Rattle.transitions.specs.Answers.{Answer}
+use Rattle.player_events.specs.Outcomes.{OutcomeData}
 use Rattle.idle_clients.specs.Clients.{closes}
 use Rattle.partition.specs.Lists.{Stop, fault_text, stop_text, text_with}
-use Rattle.command_plan.specs.Shelves.{nothing_heard}
+use Rattle.transitions.specs.Shelves.{no_store_reply}
 use Rattle.player_events.specs.declared.event.Event.TheVariants.{Line}
-use Rattle.command_plan.specs.declared.asked.Stand.TheVariants.{Alone}
+use Rattle.transitions.specs.declared.asked.Stand.TheVariants.{Alone}
 use Rattle.partition.specs.declared.partition.PartitionFault.{PartitionFault}
 use Rattle.partition.specs.declared.partition.PartitionFault.TheVariants.{NoMemory}
 use Rattle.shelf.specs.Calls.{Call}
@@ -34,10 +35,10 @@ use Rattle.mpd_answers.specs.Requests.{Asking, Single, Whole}
 
 -- what a session is lent: a seat with its count, and a shelf
 pub record Caller (S : Type 0) : Type 0 where
-  pub seat : Place
+  pub seat : SeatCount
   pub shelf : S
 
-abbrev pub caller : {S : Type 0} → Place → S → Caller S
+abbrev pub caller : {S : Type 0} → SeatCount → S → Caller S
 caller seat shelf = record { seat = seat; shelf = shelf }
 
 -- with the same seat more events were made, perhaps none; the shelf may be another
@@ -71,26 +72,30 @@ sequel false kills = Stays
 sequel true false = Leaves
 sequel true true = Kills
 
--- Whether the last of so many requests that were run ends the daemon. A list ends there, so that it is the first that would.
+-- Whether the last of so many requests that were run ends the daemon. A list ends there, so that it is the
+-- first that would.
 abbrev pub kills_at : List Request → ℕ → Bool
 kills_at requests run = nat_eq run (position_or_len is_kill requests + 1)
 
--- the requests of a list's lines, up to the one at this place, which there was no memory to read; of all of them where there is none
+-- the requests of a list's lines, up to the one at this place, which there was no memory to read; of all of
+-- them where there is none
 abbrev pub IsRead : List ListLine → Bool → List Request → Option ℕ → Type 0
 IsRead lines may_kill requests None = requests ≡ read_lines may_kill lines
 IsRead lines may_kill requests (Some place) = (requests ≡ take place (read_lines may_kill lines)) × (place < length lines)
 
--- what stands behind the answers of a list where all succeed: `OK`; or that there was no memory to read the line at this place
+-- what stands behind the answers of a list where all succeed: `OK`; or that there was no memory to read the
+-- line at this place
 abbrev pub list_end : Option ℕ → List ℕ
 list_end None = codes "OK\n"
 list_end (Some place) = ack_line 52 place [] (fault_text NoMemory)
 
 module _ {S : Type 0} (standing : S → Standing) (failed : S → S → Call → Type 0) (asker : Asker) where
-  -- An answer that the player of one thread gives to the line, after some past in which the seat made so many events.
+  -- An answer that the player of one thread gives to the line, after some past in which the seat made so many
+  -- events.
   abbrev pub RunsLine : Caller S → LineData → List ℕ → Sequel → Caller S → Type 0
   RunsLine before line text next after =
       (answer : Answer) × (text ≡ answer.text) × (next ≡ sequel (closes answer.next) (is_kill (read_line asker.may_kill line))) × (after.seat ≡ after_events before.seat 1)
-      × (before.seat.number < 4 → AnswersSomewhere standing failed before.shelf after.shelf before.seat.number before.seat.made (Line asker.client Alone (read_line asker.may_kill line) nothing_heard) answer)
+      × (before.seat.number < 4 → AnswersSomewhere standing failed before.shelf after.shelf before.seat.number before.seat.made (Line asker.client Alone (read_line asker.may_kill line) no_store_reply) answer)
 
   -- Why the house did not run the line. There may have been no memory to read what command it names.
   abbrev pub RefusesLine : Caller S → LineData → List ℕ → Sequel → Caller S → Type 0
@@ -99,10 +104,11 @@ module _ {S : Type 0} (standing : S → Standing) (failed : S → S → Call →
       × IsUnwritten standing failed before.shelf after.shelf
       × ((name ≡ name_in (read_line asker.may_kill line)) ⊎ ((name ≡ []) × (fault ≡ NoMemory)))
 
-  -- The answers to the lines of a list, or to those in front of one that there was no memory to read, up to the first that ends the list.
+  -- The answers to the lines of a list, or to those in front of one that there was no memory to read, up to
+  -- the first that ends the list.
   abbrev pub RunsList : Caller S → CommandList → List ℕ → Sequel → Caller S → Type 0
   RunsList before list text next after =
-      (requests : List Request) × (unread : Option ℕ) × (tolds : List Told) × IsRead list.lines asker.may_kill requests unread × (text ≡ text_with (list_end unread) tolds)
+      (requests : List Request) × (unread : Option ℕ) × (tolds : List OutcomeData) × IsRead list.lines asker.may_kill requests unread × (text ≡ text_with (list_end unread) tolds)
       × (next ≡ sequel (list_any (λ t. closes t.answer.next) tolds) (kills_at requests (length tolds))) × (after.seat ≡ after_events before.seat (length tolds))
       × (before.seat.number < 4 → TellsListSomewhere standing failed before.shelf after.shelf before.seat.number before.seat.made asker.client list.form requests tolds)
 

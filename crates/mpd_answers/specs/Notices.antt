@@ -7,7 +7,7 @@ use Rattle.idle_clients.specs.declared.notices.Notice.{Notice}
 abbrev pub notice_text : Notice → List ℕ
 notice_text notice = changed_lines notice.names ++ codes "OK\n"
 
--- notices, one behind the other, or none
+-- notices, one after the other, or none
 abbrev pub AreNotices : List ℕ → Type 0
 AreNotices text = (notices : List Notice) × (text ≡ flat_map notice_text notices)
 

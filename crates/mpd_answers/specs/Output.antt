@@ -10,7 +10,8 @@ greeting = codes "OK MPD 0.23.0\n"
 
 -- `P` is what the caller has, and changes with each answer.
 module _ {P : Type 0} (Answers : P → Asking → List ℕ → Sequel → P → Type 0) where
-  -- What is written for what leaves the session open: one answer each, in order, and notices in front of an answer or at the end.
+  -- What is written for what leaves the session open: one answer each, in order, and notices in front of an
+  -- answer or at the end.
   abbrev pub IsOutput : P → List Asking → List ℕ → P → Type 0
   IsOutput p [] output q = AreNotices output × (q ≡ p)
   IsOutput p (one ∷ more) output q =
@@ -25,8 +26,8 @@ module _ {P : Type 0} (Answers : P → Asking → List ℕ → Sequel → P → 
   abbrev pub IsOwed : P → Asking → List ℕ → Sequel → P → Type 0
   IsOwed p one owed next q = (notices text : List ℕ) × (owed ≡ notices ++ text) × AreNotices notices × Answers p one text next q
 
-  -- The same over many turns, between which others are served with the same seat and shelf: what the caller has may have grown before
-  -- each answer.
+  -- The same over many turns, between which others are served with the same seat and shelf: what the caller
+  -- has may have grown before each answer.
   module _ (Grown : P → P → Type 0) where
     abbrev pub IsOutputOver : P → List Asking → List ℕ → P → Type 0
     IsOutputOver p [] output q = AreNotices output × Grown p q
@@ -39,7 +40,8 @@ module _ {P : Type 0} (Answers : P → Asking → List ℕ → Sequel → P → 
       → (IsOutput q more then r → IsOutput p (asked ++ more) (output ++ then) r)
       × ((last : Asking) (next : Sequel) → IsLastOutput q more last next then r → IsLastOutput p (asked ++ more) last next (output ++ then) r)
 
-  -- What is written at once is written over many turns; and what is written in some turns, and then in others, is written in all.
+  -- What is written at once is written over many turns; and what is written in some turns, and then in
+  -- others, is written in all.
   abbrev pub OutputsJoinOver : (P → P → Type 0) → Type 0
   OutputsJoinOver Grown =
       ((p q : P) (asked : List Asking) (output : List ℕ) → IsOutput p asked output q → IsOutputOver Grown p asked output q)

@@ -9,7 +9,7 @@ use Rattle.mpd_answers.specs.Notices.{notice_bytes, notice_text}
 
 abbrev pub owed_bytes : Owed → List ℕ
 owed_bytes owed.Nothing = []
-owed_bytes (owed.Told notice) = notice_text notice
+owed_bytes (owed.Notice notice) = notice_text notice
 owed_bytes (owed.Line answered) = notice_bytes answered.front ++ answered.told.answer.text
 owed_bytes (owed.List answered unread) = notice_bytes answered.front ++ text_with (list_end unread) answered.tolds
 owed_bytes owed.EmptyList = codes "OK\n"

@@ -14,12 +14,12 @@ pub data Asking : Type 0 where
   Single : (line : LineData) → Asking
   Whole : (list : CommandList) → Asking
 
--- what has come of a list behind that: perhaps one is open; or one was too large, and no line after it counts
+-- what has come of a list after that: perhaps one is open; or one was too large, and no line after it counts
 pub data ListState : Type 0 where
   Within : (list : Option CommandList) → ListState
   Over : ListState
 
--- what lines ask for, one after the other, and what has come of a list behind it
+-- what lines ask for, one after the other, and what has come of a list after it
 pub record Gathered : Type 0 where
   pub asked : List Asking
   pub list : ListState
@@ -49,7 +49,7 @@ gather_line Over line = record { asked = []; list = Over }
 abbrev pub onto : List Asking → Gathered → Gathered
 onto asked g = record { asked = asked ++ g.asked; list = g.list }
 
--- what lines ask for, behind what had come of a list
+-- what lines ask for, after what had come of a list
 unfoldable pub gather : ListState → List LineData → Gathered
 gather state [] = record { asked = []; list = state }
 gather state (line ∷ lines) = onto (gather_line state line).asked (gather (gather_line state line).list lines)
@@ -63,7 +63,7 @@ abbrev pub Spells : List LineData → Asking → Type 0
 Spells lines (Single line) = (lines ≡ line ∷ []) × BeginsNone line
 Spells lines (Whole list) = IsPart lines (WholePart list)
 
--- These lines are an open list, or none at all; or one that was too large, with any lines behind it.
+-- These lines are an open list, or none at all; or one that was too large, with any lines after it.
 abbrev pub IsLeft : List LineData → ListState → Type 0
 IsLeft lines (Within list) = IsOpen lines list
 IsLeft lines Over = (front more : List LineData) × (list : CommandList) × (lines ≡ front ++ more) × IsPart front (Dropped list)

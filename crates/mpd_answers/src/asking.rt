@@ -14,7 +14,6 @@ use crate::asker::{Asker, Sequel};
 use crate::gatherer::{Asked, text_of};
 use crate::owed::Owed;
 use command_lists::{CommandList, ListLine};
-use command_plan::Next;
 use counted_player::{Ledgers, Seat};
 use held_player::{Answered, AnsweredList};
 use house::House;
@@ -24,6 +23,7 @@ use partition::PartitionFault;
 use shelf::Shelf;
 use std::alloc::{AllocError, Global};
 use std::sync::Wait;
+use transitions::Next;
 
 /// Asks the house, and gives what is owed for that, and what follows.
 pub fn ask<L: Ledgers, S: Shelf, R: Wait>(
@@ -43,7 +43,8 @@ pub fn ask<L: Ledgers, S: Shelf, R: Wait>(
     }
 }
 
-/// Asks for the answer to a line; `None` is one that is not UTF-8. Where there is no memory to read it, that is the answer.
+/// Asks for the answer to a line; `None` is one that is not UTF-8. Where there is no memory to read it, that
+/// is the answer.
 fn ask_line<L: Ledgers, S: Shelf, R: Wait>(
     rt: &R,
     alloc: Global,
@@ -116,7 +117,7 @@ fn read_all(alloc: Global, may_kill: bool, lines: &[ListLine]) -> (Vec<Request>,
     (requests, None)
 }
 
-/// Puts what a line of a list asks for behind other requests.
+/// Puts what a line of a list asks for after other requests.
 fn push_request(
     alloc: Global,
     may_kill: bool,

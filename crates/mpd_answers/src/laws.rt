@@ -1,4 +1,5 @@
-//! Laws of what is asked, and of what may be written for it. A caller that calls one may use it; each does nothing.
+//! Laws of what is asked, and of what may be written for it. A caller that calls one may use it; each does
+//! nothing.
 ghost use Rattle.mpd_answers.specs.Answers.{Answers, HasGrown};
 ghost use Rattle.mpd_answers.specs.Output.{OutputsJoin, OutputsJoinOver};
 ghost use Rattle.mpd_answers.specs.Requests.{LinesAskFor, LinesInAnyCut};
@@ -23,7 +24,7 @@ pub fn outputs_join<S: Shelf>()
     ensures { (asker : Asker) → OutputsJoin (Answers S.standing S.failed asker) }
 {}
 
-/// What turns write one behind the other is written over many turns, whoever is served between them.
+/// What turns write one after the other is written over many turns, whoever is served between them.
 pub fn outputs_join_over<S: Shelf>()
     ensures { (asker : Asker) → OutputsJoinOver (Answers S.standing S.failed asker) HasGrown }
 {}

@@ -1,4 +1,4 @@
-//! What a session owes its client and has not yet put behind its unsent bytes, for want of memory.
+//! What a session owes its client and has not yet put after its unsent bytes, for want of memory.
 ghost use Rattle.std.specs.Prelude.{◌≡◌, ◌++◌, [], true, IfOk, OnOk};
 ghost use Rattle.mpd_text.specs.Answers.Answer.{ack_line};
 ghost use Rattle.partition.specs.Lists.{fault_text, text_with};
@@ -6,22 +6,23 @@ ghost use Rattle.mpd_answers.specs.Answers.{list_end};
 ghost use Rattle.mpd_answers.specs.Notices.{notice_bytes, notice_text};
 ghost use Rattle.mpd_answers.specs.Owing.{owed_bytes};
 
-use command_plan::Next;
 use held_player::{Answered, AnsweredList};
 use idle_clients::Notice;
 use mpd_text::{Answer, ErrorNumber};
 use partition::{ListFault, PartitionFault};
 use std::alloc::{AllocError, Global};
+use transitions::Next;
 
 /// Bytes for the client. To hold them takes no memory.
 #[derive(Drop)]
 pub enum Owed {
     Nothing,
     /// A notice alone.
-    Told(Notice),
+    Notice(Notice),
     /// The answer to a line.
     Line(Answered),
-    /// The answer to a list, and the place of the first of its lines that could not be read for want of memory.
+    /// The answer to a list, and the place of the first of its lines that could not be read for want of
+    /// memory.
     List(AnsweredList, Option<usize>),
     /// An empty list is answered without an event.
     EmptyList,
@@ -36,7 +37,7 @@ impl Owed {
         ensures { owed_bytes result ≡ notice_bytes notice }
     {
         match notice {
-            Some(notice) => Owed::Told(notice),
+            Some(notice) => Owed::Notice(notice),
             None => Owed::Nothing,
         }
     }
@@ -55,13 +56,13 @@ impl Owed {
         }
     }
 
-    /// Its bytes, behind others.
+    /// Its bytes, after others.
     pub fn push_to(&self, alloc: Global, bytes: &mut Vec<u8>) -> Result<(), AllocError>
         ensures ok { OnOk result (bytes.new.items ≡ bytes.old.items ++ owed_bytes self.now) }
     {
         match self {
             Owed::Nothing => Ok(()),
-            Owed::Told(notice) => push_notice(alloc, *notice, bytes),
+            Owed::Notice(notice) => push_notice(alloc, *notice, bytes),
             Owed::Line(answered) => push_line(alloc, answered, bytes),
             Owed::List(answered, unread) => push_list(alloc, answered, *unread, bytes),
             Owed::EmptyList => bytes.extend_from_slice(b"OK\n"),
@@ -99,7 +100,7 @@ fn push_line(alloc: Global, answered: &Answered, bytes: &mut Vec<u8>) -> Result<
     bytes.extend_from_slice(answered.reply().text().as_bytes())
 }
 
-/// The answers of a list, with the notice that waited in front, and behind them their end where all succeeded.
+/// The answers of a list, with the notice that waited in front, and after them their end where all succeeded.
 fn push_list(
     alloc: Global,
     answered: &AnsweredList,

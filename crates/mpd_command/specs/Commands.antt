@@ -1,4 +1,5 @@
--- The table of arguments: what the words after each command's name are read as (MPD protocol reference, Command reference).
+-- The table of arguments: what the words after each command's name are read as (MPD protocol reference,
+-- Command reference).
 use Rattle.std.specs.Prelude.{ℕ, Bool, List, Result}
 use Rattle.mpd_text.specs.Answers.Millis.{millis_of}
 use Rattle.mpd_text.specs.Answers.Number.{number_of}
@@ -10,83 +11,83 @@ use Rattle.mpd_command.specs.Stickers.{sticker_of}
 use Rattle.mpd_command.specs.Wanted.{filter_of, filter_window_of, one_filter_of}
 use Rattle.mpd_command.specs.declared.readers.Misread.{Misread}
 use Rattle.mpd_command.specs.declared.name.Name.{Name}
-use Rattle.mpd_command.specs.declared.name.Name.TheVariants.{Add as add, AddId as addid, Channels as channels, Clear as clear, ClearError as clearerror, Close as close, Commands as commands, Consume as consume, Count as count, Crossfade as crossfade, CurrentSong as currentsong, Delete as delete, DeleteId as deleteid, DisableOutput as disableoutput, EnableOutput as enableoutput, Find as find, FindAdd as findadd, GetVol as getvol, Idle as idle, Kill as kill, List as list, ListAll as listall, ListPlaylist as listplaylist, ListPlaylistInfo as listplaylistinfo, ListPlaylists as listplaylists, Load as load, LsInfo as lsinfo, Move as move, MoveId as moveid, Next as next, NoIdle as noidle, NotCommands as notcommands, Outputs as outputs, Pause as pause, Ping as ping, Play as play, PlayId as playid, PlaylistAdd as playlistadd, PlaylistClear as playlistclear, PlaylistDelete as playlistdelete, PlaylistId as playlistid, PlaylistInfo as playlistinfo, PlaylistMove as playlistmove, PlChanges as plchanges, PlChangesPosId as plchangesposid, Previous as previous, Prio as prio, PrioId as prioid, Random as random, ReadMessages as readmessages, Rename as rename, Repeat as repeat, Rescan as rescan, Rm as rm, Save as save, Search as search, SearchAdd as searchadd, Seek as seek, SeekCur as seekcur, SeekId as seekid, SendMessage as sendmessage, SetVol as setvol, Shuffle as shuffle, Single as single, Status as status, Sticker as sticker, Stop as stop, Subscribe as subscribe, Swap as swap, SwapId as swapid, TagTypes as tagtypes, ToggleOutput as toggleoutput, Unsubscribe as unsubscribe, Update as update}
+use Rattle.mpd_command.specs.declared.name.Name.TheVariants as names
 use Rattle.mpd_command.specs.declared.command.Command.{Command}
-use Rattle.mpd_command.specs.declared.command.Command.TheVariants.{Add, AddId, Channels, Clear, ClearError, Close, Commands, Consume, Count, Crossfade, CurrentSong, Delete, DeleteId, DisableOutput, EnableOutput, Find, FindAdd, GetVol, Idle, Kill, List as ListTag, ListAll, ListPlaylist, ListPlaylistInfo, ListPlaylists, Load, LsInfo, Move, MoveId, Next, NoIdle, NotCommands, Outputs, Pause, Ping, Play, PlayId, PlaylistAdd, PlaylistClear, PlaylistDelete, PlaylistId, PlaylistInfo, PlaylistMove, PlChanges, PlChangesPosId, Previous, Prio, PrioId, Random, ReadMessages, Rename, Repeat, Rescan, Rm, Save, Search, SearchAdd, Seek, SeekCur, SeekId, SendMessage, SetVol, Shuffle, Single, Status, Sticker, Stop, Subscribe, Swap, SwapId, TagTypes, ToggleOutput, Unsubscribe, Update}
+use Rattle.mpd_command.specs.declared.command.Command.TheVariants as command
 
 -- `commands` and `notcommands` show the commands by whether `kill` is allowed
 unfoldable pub command_of : Bool → Name → List (List ℕ) → Result Command Misread
-command_of allow_kill add words = map_ok Add (one_of uri_of words)
-command_of allow_kill addid words = map_ok (λ p. AddId p.0 p.1) (one_perhaps_of uri_of place_of words)
-command_of allow_kill channels words = none_of Channels words
-command_of allow_kill clear words = none_of Clear words
-command_of allow_kill clearerror words = none_of ClearError words
-command_of allow_kill close words = none_of Close words
-command_of allow_kill commands words = none_of (Commands allow_kill) words
-command_of allow_kill consume words = map_ok Consume (one_of switch_of words)
-command_of allow_kill count words = map_ok Count (filter_of Equals words)
-command_of allow_kill crossfade words = map_ok Crossfade (one_of fade_of words)
-command_of allow_kill currentsong words = none_of CurrentSong words
-command_of allow_kill delete words = map_ok Delete (one_of range_of words)
-command_of allow_kill deleteid words = map_ok DeleteId (one_of number_of words)
-command_of allow_kill disableoutput words = map_ok DisableOutput (one_of number_of words)
-command_of allow_kill enableoutput words = map_ok EnableOutput (one_of number_of words)
-command_of allow_kill find words = map_ok (λ p. Find p.0 p.1) (filter_window_of Equals words)
-command_of allow_kill findadd words = map_ok FindAdd (filter_of Equals words)
-command_of allow_kill getvol words = none_of GetVol words
-command_of allow_kill idle words = map_ok Idle (subsystems_of words)
-command_of allow_kill kill words = none_of Kill words
-command_of allow_kill list words = map_ok (λ p. ListTag p.0 p.1) (one_filter_of tag_of Equals words)
-command_of allow_kill listall words = map_ok ListAll (perhaps_of uri_of words)
-command_of allow_kill listplaylist words = map_ok ListPlaylist (one_of any_text words)
-command_of allow_kill listplaylistinfo words = map_ok ListPlaylistInfo (one_of any_text words)
-command_of allow_kill listplaylists words = none_of ListPlaylists words
-command_of allow_kill load words = map_ok (λ p. Load p.0 p.1) (one_perhaps_of any_text range_of words)
-command_of allow_kill lsinfo words = map_ok LsInfo (perhaps_of uri_of words)
-command_of allow_kill move words = map_ok (λ p. Move p.0 p.1) (two_of range_of number_of words)
-command_of allow_kill moveid words = map_ok (λ p. MoveId p.0 p.1) (two_of number_of number_of words)
-command_of allow_kill next words = none_of Next words
-command_of allow_kill noidle words = none_of NoIdle words
-command_of allow_kill notcommands words = none_of (NotCommands allow_kill) words
-command_of allow_kill outputs words = none_of Outputs words
-command_of allow_kill pause words = map_ok Pause (perhaps_of switch_of words)
-command_of allow_kill ping words = none_of Ping words
-command_of allow_kill play words = map_ok Play (perhaps_of number_of words)
-command_of allow_kill playid words = map_ok PlayId (perhaps_of number_of words)
-command_of allow_kill playlistadd words = map_ok (λ p. PlaylistAdd p.0 p.1) (two_of any_text uri_of words)
-command_of allow_kill playlistclear words = map_ok PlaylistClear (one_of any_text words)
-command_of allow_kill playlistdelete words = map_ok (λ p. PlaylistDelete p.0 p.1) (two_of any_text number_of words)
-command_of allow_kill playlistid words = map_ok PlaylistId (perhaps_of number_of words)
-command_of allow_kill playlistinfo words = map_ok PlaylistInfo (perhaps_of range_of words)
-command_of allow_kill playlistmove words = map_ok (λ p. PlaylistMove p.0 p.1 p.2) (three_of any_text number_of number_of words)
-command_of allow_kill plchanges words = map_ok (λ p. PlChanges p.0 p.1) (one_perhaps_of number_of range_of words)
-command_of allow_kill plchangesposid words = map_ok (λ p. PlChangesPosId p.0 p.1) (one_perhaps_of number_of range_of words)
-command_of allow_kill previous words = none_of Previous words
-command_of allow_kill prio words = map_ok (λ p. Prio p.0 p.1) (one_many_of byte_of range_of words)
-command_of allow_kill prioid words = map_ok (λ p. PrioId p.0 p.1) (one_many_of byte_of number_of words)
-command_of allow_kill random words = map_ok Random (one_of switch_of words)
-command_of allow_kill readmessages words = none_of ReadMessages words
-command_of allow_kill rename words = map_ok (λ p. Rename p.0 p.1) (two_of any_text any_text words)
-command_of allow_kill repeat words = map_ok Repeat (one_of switch_of words)
-command_of allow_kill rescan words = map_ok Rescan (perhaps_of uri_of words)
-command_of allow_kill rm words = map_ok Rm (one_of any_text words)
-command_of allow_kill save words = map_ok Save (one_of any_text words)
-command_of allow_kill search words = map_ok (λ p. Search p.0 p.1) (filter_window_of Contains words)
-command_of allow_kill searchadd words = map_ok SearchAdd (filter_of Contains words)
-command_of allow_kill seek words = map_ok (λ p. Seek p.0 p.1) (two_of number_of millis_of words)
-command_of allow_kill seekcur words = map_ok SeekCur (one_of seeking_of words)
-command_of allow_kill seekid words = map_ok (λ p. SeekId p.0 p.1) (two_of number_of millis_of words)
-command_of allow_kill sendmessage words = map_ok (λ p. SendMessage p.0 p.1) (two_of any_text any_text words)
-command_of allow_kill setvol words = map_ok SetVol (one_of volume_of words)
-command_of allow_kill shuffle words = map_ok Shuffle (perhaps_of range_of words)
-command_of allow_kill single words = map_ok Single (one_of single_of words)
-command_of allow_kill status words = none_of Status words
-command_of allow_kill sticker words = map_ok Sticker (sticker_of words)
-command_of allow_kill stop words = none_of Stop words
-command_of allow_kill subscribe words = map_ok Subscribe (one_of any_text words)
-command_of allow_kill swap words = map_ok (λ p. Swap p.0 p.1) (two_of number_of number_of words)
-command_of allow_kill swapid words = map_ok (λ p. SwapId p.0 p.1) (two_of number_of number_of words)
-command_of allow_kill tagtypes words = none_of TagTypes words
-command_of allow_kill toggleoutput words = map_ok ToggleOutput (one_of number_of words)
-command_of allow_kill unsubscribe words = map_ok Unsubscribe (one_of any_text words)
-command_of allow_kill update words = map_ok Update (perhaps_of uri_of words)
+command_of allow_kill names.Add words = map_ok command.Add (one_of uri_of words)
+command_of allow_kill names.AddId words = map_ok (λ p. command.AddId p.0 p.1) (one_perhaps_of uri_of place_of words)
+command_of allow_kill names.Channels words = none_of command.Channels words
+command_of allow_kill names.Clear words = none_of command.Clear words
+command_of allow_kill names.ClearError words = none_of command.ClearError words
+command_of allow_kill names.Close words = none_of command.Close words
+command_of allow_kill names.Commands words = none_of (command.Commands allow_kill) words
+command_of allow_kill names.Consume words = map_ok command.Consume (one_of switch_of words)
+command_of allow_kill names.Count words = map_ok command.Count (filter_of Equals words)
+command_of allow_kill names.Crossfade words = map_ok command.Crossfade (one_of fade_of words)
+command_of allow_kill names.CurrentSong words = none_of command.CurrentSong words
+command_of allow_kill names.Delete words = map_ok command.Delete (one_of range_of words)
+command_of allow_kill names.DeleteId words = map_ok command.DeleteId (one_of number_of words)
+command_of allow_kill names.DisableOutput words = map_ok command.DisableOutput (one_of number_of words)
+command_of allow_kill names.EnableOutput words = map_ok command.EnableOutput (one_of number_of words)
+command_of allow_kill names.Find words = map_ok (λ p. command.Find p.0 p.1) (filter_window_of Equals words)
+command_of allow_kill names.FindAdd words = map_ok command.FindAdd (filter_of Equals words)
+command_of allow_kill names.GetVol words = none_of command.GetVol words
+command_of allow_kill names.Idle words = map_ok command.Idle (subsystems_of words)
+command_of allow_kill names.Kill words = none_of command.Kill words
+command_of allow_kill names.List words = map_ok (λ p. command.List p.0 p.1) (one_filter_of tag_of Equals words)
+command_of allow_kill names.ListAll words = map_ok command.ListAll (perhaps_of uri_of words)
+command_of allow_kill names.ListPlaylist words = map_ok command.ListPlaylist (one_of any_text words)
+command_of allow_kill names.ListPlaylistInfo words = map_ok command.ListPlaylistInfo (one_of any_text words)
+command_of allow_kill names.ListPlaylists words = none_of command.ListPlaylists words
+command_of allow_kill names.Load words = map_ok (λ p. command.Load p.0 p.1) (one_perhaps_of any_text range_of words)
+command_of allow_kill names.LsInfo words = map_ok command.LsInfo (perhaps_of uri_of words)
+command_of allow_kill names.Move words = map_ok (λ p. command.Move p.0 p.1) (two_of range_of number_of words)
+command_of allow_kill names.MoveId words = map_ok (λ p. command.MoveId p.0 p.1) (two_of number_of number_of words)
+command_of allow_kill names.Next words = none_of command.Next words
+command_of allow_kill names.NoIdle words = none_of command.NoIdle words
+command_of allow_kill names.NotCommands words = none_of (command.NotCommands allow_kill) words
+command_of allow_kill names.Outputs words = none_of command.Outputs words
+command_of allow_kill names.Pause words = map_ok command.Pause (perhaps_of switch_of words)
+command_of allow_kill names.Ping words = none_of command.Ping words
+command_of allow_kill names.Play words = map_ok command.Play (perhaps_of number_of words)
+command_of allow_kill names.PlayId words = map_ok command.PlayId (perhaps_of number_of words)
+command_of allow_kill names.PlaylistAdd words = map_ok (λ p. command.PlaylistAdd p.0 p.1) (two_of any_text uri_of words)
+command_of allow_kill names.PlaylistClear words = map_ok command.PlaylistClear (one_of any_text words)
+command_of allow_kill names.PlaylistDelete words = map_ok (λ p. command.PlaylistDelete p.0 p.1) (two_of any_text number_of words)
+command_of allow_kill names.PlaylistId words = map_ok command.PlaylistId (perhaps_of number_of words)
+command_of allow_kill names.PlaylistInfo words = map_ok command.PlaylistInfo (perhaps_of range_of words)
+command_of allow_kill names.PlaylistMove words = map_ok (λ p. command.PlaylistMove p.0 p.1 p.2) (three_of any_text number_of number_of words)
+command_of allow_kill names.PlChanges words = map_ok (λ p. command.PlChanges p.0 p.1) (one_perhaps_of number_of range_of words)
+command_of allow_kill names.PlChangesPosId words = map_ok (λ p. command.PlChangesPosId p.0 p.1) (one_perhaps_of number_of range_of words)
+command_of allow_kill names.Previous words = none_of command.Previous words
+command_of allow_kill names.Prio words = map_ok (λ p. command.Prio p.0 p.1) (one_many_of byte_of range_of words)
+command_of allow_kill names.PrioId words = map_ok (λ p. command.PrioId p.0 p.1) (one_many_of byte_of number_of words)
+command_of allow_kill names.Random words = map_ok command.Random (one_of switch_of words)
+command_of allow_kill names.ReadMessages words = none_of command.ReadMessages words
+command_of allow_kill names.Rename words = map_ok (λ p. command.Rename p.0 p.1) (two_of any_text any_text words)
+command_of allow_kill names.Repeat words = map_ok command.Repeat (one_of switch_of words)
+command_of allow_kill names.Rescan words = map_ok command.Rescan (perhaps_of uri_of words)
+command_of allow_kill names.Rm words = map_ok command.Rm (one_of any_text words)
+command_of allow_kill names.Save words = map_ok command.Save (one_of any_text words)
+command_of allow_kill names.Search words = map_ok (λ p. command.Search p.0 p.1) (filter_window_of Contains words)
+command_of allow_kill names.SearchAdd words = map_ok command.SearchAdd (filter_of Contains words)
+command_of allow_kill names.Seek words = map_ok (λ p. command.Seek p.0 p.1) (two_of number_of millis_of words)
+command_of allow_kill names.SeekCur words = map_ok command.SeekCur (one_of seeking_of words)
+command_of allow_kill names.SeekId words = map_ok (λ p. command.SeekId p.0 p.1) (two_of number_of millis_of words)
+command_of allow_kill names.SendMessage words = map_ok (λ p. command.SendMessage p.0 p.1) (two_of any_text any_text words)
+command_of allow_kill names.SetVol words = map_ok command.SetVol (one_of volume_of words)
+command_of allow_kill names.Shuffle words = map_ok command.Shuffle (perhaps_of range_of words)
+command_of allow_kill names.Single words = map_ok command.Single (one_of single_of words)
+command_of allow_kill names.Status words = none_of command.Status words
+command_of allow_kill names.Sticker words = map_ok command.Sticker (sticker_of words)
+command_of allow_kill names.Stop words = none_of command.Stop words
+command_of allow_kill names.Subscribe words = map_ok command.Subscribe (one_of any_text words)
+command_of allow_kill names.Swap words = map_ok (λ p. command.Swap p.0 p.1) (two_of number_of number_of words)
+command_of allow_kill names.SwapId words = map_ok (λ p. command.SwapId p.0 p.1) (two_of number_of number_of words)
+command_of allow_kill names.TagTypes words = none_of command.TagTypes words
+command_of allow_kill names.ToggleOutput words = map_ok command.ToggleOutput (one_of number_of words)
+command_of allow_kill names.Unsubscribe words = map_ok command.Unsubscribe (one_of any_text words)
+command_of allow_kill names.Update words = map_ok command.Update (perhaps_of uri_of words)

@@ -1,5 +1,5 @@
--- What the words of a command are read as: a wrong number of them is refused first, then the first from the left that has
--- not its form (MPD protocol reference, Requests; the order is this profile's).
+-- What the words of a command are read as: a wrong number of them is refused first, then the first from the
+-- left that has not its form (MPD protocol reference, Requests; the order is this profile's).
 use Rattle.std.specs.Prelude.{◌≡◌, ℕ, List, [], ◌∷◌, fold, Option, Some, None, Result, Ok, Err}
 use Rattle.idle_notes.specs.declared.sets.Subsystems.{Subsystems}
 use Rattle.idle_notes.specs.declared.subsystem.Subsystem.{Subsystem}

@@ -1,4 +1,5 @@
--- What a line asks for (MPD protocol reference, Requests and Failure responses; the texts and their order are this profile's).
+-- What a line asks for (MPD protocol reference, Requests and Failure responses; the texts and their order are
+-- this profile's).
 use Rattle.std.specs.Prelude.{◌≡◌, ℕ, Bool, List, [], ◌∷◌, ◌++◌, codes, Option, Some, None, Result, Ok, Err, if◌then◌else◌}
 use Rattle.mpd_text.specs.Lines.Scan.{words_of}
 use Rattle.mpd_text.specs.declared.answers.answer.ErrorNumber.TheVariants.{Argument, Permission, Unknown}
@@ -38,7 +39,8 @@ of_name (Some name) word words allow_kill =
     if is_forbidden name allow_kill then Err (record { number = Permission; command = Some name; text = codes "no permission for \"kill\"" })
     else read_as name (command_of allow_kill name words)
 
--- the command of words, under its name, or the first refusal: unknown, not allowed, wrong number, first argument of a wrong form
+-- the command of words, under its name, or the first refusal: unknown, not allowed, wrong number, first
+-- argument of a wrong form
 abbrev pub named_of : List (List ℕ) → Bool → Result (Name × Command) Ack
 named_of [] allow_kill = Err (record { number = Unknown; command = None; text = codes "no command given" })
 named_of (word ∷ words) allow_kill = of_name (name_of word) word words allow_kill

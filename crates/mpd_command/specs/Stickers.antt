@@ -1,5 +1,6 @@
--- What the words after `sticker` ask for (MPD protocol reference, Stickers). The first says how many there have to be, which is
--- looked at before any form; then the forms are looked at from the left (this order is this profile's).
+-- What the words after `sticker` ask for (MPD protocol reference, Stickers). The first says how many there
+-- have to be, which is looked at before any form; then the forms are looked at from the left (this order is
+-- this profile's).
 use Rattle.std.specs.Prelude.{ℕ, nat_le, ◌&&◌, List, [], ◌∷◌, length, Option, Some, None, Result, Err, if◌then◌else◌, codes}
 use Rattle.std.specs.Str.{bytes_eq}
 use Rattle.mpd_command.specs.Forms.{uri_of}

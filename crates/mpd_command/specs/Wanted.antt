@@ -1,5 +1,5 @@
--- What the words of a filter ask for, and those of a window after it (MPD protocol reference, Filters and The music database; how many
--- words there may be, and the texts of the faults, are this profile's).
+-- What the words of a filter ask for, and those of a window after it (MPD protocol reference, Filters and The
+-- music database; how many words there may be, and the texts of the faults, are this profile's).
 use Rattle.std.specs.Prelude.{ℕ, ◌-◌, nat_le, Bool, ◌&&◌, List, [], ◌∷◌, ◌++◌, length, take, drop, slice_index_or, Option, Some, None, Result, Ok, Err, if◌then◌else◌, codes, decimal}
 use Rattle.std.specs.Str.{bytes_eq}
 use Rattle.filters.specs.Expressions.{Expression}
@@ -72,7 +72,8 @@ abbrev pub perhaps_filter_of : Test → List (List ℕ) → Result (Option Wante
 perhaps_filter_of test [] = Ok None
 perhaps_filter_of test (word ∷ words) = map_ok Some (filter_of test (word ∷ words))
 
--- one argument, and perhaps FILTER after it, of which the number of words alone can be wrong: so it comes before the argument's form
+-- one argument, and perhaps FILTER after it, of which the number of words alone can be wrong: so it comes
+-- before the argument's form
 abbrev pub one_filter_of : {A : Type 0} → (List ℕ → Option A) → Test → List (List ℕ) → Result (A × Option Wanted) Misread
 one_filter_of read test [] = Err WrongNumber
 one_filter_of read test (word ∷ words) = map_ok (λ p. (p.1, p.0)) (both (perhaps_filter_of test words) (argument_of read word))

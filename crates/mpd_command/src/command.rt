@@ -164,8 +164,8 @@ pub enum Command {
     Update(Option<Uri>),
 }
 
-/// The table of arguments: what the words after each command's name are read as. Whether `kill` is allowed is what `commands` and
-/// `notcommands` show.
+/// The table of arguments: what the words after each command's name are read as. Whether `kill` is allowed is
+/// what `commands` and `notcommands` show.
 #[rattlefmt::skip]
 #[tactic(auto, unfolding(crate::specs::Commands::command_of))]
 pub(crate) fn read(alloc: Global, allow_kill: bool, name: Name, words: &[String]) -> Result<Command, Misread>

@@ -47,8 +47,8 @@ pub enum Request {
 }
 
 impl Command {
-    /// The command of the words of a line, or its first refusal: no command or an unknown one, one that is not allowed, a
-    /// wrong number of arguments, the first argument from the left of a wrong form.
+    /// The command of the words of a line, or its first refusal: no command or an unknown one, one that is
+    /// not allowed, a wrong number of arguments, the first argument from the left of a wrong form.
     pub fn of_words(
         alloc: Global,
         words: &[String],
@@ -132,8 +132,8 @@ fn refused(
 }
 
 impl Request {
-    /// What a line without its newline asks for, or its first refusal: words that cannot be read, then those of
-    /// [`Command::of_words`].
+    /// What a line without its newline asks for, or its first refusal: words that cannot be read, then those
+    /// of [`Command::of_words`].
     #[tactic(auto, unfolding(crate::specs::Requests::request_of))]
     pub fn of_line(alloc: Global, line: &str, allow_kill: bool) -> Result<Request, AllocError>
         ensures { IfOk result (λ request. request ≡ request_of line.now allow_kill) }

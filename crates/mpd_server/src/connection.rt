@@ -120,7 +120,8 @@ impl Connection {
         }
     }
 
-    /// Whether a client that is closed had its time to read its last answers. Where no clock can be read, it had.
+    /// Whether a client that is closed had its time to read its last answers. Where no clock can be read, it
+    /// had.
     fn is_late<K: Clock>(&mut self, clock: &K) -> bool {
         let Ok(now) = Instant::now(clock) else {
             return true;
@@ -140,7 +141,8 @@ fn gives_up(end: End) -> bool {
     matches!(end, End::ReadFault | End::WriteFault | End::Unsent)
 }
 
-/// Tells the player that a client is gone, but not where it was the player that closed it. Whether the player knows now.
+/// Tells the player that a client is gone, but not where it was the player that closed it. Whether the player
+/// knows now.
 fn tells_gone<L: Ledgers, R: Wait>(
     rt: &R,
     client: u32,

@@ -3,7 +3,7 @@
 
 mod connection;
 mod inbox;
-mod place;
+mod slot;
 mod sockets;
 mod waking;
 

@@ -1,5 +1,5 @@
 //! The loop over the sockets.
-use crate::place::Place;
+use crate::slot::Slot;
 use counted_player::{Ledgers, Seat};
 use house::House;
 use mio::net::{TcpListener, TcpStream};
@@ -17,7 +17,8 @@ const MAX_CLIENTS: u32 = 64;
 /// The most clients that are let in between two rounds.
 const MAX_LET_IN: u32 = 64;
 
-/// How long, in milliseconds, the loop sleeps at most while there is something to do of which the system does not tell.
+/// How long, in milliseconds, the loop sleeps at most while there is something to do of which the system does
+/// not tell.
 const SHORT_SLEEP: u64 = 50;
 
 const LISTENER: Token = Token(0);
@@ -52,23 +53,24 @@ pub fn bind<N: Net>(rt: &N, address: &str) -> Result<TcpListener, ServeFault> {
     }
 }
 
-/// Who is at the door.
+/// Whether a client may wait to be let in.
 #[derive(Clone, Copy, Debug, PartialEq, Eq)]
-enum Door {
-    Nobody,
-    /// Perhaps somebody.
-    Somebody,
-    /// Somebody who could not be let in, which is tried again.
-    Later,
+enum ListenerState {
+    /// None waits.
+    Idle,
+    /// One may wait.
+    Ready,
+    /// One waits that could not be let in, which is tried again.
+    TryLater,
 }
 
-/// The sockets, and the places of the clients.
+/// The sockets, and the slots of the clients.
 pub struct Server {
     poll: Poll,
     events: Events,
     listener: TcpListener,
-    door: Door,
-    places: Vec<Place>,
+    listener_state: ListenerState,
+    slots: Vec<Slot>,
     /// Whether another thread wakes the loop where a notice waits.
     is_woken: bool,
 }
@@ -80,8 +82,8 @@ impl Drop for Server {
             poll: _,
             events: _,
             listener: _,
-            door: _,
-            places: _,
+            listener_state: _,
+            slots: _,
             is_woken: _,
         } = self;
     }
@@ -99,7 +101,7 @@ impl Server {
             return Err(ServeFault::ListenFault);
         };
         let events = Events::with_capacity(alloc, 128)?;
-        let places = free_places(alloc)?;
+        let slots = free_slots(alloc)?;
         if poll
             .registry()
             .register(&mut listener, LISTENER, Interest::READABLE)
@@ -111,8 +113,8 @@ impl Server {
             poll,
             events,
             listener,
-            door: Door::Somebody,
-            places,
+            listener_state: ListenerState::Ready,
+            slots,
             is_woken: false,
         })
     }
@@ -133,10 +135,11 @@ impl Server {
 
     /// Serves clients until one of them ends the daemon.
     ///
-    /// Each round every client that sent something, or whose socket takes bytes again, has one turn, and what others are to be told is
-    /// handed to them. So the lines of one client cost the others one turn's worth, and one that does not read costs them nothing. Between
-    /// rounds the loop sleeps until the system tells of a socket, or a thread wakes it ([`start_waker`](crate::start_waker)); without such
-    /// a thread, 50 ms at most while a client idles.
+    /// Each round every client that sent something, or whose socket takes bytes again, has one turn, and what
+    /// others are to be told is handed to them. So the lines of one client cost the others one turn's worth,
+    /// and one that does not read costs them nothing. Between rounds the loop sleeps until the system tells
+    /// of a socket, or a thread wakes it ([`start_waker`](crate::start_waker)); without such a thread, 50 ms
+    /// at most while a client idles.
     pub fn serve<L: Ledgers, S: Shelf, R: Wait + Clock>(
         &mut self,
         rt: &R,
@@ -165,9 +168,9 @@ impl Server {
         for event in &self.events {
             let Token(number) = event.token();
             if number == 0 {
-                self.door = Door::Somebody;
-            } else if let Some(place) = self.places.get_mut(number - 1) {
-                place.call(event.is_read_closed() || event.is_error());
+                self.listener_state = ListenerState::Ready;
+            } else if let Some(slot) = self.slots.get_mut(number - 1) {
+                slot.call(event.is_read_closed() || event.is_error());
             }
         }
         Ok(())
@@ -175,17 +178,21 @@ impl Server {
 
     /// How long the loop may sleep; `None` is until the system tells of a socket.
     fn longest_sleep(&self) -> Option<Duration> {
-        if self.door == Door::Somebody || self.places.iter().any(|place| place.is_ready()) {
+        if self.listener_state == ListenerState::Ready
+            || self.slots.iter().any(|slot| slot.is_ready())
+        {
             return Some(Duration::from_millis(0));
         }
         let looks = !self.is_woken;
-        if self.door == Door::Later || self.places.iter().any(|place| is_looked_at(place, looks)) {
+        if self.listener_state == ListenerState::TryLater
+            || self.slots.iter().any(|slot| is_looked_at(slot, looks))
+        {
             return Some(Duration::from_millis(SHORT_SLEEP));
         }
         None
     }
 
-    /// Lets in who is at the door.
+    /// Lets in the clients that wait at the listener.
     fn let_all_in<L: Ledgers, R: Wait>(
         &mut self,
         rt: &R,
@@ -194,21 +201,21 @@ impl Server {
         seat: &mut Seat<L>,
         may_kill: bool,
     ) {
-        if self.door == Door::Nobody {
+        if self.listener_state == ListenerState::Idle {
             return;
         }
         for _ in 0..MAX_LET_IN {
             match self.listener.accept() {
                 Ok((stream, _)) => self.let_in(rt, alloc, house, seat, stream, may_kill),
                 Err(fault) => {
-                    self.door = door_after(fault.kind());
+                    self.listener_state = state_after(fault.kind());
                     return;
                 }
             }
         }
     }
 
-    /// Lets in a client; one that finds no place is closed without a greeting.
+    /// Lets in a client; one that finds no slot is closed without a greeting.
     fn let_in<L: Ledgers, R: Wait>(
         &mut self,
         rt: &R,
@@ -219,13 +226,13 @@ impl Server {
         may_kill: bool,
     ) {
         let registry = self.poll.registry();
-        if let Some(place) = self.places.iter_mut().find(|place| place.is_free()) {
-            place.take_in(rt, alloc, house, seat, registry, stream, may_kill);
+        if let Some(slot) = self.slots.iter_mut().find(|slot| slot.is_free()) {
+            slot.take_in(rt, alloc, house, seat, registry, stream, may_kill);
         }
     }
 
-    /// Gives each client a turn for which there is something to do, and then hands out what the others are to be told. True where a client
-    /// ends the daemon.
+    /// Gives each client a turn for which there is something to do, and then hands out what the others are to
+    /// be told. True where a client ends the daemon.
     fn visit_all<L: Ledgers, S: Shelf, R: Wait + Clock>(
         &mut self,
         rt: &R,
@@ -233,13 +240,13 @@ impl Server {
         seat: &mut Seat<L>,
         shelf: &mut S,
     ) -> bool {
-        for place in &mut self.places {
-            if has_turn(place) && place.visit(rt, house, seat, shelf) {
+        for slot in &mut self.slots {
+            if has_turn(slot) && slot.visit(rt, house, seat, shelf) {
                 return true;
             }
         }
-        for place in &mut self.places {
-            if place.may_wait() && !place.is_ready() && place.visit(rt, house, seat, shelf) {
+        for slot in &mut self.slots {
+            if slot.may_wait() && !slot.is_ready() && slot.visit(rt, house, seat, shelf) {
                 return true;
             }
         }
@@ -247,31 +254,31 @@ impl Server {
     }
 }
 
-/// The places of all clients, which are numbered from 1.
-fn free_places(alloc: Global) -> Result<Vec<Place>, AllocError> {
-    let mut places = Vec::new(alloc);
+/// The slots of all clients, which are numbered from 1.
+fn free_slots(alloc: Global) -> Result<Vec<Slot>, AllocError> {
+    let mut slots = Vec::new(alloc);
     for client in 1..=MAX_CLIENTS {
-        places.push(Place::new(client))?;
+        slots.push(Slot::new(client))?;
     }
-    Ok(places)
+    Ok(slots)
 }
 
 /// Whether there is something to do for a client, or it is looked whether there is.
-fn has_turn(place: &Place) -> bool {
-    place.is_ready() || place.is_starved() || place.is_leaving()
+fn has_turn(slot: &Slot) -> bool {
+    slot.is_ready() || slot.is_starved() || slot.is_leaving()
 }
 
-/// Whether a place is looked at again after a short sleep: something is to be tried again, or its client leaves, or, where the loop looks
-/// for notices, it may have to be told of what no client did.
-fn is_looked_at(place: &Place, looks: bool) -> bool {
-    place.is_starved() || place.is_leaving() || looks && place.may_wait()
+/// Whether a slot is looked at again after a short sleep: something is to be tried again, or its client
+/// leaves, or, where the loop looks for notices, it may have to be told of what no client did.
+fn is_looked_at(slot: &Slot, looks: bool) -> bool {
+    slot.is_starved() || slot.is_leaving() || looks && slot.may_wait()
 }
 
-/// Who is at the door where a client could not be let in.
-fn door_after(fault: ErrorKind) -> Door {
+/// Whether a client may still wait where one could not be let in.
+fn state_after(fault: ErrorKind) -> ListenerState {
     if fault == ErrorKind::WouldBlock {
-        Door::Nobody
+        ListenerState::Idle
     } else {
-        Door::Later
+        ListenerState::TryLater
     }
 }

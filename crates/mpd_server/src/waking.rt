@@ -12,7 +12,8 @@ use std::time::{Clock, Duration};
 /// How long, in milliseconds, the thread waits at most before it looks whether the daemon has ended.
 const LONGEST_WAIT: u64 = 1_000;
 
-/// How long, in milliseconds, the loop has to hand out the notices that it was woken for, before it is woken again.
+/// How long, in milliseconds, the loop has to hand out the notices that it was woken for, before it is woken
+/// again.
 const HAND_OUT: u64 = 5;
 
 /// Wakes the loop where a notice waits, until the daemon has ended.
@@ -30,7 +31,8 @@ fn wake<L: Ledgers, R: Wait + Clock>(rt: &R, house: &House<L>, waker: &Waker) {
     }
 }
 
-/// Starts a thread that wakes a server as soon as a notice waits in the house, and that ends with the daemon: it is joined behind the close.
+/// Starts a thread that wakes a server as soon as a notice waits in the house, and that ends with the daemon:
+/// it is joined after the close.
 ///
 /// # Errors
 ///

@@ -46,7 +46,7 @@ none_blames (Some NoPeer) a b none = tt
 none_blames (Some ReadFault) a b none = absurd none
 none_blames (Some WriteFault) a b none = absurd none
 
--- behind a write
+-- after a write
 
 fails_now : (e e' : Option End) (b c : Tally) → e ≡ None → e' ≡ Some WriteFault → (e' ≡ Some WriteFault → (e ≡ Some WriteFault) ⊎ HasFailedSince b c) → HasFailedSince b c
 fails_now e e' b c goes is failed = elim (failed is) [ inl was ↦ absurd (let never : None ≡ Some WriteFault = sym goes ∙ was in cc) | inr now ↦ now ]

@@ -1,4 +1,4 @@
--- What a session says, one step behind the other.
+-- What a session says, one step after the other.
 use Rattle.std.proofs.Common.{◌≡◌, ◌≢◌, ℕ, ◌<◌, arith, Bool, inl, inr, List, [], ◌∷◌, ◌++◌, length, length-append, Option, None, Some, refl, sym, ap, subst, ◌∙◌, append_assoc, append-nil}
 use Rattle.std.specs.Prelude.{◌⊎◌}
 use Rattle.std.specs.Io.KnownBytes.{Consumes}
@@ -128,7 +128,7 @@ module _ {P : Type 0} (A : P → Asking → List ℕ → Sequel → P → Type 0
   steps_later (Some ReadFault) whole left a b c new out next (rs, is, o) p = stops_later whole.asked rs left.asked a b c out next (asked_in whole left rs is) o p
   steps_later (Some WriteFault) whole left a b c new out next (rs, is, o) p = stops_later whole.asked rs left.asked a b c out next (asked_in whole left rs is) o p
 
-  -- behind a step that left the session open
+  -- after a step that left the session open
   pub steps_then : (whole : Coming) (mid new : Held) (a b c : P) (out next : List ℕ) → mid.ended ≡ None → Steps A whole a mid b out → Steps A (coming mid.pending) b new c next → Steps A whole a new c (out ++ next)
   steps_then whole mid new a b c out next e s t =
       steps_later new.ended whole (coming mid.pending) a b c new out next (subst (λ (x : Option End). StepsTo A x whole a mid b out) e s) t
@@ -145,7 +145,7 @@ module _ {P : Type 0} (A : P → Asking → List ℕ → Sequel → P → Type 0
   runs_none h a w e =
       ([], subst (λ (x : Option End). StepsTo A x (coming h.pending) a h a []) (sym e) (stays (coming h.pending) a [] no_notices), only_unsent w h.unsent h.unsent [] (sym (append-nil h.unsent)))
 
-  -- a write behind a session that is open
+  -- a write after a session that is open
   sent_open : (e : Option End) (mid new : Held) (a : P) → new.pending ≡ mid.pending → (e ≡ None) ⊎ ((e ≡ Some WriteFault) ⊎ ((e ≡ Some Unsent) × (16777216 < length new.unsent))) → StepsTo A e (coming mid.pending) a new a []
   sent_open e mid new a same (inl is) =
       subst (λ (x : Option End). StepsTo A x (coming mid.pending) a new a []) (sym is)
@@ -155,7 +155,7 @@ module _ {P : Type 0} (A : P → Asking → List ℕ → Sequel → P → Type 0
   sent_open e mid new a same (inr (inr (is, many))) =
       subst (λ (x : Option End). StepsTo A x (coming mid.pending) a new a []) (sym is) (([], (coming mid.pending).asked, refl, (no_notices, refl)), many)
 
-  -- a write behind a session that is closed
+  -- a write after a session that is closed
   sent_closed : (e : End) (whole : Coming) (a b : P) (out u v : List ℕ) → (Some e ≡ Some Unsent → v ≡ u) → EndsBy A e whole a b out u → EndsBy A e whole a b out v
   sent_closed Left whole a b out u v same s = s
   sent_closed Killed whole a b out u v same s = s

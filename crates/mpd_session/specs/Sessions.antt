@@ -16,7 +16,8 @@ use Rattle.mpd_answers.specs.Output.{IsOutput, IsLastOutput, greeting}
 use Rattle.mpd_answers.specs.Owing.{owed_bytes}
 use Rattle.mpd_answers.specs.Requests.{Asking, ListState, Within, Over, gather}
 
--- what came of the stream and is not answered: what has come of a list, lines, the start of a line, and a piece that was not split
+-- what came of the stream and is not answered: what has come of a list, lines, the start of a line, and a
+-- piece that was not split
 pub record Pending : Type 0 where
   pub list : ListState
   pub lines : List LineData
@@ -28,7 +29,7 @@ abbrev pub fed : Option (List ℕ) → List ℕ → Split
 fed next [] = record { lines = []; next = next }
 fed next (b ∷ bs) = split_from next (b ∷ bs)
 
--- all that is asked in what came, what has come of a list behind that, and the start of a line behind that
+-- all that is asked in what came, what has come of a list after that, and the start of a line after that
 pub record Coming : Type 0 where
   pub asked : List Asking
   pub list : ListState
@@ -43,7 +44,7 @@ coming p = coming_from p.list (p.lines ++ map line_of (fed p.next p.piece).lines
 abbrev pub ahead : List Asking → Coming → Coming
 ahead asked c = record { asked = asked ++ c.asked; list = c.list; next = c.next }
 
--- the same with more bytes behind
+-- the same with more bytes after
 abbrev pub read_on : Pending → List ℕ → Pending
 read_on p bytes = record { list = p.list; lines = p.lines; next = p.next; piece = p.piece ++ bytes }
 
@@ -123,12 +124,13 @@ module _ {P : Type 0} (Answers : P → Asking → List ℕ → Sequel → P → 
   Runs old p written new q written' =
       (output : List ℕ) × Steps (coming old.pending) p new q output × Grows written old.unsent written' new.unsent output
 
-  -- A turn: some bytes are read, and what is written or held unsent grows by an output for what is asked in all that came.
+  -- A turn: some bytes are read, and what is written or held unsent grows by an output for what is asked in
+  -- all that came.
   abbrev pub Turns : Held → P → Option (List ℕ) → Option (List ℕ) → Held → P → Option (List ℕ) → Option (List ℕ) → Type 0
   Turns old p unread written new q unread' written' =
       (read : List ℕ) × Consumes unread unread' read × Runs (with_read old read) p written new q written'
 
-  -- Two turns, one behind the other, write what one turn may write that reads the bytes of both.
+  -- Two turns, one after the other, write what one turn may write that reads the bytes of both.
   abbrev pub TurnsJoin : Type 0
   TurnsJoin = (old mid new : Held) (p q r : P) (unread unread' unread'' written written' written'' : Option (List ℕ)) → mid.ended ≡ None
       → Turns old p unread written mid q unread' written' → Turns mid q unread' written' new r unread'' written'' → Turns old p unread written new r unread'' written''
@@ -149,7 +151,8 @@ TellsOf old new = (notices : List ℕ) × AreNotices notices × (new ≡ old ++ 
 abbrev pub ReadsAs : Option End → List ℕ → Option End → Type 0
 ReadsAs old piece new = (new ≡ old) ⊎ ((piece ≡ []) × ((new ≡ Some NoPeer) ⊎ (new ≡ Some ReadFault)))
 
--- what bytes that are read leave of all that came: it stays; or the peer sends no more, and nothing is asked any more; or the reader failed
+-- what bytes that are read leave of all that came: it stays; or the peer sends no more, and nothing is asked
+-- any more; or the reader failed
 abbrev pub ReadsTo : Option End → Coming → Held → Type 0
 ReadsTo None whole new = whole ≡ coming new.pending
 ReadsTo (Some NoPeer) whole new = whole.asked ≡ []

@@ -23,10 +23,11 @@ use std::collections::VecDeque;
 use std::io::ErrorKind;
 use std::sync::Wait;
 
-/// The most bytes that are held unsent behind a turn (this profile's).
+/// The most bytes that are held unsent after a turn (this profile's).
 const MAX_UNSENT: usize = 16_777_216;
 
-/// How many bytes a turn reads at most. What the lines in so many bytes ask for is what others may have to wait for.
+/// How many bytes a turn reads at most. What the lines in so many bytes ask for is what others may have to
+/// wait for.
 const PIECE: usize = 4_096;
 
 const GREETING: &str = "OK MPD 0.23.0\n";
@@ -76,7 +77,7 @@ impl Conversation {
         self.ended
     }
 
-    /// Whether bytes for the client wait to be written, or to be put behind those.
+    /// Whether bytes for the client wait to be written, or to be put after those.
     pub(crate) fn has_unsent(&self) -> bool
         ensures { result ≡ false → (held_of self.now).unsent ≡ [] }
     {
@@ -172,7 +173,7 @@ impl Conversation {
         self.read(reader)
     }
 
-    /// Puts what is owed behind the unsent bytes.
+    /// Puts what is owed after the unsent bytes.
     fn settle(&mut self) -> Result<(), AllocError>
         ensures frame { self.new ≡ record self.old { unsent = self.new.unsent; owed = self.new.owed } }
         ensures held { held_of self.new ≡ held_of self.old }
@@ -368,7 +369,7 @@ fn is_failure(fault: ErrorKind) -> bool
     fault != ErrorKind::WouldBlock
 }
 
-/// The lines that the piece ends, also where a longer one comes behind them.
+/// The lines that the piece ends, also where a longer one comes after them.
 fn split_piece(splitter: &mut Splitter, piece: &[u8]) -> Result<Vec<Line>, AllocError>
     ensures lines { IfOk result (λ lines. views lines.items ≡ map line_of (split_from splitter.old piece.now).lines) }
     ensures next { OnOk result (splitter.new ≡ (split_from splitter.old piece.now).next) }

@@ -13,8 +13,8 @@ pub fn any_cut_of_bytes()
     any_cut();
 }
 
-/// Two turns, one behind the other, write what one turn may write that reads the bytes of both, where nobody else was served between
-/// them.
+/// Two turns, one after the other, write what one turn may write that reads the bytes of both, where nobody
+/// else was served between them.
 pub fn turns_join<S: Shelf>()
     ensures { (asker : Asker) → TurnsJoin (Answers S.standing S.failed asker) }
 {

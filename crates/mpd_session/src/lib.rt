@@ -1,4 +1,5 @@
-//! One client's session: its bytes are read and split, what they ask is answered, and the answers are written.
+//! One client's session: its bytes are read and split, what they ask is answered, and the answers are
+//! written.
 #![tactic(auto)]
 
 mod conversation;

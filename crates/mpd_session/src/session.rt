@@ -12,7 +12,8 @@ use std::alloc::{AllocError, Global};
 use std::marker::Model;
 use std::sync::Wait;
 
-/// One client's session. A clause sees whose it is, what came that is not answered, what is not written, and why it is closed.
+/// One client's session. A clause sees whose it is, what came that is not answered, what is not written, and
+/// why it is closed.
 #[derive(Drop)]
 pub struct Session {
     conversation: Conversation,
@@ -61,14 +62,15 @@ impl Session {
 
     /// Reads once, runs the lines that this ends, and writes until the writer would block.
     ///
-    /// Some bytes are read. Of all that came so far, the first that is asked is answered, each by one answer that the player of one thread
-    /// may give, with notices between; what is not answered is held, so that nothing is lost or answered twice, wherever the bytes are
-    /// cut. What was written and what is held unsent grow by just these answers. A turn of a closed session only writes.
+    /// Some bytes are read. Of all that came so far, the first that is asked is answered, each by one answer
+    /// that the player of one thread may give, with notices between; what is not answered is held, so that
+    /// nothing is lost or answered twice, wherever the bytes are cut. What was written and what is held
+    /// unsent grow by just these answers. A turn of a closed session only writes.
     ///
     /// # Errors
     ///
-    /// [`SessionFault::ReadFault`] and [`SessionFault::WriteFault`] close the session. After [`SessionFault::NoMemory`] the next turn goes
-    /// on with what was kept before it reads.
+    /// [`SessionFault::ReadFault`] and [`SessionFault::WriteFault`] close the session. After
+    /// [`SessionFault::NoMemory`] the next turn goes on with what was kept before it reads.
     pub fn turn<L: Ledgers, I: Source, O: Sink, S: Shelf, R: Wait>(
         &mut self,
         rt: &R,

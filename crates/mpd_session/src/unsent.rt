@@ -10,8 +10,8 @@ const KEPT: usize = 65_536;
 pub(crate) struct Unsent {
     alloc: Global,
     bytes: Vec<u8>,
-    /// How many of the bytes are written. They are let go once they are the larger part, so that a writer that takes few at a time does not
-    /// have the rest moved each time.
+    /// How many of the bytes are written. They are let go once they are the larger part, so that a writer
+    /// that takes few at a time does not have the rest moved each time.
     written: usize,
 }
 
@@ -44,7 +44,7 @@ impl Unsent {
         &self.bytes[self.written..]
     }
 
-    /// Puts bytes behind the others. Without memory nothing changes.
+    /// Puts bytes after the others. Without memory nothing changes.
     pub(crate) fn push(&mut self, bytes: &[u8]) -> Result<(), AllocError>
         ensures ok { OnOk result (self.new ≡ self.old ++ bytes.now) }
         ensures err { OnErr result (self.new ≡ self.old) }

@@ -1,4 +1,5 @@
-//! The program: what its words ask for, done with standard input, standard output and the files of the system.
+//! The program: what its words ask for, done with standard input, standard output and the files of the
+//! system.
 #![tactic(auto)]
 
 use command_line::{LineFault, Program, command_line};

@@ -30,7 +30,8 @@ heard live items = map (λ item. item.frame) (filter (is_heard live) items)
 abbrev pub bytes_of : List (List ℤ) → List ℕ
 bytes_of frames = flat_map frame_bytes frames
 
--- The writer failed: it took the bytes of the first `written` frames of a hand that are heard, and `torn` bytes of the next.
+-- The writer failed: it took the bytes of the first `written` frames of a hand that are heard, and `torn`
+-- bytes of the next.
 pub record StopsInside (before after : Option (List ℕ)) (live : Live) (hand : List CutFrame) (written torn : ℕ) : Type 0 where
   pub inside : written < length (heard live hand)
   pub part : torn < 4

@@ -74,13 +74,15 @@ impl Drainer {
         })
     }
 
-    /// Fills the hand from the ring, and says by how many frames. Once 2^64-1 frames were popped in all it pops no more.
+    /// Fills the hand from the ring, and says by how many frames. Once 2^64-1 frames were popped in all it
+    /// pops no more.
     pub fn pop(&mut self) -> usize
         ensures popped { popped_of self.new ≡ popped_of self.old ++ came_of self.old self.new }
         ensures hand { hand_of self.new ≡ hand_of self.old ++ came_of self.old self.new }
         ensures count { length (came_of self.old self.new) ≡ result }
 
-        // The known frames come first, all that have room in the hand, and it stops only where no more are known.
+        // The known frames come first, all that have room in the hand, and it stops only where no more are
+        // known.
         ensures known { IsPrefix (ring_of self.old) (came_of self.old self.new ++ ring_of self.new) }
         ensures all { length (hand_of self.old) + length (ring_of self.old) ≤ most_of self.old → length (popped_of self.old) + length (ring_of self.old) < 2 ^ 64 → length (ring_of self.old) ≤ result }
         ensures stops { length (hand_of self.new) < most_of self.new → length (popped_of self.new) < 2 ^ 64 - 1 → ring_of self.new ≡ [] }
@@ -96,9 +98,9 @@ impl Drainer {
         count
     }
 
-    /// Gives each frame of the hand its fate, and says how many were written and how many discarded. After a fault of a
-    /// writer all is discarded; else a pause or the end keeps the hand; else a frame is written where the output is
-    /// enabled and the frame's cut is at least the live one, and discarded otherwise.
+    /// Gives each frame of the hand its fate, and says how many were written and how many discarded. After a
+    /// fault of a writer all is discarded; else a pause or the end keeps the hand; else a frame is written
+    /// where the output is enabled and the frame's cut is at least the live one, and discarded otherwise.
     pub fn write_out<W: Sink>(&mut self, writer: &mut W, live: Live) -> Result<Fates, WriteFault>
         ensures after_fault { has_failed self.old ≡ true → (result ≡ Ok (fates 0 (length (hand_of self.old)))) × (hand_of self.new ≡ []) × (writer.new ≡ writer.old) }
         ensures held { has_failed self.old ≡ false → (live.paused || live.ended) ≡ true → (result ≡ Ok no_fates) × (hand_of self.new ≡ hand_of self.old) × (writer.new ≡ writer.old) }
@@ -188,7 +190,8 @@ impl Drainer {
         self.held
     }
 
-    /// With both ends of one ring in one thread, the ring's length. What was taken is the fates, then the hand, the ring and what is owed.
+    /// With both ends of one ring in one thread, the ring's length. What was taken is the fates, then the
+    /// hand, the ring and what is owed.
     pub fn beside(&mut self, feeder: &mut Feeder) -> usize
         requires { AreEnds feeder.old self.old }
         ensures all { taken_of feeder.new ≡ ((fates_of self.new ++ hand_of self.new) ++ ring_of self.new) ++ owed_of feeder.new }
@@ -200,8 +203,8 @@ impl Drainer {
         self.consumer.slots_beside(&mut feeder.producer)
     }
 
-    /// With the end of this ring's feeder, the ring's length. What was taken is the fates, then the hand, the ring and what is owed.
-    /// `None` without the token.
+    /// With the end of this ring's feeder, the ring's length. What was taken is the fates, then the hand, the
+    /// ring and what is owed. `None` without the token.
     pub fn after(&mut self, end: &mut FeederEnd) -> Option<usize>
         requires { AreEndsAfter end.old self.old }
         ensures token { IsSome result ↔ IsSome end.old.finished }

@@ -10,7 +10,8 @@ use std::alloc::{AllocError, Global};
 /// The most frames of a block.
 pub const MOST_FRAMES: usize = 1024;
 
-/// Takes blocks of frames, and moves them into the ring as it has room. No call waits, and only its making takes memory.
+/// Takes blocks of frames, and moves them into the ring as it has room. No call waits, and only its making
+/// takes memory.
 #[derive(Drop)]
 pub struct Feeder {
     pub(crate) producer: Producer<CutFrame>,

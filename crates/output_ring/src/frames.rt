@@ -1,7 +1,8 @@
 //! Frames with their cuts, and what an output does with them.
 use pcm_mix::Frame;
 
-/// The cut number of a block. Every manual start, seek and stop raises it, and frames of an earlier cut are heard no more.
+/// The cut number of a block. Every manual start, seek and stop raises it, and frames of an earlier cut are
+/// heard no more.
 #[derive(Clone, Copy, PartialEq, Eq, PartialOrd, Ord, Debug)]
 pub struct Cut {
     pub number: u64,
@@ -43,7 +44,8 @@ pub struct Totals {
     pub torn: u8,
 }
 
-/// The writer failed. The frame in which it did and the rest of the hand are discarded, and so is all that comes later.
+/// The writer failed. The frame in which it did and the rest of the hand are discarded, and so is all that
+/// comes later.
 #[derive(Clone, Copy, PartialEq, Eq, Debug)]
 pub struct WriteFault {
     pub fates: Fates,

@@ -112,7 +112,8 @@ fn is_heard(item: CutFrame, live: Live) -> bool
     live.enabled && item.cut >= live.cut
 }
 
-// Writes bytes until all are out or the writer fails, and says how many it took. An interrupted write is a failure too.
+// Writes bytes until all are out or the writer fails, and says how many it took. An interrupted write is a
+// failure too.
 pub(crate) fn write_bytes<W: Sink>(writer: &mut W, bytes: &[u8]) -> usize
     ensures most { result ≤ length bytes.now }
     ensures bytes { Appends (W.contents writer.old) (W.contents writer.new) (take result bytes.now) }

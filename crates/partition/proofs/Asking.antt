@@ -14,25 +14,25 @@ use Rattle.mpd_command.specs.declared.request.Request.{Request}
 use Rattle.mpd_command.specs.declared.request.Request.TheVariants.{Run, Refused}
 use Rattle.player_events.specs.declared.event.Event.{Event}
 use Rattle.player_events.specs.declared.event.Event.TheVariants.{Connect, Disconnect, Line, ScanQuestion, ScanResult, Want, Have, Failed, OutputTurn, End}
-use Rattle.player_state.specs.declared.doing.AudioStep.TheVariants.{Settles}
+use Rattle.player_state.specs.declared.effect.AudioStep.TheVariants.{Settles}
 use Rattle.player_state.specs.Outputs.{is_output}
-use Rattle.command_plan.specs.declared.reply.Move.{Move}
-use Rattle.command_plan.specs.declared.reply.Move.TheVariants.{Stay, Wait, Learn, Resume, Join}
-use Rattle.command_plan.specs.declared.asked.Stand.{Stand}
-use Rattle.command_plan.specs.declared.asked.Stand.TheVariants.{Alone, InList}
+use Rattle.transitions.specs.declared.reply.Move.{Move}
+use Rattle.transitions.specs.declared.reply.Move.TheVariants.{Stay, Wait, Learn, Resume, Join}
+use Rattle.transitions.specs.declared.asked.Stand.{Stand}
+use Rattle.transitions.specs.declared.asked.Stand.TheVariants.{Alone, InList}
 use Rattle.player_state.specs.declared.state.Client.{Client}
 use Rattle.player_state.specs.declared.state.Part.{Part}
-use Rattle.command_plan.specs.Answers.{Answer, Said, refused_by_shelf, refuses, shut, stays, tells}
-use Rattle.command_plan.specs.Shelves.{is_written}
-use Rattle.command_plan.specs.declared.shelf_calls.Heard.{Heard}
+use Rattle.transitions.specs.Answers.{Answer, ResponseData, refused_by_shelf, refuses, shut, stays, tells}
+use Rattle.transitions.specs.Shelves.{is_written}
+use Rattle.transitions.specs.declared.shelf_calls.StoreReply.{StoreReply}
 use Rattle.shelf.specs.declared.faults.ShelfFault.{ShelfFault}
 use Rattle.idle_clients.specs.Clients.{closes, notified, at, moved, move_of}
 use Rattle.status_commands.specs.Status.{Wish, ToWait, ToGoOn, granted, resumes, wish_of}
-use Rattle.command_plan.specs.Turns.{Turn}
+use Rattle.transitions.specs.Transitions.{TransitionData}
 use Rattle.idle_clients.specs.Clients.{client_of}
-use Rattle.partition.specs.Step.{absent, deed_of, ends_by, greeting, once_written, turn_of, turn_line, turn_wished, written_turn}
+use Rattle.partition.specs.Step.{absent, result_of, ends_by, greeting, once_written, transition_of, transition_line, transition_wished, written_transition}
 use Rattle.player_events.specs.Events.{name_of}
-use Rattle.command_plan.specs.Turns.{acts, departs, quiet}
+use Rattle.transitions.specs.Transitions.{acts, departs, quiet}
 use Rattle.partition.specs.World.{is_learning}
 use Rattle.partition.specs.Notices.{IsIn}
 use Rattle.partition.proofs.Members.{of_map}
@@ -64,25 +64,25 @@ quiet_unwaiting Join names q e = cc
 quiet_stays : (answer : Answer) → Quiet (move_of (stays answer))
 quiet_stays answer = elim (closes answer.next) as (λ b. Quiet (if b then Stay else Stay)) [ true ↦ tt | false ↦ tt ]
 
-quiet_if : (b : Bool) (x y : Turn) → Quiet (move_of x.said) → Quiet (move_of y.said) → Quiet (move_of (if b then x else y).said)
+quiet_if : (b : Bool) (x y : TransitionData) → Quiet (move_of x.response) → Quiet (move_of y.response) → Quiet (move_of (if b then x else y).response)
 quiet_if true x y p q = p
 quiet_if false x y p q = q
 
-quiet_said : (b : Bool) (x y : Said) → Quiet (move_of x) → Quiet (move_of y) → Quiet (move_of (if b then x else y))
-quiet_said true x y p q = p
-quiet_said false x y p q = q
+quiet_response : (b : Bool) (x y : ResponseData) → Quiet (move_of x) → Quiet (move_of y) → Quiet (move_of (if b then x else y))
+quiet_response true x y p q = p
+quiet_response false x y p q = q
 
 quiet_resumes : (client : Client) → Quiet (move_of (resumes client))
-quiet_resumes client = quiet_said (is_some client.pending.waiting) (record { answer = tells (codes "OK\n"); move = Resume }) (stays (tells (codes ""))) tt tt
+quiet_resumes client = quiet_response (is_some client.pending.waiting) (record { answer = tells (codes "OK\n"); move = Resume }) (stays (tells (codes ""))) tt tt
 
 quiet_refusal : (stand : Stand) (name : Option Name) (fault : ShelfFault) → Quiet (move_of (stays (refused_by_shelf stand name fault)))
 quiet_refusal stand name fault = quiet_stays (refused_by_shelf stand name fault)
 
--- a turn that writes to the shelf is as quiet as it would be else
-quiet_written : (stand : Stand) (request : Request) (refused : Option ShelfFault) (t : Turn) → Quiet (move_of t.said) → Quiet (move_of (written_turn stand request refused t).said)
+-- a transition that writes to the shelf is as quiet as it would be else
+quiet_written : (stand : Stand) (request : Request) (refused : Option ShelfFault) (t : TransitionData) → Quiet (move_of t.response) → Quiet (move_of (written_transition stand request refused t).response)
 quiet_written stand request refused t q =
-    elim (is_written t.written) as (λ b. Quiet (move_of (if b then once_written stand request refused t else t).said)) [
-      | true ↦ elim refused as (λ r. Quiet (move_of (once_written stand request r t).said)) [ None ↦ q | Some fault ↦ quiet_refusal stand (name_of request) fault ]
+    elim (is_written t.written) as (λ b. Quiet (move_of (if b then once_written stand request refused t else t).response)) [
+      | true ↦ elim refused as (λ r. Quiet (move_of (once_written stand request r t).response)) [ None ↦ q | Some fault ↦ quiet_refusal stand (name_of request) fault ]
       | false ↦ q
     ]
 
@@ -93,7 +93,7 @@ pub record IsAsking (clients : List Client) (event : Event) : Type 0 where
   pub name : Name
   pub command : Command
   pub client : Client
-  pub heard : Heard
+  pub heard : StoreReply
   pub is : event ≡ Line number Alone (Run name command) heard
   pub wish : wish_of command ≡ Some (ToWait named)
   pub found : client_of number clients ≡ Some client
@@ -105,23 +105,23 @@ wish_is (Idle more) named e = cc
 wish_is _ named e = cc
 
 -- what a client that does not wait is answered when it asks
-abbrev pub turn_idle : Client → Subsystems → Turn
-turn_idle client named = quiet (granted client (ToWait named))
+abbrev pub transition_idle : Client → Subsystems → TransitionData
+transition_idle client named = quiet (granted client (ToWait named))
 
-module _ (part : Part) (library : Library) (heard : Heard) (clients : List Client) (number : ℕ) (k : Client) (is_there : client_of number clients ≡ Some k) where
+module _ (part : Part) (library : Library) (heard : StoreReply) (clients : List Client) (number : ℕ) (k : Client) (is_there : client_of number clients ≡ Some k) where
   -- a line of a client that is there: it is closed, or this is done
-  abbrev line : Bool → Turn → Turn
+  abbrev line : Bool → TransitionData → TransitionData
   line ends done = if is_some k.pending.waiting && not ends then departs k.number else done
 
-  quiet_line : (ends : Bool) (done : Turn) → Quiet (move_of done.said) → Quiet (move_of (line ends done).said)
+  quiet_line : (ends : Bool) (done : TransitionData) → Quiet (move_of done.response) → Quiet (move_of (line ends done).response)
   quiet_line ends done q = quiet_if (is_some k.pending.waiting && not ends) (departs k.number) done tt q
 
   module _ (name : Name) (command : Command) where
-    abbrev run : Stand → Option Wish → Turn
-    run stand wish = turn_wished (record { client = k.number; name = name; stand = stand }) k (deed_of (record { client = k.number; name = name; stand = stand }) part library heard.read command) wish
+    abbrev run : Stand → Option Wish → TransitionData
+    run stand wish = transition_wished (record { client = k.number; name = name; stand = stand }) k (result_of (record { client = k.number; name = name; stand = stand }) part library heard.read command) wish
 
     abbrev Kind : Stand → Option Wish → Type 0
-    Kind stand wish = Quiet (move_of (line (ends_by stand wish) (run stand wish)).said) ⊎ IsAsking clients (Line number stand (Run name command) heard)
+    Kind stand wish = Quiet (move_of (line (ends_by stand wish) (run stand wish)).response) ⊎ IsAsking clients (Line number stand (Run name command) heard)
 
     asking : (named : Subsystems) → wish_of command ≡ Some (ToWait named) → Kind Alone (Some (ToWait named))
     asking named e =
@@ -133,12 +133,12 @@ module _ (part : Part) (library : Library) (heard : Heard) (clients : List Clien
         cases k.pending.waiting refl
 
     kind_of_wish : (stand : Stand) (wish : Option Wish) → wish_of command ≡ wish → Kind stand wish
-    kind_of_wish stand None e = inl (quiet_line (ends_by stand None) (run stand None) (quiet_stays (deed_of (record { client = k.number; name = name; stand = stand }) part library heard.read command).answer))
+    kind_of_wish stand None e = inl (quiet_line (ends_by stand None) (run stand None) (quiet_stays (result_of (record { client = k.number; name = name; stand = stand }) part library heard.read command).answer))
     kind_of_wish Alone (Some (ToWait named)) e = asking named e
     kind_of_wish Alone (Some ToGoOn) e = inl (quiet_line true (run Alone (Some ToGoOn)) (quiet_resumes k))
     kind_of_wish (InList form place) (Some wish) e = inl (quiet_line false (run (InList form place) (Some wish)) tt)
 
-  kind_of_line : (stand : Stand) (request : Request) → Quiet (move_of (turn_line part library (Some k) stand request heard.read).said) ⊎ IsAsking clients (Line number stand request heard)
+  kind_of_line : (stand : Stand) (request : Request) → Quiet (move_of (transition_line part library (Some k) stand request heard.read).response) ⊎ IsAsking clients (Line number stand request heard)
   kind_of_line Alone (Run name command) = kind_of_wish name command Alone (wish_of command) refl
   kind_of_line (InList form place) (Run name command) = kind_of_wish name command (InList form place) (wish_of command) refl
   kind_of_line Alone (Refused ack) = inl (quiet_line false (quiet (stays (refuses Alone ack.command ack.number ack.text))) tt)
@@ -146,10 +146,10 @@ module _ (part : Part) (library : Library) (heard : Heard) (clients : List Clien
 
 -- each event makes a quiet move, or is `idle`
 pub kind_of : (ended : Bool) (part : Part) (library : Library) (clients : List Client) (event : Event)
-    → Quiet (move_of (turn_of ended part library clients event).said) ⊎ IsAsking clients event
+    → Quiet (move_of (transition_of ended part library clients event).response) ⊎ IsAsking clients event
 kind_of ended part library clients (Connect number) =
     let full : Bool = nat_le 64 (length clients) in
-    inl (quiet_said (is_some (client_of number clients)) (stays (tells (codes ""))) (if full then stays shut else greeting) tt (quiet_said full (stays shut) greeting tt tt))
+    inl (quiet_response (is_some (client_of number clients)) (stays (tells (codes ""))) (if full then stays shut else greeting) tt (quiet_response full (stays shut) greeting tt tt))
 kind_of ended part library clients (Disconnect number) = inl tt
 kind_of ended part library clients ScanQuestion = inl tt
 kind_of ended part library clients (ScanResult songs) = inl tt
@@ -160,11 +160,11 @@ kind_of ended part library clients End = inl tt
 kind_of ended part library clients (OutputTurn output written discarded failed) =
     inl (quiet_if (is_output part.outputs output) (acts (Settles output written discarded failed)) absent tt tt)
 kind_of ended part library clients (Line number stand request heard) =
-    let cases : (o : Option Client) → client_of number clients ≡ o → Quiet (move_of (turn_line part library o stand request heard.read).said) ⊎ IsAsking clients (Line number stand request heard) =
-    λ o. elim o as (λ o. client_of number clients ≡ o → Quiet (move_of (turn_line part library o stand request heard.read).said) ⊎ IsAsking clients (Line number stand request heard))
+    let cases : (o : Option Client) → client_of number clients ≡ o → Quiet (move_of (transition_line part library o stand request heard.read).response) ⊎ IsAsking clients (Line number stand request heard) =
+    λ o. elim o as (λ o. client_of number clients ≡ o → Quiet (move_of (transition_line part library o stand request heard.read).response) ⊎ IsAsking clients (Line number stand request heard))
     [ None ↦ λ e. inl tt | Some k ↦ λ e. kind_of_line part library heard clients number k e stand request ] in
     elim (cases (client_of number clients) refl) [
-      | inl q ↦ inl (quiet_written stand request heard.refused (turn_line part library (client_of number clients) stand request heard.read) q)
+      | inl q ↦ inl (quiet_written stand request heard.refused (transition_line part library (client_of number clients) stand request heard.read) q)
       | inr a ↦ inr a
     ]
 

@@ -8,8 +8,8 @@ use Rattle.partition.specs.declared.partition.PartitionFault.TheVariants.{NoMemo
 use Rattle.partition.specs.Image.{Image}
 use Rattle.partition.specs.Lent.{IsRefused}
 use Rattle.partition.specs.Refusals.{MayRefuse}
-use Rattle.command_plan.specs.Shelves.{Spares, nothing_heard}
-use Rattle.player_events.specs.Events.{hearing}
+use Rattle.transitions.specs.Shelves.{LeavesUnchanged, no_store_reply}
+use Rattle.player_events.specs.Events.{with_store_reply}
 use Rattle.partition.specs.Step.{limit_of}
 
 pub same_maps : (m : Maps) → Same m m
@@ -36,7 +36,7 @@ may_want None = refl
 may_want (Some limit) = inr refl
 
 module _ {S : Type 0} (standing : S → Standing) (failed : S → S → Call → Type 0) where
-  pub untouched : (s : S) → Spares standing failed s s
+  pub untouched : (s : S) → LeavesUnchanged standing failed s s
   untouched s = record {
     between = s;
     was_read = false;
@@ -48,8 +48,8 @@ module _ {S : Type 0} (standing : S → Standing) (failed : S → S → Call →
   -- an event that found no memory before the shelf was called
   pub wanting : (seat : ℕ) (i : Image) (s : S) (event : Event) → IsRefused standing failed i s s seat event NoMemory
   wanting seat i s event = record {
-    heard = nothing_heard;
-    refused = may_want (limit_of seat i (hearing event nothing_heard));
+    heard = no_store_reply;
+    refused = may_want (limit_of seat i (with_store_reply event no_store_reply));
     cause = inl refl;
-    spared = untouched s;
+    unchanged = untouched s;
   }

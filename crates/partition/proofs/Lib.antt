@@ -6,9 +6,9 @@ pub mod Flags
 pub mod Folds
 pub mod Lending
 pub mod ListRuns
-pub mod Lives
+pub mod Traces
 pub mod Members
-pub mod Moments
+pub mod WorldTransitions
 pub mod Notified
 pub mod Parts
 pub mod Pending

@@ -1,4 +1,4 @@
--- The flags after an event are what is pending with one more moment.
+-- The flags after an event are what is pending with one more transition.
 use Rattle.std.proofs.Common.{◌≡◌, ℕ, zero, suc, ◌<◌, ◌==◌, Bool, true, false, not, ◌&&◌, ◌||◌, List, [], ◌∷◌, Option, Some, None, is_some, map, refl, ap, sym, ◌∙◌, arith, if◌then◌else◌}
 use Rattle.std.specs.Prelude.{filter, insert, nat_lt}
 use Rattle.std.specs.List.{flat_map, list_any, position_or_len}
@@ -8,8 +8,8 @@ use Rattle.idle_notes.specs.declared.pending.Pending.{Pending}
 use Rattle.idle_notes.specs.declared.sets.Subsystems.{Subsystems}
 use Rattle.idle_notes.specs.Sets.{none, union, is_nonempty}
 use Rattle.idle_notes.specs.Notes.{fresh, noted, waits, cancelled, due}
-use Rattle.command_plan.specs.declared.reply.Move.{Move}
-use Rattle.command_plan.specs.declared.reply.Move.TheVariants.{Stay, Wait, Learn, Resume, Join}
+use Rattle.transitions.specs.declared.reply.Move.{Move}
+use Rattle.transitions.specs.declared.reply.Move.TheVariants.{Stay, Wait, Learn, Resume, Join}
 use Rattle.idle_clients.specs.declared.notices.Notice.{Notice}
 use Rattle.player_state.specs.declared.state.Client.{Client}
 use Rattle.idle_clients.specs.Clients.{notified, is_other, at, joined, moved, notice_to, notice_for, AllAbove, Rising}
@@ -60,7 +60,7 @@ module _ (raised : ℕ → Subsystems) where
       let other : (k.number == n) ≡ false = grind (arith, nat_tests) in
       named_more n k ks ∙ ap (λ b. (told k && b) || named n ks) other ∙ ap (λ b. b || named n ks) (both_false (told k)) ∙ unnamed n ks above.1
 
-  -- one more client in front names none of those behind it
+  -- one more client in front names none of those after it
   shifted : (k : Client) (all ks : List Client) → AllAbove k.number ks → Each (λ x. named x.number all ≡ told x) ks
       → Each (λ x. named x.number (k ∷ all) ≡ told x) ks
   shifted k all [] above e = tt

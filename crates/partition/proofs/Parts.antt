@@ -25,25 +25,25 @@ use Rattle.idle_notes.specs.declared.channels.Message.{Message as Waiting}
 use Rattle.player_state.specs.declared.scan.ScanMove.{ScanMove}
 use Rattle.player_state.specs.declared.scan.ScanMove.TheVariants.{Stay, Begin, End}
 use Rattle.player_state.specs.declared.state.Library.{Library}
-use Rattle.player_state.specs.declared.doing.Doing.{Doing}
-use Rattle.player_state.specs.declared.doing.Doing.TheVariants.{ByCommand, ByAudio}
-use Rattle.player_state.specs.declared.doing.Effect.TheVariants.{Rests, Edits, Shuffles, SetsVolume, SetsRepeat, SetsRandom, SetsSingle, SetsConsume, SetsCrossfade, ClearsError, Plays, PlaysPlace, Pauses, TogglesPause, Stops, GoesOn, GoesBack, Seeks, Switches, Subscribes, Unsubscribes, Sends, ReadsMessages, Leaves}
-use Rattle.player_state.specs.declared.doing.AudioStep.TheVariants.{Wants, Accepts, Fails, Settles}
+use Rattle.player_state.specs.declared.effect.Effect.{Effect}
+use Rattle.player_state.specs.declared.effect.Effect.TheVariants.{ByCommand, ByAudio}
+use Rattle.player_state.specs.declared.effect.CommandEffect.TheVariants.{Rests, Edits, Shuffles, SetsVolume, SetsRepeat, SetsRandom, SetsSingle, SetsConsume, SetsCrossfade, ClearsError, Plays, PlaysPlace, Pauses, TogglesPause, Stops, GoesOn, GoesBack, Seeks, Switches, Subscribes, Unsubscribes, Sends, ReadsMessages, Leaves}
+use Rattle.player_state.specs.declared.effect.AudioStep.TheVariants.{Wants, Accepts, Fails, Settles}
 use Rattle.player_events.specs.declared.event.Event.{Event}
 use Rattle.idle_clients.specs.declared.notices.Notice.{Notice}
 use Rattle.player_state.specs.declared.report.Report.{Report}
 use Rattle.player_state.specs.declared.state.Part.{Part}
 use Rattle.player_state.specs.Outputs.{OutputsData, any_enabled, broken}
-use Rattle.player_state.specs.Doings.{Change, ByEdit, ByStep, change_of, entries, outputs_after, played_entry, player_after, player_edited, sought_entry}
+use Rattle.player_state.specs.Effects.{Change, ByEdit, ByStep, change_of, entries, outputs_after, played_entry, player_after, player_edited, sought_entry}
 use Rattle.partition.specs.Image.{Image}
-use Rattle.command_plan.specs.Turns.{Turn}
+use Rattle.transitions.specs.Transitions.{TransitionData}
 use Rattle.player_state.specs.Libraries.{library_after}
 use Rattle.player_state.specs.Scans.{is_last}
 use Rattle.idle_clients.proofs.Songs.{same_songs-refl, same_songs-true}
 use Rattle.idle_clients.proofs.Alike.{more_than_none, same_pairs-refl, same_pairs-true, same_enabled-refl, same_enabled-true, same_options-refl, same_options-true, same_playing-refl, same_playing-true}
 use Rattle.idle_clients.specs.Clients.{options, playing, same_enabled, same_pair, same_pairs, same_options, same_playing, same_songs}
-use Rattle.partition.specs.World.{World, Moment, Differs, past_after, raised_at, world_after_turn}
-use Rattle.partition.specs.Notices.{AgreeButForUnspoken}
+use Rattle.partition.specs.World.{World, WorldTransition, Differs, past_after, raised_at, world_after_transition}
+use Rattle.partition.specs.Notices.{AgreeButForUnwatched}
 
 -- a test that answers true only of two that are one, and of each with itself
 tells : {A : Type 0} (same : A → A → Bool) → ((a : A) → same a a ≡ true) → ((a b : A) → same a b ≡ true → a ≡ b) → (a b : A)
@@ -101,8 +101,8 @@ begins-tells (m ∷ ms) (n ∷ ns) = (
   λ p. (let clash : m ∷ ms ≡ [] = p.0 in cc),
 )
 
--- by the parts of the worlds before and after a moment
-pub raised_differ : (number : ℕ) (m : Moment) (x : Subsystem) → (has (raised_at number m) x ≡ true) ↔ Differs number x m
+-- by the parts of the worlds before and after a transition
+pub raised_differ : (number : ℕ) (m : WorldTransition) (x : Subsystem) → (has (raised_at number m) x ≡ true) ↔ Differs number x m
 raised_differ number m Database = tells same_songs same_songs-refl same_songs-true m.before.library.songs m.after.library.songs
 raised_differ number m Update = differs-tells m.before.library.scan.runs m.after.library.scan.runs
 raised_differ number m StoredPlaylist = (λ e. e, λ e. e)
@@ -141,7 +141,7 @@ same_library library (End found) songs runs =
     λ i. record library { songs = sym songs i; scan = record library.scan { runs = sym runs i } }
 
 -- the names of outputs stay
-same_names : (outputs : OutputsData) (doing : Doing) → (outputs_after outputs doing).names ≡ outputs.names
+same_names : (outputs : OutputsData) (effect : Effect) → (outputs_after outputs effect).names ≡ outputs.names
 same_names outputs (ByCommand (Switches output on)) = refl
 same_names outputs (ByAudio (Settles output written discarded failed)) = elim failed as (λ b. (if b then broken outputs output else outputs).names ≡ outputs.names) [ true ↦ refl | false ↦ refl ]
 same_names outputs _ = refl
@@ -167,7 +167,7 @@ module _ (p : PlayerState) where
   seek_keeps None frame = refl
   seek_keeps (Some entry) frame = (numbers_rise p (Seek entry frame)).3
 
-same_limit : (rate : ℕ) (part : Part) (doing : Doing) → (player_after rate part doing).max_cut ≡ part.player.max_cut
+same_limit : (rate : ℕ) (part : Part) (effect : Effect) → (player_after rate part effect).max_cut ≡ part.player.max_cut
 same_limit rate part (ByCommand Rests) = refl
 same_limit rate part (ByCommand (Edits edit)) = edit_keeps part.player part.queue edit
 same_limit rate part (ByCommand (Shuffles start end)) = refl
@@ -198,12 +198,12 @@ same_limit rate part (ByCommand (ReadsMessages client)) = refl
 same_limit rate part (ByCommand (Leaves client)) = refl
 
 -- where no part differs nothing differs but what no subsystem speaks of
-pub agree : (before : World) (i : Image) (event : Event) (t : Turn) (notices : List Notice) (report : Report) → i.part.player ≡ before.player
-    → ((number : ℕ) (x : Subsystem) → Differs number x (record { before = before; event = event; turn = t; notices = notices; report = report; after = world_after_turn before i event t }) → ⊥)
-    → AgreeButForUnspoken before (world_after_turn before i event t)
+pub agree : (before : World) (i : Image) (event : Event) (t : TransitionData) (notices : List Notice) (report : Report) → i.part.player ≡ before.player
+    → ((number : ℕ) (x : Subsystem) → Differs number x (record { before = before; event = event; transition = t; notices = notices; report = report; after = world_after_transition before i event t }) → ⊥)
+    → AgreeButForUnwatched before (world_after_transition before i event t)
 agree before i event t notices report same_player none =
-    let after : World = world_after_turn before i event t in
-    let change : Change = change_of before.library.rate i.part t.doing in
+    let after : World = world_after_transition before i event t in
+    let change : Change = change_of before.library.rate i.part t.effect in
     let songs : before.library.songs ≡ after.library.songs = decides same_songs same_songs-true same_songs-refl before.library.songs after.library.songs (none 0 Database) in
     let runs : before.library.scan.runs ≡ after.library.scan.runs = modes_of before.library.scan.runs after.library.scan.runs (none 0 Update) in
     let library : after.library ≡ before.library = same_library before.library t.scan songs runs in
@@ -213,11 +213,11 @@ agree before i event t notices report same_player none =
     sym (decides same_playing same_playing-true same_playing-refl (playing before.player) (playing after.player) (none 0 Player)) in
     let set : options after.player ≡ options before.player =
     sym (decides same_options same_options-true same_options-refl (options before.player) (options after.player) (none 0 Options)) in
-    let limit : after.player.max_cut ≡ before.player.max_cut = same_limit before.library.rate i.part t.doing ∙ ap (λ (p : PlayerState). p.max_cut) same_player in
+    let limit : after.player.max_cut ≡ before.player.max_cut = same_limit before.library.rate i.part t.effect ∙ ap (λ (p : PlayerState). p.max_cut) same_player in
     let volume : after.volume ≡ before.volume = sym (decides nat_eq eqb-true (λ a. eq-eqb a a refl) before.volume after.volume (none 0 Mixer)) in
     let enabled : after.outputs.enabled ≡ before.outputs.enabled =
     sym (decides same_enabled same_enabled-true same_enabled-refl before.outputs.enabled after.outputs.enabled (none 0 Output)) in
-    let names : after.outputs.names ≡ before.outputs.names = same_names before.outputs t.doing in
+    let names : after.outputs.names ≡ before.outputs.names = same_names before.outputs t.effect in
     let listening : pairs before.channels ≡ pairs after.channels = decides same_pairs same_pairs-true same_pairs-refl (pairs before.channels) (pairs after.channels) (none 0 Subscription) in (
       λ j. record {
         past = past j;

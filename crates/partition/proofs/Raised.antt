@@ -1,4 +1,4 @@
--- What the signs of a player tell of a turn.
+-- What the fingerprint of a player tells of a transition.
 use Rattle.std.proofs.Common.{◌≡◌, inl, inr, ℕ, Bool, true, false, not, ◌&&◌, List, Some, None, refl, ap, sym, ◌∙◌}
 use Rattle.idle_notes.specs.Channels.{MemberData, clients_with_messages}
 use Rattle.idle_notes.specs.declared.sets.Subsystems.{Subsystems}
@@ -10,20 +10,20 @@ use Rattle.player_state.specs.declared.state.Part.{Part}
 use Rattle.player_events.specs.declared.event.Event.{Event}
 use Rattle.idle_clients.specs.declared.notices.Notice.{Notice}
 use Rattle.player_state.specs.declared.state.Client.{Client}
-use Rattle.command_plan.specs.Answers.{Said}
+use Rattle.transitions.specs.Answers.{ResponseData}
 use Rattle.player_state.specs.declared.state.Library.{Library}
 use Rattle.idle_clients.specs.Clients.{begins_to_have, clients_after, has_messages, notices_after, same_songs}
 use Rattle.player_state.specs.Outputs.{FrameBooks, books_after}
-use Rattle.player_state.specs.Doings.{Change, ByEdit, ByStep, change_of, channels_after, part_after, queue_after}
+use Rattle.player_state.specs.Effects.{Change, ByEdit, ByStep, change_of, channels_after, part_after, queue_after}
 use Rattle.partition.specs.Image.{Image}
-use Rattle.command_plan.specs.Turns.{Turn}
+use Rattle.transitions.specs.Transitions.{TransitionData}
 use Rattle.player_state.specs.Libraries.{library_after, songs_after}
-use Rattle.idle_clients.specs.Signs.{SignsData, changes_subscriptions, is_among, signs, told_by_signs}
-use Rattle.command_plan.specs.declared.shelf_calls.ShelfWrite.{ShelfWrite}
+use Rattle.idle_clients.specs.Fingerprint.{FingerprintData, changes_subscriptions, is_among, fingerprint, told_by_fingerprint}
+use Rattle.transitions.specs.declared.shelf_calls.ShelfWrite.{ShelfWrite}
 use Rattle.idle_clients.specs.Settled.{HasRoom}
 use Rattle.idle_clients.proofs.Listeners.{among_waiting, changes}
-use Rattle.partition.specs.Step.{mover, raised_by, after_turn, ended_after, told_by}
-use Rattle.command_plan.specs.Turns.{report_of}
+use Rattle.partition.specs.Step.{mover, raised_by, after_transition, ended_after, told_by}
+use Rattle.transitions.specs.Transitions.{report_of}
 
 pub differ-self : (b : Bool) → differ b b ≡ false
 differ-self true = refl
@@ -39,59 +39,59 @@ begins : (number : ℕ) (before after : List MemberData)
     → (not (is_among number (clients_with_messages before)) && has_messages number after) ≡ begins_to_have number before after
 begins number before after = ap (λ (b : Bool). not b && has_messages number after) (among_waiting number before)
 
--- what the signs before and after a turn tell is what it raises
-pub by_signs : (part : Part) (library : Library) (after : Part) (found : Library) (t : Turn)
-    → after ≡ part_after library.rate part t.doing → found ≡ library_after library t.scan
-    → told_by_signs (not (same_songs library.songs (songs_after library t.scan))) (changes_subscriptions part.channels t.doing) t.written (signs part library) after found ≡ raised_by part library t
-by_signs part library after found t e f =
+-- what the fingerprints before and after a transition tell is what it raises
+pub by_fingerprint : (part : Part) (library : Library) (after : Part) (found : Library) (t : TransitionData)
+    → after ≡ part_after library.rate part t.effect → found ≡ library_after library t.scan
+    → told_by_fingerprint (not (same_songs library.songs (songs_after library t.scan))) (changes_subscriptions part.channels t.effect) t.written (fingerprint part library) after found ≡ raised_by part library t
+by_fingerprint part library after found t e f =
     let database : Bool = not (same_songs library.songs (songs_after library t.scan)) in
-    let next : Part = part_after library.rate part t.doing in
+    let next : Part = part_after library.rate part t.effect in
     let next_library : Library = library_after library t.scan in
-    ap (λ (p : Part). told_by_signs database (changes_subscriptions part.channels t.doing) t.written (signs part library) p found) e
-    ∙ ap (λ (l : Library). told_by_signs database (changes_subscriptions part.channels t.doing) t.written (signs part library) next l) f
-    ∙ (λ j number. record (told_by_signs database (changes_subscriptions part.channels t.doing) t.written (signs part library) next next_library number) {
-      playlist = sym (by_change part.queue (change_of library.rate part t.doing)) j;
-      subscription = sym (changes part.channels t.doing) j;
-      message = begins number part.channels (channels_after part.channels t.doing) j;
+    ap (λ (p : Part). told_by_fingerprint database (changes_subscriptions part.channels t.effect) t.written (fingerprint part library) p found) e
+    ∙ ap (λ (l : Library). told_by_fingerprint database (changes_subscriptions part.channels t.effect) t.written (fingerprint part library) next l) f
+    ∙ (λ j number. record (told_by_fingerprint database (changes_subscriptions part.channels t.effect) t.written (fingerprint part library) next next_library number) {
+      playlist = sym (by_change part.queue (change_of library.rate part t.effect)) j;
+      subscription = sym (changes part.channels t.effect) j;
+      message = begins number part.channels (channels_after part.channels t.effect) j;
     })
 
 -- what is told by readings that are alike
-pub told_alike : (database database' subscription subscription' : Bool) (written written' : ShelfWrite) (before before' : SignsData) (part : Part) (library : Library)
+pub told_alike : (database database' subscription subscription' : Bool) (written written' : ShelfWrite) (before before' : FingerprintData) (part : Part) (library : Library)
     → database ≡ database' → subscription ≡ subscription' → written ≡ written' → before ≡ before'
-    → told_by_signs database subscription written before part library ≡ told_by_signs database' subscription' written' before' part library
-told_alike database database' subscription subscription' written written' before before' part library d s w b = λ i. told_by_signs (d i) (s i) (w i) (b i) part library
+    → told_by_fingerprint database subscription written before part library ≡ told_by_fingerprint database' subscription' written' before' part library
+told_alike database database' subscription subscription' written written' before before' part library d s w b = λ i. told_by_fingerprint (d i) (s i) (w i) (b i) part library
 
-module _ (i : Image) (event : Event) (t : Turn) (part : Part) (library : Library) (raised : ℕ → Subsystems) (said : Said) where
-  -- what was told by signs is what the turn raised
+module _ (i : Image) (event : Event) (t : TransitionData) (part : Part) (library : Library) (raised : ℕ → Subsystems) (response : ResponseData) where
+  -- what was told by fingerprints is what the transition raised
   abbrev pub Shown : Type 0
-  Shown = raised ≡ told_by_signs (not (same_songs i.shared.library.songs (songs_after i.shared.library t.scan))) (changes_subscriptions i.part.channels t.doing) t.written (signs i.part i.shared.library) part library
+  Shown = raised ≡ told_by_fingerprint (not (same_songs i.shared.library.songs (songs_after i.shared.library t.scan))) (changes_subscriptions i.part.channels t.effect) t.written (fingerprint i.part i.shared.library) part library
 
   abbrev pub PartIs : Type 0
-  PartIs = part ≡ part_after i.shared.library.rate i.part t.doing
+  PartIs = part ≡ part_after i.shared.library.rate i.part t.effect
 
   abbrev pub LibraryIs : Type 0
   LibraryIs = library ≡ library_after i.shared.library t.scan
 
   pub is_raised : PartIs → LibraryIs → Shown → raised ≡ raised_by i.part i.shared.library t
-  is_raised part_is library_is raised_is = raised_is ∙ by_signs i.part i.shared.library part library t part_is library_is
+  is_raised part_is library_is raised_is = raised_is ∙ by_fingerprint i.part i.shared.library part library t part_is library_is
 
-  -- the image after a turn, from what was made of each of its fields
+  -- the image after a transition, from what was made of each of its fields
   pub stepped : (books : FrameBooks) (ended : Bool) (clients : List Client) → PartIs → LibraryIs
-      → books ≡ books_after i.shared.books i.part.outputs t.doing (report_of i.part i.shared.library t) → ended ≡ ended_after i.shared.ended event → said ≡ t.said → Shown
-      → clients ≡ clients_after (mover event) raised said i.clients
-      → record { part = part; shared = record i.shared { library = library; books = books; ended = ended }; clients = clients } ≡ after_turn i event t
+      → books ≡ books_after i.shared.books i.part.outputs t.effect (report_of i.part i.shared.library t) → ended ≡ ended_after i.shared.ended event → response ≡ t.response → Shown
+      → clients ≡ clients_after (mover event) raised response i.clients
+      → record { part = part; shared = record i.shared { library = library; books = books; ended = ended }; clients = clients } ≡ after_transition i event t
   stepped books ended clients part_is library_is books_are ended_is said_is raised_is clients_are =
       let all : raised ≡ raised_by i.part i.shared.library t = is_raised part_is library_is raised_is in
-      let told : clients ≡ clients_after (mover event) (raised_by i.part i.shared.library t) t.said i.clients =
-      clients_are ∙ ap (λ r. clients_after (mover event) r said i.clients) all ∙ ap (λ s. clients_after (mover event) (raised_by i.part i.shared.library t) s i.clients) said_is in
+      let told : clients ≡ clients_after (mover event) (raised_by i.part i.shared.library t) t.response i.clients =
+      clients_are ∙ ap (λ r. clients_after (mover event) r response i.clients) all ∙ ap (λ s. clients_after (mover event) (raised_by i.part i.shared.library t) s i.clients) said_is in
       λ j. record { part = part_is j; shared = record i.shared { library = library_is j; books = books_are j; ended = ended_is j }; clients = told j }
 
-  -- the notices of a turn, from what was made of it
-  pub noticed : (notices : List Notice) → PartIs → LibraryIs → said ≡ t.said → Shown
-      → notices ≡ notices_after (mover event) raised said i.clients → notices ≡ (told_by i event t).notices
+  -- the notices of a transition, from what was made of it
+  pub noticed : (notices : List Notice) → PartIs → LibraryIs → response ≡ t.response → Shown
+      → notices ≡ notices_after (mover event) raised response i.clients → notices ≡ (told_by i event t).notices
   noticed notices part_is library_is said_is raised_is notices_are =
       let all : raised ≡ raised_by i.part i.shared.library t = is_raised part_is library_is raised_is in
-      notices_are ∙ ap (λ r. notices_after (mover event) r said i.clients) all ∙ ap (λ s. notices_after (mover event) (raised_by i.part i.shared.library t) s i.clients) said_is
+      notices_are ∙ ap (λ r. notices_after (mover event) r response i.clients) all ∙ ap (λ s. notices_after (mover event) (raised_by i.part i.shared.library t) s i.clients) said_is
 
   -- there is room for the notices of what was raised
   pub roomy : (room : ℕ) → PartIs → LibraryIs → Shown → HasRoom (raised_by i.part i.shared.library t) i.clients room → HasRoom raised i.clients room

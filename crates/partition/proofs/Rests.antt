@@ -5,30 +5,30 @@ use Rattle.shelf.specs.declared.faults.ShelfFault.TheVariants.{NoSuchList, Exist
 use Rattle.shelf.specs.Maps.{is_list_name, is_sticker_name}
 use Rattle.mpd_text.specs.Songs.Song.{SongData}
 use Rattle.mpd_text.specs.declared.answers.answer.ErrorNumber.TheVariants.{PlaylistMax}
-use Rattle.command_plan.specs.declared.shelf_calls.ShelfWrite.TheVariants.{Put}
+use Rattle.transitions.specs.declared.shelf_calls.ShelfWrite.TheVariants.{Put}
 use Rattle.song_db.specs.Library.{song_of}
 use Rattle.song_search.specs.Folders.{is_folder, under}
 use Rattle.shelf_contents.specs.Edits.{uris_of}
 use Rattle.mpd_command.specs.declared.sticker.Comparison.{Comparison}
 use Rattle.mpd_command.specs.declared.sticker.StickerCommand.{StickerCommand}
 use Rattle.mpd_command.specs.declared.sticker.StickerCommand.TheVariants.{Get, Set, Delete, List as ListStickers, Find}
-use Rattle.player_state.specs.declared.doing.Doing.TheVariants.{ByCommand}
-use Rattle.player_state.specs.declared.doing.Effect.{Effect}
-use Rattle.player_state.specs.declared.doing.Effect.TheVariants.{Rests}
-use Rattle.command_plan.specs.declared.asked.Asked.{Asked}
-use Rattle.command_plan.specs.declared.shelf_calls.Read.{Read}
-use Rattle.command_plan.specs.declared.shelf_calls.Read.TheVariants.{Nothing, Names, List as ListRead, Value, Entries, Refused}
+use Rattle.player_state.specs.declared.effect.Effect.TheVariants.{ByCommand}
+use Rattle.player_state.specs.declared.effect.CommandEffect.{CommandEffect}
+use Rattle.player_state.specs.declared.effect.CommandEffect.TheVariants.{Rests}
+use Rattle.transitions.specs.declared.asked.Asked.{Asked}
+use Rattle.transitions.specs.declared.shelf_calls.Read.{Read}
+use Rattle.transitions.specs.declared.shelf_calls.Read.TheVariants.{Nothing, Names, List as ListRead, Value, Entries, Refused}
 use Rattle.player_state.specs.declared.state.Library.{Library}
 use Rattle.player_state.specs.declared.state.Part.{Part}
-use Rattle.command_plan.specs.Deeds.{bad_name, no_such_song, refusal, writes}
+use Rattle.transitions.specs.CommandResults.{bad_name, no_such_song, refusal, writes}
 use Rattle.library_commands.specs.Shelf.{append, append_folder, append_song_or_folder, delete_stickers, named, playlist_add, put_with, is_place, is_song, set_value, show_found, show_stickers, show_value, sticker}
-use Rattle.command_plan.specs.Turns.{Deed}
-use Rattle.player_state.specs.Plans.{Fits}
+use Rattle.transitions.specs.Transitions.{CommandResult}
+use Rattle.player_state.specs.Fits.{Fits}
 
-abbrev IsRest : Deed → Type 0
-IsRest deed = deed.effect ≡ Rests
+abbrev IsRest : CommandResult → Type 0
+IsRest command_result = command_result.effect ≡ Rests
 
-either : (b : Bool) (d e : Deed) → IsRest d → IsRest e → IsRest (if b then d else e)
+either : (b : Bool) (d e : CommandResult) → IsRest d → IsRest e → IsRest (if b then d else e)
 either true d e p q = p
 either false d e p q = q
 
@@ -87,7 +87,7 @@ sticker_rests asked library read (Find uri name test) =
     either (is_place library uri.0) _ (no_such_song asked) (either (is_sticker_name name) _ (bad_name asked name) (find_rests asked library read uri.0 name test) refl) refl
 
 pub sticker_fits : (part : Part) (asked : Asked) (library : Library) (read : Read) (command : StickerCommand) → Fits part (ByCommand (sticker asked library read command).effect)
-sticker_fits part asked library read command = subst (λ (e : Effect). Fits part (ByCommand e)) (sym (sticker_rests asked library read command)) tt
+sticker_fits part asked library read command = subst (λ (e : CommandEffect). Fits part (ByCommand e)) (sym (sticker_rests asked library read command)) tt
 
 put_rests : (asked : Asked) (name : List ℕ) (uris : List (List ℕ)) (songs : List SongData) (changes : Bool) → IsRest (put_with asked name uris songs changes)
 put_rests asked name uris songs changes =
@@ -120,4 +120,4 @@ add_rests asked library read name uri =
     (added_rests asked library read name uri (song_of library.songs uri)) refl
 
 pub add_fits : (part : Part) (asked : Asked) (library : Library) (read : Read) (name uri : List ℕ) → Fits part (ByCommand (playlist_add asked library read name uri).effect)
-add_fits part asked library read name uri = subst (λ (e : Effect). Fits part (ByCommand e)) (sym (add_rests asked library read name uri)) tt
+add_fits part asked library read name uri = subst (λ (e : CommandEffect). Fits part (ByCommand e)) (sym (add_rests asked library read name uri)) tt

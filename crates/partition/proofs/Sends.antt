@@ -12,28 +12,28 @@ use Rattle.mpd_command.specs.declared.command.Command.{Command}
 use Rattle.mpd_command.specs.declared.name.Name.{Name}
 use Rattle.mpd_command.specs.declared.request.Request.{Request}
 use Rattle.mpd_command.specs.declared.request.Request.TheVariants.{Run, Refused}
-use Rattle.command_plan.specs.declared.asked.Asked.{Asked}
-use Rattle.command_plan.specs.declared.asked.Stand.{Stand}
-use Rattle.command_plan.specs.declared.asked.Stand.TheVariants.{Alone, InList}
+use Rattle.transitions.specs.declared.asked.Asked.{Asked}
+use Rattle.transitions.specs.declared.asked.Stand.{Stand}
+use Rattle.transitions.specs.declared.asked.Stand.TheVariants.{Alone, InList}
 use Rattle.player_events.specs.declared.event.Event.{Event}
 use Rattle.player_events.specs.declared.event.Event.TheVariants.{Connect, Disconnect, Line, ScanQuestion, ScanResult, Want, Have, Failed, OutputTurn, End}
-use Rattle.player_state.specs.declared.doing.AudioStep.TheVariants.{Settles}
+use Rattle.player_state.specs.declared.effect.AudioStep.TheVariants.{Settles}
 use Rattle.player_state.specs.Outputs.{is_output}
-use Rattle.command_plan.specs.declared.reply.Move.{Move}
-use Rattle.command_plan.specs.declared.reply.Move.TheVariants.{Stay, Wait, Learn, Resume, Join}
+use Rattle.transitions.specs.declared.reply.Move.{Move}
+use Rattle.transitions.specs.declared.reply.Move.TheVariants.{Stay, Wait, Learn, Resume, Join}
 use Rattle.idle_clients.specs.declared.notices.Notice.{Notice}
 use Rattle.player_state.specs.declared.state.Client.{Client}
 use Rattle.player_state.specs.declared.state.Part.{Part}
-use Rattle.command_plan.specs.Answers.{Said, refused_by_shelf, stays}
+use Rattle.transitions.specs.Answers.{ResponseData, refused_by_shelf, stays}
 use Rattle.status_commands.specs.Status.{Wish, ToWait, ToGoOn, wish_of}
 use Rattle.idle_clients.specs.Clients.{notified, is_other, at, moved, notice_to, notice_for, notices_after, clients_after, staying, move_of, closes, AllAbove, Rising}
-use Rattle.command_plan.specs.Turns.{Turn}
+use Rattle.transitions.specs.Transitions.{TransitionData}
 use Rattle.idle_clients.specs.Clients.{client_of}
-use Rattle.partition.specs.Step.{absent, deed_of, ends_by, once_written, turn_of, turn_line, turn_wished, written_turn, speaker, mover}
+use Rattle.partition.specs.Step.{absent, result_of, ends_by, once_written, transition_of, transition_line, transition_wished, written_transition, speaker, mover}
 use Rattle.player_events.specs.Events.{name_of}
-use Rattle.command_plan.specs.Turns.{acts, departs, unspoken}
-use Rattle.command_plan.specs.Shelves.{is_written}
-use Rattle.command_plan.specs.declared.shelf_calls.Read.{Read}
+use Rattle.transitions.specs.Transitions.{acts, departs, no_response}
+use Rattle.transitions.specs.Shelves.{is_written}
+use Rattle.transitions.specs.declared.shelf_calls.Read.{Read}
 use Rattle.shelf.specs.declared.faults.ShelfFault.{ShelfFault}
 use Rattle.shelf.specs.declared.faults.ShelfFault.TheVariants.{NoSuchList, Exists, BadName, NoSticker, StoreFault, NoMemory}
 use Rattle.partition.specs.Notices.{IsIn, AllBeyond, NoticesRise}
@@ -68,7 +68,7 @@ refusal_moves stand name NoMemory names h = cc
 module _ (part : Part) (library : Library) (read : Read) (k : Client) (named names : Subsystems) where
   abbrev Moves : Asked → Command → Option Wish → Type 0
   Moves asked command wish =
-      move_of (if is_some k.pending.waiting && not (ends_by asked.stand wish) then departs k.number else turn_wished asked k (deed_of asked part library read command) wish).said
+      move_of (if is_some k.pending.waiting && not (ends_by asked.stand wish) then departs k.number else transition_wished asked k (result_of asked part library read command) wish).response
       ≡ Wait names
 
   wish_moves : (name : Name) (stand : Stand) (command : Command) (wish : Option Wish) → k.pending.waiting ≡ Some named
@@ -78,22 +78,22 @@ module _ (part : Part) (library : Library) (read : Read) (k : Client) (named nam
   wish_moves name Alone command (Some ToGoOn) w m = (let n = rw w at m in cc)
   wish_moves name (InList form place) command wish w m = (let n = rw w at m in cc)
 
-  line_moves : (stand : Stand) (request : Request) → k.pending.waiting ≡ Some named → move_of (turn_line part library (Some k) stand request read).said ≡ Wait names → ⊥
+  line_moves : (stand : Stand) (request : Request) → k.pending.waiting ≡ Some named → move_of (transition_line part library (Some k) stand request read).response ≡ Wait names → ⊥
   line_moves stand (Run name command) w m = wish_moves name stand command (wish_of command) w m
   line_moves stand (Refused ack) w m = (let n = rw w at m in cc)
 
--- a turn that writes to the shelf makes no client wait but as it would else
-written_moves : (stand : Stand) (request : Request) (refused : Option ShelfFault) (t : Turn) (names : Subsystems) → (move_of t.said ≡ Wait names → ⊥)
-    → move_of (written_turn stand request refused t).said ≡ Wait names → ⊥
+-- a transition that writes to the shelf makes no client wait but as it would else
+written_moves : (stand : Stand) (request : Request) (refused : Option ShelfFault) (t : TransitionData) (names : Subsystems) → (move_of t.response ≡ Wait names → ⊥)
+    → move_of (written_transition stand request refused t).response ≡ Wait names → ⊥
 written_moves stand request refused t names free =
-    elim (is_written t.written) as (λ b. move_of (if b then once_written stand request refused t else t).said ≡ Wait names → ⊥) [
-      | true ↦ elim refused as (λ r. move_of (once_written stand request r t).said ≡ Wait names → ⊥) [ None ↦ free | Some fault ↦ λ h. refusal_moves stand (name_of request) fault names h ]
+    elim (is_written t.written) as (λ b. move_of (if b then once_written stand request refused t else t).response ≡ Wait names → ⊥) [
+      | true ↦ elim refused as (λ r. move_of (once_written stand request r t).response ≡ Wait names → ⊥) [ None ↦ free | Some fault ↦ λ h. refusal_moves stand (name_of request) fault names h ]
       | false ↦ free
     ]
 
 -- a client that waits does not begin to wait
 pub waiter_moves : (ended : Bool) (part : Part) (library : Library) (ks : List Client) (event : Event) (k : Client) (named names : Subsystems)
-    → client_of (mover event) ks ≡ Some k → k.pending.waiting ≡ Some named → move_of (turn_of ended part library ks event).said ≡ Wait names → ⊥
+    → client_of (mover event) ks ≡ Some k → k.pending.waiting ≡ Some named → move_of (transition_of ended part library ks event).response ≡ Wait names → ⊥
 waiter_moves ended part library ks (Connect number) k named names e w m = (let n = rw e at m in cc)
 waiter_moves ended part library ks (Disconnect number) k named names e w m = cc
 waiter_moves ended part library ks ScanQuestion k named names e w m = cc
@@ -103,15 +103,15 @@ waiter_moves ended part library ks (Have number frames) k named names e w m = cc
 waiter_moves ended part library ks (Failed number partner) k named names e w m = cc
 waiter_moves ended part library ks End k named names e w m = cc
 waiter_moves ended part library ks (OutputTurn output written discarded failed) k named names e w m =
-    elim (is_output part.outputs output) as (λ b. move_of (if b then acts (Settles output written discarded failed) else absent).said ≡ Wait names → ⊥)
+    elim (is_output part.outputs output) as (λ b. move_of (if b then acts (Settles output written discarded failed) else absent).response ≡ Wait names → ⊥)
     [ true ↦ λ h. cc | false ↦ λ h. cc ] m
 waiter_moves ended part library ks (Line number stand request heard) k named names e w m =
-    written_moves stand request heard.refused (turn_line part library (client_of number ks) stand request heard.read) names
+    written_moves stand request heard.refused (transition_line part library (client_of number ks) stand request heard.read) names
     (λ h. line_moves part library heard.read k named names stand request w (rw e at h)) m
 
 -- an event of another speaker is of another client, or of no client: then nothing is said
 pub is_other_speaker : (ended : Bool) (part : Part) (library : Library) (ks : List Client) (event : Event) (number : ℕ) → speaker event ≢ Some number
-    → ((number == mover event) ≡ false) ⊎ ((turn_of ended part library ks event).said ≡ unspoken)
+    → ((number == mover event) ≡ false) ⊎ ((transition_of ended part library ks event).response ≡ no_response)
 is_other_speaker ended part library ks (Connect c) number ne = inl (ne_eqb number c (λ e. ne (ap Some (sym e))))
 is_other_speaker ended part library ks (Disconnect c) number ne = inl (ne_eqb number c (λ e. ne (ap Some (sym e))))
 is_other_speaker ended part library ks (Line c stand request heard) number ne = inl (ne_eqb number c (λ e. ne (ap Some (sym e))))
@@ -122,7 +122,7 @@ is_other_speaker ended part library ks (Have job frames) number ne = inr refl
 is_other_speaker ended part library ks (Failed job partner) number ne = inr refl
 is_other_speaker ended part library ks End number ne = inr refl
 is_other_speaker ended part library ks (OutputTurn output written discarded failed) number ne =
-    inr (elim (is_output part.outputs output) as (λ b. (if b then acts (Settles output written discarded failed) else absent).said ≡ unspoken) [ true ↦ refl | false ↦ refl ])
+    inr (elim (is_output part.outputs output) as (λ b. (if b then acts (Settles output written discarded failed) else absent).response ≡ no_response) [ true ↦ refl | false ↦ refl ])
 
 module _ (n : ℕ) (r : ℕ → Subsystems) where
   -- what of a client's named set changed
@@ -217,41 +217,41 @@ module _ (n : ℕ) (r : ℕ → Subsystems) where
   pub untold_waits : (k : Client) → is_nonempty (news k) ≡ false → (notified r k).pending.waiting ≡ k.pending.waiting
   untold_waits k e = rw e refl
 
-  module _ (said : Said) (ks : List Client) where
+  module _ (response : ResponseData) (ks : List Client) where
     abbrev pub kept : List Client
-    kept = staying n said ks
+    kept = staying n response ks
 
-    pub of_sent : (number : ℕ) (names : Subsystems) → IsIn (record { client = number; names = names }) (notices_after n r said ks)
+    pub of_sent : (number : ℕ) (names : Subsystems) → IsIn (record { client = number; names = names }) (notices_after n r response ks)
         → (k : Client) × IsIn k kept × (is_nonempty (news k) ≡ true) × (k.number ≡ number) × (news k ≡ names)
     of_sent number names e =
         let from = of_flat_map (notice_for r) (record { client = number; names = names }) kept e in
         let one = one_notice from.0 number names from.2 in
         (from.0, from.1, one.0, one.1, one.2)
 
-    pub is_sent : (k : Client) → IsIn k kept → is_nonempty (news k) ≡ true → IsIn (record { client = k.number; names = news k }) (notices_after n r said ks)
+    pub is_sent : (k : Client) → IsIn k kept → is_nonempty (news k) ≡ true → IsIn (record { client = k.number; names = news k }) (notices_after n r response ks)
     is_sent k e t = in_flat_map (notice_for r) k (record { client = k.number; names = news k }) kept e (one_sent k t)
 
     pub kept_was : (k : Client) → IsIn k kept → IsIn k ks
     kept_was k =
-        elim (closes said.answer.next) as (λ b. IsIn k (if b then filter (is_other n) ks else ks) → IsIn k ks)
+        elim (closes response.answer.next) as (λ b. IsIn k (if b then filter (is_other n) ks else ks) → IsIn k ks)
         [ true ↦ λ e. (of_filter (is_other n) k ks e).0 | false ↦ λ e. e ]
 
     pub others_kept : (k : Client) → IsIn k ks → (k.number == n) ≡ false → IsIn k kept
     others_kept k e other =
-        elim (closes said.answer.next) as (λ b. IsIn k (if b then filter (is_other n) ks else ks))
+        elim (closes response.answer.next) as (λ b. IsIn k (if b then filter (is_other n) ks else ks))
         [ true ↦ in_filter (is_other n) k ks e (ap not other) | false ↦ e ]
 
-    pub open_kept : (k : Client) → IsIn k ks → closes said.answer.next ≡ false → IsIn k kept
+    pub open_kept : (k : Client) → IsIn k ks → closes response.answer.next ≡ false → IsIn k kept
     open_kept k e goes = rw goes e
 
     -- where each client that stays is after the event
-    pub lands : (k : Client) → IsIn k kept → IsIn (does (move_of said) (notified r k)) (clients_after n r said ks)
-    lands k e = moved_in (move_of said) (notified r k) (map (notified r) kept) (in_map (notified r) k kept e)
+    pub lands : (k : Client) → IsIn k kept → IsIn (does (move_of response) (notified r k)) (clients_after n r response ks)
+    lands k e = moved_in (move_of response) (notified r k) (map (notified r) kept) (in_map (notified r) k kept e)
 
     -- a client whose number is there after the event stayed
-    pub there_kept : (k after : Client) → IsIn k ks → IsIn after (clients_after n r said ks) → after.number ≡ k.number → IsIn k kept
+    pub there_kept : (k after : Client) → IsIn k ks → IsIn after (clients_after n r response ks) → after.number ≡ k.number → IsIn k kept
     there_kept k after e =
-        elim (closes said.answer.next) as (λ b. IsIn after (moved n (if b then Stay else said.move) (map (notified r) (if b then filter (is_other n) ks else ks)))
+        elim (closes response.answer.next) as (λ b. IsIn after (moved n (if b then Stay else response.move) (map (notified r) (if b then filter (is_other n) ks else ks)))
         → after.number ≡ k.number → IsIn k (if b then filter (is_other n) ks else ks)) [
           | true ↦ λ h same.
               let from = of_map (notified r) after (filter (is_other n) ks) h in

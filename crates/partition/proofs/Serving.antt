@@ -5,29 +5,29 @@ use Rattle.shelf.specs.Calls.{Call}
 use Rattle.shelf.specs.Maps.{Maps, Standing, Trusted, Turns}
 use Rattle.player_events.specs.declared.event.Event.{Event}
 use Rattle.player_events.specs.declared.event.Event.TheVariants.{Connect, Disconnect, Line, ScanQuestion, ScanResult, Want, Have, Failed, OutputTurn, End}
-use Rattle.command_plan.specs.declared.shelf_calls.Heard.{Heard}
-use Rattle.command_plan.specs.declared.shelf_calls.Read.{Read}
-use Rattle.command_plan.specs.declared.shelf_calls.ShelfWrite.{ShelfWrite}
-use Rattle.command_plan.specs.declared.shelf_calls.ShelfWrite.TheVariants.{Nothing as Unwritten}
+use Rattle.transitions.specs.declared.shelf_calls.StoreReply.{StoreReply}
+use Rattle.transitions.specs.declared.shelf_calls.Read.{Read}
+use Rattle.transitions.specs.declared.shelf_calls.ShelfWrite.{ShelfWrite}
+use Rattle.transitions.specs.declared.shelf_calls.ShelfWrite.TheVariants.{Nothing as Unwritten}
 use Rattle.partition.specs.Image.{Image}
 use Rattle.partition.specs.Lent.{question, writing}
-use Rattle.command_plan.specs.Shelves.{IsAnswered, IsRead, Serves, Spares, answered, is_ok_write, is_read, is_wanting, is_written, maps_after}
-use Rattle.player_events.specs.Events.{hearing, heard_at}
-use Rattle.partition.specs.Step.{turn}
+use Rattle.transitions.specs.Shelves.{IsAnswered, IsRead, Serves, LeavesUnchanged, answered, is_ok_write, is_read, is_wanting, is_written, maps_after}
+use Rattle.player_events.specs.Events.{with_store_reply, store_reply_at}
+use Rattle.partition.specs.Step.{transition}
 use Rattle.partition.proofs.Lending.{uncalled}
 use Rattle.partition.proofs.Settled.{unwritten}
 use Rattle.partition.proofs.Writing.{hears_last, hears_so}
 
 -- what an event heard that was answered so, and that nothing was refused to
-abbrev pub heard_read : Read → Heard
+abbrev pub heard_read : Read → StoreReply
 heard_read read = record { read = read; refused = None }
 
 -- an event hears what it heard last
-pub heard_so : (e later : Event) (a : Heard) → later ≡ hearing e a → later ≡ hearing e (heard_at later)
-heard_so e later a is = is ∙ hears_so e a ∙ ap (λ (x : Event). hearing e (heard_at x)) (sym is)
+pub heard_so : (e later : Event) (a : StoreReply) → later ≡ with_store_reply e a → later ≡ with_store_reply e (store_reply_at later)
+heard_so e later a is = is ∙ hears_so e a ∙ ap (λ (x : Event). with_store_reply e (store_reply_at x)) (sym is)
 
 -- nothing was refused to an event that was only answered
-pub unrefused : (e : Event) (read : Read) → (heard_at (hearing e (heard_read read))).refused ≡ None
+pub unrefused : (e : Event) (read : Read) → (store_reply_at (with_store_reply e (heard_read read))).refused ≡ None
 unrefused (Connect number) read = refl
 unrefused (Disconnect number) read = refl
 unrefused (Line number stand request heard) read = refl
@@ -41,7 +41,7 @@ unrefused End read = refl
 
 -- the event once something was refused to it, or nothing
 abbrev pub refused_to : Event → Read → Option ShelfFault → Event
-refused_to e read r = hearing (hearing e (heard_read read)) (record (heard_at (hearing e (heard_read read))) { refused = r })
+refused_to e read r = with_store_reply (with_store_reply e (heard_read read)) (record (store_reply_at (with_store_reply e (heard_read read))) { refused = r })
 
 -- a call that asks and leaves the maps leaves them too where its answer is dropped
 dropped : (s t : Standing) (b : Bool) → Turns s t b s.maps → Turns s t false s.maps
@@ -60,7 +60,7 @@ module _ {S : Type 0} (standing : S → Standing) (failed : S → S → Call →
   -- what an event heard stands for what its question was answered: an event other than a line asks nothing
   asked_by : (old between : S) (e : Event) (read : Read) (r : Option ShelfFault)
       → Turns (standing old) (standing between) (is_read read) (standing old).maps
-      → Turns (standing old) (standing between) (is_read (heard_at (refused_to e read r)).read) (standing old).maps
+      → Turns (standing old) (standing between) (is_read (store_reply_at (refused_to e read r)).read) (standing old).maps
   asked_by old between (Connect number) read r turns = dropped (standing old) (standing between) (is_read read) turns
   asked_by old between (Disconnect number) read r turns = dropped (standing old) (standing between) (is_read read) turns
   asked_by old between (Line number stand request heard) read r turns = turns
@@ -76,7 +76,7 @@ module _ {S : Type 0} (standing : S → Standing) (failed : S → S → Call →
   Reads old between i e read = Trusted (standing old) (standing between) → IsRead (failed old between) (standing old).maps (question i e) read
 
   read_by : (i : Image) (old between : S) (e : Event) (read : Read) (r : Option ShelfFault)
-      → Reads old between i e read → Reads old between i e (heard_at (refused_to e read r)).read
+      → Reads old between i e read → Reads old between i e (store_reply_at (refused_to e read r)).read
   read_by i old between (Connect number) read r reads = λ trusted. refl
   read_by i old between (Disconnect number) read r reads = λ trusted. refl
   read_by i old between (Line number stand request heard) read r reads = reads
@@ -88,9 +88,9 @@ module _ {S : Type 0} (standing : S → Standing) (failed : S → S → Call →
   read_by i old between (OutputTurn output written discarded failed) read r reads = λ trusted. refl
   read_by i old between End read r reads = λ trusted. refl
 
-  -- what is to be written is what the turn says that was only answered
+  -- what is to be written is what the transition says that was only answered
   writes_by : (i : Image) (e : Event) (read : Read) (r : Option ShelfFault)
-      → writing i e (heard_at (refused_to e read r)) ≡ (turn i (hearing e (heard_read read))).written
+      → writing i e (store_reply_at (refused_to e read r)) ≡ (transition i (with_store_reply e (heard_read read))).written
   writes_by i (Connect number) read r = refl
   writes_by i (Disconnect number) read r = refl
   writes_by i (Line number stand request heard) read r = refl
@@ -105,38 +105,38 @@ module _ {S : Type 0} (standing : S → Standing) (failed : S → S → Call →
   -- the shelf was asked, and then it was asked to write
   pub serves_written : (i : Image) (e after : Event) (read : Read) (r : Option ShelfFault) (write : ShelfWrite) (old between new : S)
       → Turns (standing old) (standing between) (is_read read) (standing old).maps → Reads old between i e read
-      → write ≡ (turn i (hearing e (heard_read read))).written → after ≡ refused_to e read r
-      → Turns (standing between) (standing new) (is_ok_write write (answered (heard_at after).refused)) (maps_after write (standing between).maps)
-      → (Trusted (standing between) (standing new) → IsAnswered (failed between new) (standing between).maps write (answered (heard_at after).refused))
-      → is_wanting (heard_at after).refused ≡ false
-      → Serves standing failed old new (question i e) (writing i e (heard_at after)) (heard_at after)
+      → write ≡ (transition i (with_store_reply e (heard_read read))).written → after ≡ refused_to e read r
+      → Turns (standing between) (standing new) (is_ok_write write (answered (store_reply_at after).refused)) (maps_after write (standing between).maps)
+      → (Trusted (standing between) (standing new) → IsAnswered (failed between new) (standing between).maps write (answered (store_reply_at after).refused))
+      → is_wanting (store_reply_at after).refused ≡ false
+      → Serves standing failed old new (question i e) (writing i e (store_reply_at after)) (store_reply_at after)
   serves_written i e after read r write old between new asked reads write_is after_is turns answers ample =
-      let same : write ≡ writing i e (heard_at after) = write_is ∙ sym (writes_by i e read r) ∙ sym (ap (λ x. writing i e (heard_at x)) after_is) in
+      let same : write ≡ writing i e (store_reply_at after) = write_is ∙ sym (writes_by i e read r) ∙ sym (ap (λ x. writing i e (store_reply_at x)) after_is) in
       record {
         between = between;
-        asked = subst (λ x. Turns (standing old) (standing between) (is_read (heard_at x).read) (standing old).maps) (sym after_is) (asked_by old between e read r asked);
-        read = subst (λ x. Reads old between i e (heard_at x).read) (sym after_is) (read_by i old between e read r reads);
-        written = subst (λ w. Turns (standing between) (standing new) (is_ok_write w (answered (heard_at after).refused)) (maps_after w (standing between).maps)) same turns;
-        answers = subst (λ w. Trusted (standing between) (standing new) → IsAnswered (failed between new) (standing between).maps w (answered (heard_at after).refused)) same answers;
+        asked = subst (λ x. Turns (standing old) (standing between) (is_read (store_reply_at x).read) (standing old).maps) (sym after_is) (asked_by old between e read r asked);
+        read = subst (λ x. Reads old between i e (store_reply_at x).read) (sym after_is) (read_by i old between e read r reads);
+        written = subst (λ w. Turns (standing between) (standing new) (is_ok_write w (answered (store_reply_at after).refused)) (maps_after w (standing between).maps)) same turns;
+        answers = subst (λ w. Trusted (standing between) (standing new) → IsAnswered (failed between new) (standing between).maps w (answered (store_reply_at after).refused)) same answers;
         ample = ample;
       }
 
   -- the shelf was asked, and nothing was to be written
   pub serves_unwritten : (i : Image) (e after : Event) (read : Read) (old new : S)
       → Turns (standing old) (standing new) (is_read read) (standing old).maps → Reads old new i e read
-      → is_written (turn i (hearing e (heard_read read))).written ≡ false → after ≡ hearing e (heard_read read)
-      → Serves standing failed old new (question i e) (writing i e (heard_at after)) (heard_at after)
+      → is_written (transition i (with_store_reply e (heard_read read))).written ≡ false → after ≡ with_store_reply e (heard_read read)
+      → Serves standing failed old new (question i e) (writing i e (store_reply_at after)) (store_reply_at after)
   serves_unwritten i e after read old new asked reads none after_is =
-      let none_refused : (heard_at after).refused ≡ None = ap (λ x. (heard_at x).refused) after_is ∙ unrefused e read in
+      let none_refused : (store_reply_at after).refused ≡ None = ap (λ x. (store_reply_at x).refused) after_is ∙ unrefused e read in
       let later : after ≡ refused_to e read None =
-      after_is ∙ hears_so e (heard_read read) ∙ sym (hears_last e (heard_read read) (heard_at (hearing e (heard_read read))))
-      ∙ ap (λ (o : Option ShelfFault). hearing (hearing e (heard_read read)) (record (heard_at (hearing e (heard_read read))) { refused = o })) (unrefused e read) in
-      serves_written i e after read None Unwritten old new new asked reads (sym (unwritten (turn i (hearing e (heard_read read))).written none)) later
+      after_is ∙ hears_so e (heard_read read) ∙ sym (hears_last e (heard_read read) (store_reply_at (with_store_reply e (heard_read read))))
+      ∙ ap (λ (o : Option ShelfFault). with_store_reply (with_store_reply e (heard_read read)) (record (store_reply_at (with_store_reply e (heard_read read))) { refused = o })) (unrefused e read) in
+      serves_written i e after read None Unwritten old new new asked reads (sym (unwritten (transition i (with_store_reply e (heard_read read))).written none)) later
       (rw none_refused (uncalled (standing new) (standing new).maps))
       (λ trusted. ap answered none_refused)
       (ap is_wanting none_refused)
 
   -- an event that was refused once the shelf had been asked
-  pub spared : (old between new : S) (was_read : Bool) (after : Maps) → Turns (standing old) (standing between) was_read (standing old).maps
-      → Turns (standing between) (standing new) false after → Spares standing failed old new
-  spared old between new was_read after asked written = record { between = between; was_read = was_read; asked = asked; after = after; written = written }
+  pub unchanged : (old between new : S) (was_read : Bool) (after : Maps) → Turns (standing old) (standing between) was_read (standing old).maps
+      → Turns (standing between) (standing new) false after → LeavesUnchanged standing failed old new
+  unchanged old between new was_read after asked written = record { between = between; was_read = was_read; asked = asked; after = after; written = written }

@@ -1,4 +1,5 @@
--- The clients of every player are settled, so that an event that raises nothing leaves them as they are and tells none.
+-- The clients of every player are settled, so that an event that raises nothing leaves them as they are and
+-- tells none.
 use Rattle.std.proofs.Common.{◌≡◌, inl, inr, ℕ, zero, suc, ◌==◌, ◌≤◌, Bool, true, false, not, ◌&&◌, ◌||◌, nat_lt, List, [], ◌∷◌, ◌++◌, Option, Some, None, is_some, map, refl, ap, sym, subst, ◌∙◌, arith, if◌then◌else◌}
 use Rattle.std.specs.Prelude.{filter, insert, count_by}
 use Rattle.std.specs.List.{flat_map, position_or_len}
@@ -11,41 +12,41 @@ use Rattle.player_state.specs.declared.state.Library.{Library}
 use Rattle.song_queue.proofs.Same.{same_queue-refl}
 use Rattle.song_queue.specs.State.{queue_of}
 use Rattle.mpd_command.specs.declared.request.Request.TheVariants.{Run}
-use Rattle.command_plan.specs.declared.asked.Asked.{Asked}
+use Rattle.transitions.specs.declared.asked.Asked.{Asked}
 use Rattle.player_events.specs.declared.event.Event.{Event}
-use Rattle.command_plan.specs.declared.asked.Stand.TheVariants.{Alone}
-use Rattle.player_events.specs.declared.event.Happened.{Happened}
-use Rattle.command_plan.specs.declared.reply.Move.{Move}
-use Rattle.command_plan.specs.declared.reply.Move.TheVariants.{Stay, Wait, Learn, Resume, Join}
+use Rattle.transitions.specs.declared.asked.Stand.TheVariants.{Alone}
+use Rattle.player_events.specs.declared.event.LogEntry.{LogEntry}
+use Rattle.transitions.specs.declared.reply.Move.{Move}
+use Rattle.transitions.specs.declared.reply.Move.TheVariants.{Stay, Wait, Learn, Resume, Join}
 use Rattle.player_state.specs.declared.state.Client.{Client}
 use Rattle.player_state.specs.declared.state.Part.{Part}
-use Rattle.command_plan.specs.Answers.{Said}
+use Rattle.transitions.specs.Answers.{ResponseData}
 use Rattle.idle_clients.specs.Clients.{has_messages, notified, notice_for, notice_to, is_other, at, joined, moved, staying, move_of, clients_after, options, playing, Rising}
 use Rattle.status_commands.specs.Status.{Wish, idles}
 use Rattle.partition.specs.History.{replay}
-use Rattle.player_state.specs.declared.doing.Doing.{Doing}
-use Rattle.player_state.specs.declared.doing.Doing.TheVariants.{ByCommand}
-use Rattle.player_state.specs.declared.doing.Effect.TheVariants.{Rests}
+use Rattle.player_state.specs.declared.effect.Effect.{Effect}
+use Rattle.player_state.specs.declared.effect.Effect.TheVariants.{ByCommand}
+use Rattle.player_state.specs.declared.effect.CommandEffect.TheVariants.{Rests}
 use Rattle.player_state.specs.declared.report.Report.{Report}
 use Rattle.player_state.specs.declared.report.Report.TheVariants.{Nothing}
 use Rattle.player_state.specs.declared.scan.ScanMove.{ScanMove}
 use Rattle.player_state.specs.declared.scan.ScanMove.TheVariants.{Stay as StayScan}
 use Rattle.idle_clients.proofs.Songs.{same_songs-refl}
 use Rattle.partition.specs.Image.{Image}
-use Rattle.command_plan.specs.Turns.{Turn}
+use Rattle.transitions.specs.Transitions.{TransitionData}
 use Rattle.idle_clients.specs.Clients.{client_of}
 use Rattle.partition.specs.Notices.{IsIn}
 use Rattle.idle_clients.specs.Rooms.{is_waiting}
 use Rattle.idle_clients.specs.Settled.{IsSettled, AllSettled, HasRoom, nothing}
-use Rattle.command_plan.specs.Shelves.{is_written}
-use Rattle.command_plan.specs.declared.shelf_calls.ShelfWrite.{ShelfWrite}
-use Rattle.command_plan.specs.declared.shelf_calls.ShelfWrite.TheVariants.{Nothing as Unwritten, Put, Create, Rename, Remove, SetSticker, DeleteSticker, DeleteStickers}
+use Rattle.transitions.specs.Shelves.{is_written}
+use Rattle.transitions.specs.declared.shelf_calls.ShelfWrite.{ShelfWrite}
+use Rattle.transitions.specs.declared.shelf_calls.ShelfWrite.TheVariants.{Nothing as Unwritten, Put, Create, Rename, Remove, SetSticker, DeleteSticker, DeleteStickers}
 use Rattle.idle_notes.specs.Channels.{pairs}
 use Rattle.idle_clients.proofs.Alike.{same_pairs-refl}
-use Rattle.partition.specs.Step.{turn, turn_of, turn_line, turn_wished, deed_of, ends_by, mover, raised_by, next_image, written_turn}
-use Rattle.command_plan.specs.Turns.{departs, quiet}
+use Rattle.partition.specs.Step.{transition, transition_of, transition_line, transition_wished, result_of, ends_by, mover, raised_by, next_image, written_transition}
+use Rattle.transitions.specs.Transitions.{departs, quiet}
 use Rattle.idle_clients.proofs.Alike.{same_enabled-refl, same_options-refl, same_playing-refl}
-use Rattle.partition.proofs.Asking.{quiet_unwaiting, IsAsking, kind_of, turn_idle}
+use Rattle.partition.proofs.Asking.{quiet_unwaiting, IsAsking, kind_of, transition_idle}
 use Rattle.partition.proofs.Raised.{differ-self}
 use Rattle.idle_clients.proofs.Rises.{rising_after}
 use Rattle.partition.proofs.Sends.{found}
@@ -74,9 +75,9 @@ begins-own : (h : Bool) → (not h && h) ≡ false
 begins-own true = refl
 begins-own false = refl
 
-rest_raises : (part : Part) (library : Library) (said : Said) (report : Report)
-    → raised_by part library (record { doing = ByCommand Rests; scan = StayScan; written = Unwritten; said = said; report = report }) ≡ nothing
-rest_raises part library said report = λ i number. record none {
+rest_raises : (part : Part) (library : Library) (response : ResponseData) (report : Report)
+    → raised_by part library (record { effect = ByCommand Rests; scan = StayScan; written = Unwritten; response = response; report = report }) ≡ nothing
+rest_raises part library response report = λ i number. record none {
   database = not (same_songs-refl library.songs i);
   update = differ-self library.scan.runs i;
   playlist = not (same_queue-refl (queue_of part.queue) i);
@@ -99,15 +100,15 @@ unwritten (DeleteSticker uri name) e = cc
 unwritten (DeleteStickers uri) e = cc
 
 -- what leaves the part and the scans as they are raises nothing
-pub same_raises : (part : Part) (library : Library) (t : Turn) → t.scan ≡ StayScan → t.doing ≡ (ByCommand Rests) → is_written t.written ≡ false → raised_by part library t ≡ nothing
-same_raises part library t scan doing written =
-    ap (λ (d : Doing). raised_by part library (record t { doing = d })) doing
-    ∙ ap (λ (m : ScanMove). raised_by part library (record t { doing = ByCommand Rests; scan = m })) scan
-    ∙ ap (λ (w : ShelfWrite). raised_by part library (record t { doing = ByCommand Rests; scan = StayScan; written = w })) (unwritten t.written written)
-    ∙ rest_raises part library t.said t.report
+pub same_raises : (part : Part) (library : Library) (t : TransitionData) → t.scan ≡ StayScan → t.effect ≡ (ByCommand Rests) → is_written t.written ≡ false → raised_by part library t ≡ nothing
+same_raises part library t scan effect written =
+    ap (λ (d : Effect). raised_by part library (record t { effect = d })) effect
+    ∙ ap (λ (m : ScanMove). raised_by part library (record t { effect = ByCommand Rests; scan = m })) scan
+    ∙ ap (λ (w : ShelfWrite). raised_by part library (record t { effect = ByCommand Rests; scan = StayScan; written = w })) (unwritten t.written written)
+    ∙ rest_raises part library t.response t.report
 
-pub quiet_raises : (part : Part) (library : Library) (said : Said) → raised_by part library (quiet said) ≡ nothing
-quiet_raises part library said = rest_raises part library said Nothing
+pub quiet_raises : (part : Part) (library : Library) (response : ResponseData) → raised_by part library (quiet response) ≡ nothing
+quiet_raises part library response = rest_raises part library response Nothing
 
 -- a client that heard is settled
 notified_settled : (r : ℕ → Subsystems) (k : Client) → IsSettled (notified r k)
@@ -180,34 +181,34 @@ all_in f g [] each = tt
 all_in f g (k ∷ ks) each = (each k (inl refl), all_in f g ks (λ c among. each c (inr among)))
 
 module _ (ended : Bool) (part : Part) (library : Library) (ks : List Client) (event : Event) (rising : Rising ks) where
-  abbrev t : Turn
-  t = turn_of ended part library ks event
+  abbrev t : TransitionData
+  t = transition_of ended part library ks event
 
-  -- the clients once one of them waits, after the turn by which it does
-  abbrev Waiting : ℕ → Subsystems → Turn → Type 0
-  Waiting n names u = AllSettled (map (at n (waits names)) (map (notified (raised_by part library u)) (staying n u.said ks)))
+  -- the clients once one of them waits, after the transition by which it does
+  abbrev Waiting : ℕ → Subsystems → TransitionData → Type 0
+  Waiting n names u = AllSettled (map (at n (waits names)) (map (notified (raised_by part library u)) (staying n u.response ks)))
 
   abbrev asked_by : IsAsking ks event → Asked
   asked_by a = record { client = a.client.number; name = a.name; stand = Alone }
 
-  idle_is : (a : IsAsking ks event) → t ≡ turn_idle a.client a.named
+  idle_is : (a : IsAsking ks event) → t ≡ transition_idle a.client a.named
   idle_is a =
-      let once : Turn → Turn = λ u. written_turn Alone (Run a.name a.command) a.heard.refused u in
-      ap (turn_of ended part library ks) a.is
-      ∙ ap (λ (o : Option Client). once (turn_line part library o Alone (Run a.name a.command) a.heard.read)) a.found
-      ∙ ap (λ (o : Option Wish). once (if is_some a.client.pending.waiting && not (ends_by Alone o) then departs a.client.number else turn_wished (asked_by a) a.client (deed_of (asked_by a) part library a.heard.read a.command) o)) a.wish
-      ∙ ap (λ (w : Option Subsystems). once (if is_some w && true then departs a.client.number else turn_idle a.client a.named)) a.free
+      let once : TransitionData → TransitionData = λ u. written_transition Alone (Run a.name a.command) a.heard.refused u in
+      ap (transition_of ended part library ks) a.is
+      ∙ ap (λ (o : Option Client). once (transition_line part library o Alone (Run a.name a.command) a.heard.read)) a.found
+      ∙ ap (λ (o : Option Wish). once (if is_some a.client.pending.waiting && not (ends_by Alone o) then departs a.client.number else transition_wished (asked_by a) a.client (result_of (asked_by a) part library a.heard.read a.command) o)) a.wish
+      ∙ ap (λ (w : Option Subsystems). once (if is_some w && true then departs a.client.number else transition_idle a.client a.named)) a.free
 
   -- a client waits only where nothing of what it names is pending for it
-  asked : (a : IsAsking ks event) (names : Subsystems) → move_of t.said ≡ Wait names → Waiting (mover event) names t
+  asked : (a : IsAsking ks event) (names : Subsystems) → move_of t.response ≡ Wait names → Waiting (mover event) names t
   asked a names moves =
       let d : Subsystems = meet a.client.pending.changed a.named in
-      let answers : Bool → Turn = λ b. quiet (idles a.named (if b then Some d else None)) in
+      let answers : Bool → TransitionData = λ b. quiet (idles a.named (if b then Some d else None)) in
       let cases : (b : Bool) → is_nonempty d ≡ b → t ≡ answers b → Waiting (mover event) names t =
       λ b. elim b as (λ b. is_nonempty d ≡ b → t ≡ answers b → Waiting (mover event) names t) [
-        | true ↦ λ e is. (let clash : Learn ≡ Wait names = sym (ap (λ (u : Turn). move_of u.said) is) ∙ moves in cc)
+        | true ↦ λ e is. (let clash : Learn ≡ Wait names = sym (ap (λ (u : TransitionData). move_of u.response) is) ∙ moves in cc)
         | false ↦ λ e is.
-            let named : Wait a.named ≡ Wait names = sym (ap (λ (u : Turn). move_of u.said) is) ∙ moves in
+            let named : Wait a.named ≡ Wait names = sym (ap (λ (u : TransitionData). move_of u.response) is) ∙ moves in
             let same : a.named ≡ names = cc in
             let number : a.number ≡ mover event = sym (ap mover a.is) in
             let each : AllSettled (map (at a.number (waits a.named)) (map (notified nothing) ks)) =
@@ -219,20 +220,20 @@ module _ (ended : Bool) (part : Part) (library : Library) (ks : List Client) (ev
       ] in
       cases (is_nonempty d) refl (idle_is a)
 
-  pub settled_after : AllSettled (clients_after (mover event) (raised_by part library t) t.said ks)
+  pub settled_after : AllSettled (clients_after (mover event) (raised_by part library t) t.response ks)
   settled_after =
-      settled_moved (mover event) (move_of t.said) (map (notified (raised_by part library t)) (staying (mover event) t.said ks))
-      (λ names moves. elim (kind_of ended part library ks event) [ inl quiet ↦ absurd (quiet_unwaiting (move_of t.said) names quiet moves) | inr a ↦ asked a names moves ])
-      (all_notified (raised_by part library t) (staying (mover event) t.said ks))
+      settled_moved (mover event) (move_of t.response) (map (notified (raised_by part library t)) (staying (mover event) t.response ks))
+      (λ names moves. elim (kind_of ended part library ks event) [ inl quiet ↦ absurd (quiet_unwaiting (move_of t.response) names quiet moves) | inr a ↦ asked a names moves ])
+      (all_notified (raised_by part library t) (staying (mover event) t.response ks))
 
 next_settled : (seat : ℕ) (i : Image) (event : Event) → Rising i.clients → Rising (next_image seat i event).clients × AllSettled (next_image seat i event).clients
 unfolding next_image
 next_settled seat i event rising =
-    let t : Turn = turn i event in
-    (rising_after (mover event) (raised_by i.part i.shared.library t) t.said i.clients rising, settled_after i.shared.ended i.part i.shared.library i.clients event rising)
+    let t : TransitionData = transition i event in
+    (rising_after (mover event) (raised_by i.part i.shared.library t) t.response i.clients rising, settled_after i.shared.ended i.part i.shared.library i.clients event rising)
 
 -- over every history
-pub replay_settled : (hs : List Happened) (i : Image) → Rising i.clients → AllSettled i.clients → AllSettled (replay i hs).clients
+pub replay_settled : (hs : List LogEntry) (i : Image) → Rising i.clients → AllSettled i.clients → AllSettled (replay i hs).clients
 replay_settled [] i rising all = all
 replay_settled (h ∷ hs) i rising all =
     let next = next_settled h.seat i h.event rising in

@@ -1,4 +1,4 @@
--- The flags and the frames that stand are those of a base and of the window behind it.
+-- The flags and the frames that stand are those of a base and of the window after it.
 use Rattle.std.proofs.Common.{◌≡◌, inl, inr, ℕ, ◌<◌, ◌==◌, Bool, true, false, ◌||◌, List, [], ◌∷◌, ◌++◌, Option, Some, None, map, arith, refl, ap, sym, subst, ◌∙◌, if◌then◌else◌}
 use Rattle.std.specs.List.{All, list_any}
 use Rattle.std.proofs.lemmas.Bool.Decides.{nat_tests}
@@ -6,18 +6,18 @@ use Rattle.std.proofs.lemmas.List.Elements.{All-nil, All-cons}
 use Rattle.idle_notes.specs.declared.sets.Subsystems.{Subsystems}
 use Rattle.idle_notes.specs.declared.subsystem.Subsystem.{Subsystem}
 use Rattle.idle_notes.specs.Sets.{none, union, has}
-use Rattle.player_events.specs.declared.event.Happened.{Happened}
+use Rattle.player_events.specs.declared.event.LogEntry.{LogEntry}
 use Rattle.player_state.specs.declared.state.Client.{Client}
 use Rattle.idle_clients.specs.Clients.{notified, closes, AllAbove, Rising}
 use Rattle.partition.specs.History.{replay}
 use Rattle.partition.specs.Image.{Image}
-use Rattle.command_plan.specs.Turns.{Turn}
+use Rattle.transitions.specs.Transitions.{TransitionData}
 use Rattle.idle_clients.specs.Clients.{client_of}
 use Rattle.player_state.specs.Outputs.{FrameBooks, books_after}
-use Rattle.partition.specs.Since.{world_of, moment_at, moments_from, flags_of, kept_for, IsPendingSince, HasPendingSince, books_since}
-use Rattle.partition.specs.Step.{turn, mover, raised_by, after_turn, next_image, told}
-use Rattle.command_plan.specs.Turns.{report_of}
-use Rattle.partition.specs.World.{Moment, raised_at, is_there, begins_anew, books_of, listener_of, NeverAnew}
+use Rattle.partition.specs.Since.{world_of, world_transition_at, world_transitions_from, flags_of, kept_for, IsPendingSince, HasPendingSince, books_since}
+use Rattle.partition.specs.Step.{transition, mover, raised_by, after_transition, next_image, told}
+use Rattle.transitions.specs.Transitions.{report_of}
+use Rattle.partition.specs.World.{WorldTransition, raised_at, is_there, begins_anew, books_of, listener_of, NeverAnew}
 use Rattle.partition.proofs.Notified.{Each, flagged, all_stand}
 use Rattle.partition.proofs.Parts.{raised_differ}
 use Rattle.partition.proofs.Pending.{has_union, has_none, either, or_right, or_left, longer}
@@ -26,25 +26,25 @@ use Rattle.partition.proofs.Worlds.{same_first, or_more}
 
 module _ (base : Image) where
   -- what is pending for a client, as a union
-  abbrev since : ℕ → List Moment → Subsystems
+  abbrev since : ℕ → List WorldTransition → Subsystems
   since n [] = kept_for n base
   since n (m ∷ ms) = if begins_anew n m then none else union (since n ms) (raised_at n m)
 
   module _ (n : ℕ) (x : Subsystem) where
-    anew : (m : Moment) (ms : List Moment) → begins_anew n m ≡ true → has (since n (m ∷ ms)) x ≡ false
+    anew : (m : WorldTransition) (ms : List WorldTransition) → begins_anew n m ≡ true → has (since n (m ∷ ms)) x ≡ false
     anew m ms e = ap (λ b. has (if b then none else union (since n ms) (raised_at n m)) x) e ∙ has_none x
 
-    joined : (m : Moment) (ms : List Moment) → begins_anew n m ≡ false → has (since n (m ∷ ms)) x ≡ (has (since n ms) x || has (raised_at n m) x)
+    joined : (m : WorldTransition) (ms : List WorldTransition) → begins_anew n m ≡ false → has (since n (m ∷ ms)) x ≡ (has (since n ms) x || has (raised_at n m) x)
     joined m ms e = ap (λ b. has (if b then none else union (since n ms) (raised_at n m)) x) e ∙ has_union (since n ms) (raised_at n m) x
 
-    there : (ms : List Moment) → has (since n ms) x ≡ true → IsPendingSince base n x ms
+    there : (ms : List WorldTransition) → has (since n ms) x ≡ true → IsPendingSince base n x ms
     there [] h = inr (h, tt)
     there (m ∷ ms) h =
         let cases : (b : Bool) → begins_anew n m ≡ b → IsPendingSince base n x (m ∷ ms) =
         λ b. elim b as (λ b. begins_anew n m ≡ b → IsPendingSince base n x (m ∷ ms)) [
           | true ↦ λ e. (let clash : false ≡ true = sym (anew m ms e) ∙ h in cc)
           | false ↦ λ e. elim (either _ _ (sym (joined m ms e) ∙ h)) [
-            | inl r ↦ inl (record { later = []; moment = m; earlier = ms; order = refl; raised = (raised_differ n m x).0 r; since = (e, tt) })
+            | inl r ↦ inl (record { later = []; world_transition = m; earlier = ms; order = refl; raised = (raised_differ n m x).0 r; since = (e, tt) })
             | inr r ↦ elim (there ms r) [
               | inl p ↦ inl (longer n x m ms e p)
               | inr q ↦ inr (q.0, (e, q.1))
@@ -53,20 +53,20 @@ module _ (base : Image) where
         ] in
         cases (begins_anew n m) refl
 
-    back_raised : (later : List Moment) (m : Moment) (earlier : List Moment) → has (raised_at n m) x ≡ true → NeverAnew n (later ++ m ∷ [])
+    back_raised : (later : List WorldTransition) (m : WorldTransition) (earlier : List WorldTransition) → has (raised_at n m) x ≡ true → NeverAnew n (later ++ m ∷ [])
         → has (since n (later ++ m ∷ earlier)) x ≡ true
     back_raised [] m earlier r never = joined m earlier never.0 ∙ or_right _ _ r
     back_raised (l ∷ ls) m earlier r never = joined l (ls ++ m ∷ earlier) never.0 ∙ or_left _ _ (back_raised ls m earlier r never.1)
 
-    back_kept : (ms : List Moment) → has (kept_for n base) x ≡ true → NeverAnew n ms → has (since n ms) x ≡ true
+    back_kept : (ms : List WorldTransition) → has (kept_for n base) x ≡ true → NeverAnew n ms → has (since n ms) x ≡ true
     back_kept [] h never = h
     back_kept (m ∷ ms) h never = joined m ms never.0 ∙ or_left _ _ (back_kept ms h never.1)
 
-    back : (ms : List Moment) → IsPendingSince base n x ms → has (since n ms) x ≡ true
-    back ms (inl p) = ap (λ l. has (since n l) x) p.order ∙ back_raised p.later p.moment p.earlier ((raised_differ n p.moment x).1 p.raised) p.since
+    back : (ms : List WorldTransition) → IsPendingSince base n x ms → has (since n ms) x ≡ true
+    back ms (inl p) = ap (λ l. has (since n l) x) p.order ∙ back_raised p.later p.world_transition p.earlier ((raised_differ n p.world_transition x).1 p.raised) p.since
     back ms (inr q) = back_kept ms q.0 q.1
 
-  all_read : (ms : List Moment) (ks : List Client) → Each (λ k. k.pending.changed ≡ since k.number ms) ks → All (HasPendingSince base ms) ks
+  all_read : (ms : List WorldTransition) (ks : List Client) → Each (λ k. k.pending.changed ≡ since k.number ms) ks → All (HasPendingSince base ms) ks
   all_read ms [] e = All-nil (HasPendingSince base ms)
   all_read ms (k ∷ ks) e =
       All-cons (HasPendingSince base ms) k ks
@@ -123,41 +123,42 @@ kept base [] e = tt
 kept base (k ∷ ks) e = (sym (ap flags_of e.0), kept base ks e.1)
 
 module _ (base : Image) where
-  -- clients are in the order of their numbers, their flags are what is pending since the base, and the frames are summed since
-  abbrev Right : Image → List Moment → Type 0
+  -- clients are in the order of their numbers, their flags are what is pending since the base, and the frames
+  -- are summed since
+  abbrev Right : Image → List WorldTransition → Type 0
   Right i ms = Rising i.clients × (Each (λ k. k.pending.changed ≡ since base k.number ms) i.clients × (i.shared.books ≡ books_since base.shared.books ms))
 
-  step : (i : Image) (ms : List Moment) (h : Happened) → Right i ms → Right (next_image h.seat i h.event) (moment_at i h ∷ ms)
+  step : (i : Image) (ms : List WorldTransition) (h : LogEntry) → Right i ms → Right (next_image h.seat i h.event) (world_transition_at i h ∷ ms)
   unfolding next_image told
   step i ms h right =
-      let t : Turn = turn i h.event in
+      let t : TransitionData = transition i h.event in
       let r : ℕ → Subsystems = raised_by i.part i.shared.library t in
-      let m : Moment = moment_at i h in
+      let m : WorldTransition = world_transition_at i h in
       let flag : ℕ → Subsystems = λ n. since base n ms in
       let after : ℕ → Subsystems = λ n. since base n (m ∷ ms) in (
-        rising_after (mover h.event) r t.said i.clients right.0,
+        rising_after (mover h.event) r t.response i.clients right.0,
         (
-          unflagged after (after_turn i h.event t).clients
+          unflagged after (after_transition i h.event t).clients
               (all_stand r flag after (λ n. is_there n (world_of i)) (mover h.event) i.clients right.0
               (both (λ k. among k.number i.clients ≡ true) (λ k. k.pending.changed ≡ flag k.number) i.clients (all_among i.clients) right.1.0)
-              (closes t.said.answer.next) t.said.move (λ n. refl) (absent r (mover h.event) i.clients)),
-          ap (λ (b : FrameBooks). books_after b i.part.outputs t.doing (report_of i.part i.shared.library t)) right.1.1,
+              (closes t.response.answer.next) t.response.move (λ n. refl) (absent r (mover h.event) i.clients)),
+          ap (λ (b : FrameBooks). books_after b i.part.outputs t.effect (report_of i.part i.shared.library t)) right.1.1,
         ),
       )
 
-  walk : (i : Image) (ms : List Moment) (hs : List Happened) → Right i ms → Right (replay i hs) (moments_from i ms hs)
+  walk : (i : Image) (ms : List WorldTransition) (hs : List LogEntry) → Right i ms → Right (replay i hs) (world_transitions_from i ms hs)
   walk i ms [] right = right
-  walk i ms (h ∷ hs) right = walk (next_image h.seat i h.event) (moment_at i h ∷ ms) hs (step i ms h right)
+  walk i ms (h ∷ hs) right = walk (next_image h.seat i h.event) (world_transition_at i h ∷ ms) hs (step i ms h right)
 
 -- books that are sums are eight numbers of each kind
-begun_books : (books : FrameBooks) (moments : List Moment) → books ≡ books_of moments → books ≡ books_since books []
-begun_books books moments is = subst (λ (b : FrameBooks). b ≡ books_since b []) (sym is) refl
+begun_books : (books : FrameBooks) (world_transitions : List WorldTransition) → books ≡ books_of world_transitions → books ≡ books_since books []
+begun_books books world_transitions is = subst (λ (b : FrameBooks). b ≡ books_since b []) (sym is) refl
 
 -- of what a window leads to
-pub since_stands : (base i : Image) (window : List Happened) (moments : List Moment) → Rising base.clients → base.shared.books ≡ books_of moments
+pub since_stands : (base i : Image) (window : List LogEntry) (world_transitions : List WorldTransition) → Rising base.clients → base.shared.books ≡ books_of world_transitions
     → i ≡ replay base window
-    → All (HasPendingSince base (moments_from base [] window)) i.clients × (i.shared.books ≡ books_since base.shared.books (moments_from base [] window))
-since_stands base i window moments rising books leads =
-    let right = walk base base [] window (rising, (kept base base.clients (all_found base.clients rising), begun_books base.shared.books moments books)) in
-    subst (λ (j : Image). All (HasPendingSince base (moments_from base [] window)) j.clients × (j.shared.books ≡ books_since base.shared.books (moments_from base [] window))) (sym leads)
-    (all_read base (moments_from base [] window) (replay base window).clients right.1.0, right.1.1)
+    → All (HasPendingSince base (world_transitions_from base [] window)) i.clients × (i.shared.books ≡ books_since base.shared.books (world_transitions_from base [] window))
+since_stands base i window world_transitions rising books leads =
+    let right = walk base base [] window (rising, (kept base base.clients (all_found base.clients rising), begun_books base.shared.books world_transitions books)) in
+    subst (λ (j : Image). All (HasPendingSince base (world_transitions_from base [] window)) j.clients × (j.shared.books ≡ books_since base.shared.books (world_transitions_from base [] window))) (sym leads)
+    (all_read base (world_transitions_from base [] window) (replay base window).clients right.1.0, right.1.1)

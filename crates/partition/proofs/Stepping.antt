@@ -1,21 +1,21 @@
 -- Events that are no line: they hear nothing, ask nothing and write nothing.
 use Rattle.std.proofs.Common.{◌≡◌, ◌⊎◌, inl, inr, Bool, true, false, List, [], ◌∷◌, ◌++◌, None, refl, ap, sym, subst, ◌∙◌, if◌then◌else◌}
-use Rattle.player_state.specs.declared.doing.AudioStep.TheVariants.{Settles}
+use Rattle.player_state.specs.declared.effect.AudioStep.TheVariants.{Settles}
 use Rattle.player_events.specs.declared.event.Event.{Event}
 use Rattle.player_events.specs.declared.event.Event.TheVariants.{Connect, Disconnect, Line, ScanQuestion, ScanResult, Want, Have, Failed, OutputTurn, End}
-use Rattle.command_plan.specs.declared.shelf_calls.Heard.{Heard}
+use Rattle.transitions.specs.declared.shelf_calls.StoreReply.{StoreReply}
 use Rattle.player_state.specs.declared.state.Client.{Client}
 use Rattle.player_state.specs.declared.state.Library.{Library}
 use Rattle.player_state.specs.declared.state.Part.{Part}
 use Rattle.player_state.specs.Outputs.{is_output}
-use Rattle.command_plan.specs.Shelves.{is_written}
-use Rattle.command_plan.specs.Turns.{acts}
-use Rattle.partition.specs.Step.{absent, turn_of}
-use Rattle.player_events.specs.Events.{heard_at, hearing}
+use Rattle.transitions.specs.Shelves.{is_written}
+use Rattle.transitions.specs.Transitions.{acts}
+use Rattle.partition.specs.Step.{absent, transition_of}
+use Rattle.player_events.specs.Events.{store_reply_at, with_store_reply}
 use Rattle.player_events.specs.Events.{is_line}
 
 -- a step hears nothing
-pub hears_nothing : (event : Event) (heard : Heard) → is_line event ≡ false → hearing event heard ≡ event
+pub hears_nothing : (event : Event) (heard : StoreReply) → is_line event ≡ false → with_store_reply event heard ≡ event
 hears_nothing (Line number stand request before) heard step = cc
 hears_nothing (Connect number) heard step = refl
 hears_nothing (Disconnect number) heard step = refl
@@ -28,7 +28,7 @@ hears_nothing (OutputTurn output written discarded failed) heard step = refl
 hears_nothing End heard step = refl
 
 -- nothing was refused to it
-pub is_unrefused : (event : Event) → is_line event ≡ false → (heard_at event).refused ≡ None
+pub is_unrefused : (event : Event) → is_line event ≡ false → (store_reply_at event).refused ≡ None
 is_unrefused (Line number stand request before) step = cc
 is_unrefused (Connect number) step = refl
 is_unrefused (Disconnect number) step = refl
@@ -42,7 +42,7 @@ is_unrefused End step = refl
 
 module _ (part : Part) (library : Library) (ks : List Client) where
   -- it writes nothing
-  pub writes_nothing : (ended : Bool) (event : Event) → is_line event ≡ false → is_written (turn_of ended part library ks event).written ≡ false
+  pub writes_nothing : (ended : Bool) (event : Event) → is_line event ≡ false → is_written (transition_of ended part library ks event).written ≡ false
   writes_nothing ended (Line number stand request before) step = cc
   writes_nothing ended (Connect number) step = refl
   writes_nothing ended (Disconnect number) step = refl

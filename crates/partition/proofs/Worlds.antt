@@ -1,4 +1,4 @@
--- The images of lives are the images of the replay.
+-- The images of traces are the images of the replay.
 use Rattle.std.proofs.Common.{◌≡◌, ℕ, ◌+◌, ◌%◌, ◌<◌, ◌≤◌, ◌==◌, Bool, true, false, ◌||◌, List, [], ◌∷◌, ◌++◌, length, map, Option, Some, None, refl, ap, sym, subst, ◌∙◌, arith, append_assoc, append-nil, if◌then◌else◌}
 use Rattle.std.specs.List.{list_any}
 use Rattle.std.proofs.Math.Nat.{mod-eq_of_lt}
@@ -13,21 +13,21 @@ use Rattle.song_queue.specs.State.{QueueState, queue_of}
 use Rattle.song_queue.proofs.Ids.{pasts_keep_queues}
 use Rattle.song_queue.proofs.Runs.{length-after_event, after_edit, edited-at_end, greatest_in-present}
 use Rattle.player_events.specs.declared.event.Event.{Event}
-use Rattle.player_events.specs.declared.event.Happened.{Happened}
+use Rattle.player_events.specs.declared.event.LogEntry.{LogEntry}
 use Rattle.player_state.specs.declared.state.Client.{Client}
-use Rattle.command_plan.specs.declared.shelf_calls.ShelfWrite.{ShelfWrite}
+use Rattle.transitions.specs.declared.shelf_calls.ShelfWrite.{ShelfWrite}
 use Rattle.partition.specs.declared.state.Setup.{Setup}
 use Rattle.idle_clients.specs.Clients.{Parts, raised, notified, closes, Rising}
 use Rattle.partition.specs.History.{made_of, replay}
-use Rattle.player_state.specs.Doings.{Change, ByEdit, ByStep, change_of, channels_after, outputs_after, player_after, queue_after, volume_after}
+use Rattle.player_state.specs.Effects.{Change, ByEdit, ByStep, change_of, channels_after, outputs_after, player_after, queue_after, volume_after}
 use Rattle.partition.specs.Image.{Image, opening}
-use Rattle.command_plan.specs.Turns.{Turn}
+use Rattle.transitions.specs.Transitions.{TransitionData}
 use Rattle.idle_clients.specs.Clients.{client_of}
 use Rattle.player_state.specs.Libraries.{library_after}
 use Rattle.partition.specs.Legal.{ReplaysWorlds}
-use Rattle.partition.specs.Step.{turn, mover, raised_by, after_turn, ended_after, told_by, next_image}
-use Rattle.command_plan.specs.Turns.{report_of}
-use Rattle.partition.specs.World.{Greatest, Listener, Moment, Life, raised_at, is_there, begins_anew, parts_in, pending_for, client_in, listener_of, books_of, image_of, past_after, world_after_turn, lived, life_after_event, life_from, limits_of, opening_life}
+use Rattle.partition.specs.Step.{transition, mover, raised_by, after_transition, ended_after, told_by, next_image}
+use Rattle.transitions.specs.Transitions.{report_of}
+use Rattle.partition.specs.World.{Greatest, Listener, WorldTransition, Trace, raised_at, is_there, begins_anew, parts_in, pending_for, client_in, listener_of, books_of, image_of, past_after, world_after_transition, traced, trace_after_event, trace_from, limits_of, opening_trace}
 use Rattle.partition.proofs.Counts.{made_of-more}
 use Rattle.player_state.proofs.Frames.{Keeps, keeps}
 use Rattle.partition.proofs.Notified.{Each, flagged, all_stand}
@@ -54,7 +54,7 @@ follows limits past (ByStep (Some left)) above some kept =
     let low : greatest_in (present past) ≤ greatest_id past = greatest_in-present past in
     sym (edited-at_end limits.max_queue limits.max_version limits.max_id (omega arith) past left some (omega (arith, kept, same, low)))
 
--- what an event raised by the worlds is what its turn raises
+-- what an event raised by the worlds is what its transition raises
 pub same_raised : (written : ShelfWrite) (limits : Greatest) (past : List (List Entry)) (change : Change) (before after : Parts) → 1 ≤ limits.max_version → 0 < length past
     → Keeps (queue_of (state_at limits past)) change
     → raised written (record before { queue = present past }) (record after { queue = present (past_after past change) })
@@ -71,29 +71,29 @@ pub or_more : (a b : Bool) → b ≡ true → (a || b) ≡ true
 or_more true b e = refl
 or_more false b e = e
 
-module _ (moments : List Moment) where
+module _ (world_transitions : List WorldTransition) where
   abbrev among : ℕ → List Listener → Bool
   among n ls = list_any (λ (k : Listener). k.number == n) ls
 
-  further : (l : Listener) (all ls : List Listener) → Each (λ k. among k.number all ≡ true) (map (client_in moments) ls)
-      → Each (λ k. among k.number (l ∷ all) ≡ true) (map (client_in moments) ls)
+  further : (l : Listener) (all ls : List Listener) → Each (λ k. among k.number all ≡ true) (map (client_in world_transitions) ls)
+      → Each (λ k. among k.number (l ∷ all) ≡ true) (map (client_in world_transitions) ls)
   further l all [] e = tt
   further l all (x ∷ xs) e = (or_more (l.number == x.number) (among x.number all) e.0, further l all xs e.1)
 
-  all_among : (ls : List Listener) → Each (λ k. among k.number ls ≡ true) (map (client_in moments) ls)
+  all_among : (ls : List Listener) → Each (λ k. among k.number ls ≡ true) (map (client_in world_transitions) ls)
   all_among [] = tt
   all_among (l ∷ ls) = (ap (λ b. b || among l.number ls) (same_first l.number), further l ls ls (all_among ls))
 
-  with_flags : (there : ℕ → Bool) (ls : List Listener) → Each (λ k. there k.number ≡ true) (map (client_in moments) ls)
-      → Each (λ k. (there k.number ≡ true) × (k.pending.changed ≡ pending_for k.number moments)) (map (client_in moments) ls)
+  with_flags : (there : ℕ → Bool) (ls : List Listener) → Each (λ k. there k.number ≡ true) (map (client_in world_transitions) ls)
+      → Each (λ k. (there k.number ≡ true) × (k.pending.changed ≡ pending_for k.number world_transitions)) (map (client_in world_transitions) ls)
   with_flags there [] e = tt
   with_flags there (l ∷ ls) e = ((e.0, refl), with_flags there ls e.1)
 
-  absent : (r : ℕ → Subsystems) (n : ℕ) (ls : List Listener) → client_of n (map (notified r) (map (client_in moments) ls)) ≡ None → among n ls ≡ false
+  absent : (r : ℕ → Subsystems) (n : ℕ) (ls : List Listener) → client_of n (map (notified r) (map (client_in world_transitions) ls)) ≡ None → among n ls ≡ false
   absent r n [] e = refl
   absent r n (l ∷ ls) e =
-      let rest : Option Client = client_of n (map (notified r) (map (client_in moments) ls)) in
-      let first : Client = notified r (client_in moments l) in
+      let rest : Option Client = client_of n (map (notified r) (map (client_in world_transitions) ls)) in
+      let first : Client = notified r (client_in world_transitions l) in
       let cases : (b : Bool) → (l.number == n) ≡ b → (b || among n ls) ≡ false =
       λ b. elim b as (λ b. (l.number == n) ≡ b → (b || among n ls) ≡ false) [
         | true ↦ λ t. (let found : (if l.number == n then Some first else rest) ≡ Some first = rw t refl in let clash : Some first ≡ None = sym found ∙ e in cc)
@@ -102,83 +102,83 @@ module _ (moments : List Moment) where
       cases (l.number == n) refl
 
 -- a list of clients that its flags leave as it is
-all_same : (moments : List Moment) (ks : List Client) → Each (λ k. flagged (λ n. pending_for n moments) k ≡ k) ks
-    → map (client_in moments) (map listener_of ks) ≡ ks
-all_same moments [] e = refl
-all_same moments (k ∷ ks) e = λ i. e.0 i ∷ all_same moments ks e.1 i
+all_same : (world_transitions : List WorldTransition) (ks : List Client) → Each (λ k. flagged (λ n. pending_for n world_transitions) k ≡ k) ks
+    → map (client_in world_transitions) (map listener_of ks) ≡ ks
+all_same world_transitions [] e = refl
+all_same world_transitions (k ∷ ks) e = λ i. e.0 i ∷ all_same world_transitions ks e.1 i
 
-module _ (life : Life) (done : List Happened) (event : Event) (above : 1 ≤ life.world.limits.max_version) (some : 0 < length life.world.past)
-    (rising : Rising (image_of life done).clients) where
+module _ (trace : Trace) (done : List LogEntry) (event : Event) (above : 1 ≤ trace.world.limits.max_version) (some : 0 < length trace.world.past)
+    (rising : Rising (image_of trace done).clients) where
   abbrev i : Image
-  i = image_of life done
+  i = image_of trace done
 
-  abbrev t : Turn
-  t = turn i event
+  abbrev t : TransitionData
+  t = transition i event
 
   abbrev r : ℕ → Subsystems
   r = raised_by i.part i.shared.library t
 
-  abbrev m : Moment
-  m = record { before = life.world; event = event; turn = t; notices = (told_by i event t).notices; report = report_of i.part i.shared.library t; after = world_after_turn life.world i event t }
+  abbrev m : WorldTransition
+  m = record { before = trace.world; event = event; transition = t; notices = (told_by i event t).notices; report = report_of i.part i.shared.library t; after = world_after_transition trace.world i event t }
 
   abbrev rate : ℕ
-  rate = life.world.library.rate
+  rate = trace.world.library.rate
 
   abbrev change : Change
-  change = change_of rate i.part t.doing
+  change = change_of rate i.part t.effect
 
   is_raised : (λ (n : ℕ). raised_at n m) ≡ r
-  is_raised = same_raised t.written life.world.limits life.world.past change (parts_in m.before) (parts_in m.after) above some (keeps rate i.part t.doing)
+  is_raised = same_raised t.written trace.world.limits trace.world.past change (parts_in m.before) (parts_in m.after) above some (keeps rate i.part t.effect)
 
-  grows : (n : ℕ) → pending_for n (m ∷ life.moments) ≡ (if begins_anew n m then none else union (pending_for n life.moments) (r n))
+  grows : (n : ℕ) → pending_for n (m ∷ trace.world_transitions) ≡ (if begins_anew n m then none else union (pending_for n trace.world_transitions) (r n))
   grows n =
-      pending_more n m life.moments (begins_anew n m) refl
-      ∙ ap (λ (s : ℕ → Subsystems). if begins_anew n m then none else union (pending_for n life.moments) (s n)) is_raised
+      pending_more n m trace.world_transitions (begins_anew n m) refl
+      ∙ ap (λ (s : ℕ → Subsystems). if begins_anew n m then none else union (pending_for n trace.world_transitions) (s n)) is_raised
 
-  -- the flags of the clients after an event are what is pending with one more moment
-  clients_stand : map (client_in (m ∷ life.moments)) (map listener_of (after_turn i event t).clients) ≡ (after_turn i event t).clients
+  -- the flags of the clients after an event are what is pending with one more transition
+  clients_stand : map (client_in (m ∷ trace.world_transitions)) (map listener_of (after_transition i event t).clients) ≡ (after_transition i event t).clients
   clients_stand =
-      all_same (m ∷ life.moments) (after_turn i event t).clients
-      (all_stand r (λ n. pending_for n life.moments) (λ n. pending_for n (m ∷ life.moments)) (λ n. is_there n life.world) (mover event)
-      i.clients rising (with_flags life.moments (λ n. is_there n life.world) life.world.clients (all_among life.moments life.world.clients))
-      (closes t.said.answer.next) t.said.move grows (absent life.moments r (mover event) life.world.clients))
+      all_same (m ∷ trace.world_transitions) (after_transition i event t).clients
+      (all_stand r (λ n. pending_for n trace.world_transitions) (λ n. pending_for n (m ∷ trace.world_transitions)) (λ n. is_there n trace.world) (mover event)
+      i.clients rising (with_flags trace.world_transitions (λ n. is_there n trace.world) trace.world.clients (all_among trace.world_transitions trace.world.clients))
+      (closes t.response.answer.next) t.response.move grows (absent trace.world_transitions r (mover event) trace.world.clients))
 
-  pub image_of-step : (h : Happened) → h.event ≡ event → image_of (lived life i event t) (done ++ h ∷ []) ≡ next_image h.seat i event
+  pub image_of-step : (h : LogEntry) → h.event ≡ event → image_of (traced trace i event t) (done ++ h ∷ []) ≡ next_image h.seat i event
   unfolding next_image
   image_of-step h same =
       let all : List Client → QueueState → List ℕ → Image = λ k q made. record {
         part = record {
           queue = q;
-          player = player_after rate i.part t.doing;
-          volume = volume_after life.world.volume t.doing;
-          outputs = outputs_after life.world.outputs t.doing;
-          channels = channels_after life.world.channels t.doing;
+          player = player_after rate i.part t.effect;
+          volume = volume_after trace.world.volume t.effect;
+          outputs = outputs_after trace.world.outputs t.effect;
+          channels = channels_after trace.world.channels t.effect;
         };
-        shared = record { library = library_after life.world.library t.scan; made = made; books = books_of (m ∷ life.moments); ended = ended_after life.world.ended event };
+        shared = record { library = library_after trace.world.library t.scan; made = made; books = books_of (m ∷ trace.world_transitions); ended = ended_after trace.world.ended event };
         clients = k;
       } in
-      ap (λ k. all k (state_at life.world.limits (past_after life.world.past change)) (made_of (done ++ h ∷ []))) clients_stand
-      ∙ ap (λ q. all (after_turn i event t).clients q (made_of (done ++ h ∷ []))) (follows life.world.limits life.world.past change above some (keeps rate i.part t.doing))
-      ∙ ap (all (after_turn i event t).clients (queue_after i.part.queue change)) (sym (made_of-more done h))
+      ap (λ k. all k (state_at trace.world.limits (past_after trace.world.past change)) (made_of (done ++ h ∷ []))) clients_stand
+      ∙ ap (λ q. all (after_transition i event t).clients q (made_of (done ++ h ∷ []))) (follows trace.world.limits trace.world.past change above some (keeps rate i.part t.effect))
+      ∙ ap (all (after_transition i event t).clients (queue_after i.part.queue change)) (sym (made_of-more done h))
 
-  pub rising-step : (h : Happened) → Rising (image_of (lived life i event t) (done ++ h ∷ [])).clients
-  rising-step h = subst Rising (sym clients_stand) (rising_after (mover event) r t.said i.clients rising)
+  pub rising-step : (h : LogEntry) → Rising (image_of (traced trace i event t) (done ++ h ∷ [])).clients
+  rising-step h = subst Rising (sym clients_stand) (rising_after (mover event) r t.response i.clients rising)
 
-from : (life : Life) (done hs : List Happened) → 1 ≤ life.world.limits.max_version → 0 < length life.world.past → Rising (image_of life done).clients
-    → (replay (image_of life done) hs ≡ image_of (life_from done life hs) (done ++ hs)) × Rising (image_of (life_from done life hs) (done ++ hs)).clients
-from life done [] above some rising =
-    (ap (image_of life) (sym (append-nil done)), subst (λ (l : List Happened). Rising (image_of life l).clients) (sym (append-nil done)) rising)
-from life done (h ∷ hs) above some rising =
-    let i : Image = image_of life done in
-    let rest = from (life_after_event done life h.event) (done ++ h ∷ []) hs above (some_past life.world.past (change_of i.shared.library.rate i.part (turn i h.event).doing) some)
-    (rising-step life done h.event above some rising h) in
-    let joined : image_of (life_from (done ++ h ∷ []) (life_after_event done life h.event) hs) ((done ++ h ∷ []) ++ hs) ≡ image_of (life_from (done ++ h ∷ []) (life_after_event done life h.event) hs) (done ++ h ∷ hs) =
-    ap (image_of (life_from (done ++ h ∷ []) (life_after_event done life h.event) hs)) (append_assoc done (h ∷ []) hs) in (
-      ap (λ (i : Image). replay i hs) (sym (image_of-step life done h.event above some rising h refl)) ∙ rest.0 ∙ joined,
+from : (trace : Trace) (done hs : List LogEntry) → 1 ≤ trace.world.limits.max_version → 0 < length trace.world.past → Rising (image_of trace done).clients
+    → (replay (image_of trace done) hs ≡ image_of (trace_from done trace hs) (done ++ hs)) × Rising (image_of (trace_from done trace hs) (done ++ hs)).clients
+from trace done [] above some rising =
+    (ap (image_of trace) (sym (append-nil done)), subst (λ (l : List LogEntry). Rising (image_of trace l).clients) (sym (append-nil done)) rising)
+from trace done (h ∷ hs) above some rising =
+    let i : Image = image_of trace done in
+    let rest = from (trace_after_event done trace h.event) (done ++ h ∷ []) hs above (some_past trace.world.past (change_of i.shared.library.rate i.part (transition i h.event).effect) some)
+    (rising-step trace done h.event above some rising h) in
+    let joined : image_of (trace_from (done ++ h ∷ []) (trace_after_event done trace h.event) hs) ((done ++ h ∷ []) ++ hs) ≡ image_of (trace_from (done ++ h ∷ []) (trace_after_event done trace h.event) hs) (done ++ h ∷ hs) =
+    ap (image_of (trace_from (done ++ h ∷ []) (trace_after_event done trace h.event) hs)) (append_assoc done (h ∷ []) hs) in (
+      ap (λ (i : Image). replay i hs) (sym (image_of-step trace done h.event above some rising h refl)) ∙ rest.0 ∙ joined,
       subst (λ (i : Image). Rising i.clients) joined rest.1,
     )
 
-pub opens : (setup : Setup) (library : Library) → 1 ≤ setup.limits.max_version → opening setup library ≡ image_of (opening_life (opening setup library)) []
+pub opens : (setup : Setup) (library : Library) → 1 ≤ setup.limits.max_version → opening setup library ≡ image_of (opening_trace (opening setup library)) []
 opens setup library above =
     let base : Image = opening setup library in
     let limits : Greatest = limits_of base in
@@ -194,5 +194,5 @@ opens setup library above =
 -- over every history
 pub replays_worlds : ReplaysWorlds
 replays_worlds setup library history above =
-    let rest = from (opening_life (opening setup library)) [] history above (omega arith) tt in
+    let rest = from (opening_trace (opening setup library)) [] history above (omega arith) tt in
     (ap (λ (i : Image). replay i history) (opens setup library above) ∙ rest.0, rest.1)

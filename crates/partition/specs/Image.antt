@@ -11,7 +11,8 @@ use Rattle.partition.specs.declared.state.Setup.{Setup}
 use Rattle.partition.specs.declared.state.State.{State}
 use Rattle.player_state.specs.Outputs.{FrameBooks, empty_books}
 
--- what all share: the library, how many events each seat made, the frames of the outputs, and whether the daemon has ended
+-- what all share: the library, how many events each seat made, the frames of the outputs, and whether the
+-- daemon has ended
 pub record Shared : Type 0 where
   pub library : Library
   pub made : List ℕ

@@ -1,6 +1,6 @@
 -- What is true of each player with its history.
 use Rattle.std.specs.Prelude.{◌≡◌, ◌≤◌, List, length}
-use Rattle.player_events.specs.declared.event.Happened.{Happened}
+use Rattle.player_events.specs.declared.event.LogEntry.{LogEntry}
 use Rattle.partition.specs.declared.partition.Partition.TheInside.{Inside}
 use Rattle.player_state.specs.declared.state.Library.{Library}
 use Rattle.partition.specs.declared.state.Setup.{Setup}
@@ -11,17 +11,18 @@ use Rattle.player_events.specs.Sizes.{window_bytes}
 abbrev pub chronicle_of : Inside → Chronicle
 chronicle_of p = record { base = image_of_state p.base; window = p.history.items; present = image_of_state p.state; limit = p.limit }
 
--- events that led from some opening to an image, and each was told what the player of one thread tells at its place
+-- events that led from some opening to an image, and each was told what the player of one thread tells at its
+-- place
 pub record Came (i : Image) : Type 0 where
   pub setup : Setup
   pub library : Library
-  pub earlier : List Happened
+  pub earlier : List LogEntry
   pub above : 1 ≤ setup.limits.max_version
   pub leads : i ≡ replay (opening setup library) earlier
   pub told : AreTold (opening setup library) earlier
 
--- some events led to the base, and the window leads from there to the present state; each was told what the player of one thread
--- tells at its place; the window is within its limit, and its bytes are counted
+-- some events led to the base, and the window leads from there to the present state; each was told what the
+-- player of one thread tells at its place; the window is within its limit, and its bytes are counted
 pub record IsReplayed (p : Inside) : Type 0 where
   pub room : 1 ≤ p.limit
   pub few : length p.history.items ≤ p.limit

@@ -1,4 +1,5 @@
--- Command lists (MPD protocol reference, Command lists; that each command is an event of its own is this profile's).
+-- Command lists (MPD protocol reference, Command lists; that each command is an event of its own is this
+-- profile's).
 use Rattle.std.specs.Prelude.{◌≡◌, ℕ, ◌+◌, ◌<◌, Bool, true, false, ◌||◌, List, [], ◌∷◌, ◌++◌, length, map, take, codes, slice_get, slice_index_or, None, if◌then◌else◌}
 use Rattle.std.specs.List.{flat_map, list_any}
 use Rattle.std.specs.Option.{ForSome}
@@ -8,16 +9,16 @@ use Rattle.mpd_command.specs.declared.request.Request.{Request}
 use Rattle.mpd_text.specs.Answers.Answer.{ack_line}
 use Rattle.player_events.specs.declared.event.Event.{Event}
 use Rattle.player_events.specs.declared.event.Event.TheVariants.{Line}
-use Rattle.player_events.specs.declared.event.Happened.{Happened}
-use Rattle.command_plan.specs.declared.asked.Stand.TheVariants.{InList}
+use Rattle.player_events.specs.declared.event.LogEntry.{LogEntry}
+use Rattle.transitions.specs.declared.asked.Stand.TheVariants.{InList}
 use Rattle.partition.specs.declared.partition.PartitionFault.{PartitionFault}
 use Rattle.partition.specs.declared.partition.PartitionFault.TheVariants.{HistoryFull, CutsAtLimit, AtLimit, NoMemory}
 use Rattle.player_core.specs.declared.fault.PlayerFault.{PlayerFault}
 use Rattle.player_core.specs.declared.fault.PlayerFault.TheVariants as player_fault
-use Rattle.player_events.specs.Told.{Told}
+use Rattle.player_events.specs.Outcomes.{OutcomeData}
 use Rattle.idle_clients.specs.Clients.{closes}
 use Rattle.partition.specs.Lent.{Refuses, ServesAll}
-use Rattle.command_plan.specs.declared.shelf_calls.Heard.{Heard}
+use Rattle.transitions.specs.declared.shelf_calls.StoreReply.{StoreReply}
 use Rattle.shelf.specs.Calls.{Call}
 use Rattle.shelf.specs.Maps.{Standing}
 use Rattle.partition.specs.History.{Chronicle, joined, replay, AreTold}
@@ -27,10 +28,11 @@ use Rattle.player_events.specs.Events.{ends_list}
 
 -- a request, and what the shelf answers to it
 abbrev pub Answered : Type 0
-Answered = Request × Heard
+Answered = Request × StoreReply
 
--- the entries that a list's requests make, side by side, from this place on: up to and with the first that ends the list
-unfoldable pub entries_of : ℕ → Image → ℕ → ListForm → ℕ → List Answered → List Happened
+-- the entries that a list's requests make, side by side, from this place on: up to and with the first that
+-- ends the list
+unfoldable pub entries_of : ℕ → Image → ℕ → ListForm → ℕ → List Answered → List LogEntry
 entries_of seat i client form place [] = []
 entries_of seat i client form place (a ∷ more) =
     let event = Line client (InList form place) a.0 a.1 in
@@ -42,12 +44,13 @@ abbrev pub events_of : ℕ → ListForm → ℕ → List Answered → List Event
 events_of client form place [] = []
 events_of client form place (a ∷ more) = Line client (InList form place) a.0 a.1 ∷ events_of client form (place + 1) more
 
--- What the entries of a list are, said of them as a whole: the events of its first requests, all of one seat; each told what
--- the player tells at its place; nothing follows one that ends the list; and where none does, no request is left out.
-pub record AreEntries (seat : ℕ) (i : Image) (client : ℕ) (form : ListForm) (place : ℕ) (requests : List Answered) (entries : List Happened) : Type 0 where
+-- What the entries of a list are, said of them as a whole: the events of its first requests, all of one seat;
+-- each told what the player tells at its place; nothing follows one that ends the list; and where none does,
+-- no request is left out.
+pub record AreEntries (seat : ℕ) (i : Image) (client : ℕ) (form : ListForm) (place : ℕ) (requests : List Answered) (entries : List LogEntry) : Type 0 where
   pub events : map {B = ℕ × Event} (λ h. (h.seat, h.event)) entries ≡ take (length entries) (map {B = ℕ × Event} (λ event. (seat, event)) (events_of client form place requests))
   pub told : AreTold i entries
-  pub last : (front : List Happened) (entry : Happened) (more : List Happened) → entries ≡ front ++ entry ∷ more → ends_list entry.told ≡ true → more ≡ []
+  pub last : (front : List LogEntry) (entry : LogEntry) (more : List LogEntry) → entries ≡ front ++ entry ∷ more → ends_list entry.told ≡ true → more ≡ []
   pub whole : (list_any (λ h. ends_list h.told) entries ≡ false) → length entries ≡ length requests
 
 abbrev pub EntriesAre : Type 0
@@ -55,11 +58,11 @@ EntriesAre = (seat : ℕ) (i : Image) (client : ℕ) (form : ListForm) (place : 
     → AreEntries seat i client form place requests (entries_of seat i client form place requests)
 
 -- answers side by side, and after them this end, unless one of them ended the list
-abbrev pub text_with : List ℕ → List Told → List ℕ
+abbrev pub text_with : List ℕ → List OutcomeData → List ℕ
 text_with end tolds = flat_map (λ t. t.answer.text) tolds ++ (if list_any ends_list tolds then [] else end)
 
 -- the whole answer of a list: one `OK` ends a list that succeeded
-abbrev pub list_text : List Told → List ℕ
+abbrev pub list_text : List OutcomeData → List ℕ
 list_text tolds = text_with (codes "OK\n") tolds
 
 abbrev pub fault_text : PartitionFault → List ℕ
@@ -76,7 +79,7 @@ fault_for player_fault.NoMemory = NoMemory
 -- what a list stopped at: the answers so far, the command that could not be run, and why
 pub record Stop : Type 0 where
   pub done : ℕ
-  pub tolds : List Told
+  pub tolds : List OutcomeData
   pub command : List ℕ
   pub cause : PartitionFault
 
@@ -85,27 +88,28 @@ abbrev pub stop_text : Stop → List ℕ
 stop_text stop = flat_map (λ t. t.answer.text) stop.tolds ++ ack_line 52 stop.done stop.command (fault_text stop.cause)
 
 -- none of these entries' events passed a limit at its place
-abbrev pub AllWithin : Image → List Happened → Type 0
+abbrev pub AllWithin : Image → List LogEntry → Type 0
 AllWithin i [] = Unit {0}
 AllWithin i (h ∷ hs) = (limit_of h.seat i h.event ≡ None) × AllWithin (next_image h.seat i h.event) hs
 
 -- these entries joined the history one after the other, and the player went their way
-pub record Joins (before after : Chronicle) (entries : List Happened) : Type 0 where
+pub record Joins (before after : Chronicle) (entries : List LogEntry) : Type 0 where
   pub chronicle : after ≡ joined before entries
   pub present : after.present ≡ replay before.present entries
   pub within : AllWithin before.present entries
 
 module _ {S : Type 0} (standing : S → Standing) (failed : S → S → Call → Type 0) where
-  -- a list ran: by what the lent shelf answered, all its entries joined the history, and these are their answers
-  pub record RunsList (before after : Chronicle) (old new : S) (seat client : ℕ) (form : ListForm) (requests : List Request) (tolds : List Told) : Type 0 where
+  -- a list ran: by what the lent shelf answered, all its entries joined the history, and these are their
+  -- answers
+  pub record RunsList (before after : Chronicle) (old new : S) (seat client : ℕ) (form : ListForm) (requests : List Request) (tolds : List OutcomeData) : Type 0 where
     pub answered : List Answered
     pub asked : map (λ a. a.0) answered ≡ requests
     pub joins : Joins before after (entries_of seat before.present client form 0 answered)
     pub told : tolds ≡ map (λ h. h.told) (entries_of seat before.present client form 0 answered)
     pub shelf : ServesAll standing failed old new before.present (entries_of seat before.present client form 0 answered)
 
-  -- a list stopped: exactly the first `done` of its entries joined the history, and the command after them was refused, for a limit
-  -- that its event would pass, or for want of memory
+  -- a list stopped: exactly the first `done` of its entries joined the history, and the command after them
+  -- was refused, for a limit that its event would pass, or for want of memory
   pub record StopsList (before after : Chronicle) (old new : S) (seat client : ℕ) (form : ListForm) (requests : List Request) (stop : Stop) : Type 0 where
     pub answered : List Answered
     pub asked : map (λ a. a.0) answered ≡ requests

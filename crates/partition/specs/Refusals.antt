@@ -5,21 +5,22 @@ use Rattle.partition.specs.declared.partition.PartitionFault.TheVariants.{Histor
 use Rattle.player_state.specs.declared.state.Library.{Library}
 use Rattle.player_state.specs.declared.state.Part.{Part}
 use Rattle.partition.specs.Image.{Image}
-use Rattle.command_plan.specs.Turns.{Turn}
+use Rattle.transitions.specs.Transitions.{TransitionData}
 use Rattle.player_state.specs.Outputs.{FrameBooks, books_after, can_count_all}
 use Rattle.partition.specs.Step.{counts_frames, keeps_limits}
-use Rattle.command_plan.specs.Turns.{report_of}
+use Rattle.transitions.specs.Transitions.{report_of}
 
--- a turn is refused where it passes a limit, or for want of memory; that of a fold comes before any turn
-abbrev pub RefusesTurn : Image → Turn → PartitionFault → Type 0
-RefusesTurn i t AtLimit = counts_frames i t ≡ false
-RefusesTurn i t CutsAtLimit = (counts_frames i t ≡ true) × (keeps_limits i t ≡ false)
-RefusesTurn i t NoMemory = Unit {0}
-RefusesTurn i t HistoryFull = ⊥
+-- a transition is refused where it passes a limit, or for want of memory; that of a fold comes before any
+-- transition
+abbrev pub RefusesTransition : Image → TransitionData → PartitionFault → Type 0
+RefusesTransition i t AtLimit = counts_frames i t ≡ false
+RefusesTransition i t CutsAtLimit = (counts_frames i t ≡ true) × (keeps_limits i t ≡ false)
+RefusesTransition i t NoMemory = Unit {0}
+RefusesTransition i t HistoryFull = ⊥
 
 -- what an event needs is refused where its frames could not be counted any more, or for want of memory
-abbrev pub RefusesFrames : FrameBooks → Part → Library → Turn → PartitionFault → Type 0
-RefusesFrames books part library t AtLimit = can_count_all (books_after books part.outputs t.doing (report_of part library t)) ≡ false
+abbrev pub RefusesFrames : FrameBooks → Part → Library → TransitionData → PartitionFault → Type 0
+RefusesFrames books part library t AtLimit = can_count_all (books_after books part.outputs t.effect (report_of part library t)) ≡ false
 RefusesFrames books part library t CutsAtLimit = ⊥
 RefusesFrames books part library t NoMemory = Unit {0}
 RefusesFrames books part library t HistoryFull = ⊥

@@ -1,19 +1,19 @@
--- What is pending, and the frames of the outputs, by a base and the window behind it.
+-- What is pending, and the frames of the outputs, by a base and the window after it.
 use Rattle.std.specs.Prelude.{◌≡◌, ◌↔◌, ◌⊎◌, ℕ, ◌+◌, true, List, [], ◌∷◌, Option, Some, None, map, slice_index_or}
 use Rattle.std.specs.List.{range_with_len}
 use Rattle.idle_notes.specs.declared.sets.Subsystems.{Subsystems}
 use Rattle.idle_notes.specs.declared.subsystem.Subsystem.{Subsystem}
 use Rattle.idle_notes.specs.Sets.{none, has}
 use Rattle.song_queue.specs.State.{queue_of}
-use Rattle.player_events.specs.declared.event.Happened.{Happened}
+use Rattle.player_events.specs.declared.event.LogEntry.{LogEntry}
 use Rattle.player_state.specs.declared.state.Client.{Client}
 use Rattle.partition.specs.History.{Chronicle}
 use Rattle.partition.specs.Image.{Image}
 use Rattle.idle_clients.specs.Clients.{client_of}
 use Rattle.player_state.specs.Outputs.{FrameBooks, decoded_by, discarded_by, written_by}
-use Rattle.partition.specs.Step.{next_image, told_by, turn}
-use Rattle.command_plan.specs.Turns.{report_of}
-use Rattle.partition.specs.World.{World, Moment, NeverAnew, IsPending, limits_of, listener_of}
+use Rattle.partition.specs.Step.{next_image, told_by, transition}
+use Rattle.transitions.specs.Transitions.{report_of}
+use Rattle.partition.specs.World.{World, WorldTransition, NeverAnew, IsPending, limits_of, listener_of}
 
 -- the world that an image shows: of its past only the present queue
 abbrev pub world_of : Image → World
@@ -29,25 +29,25 @@ world_of i = record {
   ended = i.shared.ended;
 }
 
--- the moment of an event behind an image
-abbrev pub moment_at : Image → Happened → Moment
-moment_at i h = record {
+-- the transition of an event after an image
+abbrev pub world_transition_at : Image → LogEntry → WorldTransition
+world_transition_at i h = record {
   before = world_of i;
   event = h.event;
-  turn = turn i h.event;
-  notices = (told_by i h.event (turn i h.event)).notices;
-  report = report_of i.part i.shared.library (turn i h.event);
+  transition = transition i h.event;
+  notices = (told_by i h.event (transition i h.event)).notices;
+  report = report_of i.part i.shared.library (transition i h.event);
   after = world_of (next_image h.seat i h.event);
 }
 
--- some moments, and in front of them those of these events behind an image
-abbrev pub moments_from : Image → List Moment → List Happened → List Moment
-moments_from i earlier [] = earlier
-moments_from i earlier (h ∷ hs) = moments_from (next_image h.seat i h.event) (moment_at i h ∷ earlier) hs
+-- some transitions, and in front of them those of these events after an image
+abbrev pub world_transitions_from : Image → List WorldTransition → List LogEntry → List WorldTransition
+world_transitions_from i earlier [] = earlier
+world_transitions_from i earlier (h ∷ hs) = world_transitions_from (next_image h.seat i h.event) (world_transition_at i h ∷ earlier) hs
 
--- the moments of a window, the latest first
-abbrev pub moments_of : Chronicle → List Moment
-moments_of c = moments_from c.base [] c.window
+-- the transitions of a window, the latest first
+abbrev pub world_transitions_of : Chronicle → List WorldTransition
+world_transitions_of c = world_transitions_from c.base [] c.window
 
 abbrev pub flags_of : Option Client → Subsystems
 flags_of None = none
@@ -57,24 +57,25 @@ flags_of (Some client) = client.pending.changed
 abbrev pub kept_for : ℕ → Image → Subsystems
 kept_for number i = flags_of (client_of number i.clients)
 
--- a subsystem is pending for a client where some event since the base raised it, at which and since which the client was there
--- and was sent no notice; or where it is pending in the base, and since then the client was there and was sent no notice
-abbrev pub IsPendingSince : Image → ℕ → Subsystem → List Moment → Type 0
-IsPendingSince base number subsystem moments = IsPending number subsystem moments ⊎ ((has (kept_for number base) subsystem ≡ true) × NeverAnew number moments)
+-- a subsystem is pending for a client where some event since the base raised it, at which and since which the
+-- client was there and was sent no notice; or where it is pending in the base, and since then the client was
+-- there and was sent no notice
+abbrev pub IsPendingSince : Image → ℕ → Subsystem → List WorldTransition → Type 0
+IsPendingSince base number subsystem world_transitions = IsPending number subsystem world_transitions ⊎ ((has (kept_for number base) subsystem ≡ true) × NeverAnew number world_transitions)
 
--- the flags of a client are its pending set by a base and the moments since
-abbrev pub HasPendingSince : Image → List Moment → Client → Type 0
-HasPendingSince base moments client = (subsystem : Subsystem) → (has client.pending.changed subsystem ≡ true) ↔ IsPendingSince base client.number subsystem moments
+-- the flags of a client are its pending set by a base and the transitions since
+abbrev pub HasPendingSince : Image → List WorldTransition → Client → Type 0
+HasPendingSince base world_transitions client = (subsystem : Subsystem) → (has client.pending.changed subsystem ≡ true) ↔ IsPendingSince base client.number subsystem world_transitions
 
--- a number, and a sum over the moments since
-abbrev pub summed_onto : ℕ → (Moment → ℕ) → List Moment → ℕ
+-- a number, and a sum over the transitions since
+abbrev pub summed_onto : ℕ → (WorldTransition → ℕ) → List WorldTransition → ℕ
 summed_onto first of_one [] = first
 summed_onto first of_one (m ∷ ms) = of_one m + summed_onto first of_one ms
 
--- the frames of eight outputs: those of the books of a base, and those of the moments since
-abbrev pub books_since : FrameBooks → List Moment → FrameBooks
-books_since base moments = record {
-  decoded = map (λ output. summed_onto (slice_index_or base.decoded output 0) (λ m. decoded_by m.before.outputs m.turn.doing m.report output) moments) (range_with_len 0 8);
-  written = map (λ output. summed_onto (slice_index_or base.written output 0) (λ m. written_by m.turn.doing output) moments) (range_with_len 0 8);
-  discarded = map (λ output. summed_onto (slice_index_or base.discarded output 0) (λ m. discarded_by m.turn.doing output) moments) (range_with_len 0 8);
+-- the frames of eight outputs: those of the books of a base, and those of the transitions since
+abbrev pub books_since : FrameBooks → List WorldTransition → FrameBooks
+books_since base world_transitions = record {
+  decoded = map (λ output. summed_onto (slice_index_or base.decoded output 0) (λ m. decoded_by m.before.outputs m.transition.effect m.report output) world_transitions) (range_with_len 0 8);
+  written = map (λ output. summed_onto (slice_index_or base.written output 0) (λ m. written_by m.transition.effect output) world_transitions) (range_with_len 0 8);
+  discarded = map (λ output. summed_onto (slice_index_or base.discarded output 0) (λ m. discarded_by m.transition.effect output) world_transitions) (range_with_len 0 8);
 }

@@ -3,19 +3,19 @@ use Rattle.std.specs.Prelude.{ℕ, Bool, true, false, not, ◌&&◌, ◌||◌, L
 use Rattle.filters.specs.declared.matching.Case.TheVariants.{Heeded, Ignored}
 use Rattle.idle_notes.specs.declared.sets.Subsystems.{Subsystems}
 use Rattle.mpd_command.specs.declared.command.Command.{Command}
-use Rattle.mpd_command.specs.declared.command.Command.TheVariants.{Add, AddId, Channels, Clear, ClearError, Close, Commands, Consume, Count, Crossfade, CurrentSong, Delete, DeleteId, DisableOutput, EnableOutput, Find, FindAdd, GetVol, Idle, Kill, List as ListTag, ListAll, ListPlaylist, ListPlaylistInfo, ListPlaylists, Load, LsInfo, Move, MoveId, Next, NoIdle, NotCommands, Outputs, Pause, Ping, Play, PlayId, PlaylistAdd, PlaylistClear, PlaylistDelete, PlaylistId, PlaylistInfo, PlaylistMove, PlChanges, PlChangesPosId, Previous, Prio, PrioId, Random, ReadMessages, Rename, Repeat, Rescan, Rm, Save, Search, SearchAdd, Seek, SeekCur, SeekId, SendMessage, SetVol, Shuffle, Single, Status, Sticker, Stop, Subscribe, Swap, SwapId, TagTypes, ToggleOutput, Unsubscribe, Update}
+use Rattle.mpd_command.specs.declared.command.Command.TheVariants as command
 use Rattle.mpd_command.specs.declared.name.Name.{Name}
 use Rattle.mpd_command.specs.declared.request.Request.{Request}
 use Rattle.mpd_command.specs.declared.request.Request.TheVariants.{Run, Refused}
-use Rattle.command_plan.specs.declared.asked.Asked.{Asked}
+use Rattle.transitions.specs.declared.asked.Asked.{Asked}
 use Rattle.player_events.specs.declared.event.Event.{Event}
 use Rattle.player_events.specs.declared.event.Event.TheVariants.{Connect, Disconnect, Line, ScanQuestion, ScanResult, Want, Have, Failed, OutputTurn, End}
-use Rattle.command_plan.specs.declared.reply.Move.TheVariants.{Join}
-use Rattle.command_plan.specs.declared.asked.Stand.{Stand}
-use Rattle.command_plan.specs.declared.asked.Stand.TheVariants.{Alone, InList}
-use Rattle.player_state.specs.declared.doing.Doing.{Doing}
-use Rattle.player_state.specs.declared.doing.Effect.TheVariants.{Rests, Leaves}
-use Rattle.player_state.specs.declared.doing.AudioStep.TheVariants.{Wants, Accepts, Fails, Settles}
+use Rattle.transitions.specs.declared.reply.Move.TheVariants.{Join}
+use Rattle.transitions.specs.declared.asked.Stand.{Stand}
+use Rattle.transitions.specs.declared.asked.Stand.TheVariants.{Alone, InList}
+use Rattle.player_state.specs.declared.effect.Effect.{Effect}
+use Rattle.player_state.specs.declared.effect.CommandEffect.TheVariants.{Rests, Leaves}
+use Rattle.player_state.specs.declared.effect.AudioStep.TheVariants.{Wants, Accepts, Fails, Settles}
 use Rattle.partition.specs.declared.partition.PartitionFault.{PartitionFault}
 use Rattle.partition.specs.declared.partition.PartitionFault.TheVariants.{CutsAtLimit, AtLimit}
 use Rattle.player_state.specs.declared.report.Report.{Report}
@@ -24,11 +24,11 @@ use Rattle.player_state.specs.declared.scan.ScanMove.TheVariants.{Stay, End as E
 use Rattle.player_state.specs.declared.state.Client.{Client}
 use Rattle.player_state.specs.declared.state.Library.{Library}
 use Rattle.player_state.specs.declared.state.Part.{Part}
-use Rattle.player_events.specs.Told.{Told}
-use Rattle.command_plan.specs.Answers.{Said, refused_by_shelf, refuses, shut, stays, tells}
+use Rattle.player_events.specs.Outcomes.{OutcomeData}
+use Rattle.transitions.specs.Answers.{ResponseData, refused_by_shelf, refuses, shut, stays, tells}
 use Rattle.idle_clients.specs.Clients.{parts_of, raised, clients_after, notices_after}
 use Rattle.status_commands.specs.Connection.{commands, not_commands, ping, tag_types}
-use Rattle.command_plan.specs.Deeds.{closes_client, only}
+use Rattle.transitions.specs.CommandResults.{closes_client, only}
 use Rattle.library_commands.specs.Library.{count_songs, find, find_add, list, list_all, list_info, update}
 use Rattle.status_commands.specs.Options.{consume, crossfade, get_volume, random, repeat, set_volume, single}
 use Rattle.queue_commands.specs.Playback.{clear_error, current_song, next, pause, play, play_id, previous, seek, seek_cur, seek_id, stop}
@@ -38,114 +38,114 @@ use Rattle.status_commands.specs.Messages.{channels, read_messages, send_message
 use Rattle.library_commands.specs.Shelf.{list_playlist, list_playlist_info, list_playlists, load, playlist_add, playlist_clear, playlist_delete, playlist_move, question_by, remove, rename, save, sticker}
 use Rattle.status_commands.specs.Status.{Wish, ToGoOn, wish_of, wished, status}
 use Rattle.player_state.specs.Scans.{running}
-use Rattle.command_plan.specs.Shelves.{Question, NoQuestion, is_written, nothing_heard}
-use Rattle.command_plan.specs.declared.shelf_calls.Heard.{Heard}
-use Rattle.command_plan.specs.declared.shelf_calls.Read.{Read}
-use Rattle.command_plan.specs.declared.shelf_calls.ShelfWrite.TheVariants.{Nothing as Unwritten}
+use Rattle.transitions.specs.Shelves.{Question, NoQuestion, is_written, no_store_reply}
+use Rattle.transitions.specs.declared.shelf_calls.StoreReply.{StoreReply}
+use Rattle.transitions.specs.declared.shelf_calls.Read.{Read}
+use Rattle.transitions.specs.declared.shelf_calls.ShelfWrite.TheVariants.{Nothing as Unwritten}
 use Rattle.shelf.specs.declared.faults.ShelfFault.{ShelfFault}
 use Rattle.player_state.specs.Outputs.{books_after, can_count_all, is_output}
-use Rattle.player_state.specs.Doings.{keeps_numbers, part_after, report_after}
+use Rattle.player_state.specs.Effects.{keeps_numbers, part_after, report_after}
 use Rattle.partition.specs.Image.{Image, counted}
-use Rattle.command_plan.specs.Turns.{Turn, Deed, acts, acts_unless, departs, or_ended, quiet, report_of, turn_by, unspoken}
+use Rattle.transitions.specs.Transitions.{TransitionData, CommandResult, acts, acts_unless, departs, or_ended, quiet, report_of, transition_by, no_response}
 use Rattle.player_state.specs.Libraries.{library_after}
 use Rattle.idle_clients.specs.Clients.{client_of}
 use Rattle.player_events.specs.Events.{name_of}
 
 -- what a command makes of the player; the commands by which a client waits are wishes and make nothing of it
-abbrev pub deed_of : Asked → Part → Library → Read → Command → Deed
-deed_of asked part library read (Add uri) = add asked part library uri.0
-deed_of asked part library read (AddId uri place) = add_id asked part library uri.0 place
-deed_of asked part library read Channels = channels asked part
-deed_of asked part library read Clear = clear asked part
-deed_of asked part library read ClearError = clear_error asked
-deed_of asked part library read Close = closes_client asked
-deed_of asked part library read (Commands allow_kill) = only (commands asked allow_kill)
-deed_of asked part library read (Consume on) = consume asked on
-deed_of asked part library read (Count wanted) = count_songs asked library wanted
-deed_of asked part library read (Crossfade seconds) = crossfade asked seconds
-deed_of asked part library read CurrentSong = current_song asked part library
-deed_of asked part library read (Delete range) = delete asked part range
-deed_of asked part library read (DeleteId id) = delete_id asked part id
-deed_of asked part library read (DisableOutput output) = switch_output asked part output false
-deed_of asked part library read (EnableOutput output) = switch_output asked part output true
-deed_of asked part library read (Find wanted window) = find asked library Heeded wanted window
-deed_of asked part library read (FindAdd wanted) = find_add asked part library Heeded wanted
-deed_of asked part library read GetVol = get_volume asked part
-deed_of asked part library read (Idle named) = only shut
-deed_of asked part library read Kill = closes_client asked
-deed_of asked part library read (ListTag name wanted) = list asked library name wanted
-deed_of asked part library read (ListAll uri) = list_all asked library uri
-deed_of asked part library read (ListPlaylist name) = list_playlist asked read name
-deed_of asked part library read (ListPlaylistInfo name) = list_playlist_info asked library read name
-deed_of asked part library read ListPlaylists = list_playlists asked read
-deed_of asked part library read (Load name range) = load asked part library read name range
-deed_of asked part library read (LsInfo uri) = list_info asked library uri
-deed_of asked part library read (Move range to) = move asked part range to
-deed_of asked part library read (MoveId id to) = move_id asked part id to
-deed_of asked part library read Next = next asked part
-deed_of asked part library read NoIdle = only shut
-deed_of asked part library read (NotCommands allow_kill) = only (not_commands asked allow_kill)
-deed_of asked part library read Outputs = outputs asked part
-deed_of asked part library read (Pause on) = pause asked on
-deed_of asked part library read Ping = only (ping asked)
-deed_of asked part library read (PlChanges version range) = changes asked part library version range
-deed_of asked part library read (PlChangesPosId version range) = changed_places asked part version range
-deed_of asked part library read (Play place) = play asked part place
-deed_of asked part library read (PlayId id) = play_id asked part id
-deed_of asked part library read (PlaylistAdd name uri) = playlist_add asked library read name uri.0
-deed_of asked part library read (PlaylistClear name) = playlist_clear asked read name
-deed_of asked part library read (PlaylistDelete name place) = playlist_delete asked read name place
-deed_of asked part library read (PlaylistId id) = playlist_id asked part library id
-deed_of asked part library read (PlaylistInfo range) = playlist_info asked part library range
-deed_of asked part library read (PlaylistMove name from to) = playlist_move asked read name from to
-deed_of asked part library read Previous = previous asked part
-deed_of asked part library read (Prio priority ranges) = prio asked part priority ranges
-deed_of asked part library read (PrioId priority ids) = prio_id asked part priority ids
-deed_of asked part library read (Random on) = random asked on
-deed_of asked part library read ReadMessages = read_messages asked part
-deed_of asked part library read (Rename name new) = rename asked name new
-deed_of asked part library read (Repeat on) = repeat asked on
-deed_of asked part library read (Rescan uri) = update asked library
-deed_of asked part library read (Rm name) = remove asked name
-deed_of asked part library read (Save name) = save asked part name
-deed_of asked part library read (Search wanted window) = find asked library Ignored wanted window
-deed_of asked part library read (SearchAdd wanted) = find_add asked part library Ignored wanted
-deed_of asked part library read (Seek place time) = seek asked part library place time.0
-deed_of asked part library read (SeekCur seeking) = seek_cur asked part library seeking
-deed_of asked part library read (SeekId id time) = seek_id asked part library id time.0
-deed_of asked part library read (SendMessage channel text) = send_message asked part channel text
-deed_of asked part library read (SetVol volume) = set_volume asked volume
-deed_of asked part library read (Shuffle range) = shuffle asked part range
-deed_of asked part library read (Single mode) = single asked mode
-deed_of asked part library read Status = status asked part library
-deed_of asked part library read (Sticker command) = sticker asked library read command
-deed_of asked part library read Stop = stop asked
-deed_of asked part library read (Subscribe channel) = subscribe asked part channel
-deed_of asked part library read (Swap first second) = swap asked part first second
-deed_of asked part library read (SwapId first second) = swap_id asked part first second
-deed_of asked part library read TagTypes = only (tag_types asked)
-deed_of asked part library read (ToggleOutput output) = toggle_output asked part output
-deed_of asked part library read (Unsubscribe channel) = unsubscribe asked part channel
-deed_of asked part library read (Update uri) = update asked library
+abbrev pub result_of : Asked → Part → Library → Read → Command → CommandResult
+result_of asked part library read (command.Add uri) = add asked part library uri.0
+result_of asked part library read (command.AddId uri place) = add_id asked part library uri.0 place
+result_of asked part library read command.Channels = channels asked part
+result_of asked part library read command.Clear = clear asked part
+result_of asked part library read command.ClearError = clear_error asked
+result_of asked part library read command.Close = closes_client asked
+result_of asked part library read (command.Commands allow_kill) = only (commands asked allow_kill)
+result_of asked part library read (command.Consume on) = consume asked on
+result_of asked part library read (command.Count wanted) = count_songs asked library wanted
+result_of asked part library read (command.Crossfade seconds) = crossfade asked seconds
+result_of asked part library read command.CurrentSong = current_song asked part library
+result_of asked part library read (command.Delete range) = delete asked part range
+result_of asked part library read (command.DeleteId id) = delete_id asked part id
+result_of asked part library read (command.DisableOutput output) = switch_output asked part output false
+result_of asked part library read (command.EnableOutput output) = switch_output asked part output true
+result_of asked part library read (command.Find wanted window) = find asked library Heeded wanted window
+result_of asked part library read (command.FindAdd wanted) = find_add asked part library Heeded wanted
+result_of asked part library read command.GetVol = get_volume asked part
+result_of asked part library read (command.Idle named) = only shut
+result_of asked part library read command.Kill = closes_client asked
+result_of asked part library read (command.List name wanted) = list asked library name wanted
+result_of asked part library read (command.ListAll uri) = list_all asked library uri
+result_of asked part library read (command.ListPlaylist name) = list_playlist asked read name
+result_of asked part library read (command.ListPlaylistInfo name) = list_playlist_info asked library read name
+result_of asked part library read command.ListPlaylists = list_playlists asked read
+result_of asked part library read (command.Load name range) = load asked part library read name range
+result_of asked part library read (command.LsInfo uri) = list_info asked library uri
+result_of asked part library read (command.Move range to) = move asked part range to
+result_of asked part library read (command.MoveId id to) = move_id asked part id to
+result_of asked part library read command.Next = next asked part
+result_of asked part library read command.NoIdle = only shut
+result_of asked part library read (command.NotCommands allow_kill) = only (not_commands asked allow_kill)
+result_of asked part library read command.Outputs = outputs asked part
+result_of asked part library read (command.Pause on) = pause asked on
+result_of asked part library read command.Ping = only (ping asked)
+result_of asked part library read (command.PlChanges version range) = changes asked part library version range
+result_of asked part library read (command.PlChangesPosId version range) = changed_places asked part version range
+result_of asked part library read (command.Play place) = play asked part place
+result_of asked part library read (command.PlayId id) = play_id asked part id
+result_of asked part library read (command.PlaylistAdd name uri) = playlist_add asked library read name uri.0
+result_of asked part library read (command.PlaylistClear name) = playlist_clear asked read name
+result_of asked part library read (command.PlaylistDelete name place) = playlist_delete asked read name place
+result_of asked part library read (command.PlaylistId id) = playlist_id asked part library id
+result_of asked part library read (command.PlaylistInfo range) = playlist_info asked part library range
+result_of asked part library read (command.PlaylistMove name from to) = playlist_move asked read name from to
+result_of asked part library read command.Previous = previous asked part
+result_of asked part library read (command.Prio priority ranges) = prio asked part priority ranges
+result_of asked part library read (command.PrioId priority ids) = prio_id asked part priority ids
+result_of asked part library read (command.Random on) = random asked on
+result_of asked part library read command.ReadMessages = read_messages asked part
+result_of asked part library read (command.Rename name new) = rename asked name new
+result_of asked part library read (command.Repeat on) = repeat asked on
+result_of asked part library read (command.Rescan uri) = update asked library
+result_of asked part library read (command.Rm name) = remove asked name
+result_of asked part library read (command.Save name) = save asked part name
+result_of asked part library read (command.Search wanted window) = find asked library Ignored wanted window
+result_of asked part library read (command.SearchAdd wanted) = find_add asked part library Ignored wanted
+result_of asked part library read (command.Seek place time) = seek asked part library place time.0
+result_of asked part library read (command.SeekCur seeking) = seek_cur asked part library seeking
+result_of asked part library read (command.SeekId id time) = seek_id asked part library id time.0
+result_of asked part library read (command.SendMessage channel text) = send_message asked part channel text
+result_of asked part library read (command.SetVol volume) = set_volume asked volume
+result_of asked part library read (command.Shuffle range) = shuffle asked part range
+result_of asked part library read (command.Single mode) = single asked mode
+result_of asked part library read command.Status = status asked part library
+result_of asked part library read (command.Sticker command) = sticker asked library read command
+result_of asked part library read command.Stop = stop asked
+result_of asked part library read (command.Subscribe channel) = subscribe asked part channel
+result_of asked part library read (command.Swap first second) = swap asked part first second
+result_of asked part library read (command.SwapId first second) = swap_id asked part first second
+result_of asked part library read command.TagTypes = only (tag_types asked)
+result_of asked part library read (command.ToggleOutput output) = toggle_output asked part output
+result_of asked part library read (command.Unsubscribe channel) = unsubscribe asked part channel
+result_of asked part library read (command.Update uri) = update asked library
 
--- a client's wish leaves the player as it is; another command does its deed
-abbrev pub turn_wished : Asked → Client → Deed → Option Wish → Turn
-turn_wished asked client deed (Some wish) = quiet (wished asked client wish)
-turn_wished asked client deed None = turn_by deed
+-- a client's wish leaves the player as it is; another command has its result
+abbrev pub transition_wished : Asked → Client → CommandResult → Option Wish → TransitionData
+transition_wished asked client command_result (Some wish) = quiet (wished asked client wish)
+transition_wished asked client command_result None = transition_by command_result
 
-abbrev pub turn_command : Asked → Part → Library → Read → Client → Command → Turn
-turn_command asked part library read client command = turn_wished asked client (deed_of asked part library read command) (wish_of command)
+abbrev pub transition_command : Asked → Part → Library → Read → Client → Command → TransitionData
+transition_command asked part library read client command = transition_wished asked client (result_of asked part library read command) (wish_of command)
 
-abbrev pub turn_request : Part → Library → Client → Stand → Request → Read → Turn
-turn_request part library client stand (Run name command) read = turn_command (record { client = client.number; name = name; stand = stand }) part library read client command
-turn_request part library client stand (Refused ack) read = quiet (stays (refuses stand ack.command ack.number ack.text))
+abbrev pub transition_request : Part → Library → Client → Stand → Request → Read → TransitionData
+transition_request part library client stand (Run name command) read = transition_command (record { client = client.number; name = name; stand = stand }) part library read client command
+transition_request part library client stand (Refused ack) read = quiet (stays (refuses stand ack.command ack.number ack.text))
 
-abbrev pub greeting : Said
+abbrev pub greeting : ResponseData
 greeting = record { answer = tells (codes "OK MPD 0.23.0\n"); move = Join }
 
 -- a client that comes is greeted; one that is there stays as it is; one that finds no room is closed
-abbrev pub said_to_new : List Client → ℕ → Said
-said_to_new clients number =
+abbrev pub response_to_new : List Client → ℕ → ResponseData
+response_to_new clients number =
     if is_some (client_of number clients) then stays (tells (codes ""))
     else (if nat_le 64 (length clients) then stays shut else greeting)
 
@@ -162,40 +162,43 @@ abbrev pub ends_waiting : Stand → Request → Bool
 ends_waiting stand (Run name command) = ends_by stand (wish_of command)
 ends_waiting stand (Refused ack) = false
 
--- a line of a client that is not there closes it; so does a line other than `noidle` while it waits, whatever the line says
-abbrev pub turn_line : Part → Library → Option Client → Stand → Request → Read → Turn
-turn_line part library None stand request read = quiet (stays shut)
-turn_line part library (Some client) stand request read =
+-- a line of a client that is not there closes it; so does a line other than `noidle` while it waits, whatever
+-- the line says
+abbrev pub transition_line : Part → Library → Option Client → Stand → Request → Read → TransitionData
+transition_line part library None stand request read = quiet (stays shut)
+transition_line part library (Some client) stand request read =
     if is_some client.pending.waiting && not (ends_waiting stand request) then departs client.number
-    else turn_request part library client stand request read
+    else transition_request part library client stand request read
 
--- a turn that writes to the shelf does nothing else; where the shelf refuses, it is answered so, and nothing happens
-abbrev pub once_written : Stand → Request → Option ShelfFault → Turn → Turn
-once_written stand request None t = record (quiet t.said) { written = t.written }
+-- a transition that writes to the shelf does nothing else; where the shelf refuses, it is answered so, and
+-- nothing happens
+abbrev pub once_written : Stand → Request → Option ShelfFault → TransitionData → TransitionData
+once_written stand request None t = record (quiet t.response) { written = t.written }
 once_written stand request (Some fault) t = quiet (stays (refused_by_shelf stand (name_of request) fault))
 
-abbrev pub written_turn : Stand → Request → Option ShelfFault → Turn → Turn
-written_turn stand request refused t = if is_written t.written then once_written stand request refused t else t
+abbrev pub written_transition : Stand → Request → Option ShelfFault → TransitionData → TransitionData
+written_transition stand request refused t = if is_written t.written then once_written stand request refused t else t
 
 -- an output that is not there has nothing to play (this profile's)
-abbrev pub absent : Turn
-absent = record (quiet unspoken) { report = ToPlay (record { cut = 0; enabled = false; paused = false }) }
+abbrev pub absent : TransitionData
+absent = record (quiet no_response) { report = ToPlay (record { cut = 0; enabled = false; paused = false }) }
 
--- What an event makes of a part, a library and some clients. The turn of an output that is not there changes nothing. After the end
--- wants, scan questions and turns are told of it, and a have is stale; an output still tells of its frames.
-abbrev pub turn_of : Bool → Part → Library → List Client → Event → Turn
-turn_of ended part library clients (Connect number) = quiet (said_to_new clients number)
-turn_of ended part library clients (Disconnect number) = departs number
-turn_of ended part library clients (Line number stand request heard) =
-    written_turn stand request heard.refused (turn_line part library (client_of number clients) stand request heard.read)
-turn_of ended part library clients ScanQuestion = record (quiet unspoken) { report = if ended then Ended else ToScan (running library.scan) }
-turn_of ended part library clients (ScanResult songs) = record (quiet unspoken) { scan = EndsScan songs; report = ScanEnded library.scan.runs }
-turn_of ended part library clients (Want owes) = acts_unless ended Ended (Wants owes)
-turn_of ended part library clients (Have number frames) = acts_unless ended (ToFeed None) (Accepts number frames)
-turn_of ended part library clients (Failed number partner) = acts (Fails number partner)
-turn_of ended part library clients (OutputTurn output written discarded failed) =
+-- What an event makes of a part, a library and some clients. The turn of an output that is not there changes
+-- nothing. After the end wants, scan questions and turns are told of it, and a have is stale; an output still
+-- tells of its frames.
+abbrev pub transition_of : Bool → Part → Library → List Client → Event → TransitionData
+transition_of ended part library clients (Connect number) = quiet (response_to_new clients number)
+transition_of ended part library clients (Disconnect number) = departs number
+transition_of ended part library clients (Line number stand request heard) =
+    written_transition stand request heard.refused (transition_line part library (client_of number clients) stand request heard.read)
+transition_of ended part library clients ScanQuestion = record (quiet no_response) { report = if ended then Ended else ToScan (running library.scan) }
+transition_of ended part library clients (ScanResult songs) = record (quiet no_response) { scan = EndsScan songs; report = ScanEnded library.scan.runs }
+transition_of ended part library clients (Want owes) = acts_unless ended Ended (Wants owes)
+transition_of ended part library clients (Have number frames) = acts_unless ended (ToFeed None) (Accepts number frames)
+transition_of ended part library clients (Failed number partner) = acts (Fails number partner)
+transition_of ended part library clients (OutputTurn output written discarded failed) =
     or_ended ended (if is_output part.outputs output then acts (Settles output written discarded failed) else absent)
-turn_of ended part library clients End = quiet unspoken
+transition_of ended part library clients End = quiet no_response
 
 -- what an event asks the shelf: a line alone asks, and only one that is run
 abbrev pub question_in : Library → Request → Question
@@ -211,8 +214,8 @@ abbrev pub question_of : Library → List Client → Event → Question
 question_of library clients (Line number stand request heard) = question_line library (client_of number clients) stand request
 question_of library clients _ = NoQuestion
 
-abbrev pub turn : Image → Event → Turn
-turn i event = turn_of i.shared.ended i.part i.shared.library i.clients event
+abbrev pub transition : Image → Event → TransitionData
+transition i event = transition_of i.shared.ended i.part i.shared.library i.clients event
 
 -- the client that an event comes from, if it comes from one
 abbrev pub speaker : Event → Option ℕ
@@ -227,58 +230,58 @@ speaker (Failed number partner) = None
 speaker (OutputTurn output written discarded failed) = None
 speaker End = None
 
--- the client whose answer and move those of an event are. An event that comes from none makes no move and closes nobody, so
--- that it does not matter which one is named
+-- the client whose answer and move those of an event are. An event that comes from none makes no move and
+-- closes nobody, so that it does not matter which one is named
 abbrev pub mover : Event → ℕ
 mover event = unwrap_or (speaker event) 0
 
--- what a turn raises for each client: what differs between the parts before and after it
-abbrev pub raised_by : Part → Library → Turn → ℕ → Subsystems
-raised_by part library t = raised t.written (parts_of part library) (parts_of (part_after library.rate part t.doing) (library_after library t.scan))
+-- what a transition raises for each client: what differs between the parts before and after it
+abbrev pub raised_by : Part → Library → TransitionData → ℕ → Subsystems
+raised_by part library t = raised t.written (parts_of part library) (parts_of (part_after library.rate part t.effect) (library_after library t.scan))
 
 -- whether the daemon has ended, after an event
 abbrev pub ended_after : Bool → Event → Bool
 ended_after ended End = true
 ended_after ended _ = ended
 
--- the image after a turn, with its clients
-abbrev pub after_turn : Image → Event → Turn → Image
-after_turn i event t = record {
-  part = part_after i.shared.library.rate i.part t.doing;
+-- the image after a transition, with its clients
+abbrev pub after_transition : Image → Event → TransitionData → Image
+after_transition i event t = record {
+  part = part_after i.shared.library.rate i.part t.effect;
   shared = record i.shared {
     library = library_after i.shared.library t.scan;
-    books = books_after i.shared.books i.part.outputs t.doing (report_of i.part i.shared.library t);
+    books = books_after i.shared.books i.part.outputs t.effect (report_of i.part i.shared.library t);
     ended = ended_after i.shared.ended event;
   };
-  clients = clients_after (mover event) (raised_by i.part i.shared.library t) t.said i.clients;
+  clients = clients_after (mover event) (raised_by i.part i.shared.library t) t.response i.clients;
 }
 
 -- the image after an event of a seat
 unfoldable pub next_image : ℕ → Image → Event → Image
-next_image seat i event = counted seat (after_turn i event (turn i event))
+next_image seat i event = counted seat (after_transition i event (transition i event))
 
--- what a turn makes clients hear
-abbrev pub told_by : Image → Event → Turn → Told
-told_by i event t = record { answer = t.said.answer; notices = notices_after (mover event) (raised_by i.part i.shared.library t) t.said i.clients; report = report_of i.part i.shared.library t }
+-- what a transition makes clients hear
+abbrev pub told_by : Image → Event → TransitionData → OutcomeData
+told_by i event t = record { answer = t.response.answer; notices = notices_after (mover event) (raised_by i.part i.shared.library t) t.response i.clients; report = report_of i.part i.shared.library t }
 
 -- what an event makes clients hear
-unfoldable pub told : Image → Event → Told
-told i event = told_by i event (turn i event)
+unfoldable pub told : Image → Event → OutcomeData
+told i event = told_by i event (transition i event)
 
--- whether the frames that a turn tells of can be counted with all others
-abbrev pub counts_frames : Image → Turn → Bool
-counts_frames i t = can_count_all (books_after i.shared.books i.part.outputs t.doing (report_of i.part i.shared.library t))
+-- whether the frames that a transition tells of can be counted with all others
+abbrev pub counts_frames : Image → TransitionData → Bool
+counts_frames i t = can_count_all (books_after i.shared.books i.part.outputs t.effect (report_of i.part i.shared.library t))
 
--- whether a turn leaves the numbers of cuts, starts, jobs and scans at or below their limit
-abbrev pub keeps_limits : Image → Turn → Bool
-keeps_limits i t = keeps_numbers i.shared.library.rate i.part i.shared.library.scan t.doing t.scan
+-- whether a transition leaves the numbers of cuts, starts, jobs and scans at or below their limit
+abbrev pub keeps_limits : Image → TransitionData → Bool
+keeps_limits i t = keeps_numbers i.shared.library.rate i.part i.shared.library.scan t.effect t.scan
 
--- why an event of a seat is refused, if it is: the seat made 2^63-1 events, or the frames could not be counted any more; or a
--- number would be above its limit
-abbrev pub limit_by : ℕ → Image → Turn → Option PartitionFault
+-- why an event of a seat is refused, if it is: the seat made 2^63-1 events, or the frames could not be
+-- counted any more; or a number would be above its limit
+abbrev pub limit_by : ℕ → Image → TransitionData → Option PartitionFault
 limit_by seat i t =
     if nat_le 9223372036854775807 (slice_index_or i.shared.made seat 0) || not (counts_frames i t) then Some AtLimit
     else (if keeps_limits i t then None else Some CutsAtLimit)
 
 unfoldable pub limit_of : ℕ → Image → Event → Option PartitionFault
-limit_of seat i event = limit_by seat i (turn i event)
+limit_of seat i event = limit_by seat i (transition i event)

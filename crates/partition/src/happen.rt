@@ -6,34 +6,35 @@ ghost use Rattle.partition.specs.declared.partition.PartitionFault.{PartitionFau
 ghost use Rattle.idle_clients.specs.Clients.{clients_after, closes as closes_lem, notice_for, notices_after, notified};
 ghost use Rattle.partition.specs.Image.{counted, image_of_state};
 ghost use Rattle.partition.specs.Lent.{IsRefused, Records, question, writing};
-ghost use Rattle.player_state.specs.Plans.{Fits};
-ghost use Rattle.idle_clients.specs.Signs.{raised_in, signs};
+ghost use Rattle.player_state.specs.Fits.{Fits};
+ghost use Rattle.idle_clients.specs.Fingerprint.{raised_in, fingerprint};
 ghost use Rattle.idle_clients.specs.Rooms.{is_waiting, listed, room_in};
 ghost use Rattle.idle_clients.specs.Settled.{AllSettled, HasRoom, nothing};
-ghost use Rattle.partition.specs.Refusals.{MayRefuse, RefusesTurn};
-ghost use Rattle.command_plan.specs.Shelves.{IsAnswered, Serves, Spares, answered, is_ok_write, is_wanting, is_written, maps_after};
-ghost use Rattle.partition.specs.Step.{after_turn, counts_frames, ended_after as ended_after_lem, keeps_limits, limit_of, next_image, raised_by, mover as mover_lem, told as told_of, told_by, turn, turn_of};
-ghost use Rattle.player_events.specs.Events.{heard_at, hearing, name_at, stand_of};
+ghost use Rattle.partition.specs.Refusals.{MayRefuse, RefusesTransition};
+ghost use Rattle.transitions.specs.Shelves.{IsAnswered, Serves, LeavesUnchanged, answered, is_ok_write, is_wanting, is_written, maps_after};
+ghost use Rattle.partition.specs.Step.{after_transition, counts_frames, ended_after as ended_after_lem, keeps_limits, limit_of, next_image, raised_by, mover as mover_lem, told as told_of, told_by, transition as transition_at, transition_of};
+ghost use Rattle.player_events.specs.Events.{store_reply_at, with_store_reply, name_at, stand_of};
 ghost use Rattle.partition.specs.Steps.{entry};
 ghost use Rattle.player_events.specs.Events.{is_line};
-ghost use Rattle.command_plan.specs.Turns.{quiet};
+ghost use Rattle.transitions.specs.Transitions.{quiet};
 
+use crate::event_transitions::{ask_shelf, transition_of_event};
 use crate::lent::write;
 use crate::partition::PartitionFault;
 use crate::prepare::{Prepared, prepare_step, prepare_write};
 use crate::state::State;
-use crate::turns::{ask_shelf, plan_turn};
-use command_plan::{
-    Heard, Next, Plan, Refusals, ShelfWrite, Spoken, Telling, carry_out, discard as discard_plan,
-};
 use idle_clients::{
     Notices, Raised, changes_songs, changes_subscriptions, leave, list_notices, make_move,
     notify_all,
 };
-use player_events::{Event, Happened, Outcome, discard};
+use player_events::{Event, LogEntry, Outcome, discard};
 use player_state::{Client, Library, Part, done};
 use shelf::{Shelf, ShelfFault};
 use std::alloc::{AllocError, Global};
+use transitions::{
+    Next, Refusals, Response, ShelfWrite, StoreReply, Telling, Transition, carry_out,
+    discard as discard_transition,
+};
 
 /// What an event made clients hear; the notices twice, to hand out and to keep.
 #[derive(Drop)]
@@ -46,16 +47,16 @@ struct Applied {
 impl Applied {
     /// What is handed out, and what is kept.
     fn into_outcomes(self) -> (Outcome, Outcome)
-        ensures given { result.0 ≡ record { answer = self.telling.spoken.answer; notices = listed self.given; report = self.telling.report } }
-        ensures kept { result.1 ≡ record { answer = self.telling.spoken.answer; notices = listed self.kept; report = self.telling.report } }
+        ensures given { result.0 ≡ record { answer = self.telling.response.answer; notices = listed self.given; report = self.telling.report } }
+        ensures kept { result.1 ≡ record { answer = self.telling.response.answer; notices = listed self.kept; report = self.telling.report } }
     {
         let Applied {
             telling,
             given,
             kept,
         } = self;
-        let Telling { spoken, report } = telling;
-        let (reply, kept_reply) = spoken.into_replies();
+        let Telling { response, report } = telling;
+        let (reply, kept_reply) = response.into_replies();
         (
             Outcome {
                 reply,
@@ -71,13 +72,13 @@ impl Applied {
     }
 }
 
-/// Runs one event and keeps it, with what the lent shelf answered to it. Where it is refused, nothing changes, and the shelf was asked at
-/// most.
+/// Runs one event and keeps it, with what the lent shelf answered to it. Where it is refused, nothing
+/// changes, and the shelf was asked at most.
 #[tactic(auto, unfolding(crate::specs::Step::next_image, crate::specs::Step::told, crate::specs::Step::limit_of))]
 pub(crate) fn record_event<S: Shelf>(
     alloc: Global,
     state: &mut State,
-    history: &mut Vec<Happened>,
+    history: &mut Vec<LogEntry>,
     shelf: &mut S,
     seat: u8,
     event: Event,
@@ -108,7 +109,7 @@ pub(crate) fn record_event<S: Shelf>(
 pub(crate) fn record_step(
     alloc: Global,
     state: &mut State,
-    history: &mut Vec<Happened>,
+    history: &mut Vec<LogEntry>,
     seat: u8,
     event: Event,
 ) -> Result<Outcome, PartitionFault>
@@ -140,7 +141,7 @@ pub(crate) fn record_step(
 /// Counts an event of a seat that was applied, and keeps it with what it made clients hear.
 fn keep(
     state: &mut State,
-    history: &mut Vec<Happened>,
+    history: &mut Vec<LogEntry>,
     seat: u8,
     event: Event,
     applied: Applied,
@@ -149,17 +150,17 @@ fn keep(
     requires count { nat_le 9223372036854775807 (slice_index_or state.old.made seat 0) ≡ false }
     requires room { vec_len history.old < vec_capacity history.old }
     ensures state { image_of_state state.new ≡ counted seat (image_of_state state.old) }
-    ensures outcome { result ≡ record { answer = applied.telling.spoken.answer; notices = listed applied.given; report = applied.telling.report } }
-    ensures history { history.new.items ≡ history.old.items ++ entry seat event (record { answer = applied.telling.spoken.answer; notices = listed applied.kept; report = applied.telling.report }) ∷ [] }
+    ensures outcome { result ≡ record { answer = applied.telling.response.answer; notices = listed applied.given; report = applied.telling.report } }
+    ensures history { history.new.items ≡ history.old.items ++ entry seat event (record { answer = applied.telling.response.answer; notices = listed applied.kept; report = applied.telling.report }) ∷ [] }
 {
     state.made[usize::from(seat)] += 1;
     let (given, told) = applied.into_outcomes();
-    history.push_reserved(Happened { seat, event, told });
+    history.push_reserved(LogEntry { seat, event, told });
     given
 }
 
 /// Makes room for one more event and one more client.
-fn reserve(history: &mut Vec<Happened>, clients: &mut Vec<Client>) -> Result<(), AllocError>
+fn reserve(history: &mut Vec<LogEntry>, clients: &mut Vec<Client>) -> Result<(), AllocError>
     ensures history { history.new.items ≡ history.old.items }
     ensures clients { clients.new.items ≡ clients.old.items }
     ensures event { OnOk result (vec_len history.new < vec_capacity history.new) }
@@ -169,8 +170,8 @@ fn reserve(history: &mut Vec<Happened>, clients: &mut Vec<Client>) -> Result<(),
     clients.reserve(1)
 }
 
-/// Applies an event, all but the count of its seat, and puts in what the shelf answered. Where it is refused, nothing changes, and the
-/// shelf was asked at most.
+/// Applies an event, all but the count of its seat, and puts in what the shelf answered. Where it is refused,
+/// nothing changes, and the shelf was asked at most.
 #[tactic(auto, using(crate::proofs::Writing::same_hearing))]
 fn apply_event<S: Shelf>(
     alloc: Global,
@@ -180,25 +181,25 @@ fn apply_event<S: Shelf>(
 ) -> Result<Applied, PartitionFault>
     requires space { vec_len state.old.clients < vec_capacity state.old.clients }
     requires settled { AllSettled state.old.clients.items }
-    ensures event { event.new ≡ hearing event.old (heard_at event.new) }
-    ensures image { OnOk result (image_of_state state.new ≡ after_turn (image_of_state state.old) event.new (turn (image_of_state state.old) event.new)) }
-    ensures answer { IfOk result (λ applied. applied.telling.spoken.answer ≡ (turn (image_of_state state.old) event.new).said.answer) }
-    ensures report { IfOk result (λ applied. applied.telling.report ≡ (told_by (image_of_state state.old) event.new (turn (image_of_state state.old) event.new)).report) }
-    ensures given { IfOk result (λ applied. listed applied.given ≡ (told_by (image_of_state state.old) event.new (turn (image_of_state state.old) event.new)).notices) }
-    ensures kept { IfOk result (λ applied. listed applied.kept ≡ (told_by (image_of_state state.old) event.new (turn (image_of_state state.old) event.new)).notices) }
-    ensures within { OnOk result ((counts_frames (image_of_state state.old) (turn (image_of_state state.old) event.new) ≡ true) × (keeps_limits (image_of_state state.old) (turn (image_of_state state.old) event.new) ≡ true)) }
-    ensures shelf { OnOk result (Serves S.standing S.failed shelf.old shelf.new (question (image_of_state state.old) event.old) (writing (image_of_state state.old) event.old (heard_at event.new)) (heard_at event.new)) }
-    ensures refused { IfErr result (λ fault. RefusesTurn (image_of_state state.old) (turn (image_of_state state.old) event.new) fault) }
-    ensures cause { IfErr result (λ fault. (fault ≡ PartitionFault.NoMemory) ⊎ Serves S.standing S.failed shelf.old shelf.new (question (image_of_state state.old) event.old) (writing (image_of_state state.old) event.old (heard_at event.new)) (heard_at event.new)) }
-    ensures spared { OnErr result (Spares S.standing S.failed shelf.old shelf.new) }
+    ensures event { event.new ≡ with_store_reply event.old (store_reply_at event.new) }
+    ensures image { OnOk result (image_of_state state.new ≡ after_transition (image_of_state state.old) event.new (transition_at (image_of_state state.old) event.new)) }
+    ensures answer { IfOk result (λ applied. applied.telling.response.answer ≡ (transition_at (image_of_state state.old) event.new).response.answer) }
+    ensures report { IfOk result (λ applied. applied.telling.report ≡ (told_by (image_of_state state.old) event.new (transition_at (image_of_state state.old) event.new)).report) }
+    ensures given { IfOk result (λ applied. listed applied.given ≡ (told_by (image_of_state state.old) event.new (transition_at (image_of_state state.old) event.new)).notices) }
+    ensures kept { IfOk result (λ applied. listed applied.kept ≡ (told_by (image_of_state state.old) event.new (transition_at (image_of_state state.old) event.new)).notices) }
+    ensures within { OnOk result ((counts_frames (image_of_state state.old) (transition_at (image_of_state state.old) event.new) ≡ true) × (keeps_limits (image_of_state state.old) (transition_at (image_of_state state.old) event.new) ≡ true)) }
+    ensures shelf { OnOk result (Serves S.standing S.failed shelf.old shelf.new (question (image_of_state state.old) event.old) (writing (image_of_state state.old) event.old (store_reply_at event.new)) (store_reply_at event.new)) }
+    ensures refused { IfErr result (λ fault. RefusesTransition (image_of_state state.old) (transition_at (image_of_state state.old) event.new) fault) }
+    ensures cause { IfErr result (λ fault. (fault ≡ PartitionFault.NoMemory) ⊎ Serves S.standing S.failed shelf.old shelf.new (question (image_of_state state.old) event.old) (writing (image_of_state state.old) event.old (store_reply_at event.new)) (store_reply_at event.new)) }
+    ensures unchanged { OnErr result (LeavesUnchanged S.standing S.failed shelf.old shelf.new) }
     ensures err { OnErr result (image_of_state state.new ≡ image_of_state state.old) }
 {
     let read = ask_shelf(&state.library, &state.clients, shelf, event)?;
-    event.hear(Heard {
+    event.hear(StoreReply {
         read,
         refused: None,
     });
-    let plan = plan_turn(
+    let transition = transition_of_event(
         alloc,
         &state.part,
         &state.library,
@@ -206,10 +207,10 @@ fn apply_event<S: Shelf>(
         state.ended,
         event,
     )?;
-    if plan.written.is_written() {
-        return write_plan(alloc, state, shelf, event, plan);
+    if transition.written.is_written() {
+        return write_transition(alloc, state, shelf, event, transition);
     }
-    apply_plan(alloc, state, event, plan)
+    apply_transition(alloc, state, event, transition)
 }
 
 /// Applies an event that is no line, all but the count of its seat. Where it is refused, nothing changes.
@@ -218,16 +219,16 @@ fn apply_step(alloc: Global, state: &mut State, event: &Event) -> Result<Applied
     requires space { vec_len state.old.clients < vec_capacity state.old.clients }
     requires settled { AllSettled state.old.clients.items }
     requires step { is_line event.now ≡ false }
-    ensures image { OnOk result (image_of_state state.new ≡ after_turn (image_of_state state.old) event.now (turn (image_of_state state.old) event.now)) }
-    ensures answer { IfOk result (λ applied. applied.telling.spoken.answer ≡ (turn (image_of_state state.old) event.now).said.answer) }
-    ensures report { IfOk result (λ applied. applied.telling.report ≡ (told_by (image_of_state state.old) event.now (turn (image_of_state state.old) event.now)).report) }
-    ensures given { IfOk result (λ applied. listed applied.given ≡ (told_by (image_of_state state.old) event.now (turn (image_of_state state.old) event.now)).notices) }
-    ensures kept { IfOk result (λ applied. listed applied.kept ≡ (told_by (image_of_state state.old) event.now (turn (image_of_state state.old) event.now)).notices) }
-    ensures within { OnOk result ((counts_frames (image_of_state state.old) (turn (image_of_state state.old) event.now) ≡ true) × (keeps_limits (image_of_state state.old) (turn (image_of_state state.old) event.now) ≡ true)) }
-    ensures refused { IfErr result (λ fault. RefusesTurn (image_of_state state.old) (turn (image_of_state state.old) event.now) fault) }
+    ensures image { OnOk result (image_of_state state.new ≡ after_transition (image_of_state state.old) event.now (transition_at (image_of_state state.old) event.now)) }
+    ensures answer { IfOk result (λ applied. applied.telling.response.answer ≡ (transition_at (image_of_state state.old) event.now).response.answer) }
+    ensures report { IfOk result (λ applied. applied.telling.report ≡ (told_by (image_of_state state.old) event.now (transition_at (image_of_state state.old) event.now)).report) }
+    ensures given { IfOk result (λ applied. listed applied.given ≡ (told_by (image_of_state state.old) event.now (transition_at (image_of_state state.old) event.now)).notices) }
+    ensures kept { IfOk result (λ applied. listed applied.kept ≡ (told_by (image_of_state state.old) event.now (transition_at (image_of_state state.old) event.now)).notices) }
+    ensures within { OnOk result ((counts_frames (image_of_state state.old) (transition_at (image_of_state state.old) event.now) ≡ true) × (keeps_limits (image_of_state state.old) (transition_at (image_of_state state.old) event.now) ≡ true)) }
+    ensures refused { IfErr result (λ fault. RefusesTransition (image_of_state state.old) (transition_at (image_of_state state.old) event.now) fault) }
     ensures err { OnErr result (image_of_state state.new ≡ image_of_state state.old) }
 {
-    let plan = plan_turn(
+    let transition = transition_of_event(
         alloc,
         &state.part,
         &state.library,
@@ -235,27 +236,27 @@ fn apply_step(alloc: Global, state: &mut State, event: &Event) -> Result<Applied
         state.ended,
         event,
     )?;
-    apply_plan(alloc, state, event, plan)
+    apply_transition(alloc, state, event, transition)
 }
 
 /// Applies what an event asks for that writes nothing to the shelf. Where it is refused, nothing changes.
-fn apply_plan(
+fn apply_transition(
     alloc: Global,
     state: &mut State,
     event: &Event,
-    plan: Plan,
+    transition: Transition,
 ) -> Result<Applied, PartitionFault>
     requires space { vec_len state.old.clients < vec_capacity state.old.clients }
     requires settled { AllSettled state.old.clients.items }
-    requires fits { Fits state.old.part plan.doing }
-    requires unwritten { is_written plan.written ≡ false }
-    ensures image { OnOk result (image_of_state state.new ≡ after_turn (image_of_state state.old) event.now plan) }
-    ensures answer { IfOk result (λ applied. applied.telling.spoken.answer ≡ plan.said.answer) }
-    ensures report { IfOk result (λ applied. applied.telling.report ≡ (told_by (image_of_state state.old) event.now plan).report) }
-    ensures given { IfOk result (λ applied. listed applied.given ≡ (told_by (image_of_state state.old) event.now plan).notices) }
-    ensures kept { IfOk result (λ applied. listed applied.kept ≡ (told_by (image_of_state state.old) event.now plan).notices) }
-    ensures within { OnOk result ((counts_frames (image_of_state state.old) plan ≡ true) × (keeps_limits (image_of_state state.old) plan ≡ true)) }
-    ensures refused { IfErr result (λ fault. RefusesTurn (image_of_state state.old) plan fault) }
+    requires fits { Fits state.old.part transition.effect }
+    requires unwritten { is_written transition.written ≡ false }
+    ensures image { OnOk result (image_of_state state.new ≡ after_transition (image_of_state state.old) event.now transition) }
+    ensures answer { IfOk result (λ applied. applied.telling.response.answer ≡ transition.response.answer) }
+    ensures report { IfOk result (λ applied. applied.telling.report ≡ (told_by (image_of_state state.old) event.now transition).report) }
+    ensures given { IfOk result (λ applied. listed applied.given ≡ (told_by (image_of_state state.old) event.now transition).notices) }
+    ensures kept { IfOk result (λ applied. listed applied.kept ≡ (told_by (image_of_state state.old) event.now transition).notices) }
+    ensures within { OnOk result ((counts_frames (image_of_state state.old) transition ≡ true) × (keeps_limits (image_of_state state.old) transition ≡ true)) }
+    ensures refused { IfErr result (λ fault. RefusesTransition (image_of_state state.old) transition fault) }
     ensures err { OnErr result (image_of_state state.new ≡ image_of_state state.old) }
 {
     let (prepared, books) = match prepare_step(
@@ -264,11 +265,11 @@ fn apply_plan(
         &state.library,
         &state.clients,
         &state.books,
-        &plan,
+        &transition,
     ) {
         Ok(made) => made,
         Err(fault) => {
-            discard_plan(plan);
+            discard_transition(transition);
             return Err(fault);
         }
     };
@@ -277,9 +278,9 @@ fn apply_plan(
         kept,
         before,
     } = prepared;
-    let database = changes_songs(&plan, &state.library);
-    let subscription = changes_subscriptions(&state.part.channels, &plan.doing);
-    let telling = carry_out(&mut state.part, &mut state.library, plan)?;
+    let database = changes_songs(&transition, &state.library);
+    let subscription = changes_subscriptions(&state.part.channels, &transition.effect);
+    let telling = carry_out(&mut state.part, &mut state.library, transition)?;
     state.books = books;
     state.ended = ended_after(state.ended, event);
     let unwritten = ShelfWrite::Nothing;
@@ -300,33 +301,33 @@ fn apply_plan(
     ))
 }
 
-/// Writes what an event asks for to the shelf, once there is room for all that follows: nothing can fail behind it. Where it finds no
-/// memory, nothing changes and nothing is written.
-fn write_plan<S: Shelf>(
+/// Writes what an event asks for to the shelf, once there is room for all that follows: nothing can fail
+/// after it. Where it finds no memory, nothing changes and nothing is written.
+fn write_transition<S: Shelf>(
     alloc: Global,
     state: &mut State,
     shelf: &mut S,
     event: &mut Event,
-    plan: Plan,
+    transition: Transition,
 ) -> Result<Applied, PartitionFault>
     requires space { vec_len state.old.clients < vec_capacity state.old.clients }
     requires settled { AllSettled state.old.clients.items }
-    requires plan { plan ≡ turn (image_of_state state.old) event.old }
-    requires alone { plan ≡ record (quiet plan.said) { written = plan.written } }
-    requires written { is_written plan.written ≡ true }
-    requires unrefused { (heard_at event.old).refused ≡ None }
-    ensures event { event.new ≡ hearing event.old (record (heard_at event.old) { refused = (heard_at event.new).refused }) }
-    ensures image { OnOk result (image_of_state state.new ≡ after_turn (image_of_state state.old) event.new (turn (image_of_state state.old) event.new)) }
-    ensures answer { IfOk result (λ applied. applied.telling.spoken.answer ≡ (turn (image_of_state state.old) event.new).said.answer) }
-    ensures report { IfOk result (λ applied. applied.telling.report ≡ (told_by (image_of_state state.old) event.new (turn (image_of_state state.old) event.new)).report) }
-    ensures given { IfOk result (λ applied. listed applied.given ≡ (told_by (image_of_state state.old) event.new (turn (image_of_state state.old) event.new)).notices) }
-    ensures kept { IfOk result (λ applied. listed applied.kept ≡ (told_by (image_of_state state.old) event.new (turn (image_of_state state.old) event.new)).notices) }
-    ensures within { OnOk result ((counts_frames (image_of_state state.old) (turn (image_of_state state.old) event.new) ≡ true) × (keeps_limits (image_of_state state.old) (turn (image_of_state state.old) event.new) ≡ true)) }
-    ensures turns { OnOk result (Turns (S.standing shelf.old) (S.standing shelf.new) (is_ok_write plan.written (answered (heard_at event.new).refused)) (maps_after plan.written (S.standing shelf.old).maps)) }
-    ensures answers { OnOk result (Trusted (S.standing shelf.old) (S.standing shelf.new) → IsAnswered (S.failed shelf.old shelf.new) (S.standing shelf.old).maps plan.written (answered (heard_at event.new).refused)) }
-    ensures ample { OnOk result (is_wanting (heard_at event.new).refused ≡ false) }
+    requires transition { transition ≡ transition_at (image_of_state state.old) event.old }
+    requires alone { transition ≡ record (quiet transition.response) { written = transition.written } }
+    requires written { is_written transition.written ≡ true }
+    requires unrefused { (store_reply_at event.old).refused ≡ None }
+    ensures event { event.new ≡ with_store_reply event.old (record (store_reply_at event.old) { refused = (store_reply_at event.new).refused }) }
+    ensures image { OnOk result (image_of_state state.new ≡ after_transition (image_of_state state.old) event.new (transition_at (image_of_state state.old) event.new)) }
+    ensures answer { IfOk result (λ applied. applied.telling.response.answer ≡ (transition_at (image_of_state state.old) event.new).response.answer) }
+    ensures report { IfOk result (λ applied. applied.telling.report ≡ (told_by (image_of_state state.old) event.new (transition_at (image_of_state state.old) event.new)).report) }
+    ensures given { IfOk result (λ applied. listed applied.given ≡ (told_by (image_of_state state.old) event.new (transition_at (image_of_state state.old) event.new)).notices) }
+    ensures kept { IfOk result (λ applied. listed applied.kept ≡ (told_by (image_of_state state.old) event.new (transition_at (image_of_state state.old) event.new)).notices) }
+    ensures within { OnOk result ((counts_frames (image_of_state state.old) (transition_at (image_of_state state.old) event.new) ≡ true) × (keeps_limits (image_of_state state.old) (transition_at (image_of_state state.old) event.new) ≡ true)) }
+    ensures turns { OnOk result (Turns (S.standing shelf.old) (S.standing shelf.new) (is_ok_write transition.written (answered (store_reply_at event.new).refused)) (maps_after transition.written (S.standing shelf.old).maps)) }
+    ensures answers { OnOk result (Trusted (S.standing shelf.old) (S.standing shelf.new) → IsAnswered (S.failed shelf.old shelf.new) (S.standing shelf.old).maps transition.written (answered (store_reply_at event.new).refused)) }
+    ensures ample { OnOk result (is_wanting (store_reply_at event.new).refused ≡ false) }
     ensures memory { IfErr result (λ fault. fault ≡ PartitionFault.NoMemory) }
-    ensures spared { OnErr result (Turns (S.standing shelf.old) (S.standing shelf.new) false (maps_after plan.written (S.standing shelf.old).maps)) }
+    ensures unchanged { OnErr result (Turns (S.standing shelf.old) (S.standing shelf.new) false (maps_after transition.written (S.standing shelf.old).maps)) }
     ensures err { OnErr result (image_of_state state.new ≡ image_of_state state.old) }
 {
     let Ok((prepared, refusals)) = prepare_write(
@@ -336,39 +337,44 @@ fn write_plan<S: Shelf>(
         &state.clients,
         event,
     ) else {
-        discard_plan(plan);
+        discard_transition(transition);
         return Err(PartitionFault::NoMemory);
     };
-    let plan = write_out(
+    let transition = write_out(
         &state.part,
         &state.library,
         &state.clients,
         state.ended,
         shelf,
         event,
-        plan,
+        transition,
         refusals,
     )?;
-    Ok(tell_written(state, event, plan, prepared))
+    Ok(tell_written(state, event, transition, prepared))
 }
 
-/// Tells of what was written to the shelf, or why it was not: the plan does nothing else.
-fn tell_written(state: &mut State, event: &Event, plan: Plan, prepared: Prepared) -> Applied
+/// Tells of what was written to the shelf, or why it was not: the transition does nothing else.
+fn tell_written(
+    state: &mut State,
+    event: &Event,
+    transition: Transition,
+    prepared: Prepared,
+) -> Applied
     requires space { vec_len state.old.clients < vec_capacity state.old.clients }
     requires settled { AllSettled state.old.clients.items }
-    requires alone { plan ≡ record (quiet plan.said) { written = plan.written } }
-    requires before { prepared.before ≡ signs state.old.part state.old.library }
+    requires alone { transition ≡ record (quiet transition.response) { written = transition.written } }
+    requires before { prepared.before ≡ fingerprint state.old.part state.old.library }
     requires given { count_by is_waiting state.old.clients.items ≤ room_in prepared.given }
     requires kept { count_by is_waiting state.old.clients.items ≤ room_in prepared.kept }
     requires none_given { listed prepared.given ≡ [] }
     requires none_kept { listed prepared.kept ≡ [] }
-    ensures image { image_of_state state.new ≡ after_turn (image_of_state state.old) event.now plan }
-    ensures answer { result.telling.spoken.answer ≡ plan.said.answer }
-    ensures report { result.telling.report ≡ (told_by (image_of_state state.old) event.now plan).report }
-    ensures given { listed result.given ≡ (told_by (image_of_state state.old) event.now plan).notices }
-    ensures kept { listed result.kept ≡ (told_by (image_of_state state.old) event.now plan).notices }
-    ensures counts { counts_frames (image_of_state state.old) plan ≡ true }
-    ensures limits { keeps_limits (image_of_state state.old) plan ≡ true }
+    ensures image { image_of_state state.new ≡ after_transition (image_of_state state.old) event.now transition }
+    ensures answer { result.telling.response.answer ≡ transition.response.answer }
+    ensures report { result.telling.report ≡ (told_by (image_of_state state.old) event.now transition).report }
+    ensures given { listed result.given ≡ (told_by (image_of_state state.old) event.now transition).notices }
+    ensures kept { listed result.kept ≡ (told_by (image_of_state state.old) event.now transition).notices }
+    ensures counts { counts_frames (image_of_state state.old) transition ≡ true }
+    ensures limits { keeps_limits (image_of_state state.old) transition ≡ true }
 {
     let Prepared {
         given,
@@ -378,8 +384,14 @@ fn tell_written(state: &mut State, event: &Event, plan: Plan, prepared: Prepared
     state.books.rest();
     state.ended = ended_after(state.ended, event);
     let _ = done(&state.part);
-    let raised = before.changed(false, false, &plan.written, &state.part, &state.library);
-    let telling = plan.into_telling();
+    let raised = before.changed(
+        false,
+        false,
+        &transition.written,
+        &state.part,
+        &state.library,
+    );
+    let telling = transition.into_telling();
     tell(
         &mut state.clients,
         mover(event),
@@ -390,7 +402,8 @@ fn tell_written(state: &mut State, event: &Event, plan: Plan, prepared: Prepared
     )
 }
 
-/// Asks the shelf to write what a plan says, and gives the plan for what it answers. Where there is no memory, nothing is written.
+/// Asks the shelf to write what a transition says, and gives the transition for what it answers. Where there
+/// is no memory, nothing is written.
 fn write_out<S: Shelf>(
     part: &Part,
     library: &Library,
@@ -398,32 +411,32 @@ fn write_out<S: Shelf>(
     ended: bool,
     shelf: &mut S,
     event: &mut Event,
-    plan: Plan,
+    transition: Transition,
     refusals: Refusals,
-) -> Result<Plan, AllocError>
-    requires plan { plan ≡ turn_of ended part.now library.now clients.now event.old }
-    requires alone { plan ≡ record (quiet plan.said) { written = plan.written } }
-    requires written { is_written plan.written ≡ true }
-    requires unrefused { (heard_at event.old).refused ≡ None }
+) -> Result<Transition, AllocError>
+    requires transition { transition ≡ transition_of ended part.now library.now clients.now event.old }
+    requires alone { transition ≡ record (quiet transition.response) { written = transition.written } }
+    requires written { is_written transition.written ≡ true }
+    requires unrefused { (store_reply_at event.old).refused ≡ None }
     requires refusals { refusals ≡ (stand_of event.old, name_at event.old) }
-    ensures event { event.new ≡ hearing event.old (record (heard_at event.old) { refused = (heard_at event.new).refused }) }
-    ensures plan { IfOk result (λ after. after ≡ turn_of ended part.now library.now clients.now event.new) }
-    ensures alone { IfOk result (λ after. after ≡ record (quiet after.said) { written = after.written }) }
-    ensures turns { OnOk result (Turns (S.standing shelf.old) (S.standing shelf.new) (is_ok_write plan.written (answered (heard_at event.new).refused)) (maps_after plan.written (S.standing shelf.old).maps)) }
-    ensures answers { OnOk result (Trusted (S.standing shelf.old) (S.standing shelf.new) → IsAnswered (S.failed shelf.old shelf.new) (S.standing shelf.old).maps plan.written (answered (heard_at event.new).refused)) }
-    ensures ample { OnOk result (is_wanting (heard_at event.new).refused ≡ false) }
-    ensures spared { OnErr result (Turns (S.standing shelf.old) (S.standing shelf.new) false (maps_after plan.written (S.standing shelf.old).maps)) }
+    ensures event { event.new ≡ with_store_reply event.old (record (store_reply_at event.old) { refused = (store_reply_at event.new).refused }) }
+    ensures transition { IfOk result (λ after. after ≡ transition_of ended part.now library.now clients.now event.new) }
+    ensures alone { IfOk result (λ after. after ≡ record (quiet after.response) { written = after.written }) }
+    ensures turns { OnOk result (Turns (S.standing shelf.old) (S.standing shelf.new) (is_ok_write transition.written (answered (store_reply_at event.new).refused)) (maps_after transition.written (S.standing shelf.old).maps)) }
+    ensures answers { OnOk result (Trusted (S.standing shelf.old) (S.standing shelf.new) → IsAnswered (S.failed shelf.old shelf.new) (S.standing shelf.old).maps transition.written (answered (store_reply_at event.new).refused)) }
+    ensures ample { OnOk result (is_wanting (store_reply_at event.new).refused ≡ false) }
+    ensures unchanged { OnErr result (Turns (S.standing shelf.old) (S.standing shelf.new) false (maps_after transition.written (S.standing shelf.old).maps)) }
 {
-    match write(shelf, &plan.written) {
-        Ok(()) => Ok(plan),
+    match write(shelf, &transition.written) {
+        Ok(()) => Ok(transition),
         Err(ShelfFault::NoMemory) => {
-            discard_plan(plan);
+            discard_transition(transition);
             Err(AllocError)
         }
         Err(fault) => {
-            discard_plan(plan);
+            discard_transition(transition);
             event.refuse(fault);
-            Ok(Plan::only(refusals.into_spoken(fault)))
+            Ok(Transition::only(refusals.into_response(fault)))
         }
     }
 }
@@ -443,12 +456,12 @@ fn tell(
     requires kept { HasRoom (raised_in raised.now) clients.old.items (room_in kept) }
     requires none_given { listed given ≡ [] }
     requires none_kept { listed kept ≡ [] }
-    ensures clients { clients.new.items ≡ clients_after number (raised_in raised.now) telling.spoken clients.old.items }
+    ensures clients { clients.new.items ≡ clients_after number (raised_in raised.now) telling.response clients.old.items }
     ensures telling { result.telling ≡ telling }
-    ensures given { listed result.given ≡ notices_after number (raised_in raised.now) telling.spoken clients.old.items }
-    ensures kept { listed result.kept ≡ notices_after number (raised_in raised.now) telling.spoken clients.old.items }
+    ensures given { listed result.given ≡ notices_after number (raised_in raised.now) telling.response clients.old.items }
+    ensures kept { listed result.kept ≡ notices_after number (raised_in raised.now) telling.response clients.old.items }
 {
-    tell_clients(clients, number, raised, &telling.spoken, &mut given);
+    tell_clients(clients, number, raised, &telling.response, &mut given);
     kept.push_all(given.as_slice());
     Applied {
         telling,
@@ -457,35 +470,37 @@ fn tell(
     }
 }
 
-/// Tells the clients what was raised, and lets the one that the event comes from do what it does. The notices join the list.
+/// Tells the clients what was raised, and lets the one that the event comes from do what it does. The notices
+/// join the list.
 #[tactic(auto, using(crate::proofs::Settled::fewer_wanted, crate::proofs::Settled::settled_filter))]
 fn tell_clients(
     clients: &mut Vec<Client>,
     number: u32,
     raised: &Raised,
-    spoken: &Spoken,
+    response: &Response,
     notices: &mut Notices,
 )
     requires room { vec_len clients.old < vec_capacity clients.old }
     requires settled { AllSettled clients.old.items }
     requires empty { listed notices.old ≡ [] }
     requires notices { HasRoom (raised_in raised.now) clients.old.items (room_in notices.old) }
-    ensures clients { clients.new.items ≡ clients_after number (raised_in raised.now) spoken.now clients.old.items }
-    ensures notices { listed notices.new ≡ listed notices.old ++ notices_after number (raised_in raised.now) spoken.now clients.old.items }
+    ensures clients { clients.new.items ≡ clients_after number (raised_in raised.now) response.now clients.old.items }
+    ensures notices { listed notices.new ≡ listed notices.old ++ notices_after number (raised_in raised.now) response.now clients.old.items }
     ensures few { length (listed notices.new) ≤ count_by is_waiting clients.old.items }
     ensures none { raised_in raised.now ≡ nothing → listed notices.new ≡ [] }
 {
-    let closing = closes(spoken.next());
+    let closing = closes(response.next());
     if closing {
         leave(clients, number);
     }
     tell_all(clients, raised, notices);
     if !closing {
-        make_move(clients, number, spoken.moves());
+        make_move(clients, number, response.moves());
     }
 }
 
-/// Tells the clients what was raised. Where nothing was, none is looked at: each was told already what it waits for.
+/// Tells the clients what was raised. Where nothing was, none is looked at: each was told already what it
+/// waits for.
 #[tactic(auto, using(crate::proofs::Settled::same_clients, crate::proofs::Settled::no_notices))]
 fn tell_all(clients: &mut [Client], raised: &Raised, notices: &mut Notices)
     requires settled { AllSettled clients.old }

@@ -2,12 +2,14 @@
 ghost use Rattle.partition.specs.Legal.{FoldsAreUnseen, ReadsPending, ReplaysWorlds};
 ghost use Rattle.partition.specs.Lists.{EntriesAre};
 
-/// A replay from a player to which nothing happened is the image of the life with every past queue and every moment.
+/// A replay from a player to which nothing happened is the image of the trace with every past queue and every
+/// transition.
 pub fn replays_worlds()
     ensures { ReplaysWorlds }
 {}
 
-/// After any events, with folds between any two, the present state is the image of the life after all of them.
+/// After any events, with folds between any two, the present state is the image of the trace after all of
+/// them.
 pub fn folds_are_unseen()
     ensures { FoldsAreUnseen }
 {}

@@ -1,9 +1,9 @@
 //! What is written to the lent shelf.
 ghost use Rattle.shelf.specs.Maps.{Trusted, Turns};
-ghost use Rattle.command_plan.specs.Shelves.{IsAnswered, is_ok_write, maps_after};
+ghost use Rattle.transitions.specs.Shelves.{IsAnswered, is_ok_write, maps_after};
 
-use command_plan::ShelfWrite;
 use shelf::{Shelf, ShelfFault};
+use transitions::ShelfWrite;
 
 /// Writes to the shelf.
 pub(crate) fn write<S: Shelf>(shelf: &mut S, written: &ShelfWrite) -> Result<(), ShelfFault>

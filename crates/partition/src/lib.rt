@@ -1,6 +1,7 @@
 //! The player of one thread: its events, its replies, and its history.
 #![tactic(auto)]
 
+mod event_transitions;
 mod happen;
 mod laws;
 mod lent;
@@ -8,7 +9,6 @@ mod lists;
 mod partition;
 mod prepare;
 mod state;
-mod turns;
 
 pub use laws::{entries_are_whole, folds_are_unseen, reads_pending, replays_worlds};
 pub use lists::{ListFault, ListOutcome};

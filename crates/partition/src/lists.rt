@@ -5,11 +5,11 @@ ghost use Rattle.idle_clients.specs.Clients.{closes};
 ghost use Rattle.player_events.specs.Events.{ends_list};
 
 use crate::partition::PartitionFault;
-use command_plan::Next;
 use mpd_text::{Answer, ErrorNumber};
 use player_events::Outcome;
 use std::alloc::{AllocError, Global};
 use std::marker::Model;
+use transitions::Next;
 
 /// What a command list that ran makes clients hear: the outcome of each command, in order.
 #[derive(Drop)]
@@ -19,9 +19,9 @@ pub struct ListOutcome {
 
 impl Model for ListOutcome {
     ghost use Rattle.std.specs.Prelude.{List};
-    ghost use Rattle.player_events.specs.Told.{Told};
+    ghost use Rattle.player_events.specs.Outcomes.{OutcomeData};
 
-    ghost Value = { List Told };
+    ghost Value = { List OutcomeData };
 
     ghost view = { λ l. l.outcomes.items };
 }
@@ -45,8 +45,8 @@ impl ListOutcome {
             .any(|outcome| matches!(outcome.reply().next(), Next::Closes))
     }
 
-    /// Appends the whole answer, by one growth: the commands' answers, and `OK` if all succeeded. Without memory nothing
-    /// changes.
+    /// Appends the whole answer, by one growth: the commands' answers, and `OK` if all succeeded. Without
+    /// memory nothing changes.
     pub fn push_text(&self, bytes: &mut Vec<u8>) -> Result<(), AllocError>
         ensures ok { OnOk result (bytes.new.items ≡ bytes.old.items ++ list_text self.now) }
         ensures err { OnErr result (bytes.new.items ≡ bytes.old.items) }
@@ -89,8 +89,8 @@ impl Model for ListFault {
 impl ListFault {
     ghost use Rattle.partition.specs.Lists.{stop_text};
 
-    /// Appends the whole answer, by one growth: those of the commands that were run, and the `ACK` of the one that was
-    /// refused. Without memory nothing changes.
+    /// Appends the whole answer, by one growth: those of the commands that were run, and the `ACK` of the one
+    /// that was refused. Without memory nothing changes.
     pub fn push_text(&self, alloc: Global, bytes: &mut Vec<u8>) -> Result<(), AllocError>
         ensures ok { OnOk result (bytes.new.items ≡ bytes.old.items ++ stop_text self.now) }
         ensures err { OnErr result (bytes.new.items ≡ bytes.old.items) }

@@ -2,7 +2,7 @@
 ghost use Rattle.std.specs.Prelude.{◌≡◌, ◌≢◌, ◌⊎◌, ◌↔◌, ◌++◌, ◌∷◌, ◌+◌, ◌-◌, ◌^◌, ◌≤◌, ◌<◌, [], None, false, length, map, vec_capacity, IfOk, IfErr, OnErr, OnOk, IsErrOf, slice_index_or, nat_le, is_some, true, min, List, All, AllPairs};
 ghost use Rattle.song_queue.specs.State.{queue_of};
 ghost use Rattle.mpd_command.specs.Requests.{name_in};
-ghost use Rattle.player_events.specs.declared.event.Happened.{Happened};
+ghost use Rattle.player_events.specs.declared.event.LogEntry.{LogEntry};
 ghost use Rattle.partition.specs.History.{replay, AreTold, begun, folded, is_full, joined_by, own as own_of, with_room};
 ghost use Rattle.partition.specs.Image.{Image, opening};
 ghost use Rattle.idle_clients.specs.Clients.{client_of};
@@ -14,7 +14,7 @@ ghost use Rattle.partition.specs.Step.{limit_of, next_image, told as told_of};
 ghost use Rattle.partition.specs.Steps.{RefusesStep, entry};
 ghost use Rattle.player_events.specs.Events.{is_line};
 ghost use Rattle.idle_clients.specs.Settled.{AllSettled};
-ghost use Rattle.partition.specs.Since.{HasPendingSince, books_since, moments_of};
+ghost use Rattle.partition.specs.Since.{HasPendingSince, books_since, world_transitions_of};
 ghost use Rattle.player_events.specs.Sizes.{event_bytes as event_bytes_lem, window_bytes as window_bytes_lem};
 
 use crate::happen::{record_event, record_step};
@@ -22,16 +22,16 @@ use crate::laws::replays_worlds;
 use crate::lists::{ListFault, ListOutcome};
 use crate::state::{MAX_OWN, Setup, State};
 use command_lists::ListForm;
-use command_plan::Stand;
 use idle_clients::find_client;
 use mpd_command::{Request, Volume};
 use player_core::{Player, PlayerFault};
-use player_events::{Event, Happened, Outcome, discard, event_bytes};
+use player_events::{Event, LogEntry, Outcome, discard, event_bytes};
 use player_state::{Books, Client, Library, Outputs};
 use shelf::Shelf;
 use song_queue::Queue;
 use std::alloc::{AllocError, Global};
 use std::marker::Model;
+use transitions::Stand;
 
 /// Why an event was not applied.
 #[derive(Clone, Copy, Debug, PartialEq, Eq)]
@@ -86,8 +86,8 @@ impl PartitionFault {
     }
 }
 
-/// A player of one thread: a base, a window of the events that happened since, and the present state. A window that is full is
-/// folded before the next event: the present state becomes the base.
+/// A player of one thread: a base, a window of the events that happened since, and the present state. A
+/// window that is full is folded before the next event: the present state becomes the base.
 #[derive(Drop)]
 pub struct Partition {
     alloc: Global,
@@ -95,7 +95,7 @@ pub struct Partition {
     limit: usize,
     base: State,
     state: State,
-    history: Vec<Happened>,
+    history: Vec<LogEntry>,
     /// The bytes of the window's texts.
     bytes: u64,
 }
@@ -138,17 +138,18 @@ impl Partition {
         })
     }
 
-    /// Applies an event of a seat, and keeps it with what the lent shelf answered to it and with what it made clients hear. A window
-    /// that is full is folded first.
+    /// Applies an event of a seat, and keeps it with what the lent shelf answered to it and with what it made
+    /// clients hear. A window that is full is folded first.
     ///
-    /// A line asks the shelf at most one question, and then writes at most one thing, once there is room for all that follows: nothing
-    /// can fail behind it.
+    /// A line asks the shelf at most one question, and then writes at most one thing, once there is room for
+    /// all that follows: nothing can fail after it.
     ///
     /// # Errors
     ///
-    /// `HistoryFull` where the window was full and there was no memory to fold it: nothing changed. `CutsAtLimit` where the event would
-    /// raise a number above the greatest, `AtLimit` where it could not be counted or its frames could not; want of memory may come in
-    /// their place, but not in that of a seat which made 2^63-1 events. The shelf keeps its maps.
+    /// `HistoryFull` where the window was full and there was no memory to fold it: nothing changed.
+    /// `CutsAtLimit` where the event would raise a number above the greatest, `AtLimit` where it could not be
+    /// counted or its frames could not; want of memory may come in their place, but not in that of a seat
+    /// which made 2^63-1 events. The shelf keeps its maps.
     pub fn apply<S: Shelf>(
         &mut self,
         seat: u8,
@@ -158,11 +159,11 @@ impl Partition {
         requires { seat < 16 }
         ensures base { OnOk result (self.new.base ≡ (with_room self.old).base) }
         ensures limit { self.new.limit ≡ self.old.limit }
-        // The event and its reply join the window; the reply is the one of the player of one thread, and the new state is that
-        // player's next one. The shelf answered and changed as that says.
+        // The event and its reply join the window; the reply is the one of the player of one thread, and the
+        // new state is that player's next one. The shelf answered and changed as that says.
         ensures ok { IfOk result (λ outcome. Records S.standing S.failed self.old.present self.new.present (with_room self.old).window self.new.window shelf.old shelf.new seat event outcome) }
-        // It is refused where the full window cannot be folded, for the limit that it would pass, or for want of memory; nothing was
-        // written to the shelf.
+        // It is refused where the full window cannot be folded, for the limit that it would pass, or for want
+        // of memory; nothing was written to the shelf.
         ensures refused { IfErr result (λ fault. Refuses S.standing S.failed self.old self.new shelf.old shelf.new seat event fault) }
         ensures own { 2 ^ 63 - 1 ≤ slice_index_or self.old.present.shared.made seat 0 → IsErrOf result PartitionFault.AtLimit ⊎ IsErrOf result PartitionFault.HistoryFull }
         ensures legal { IsPast self.old }
@@ -205,8 +206,8 @@ impl Partition {
         Ok(outcome)
     }
 
-    /// Applies an event of a seat that is no line, and keeps it with what it made clients hear. It asks no shelf. A window that is full is
-    /// folded first.
+    /// Applies an event of a seat that is no line, and keeps it with what it made clients hear. It asks no
+    /// shelf. A window that is full is folded first.
     ///
     /// # Errors
     ///
@@ -214,12 +215,13 @@ impl Partition {
     pub fn step(&mut self, seat: u8, event: Event) -> Result<Outcome, PartitionFault>
         requires seat { seat < 16 }
         requires step { is_line event ≡ false }
-        // The outcome is the one of the player of one thread, and the event joins the history with it; it passed no limit.
+        // The outcome is the one of the player of one thread, and the event joins the history with it; it
+        // passed no limit.
         ensures told { IfOk result (λ outcome. outcome ≡ told_of self.old.present event) }
         ensures player { IfOk result (λ outcome. self.new ≡ joined_by self.old (entry seat event outcome)) }
         ensures within { OnOk result (limit_of seat self.old.present event ≡ None) }
-        // It is refused where the full window cannot be folded, for the limit that it would pass, or for want of memory; all is as it was, but
-        // that a full window may have been folded.
+        // It is refused where the full window cannot be folded, for the limit that it would pass, or for want
+        // of memory; all is as it was, but that a full window may have been folded.
         ensures refused { IfErr result (λ fault. RefusesStep self.old self.new seat event fault) }
         ensures own { 2 ^ 63 - 1 ≤ slice_index_or self.old.present.shared.made seat 0 → IsErrOf result PartitionFault.AtLimit ⊎ IsErrOf result PartitionFault.HistoryFull }
         ensures legal { IsPast self.old }
@@ -275,7 +277,8 @@ impl Partition {
         Ok(())
     }
 
-    /// Makes the present state the base, and empties the window. What commands read, answer and count stays as it is.
+    /// Makes the present state the base, and empties the window. What commands read, answer and count stays
+    /// as it is.
     ///
     /// # Errors
     ///
@@ -294,8 +297,9 @@ impl Partition {
         Ok(())
     }
 
-    /// Runs the requests of a client's command list, each as an event of its own, side by side in the history, up to the first
-    /// that ends the list: one that is refused, or that closes the client. Each is lent the shelf.
+    /// Runs the requests of a client's command list, each as an event of its own, side by side in the
+    /// history, up to the first that ends the list: one that is refused, or that closes the client. Each is
+    /// lent the shelf.
     ///
     /// # Errors
     ///
@@ -390,19 +394,19 @@ impl Partition {
     }
 
     /// The events of the window, the first one first.
-    pub fn history(&self) -> &[Happened]
+    pub fn history(&self) -> &[LogEntry]
         ensures window { result.now ≡ self.now.window }
         // Every reply is the one-thread player's at its place in the history.
         ensures told { AreTold self.now.base self.now.window }
         // The present state is the base stepped through the window, with its versions, stamps, marks and ids.
         ensures present { self.now.present ≡ replay self.now.base self.now.window }
-        // There are earlier events after which the base stands, and the present state after these and the window's: each is the image of
-        // the life with every past queue and every moment.
+        // There are earlier events after which the base stands, and the present state after these and the
+        // window's: each is the image of the trace with every past queue and every transition.
         ensures legal { IsPast self.now }
         // The flags of each client are its pending set: what changed since its connect or last notice.
-        ensures pending { All (HasPendingSince self.now.base (moments_of self.now)) self.now.present.clients }
+        ensures pending { All (HasPendingSince self.now.base (world_transitions_of self.now)) self.now.present.clients }
         // The frames of each output are those of the base and the sums over the window.
-        ensures books { self.now.present.shared.books ≡ books_since self.now.base.shared.books (moments_of self.now) }
+        ensures books { self.now.present.shared.books ≡ books_since self.now.base.shared.books (world_transitions_of self.now) }
         // Song ids are distinct.
         ensures distinct { AllPairs (λ e f. e.id ≢ f.id) (queue_of self.now.present.part.queue) }
     {
@@ -410,7 +414,8 @@ impl Partition {
         &self.history
     }
 
-    /// The bytes that clients were answered at the events of the window, and that the shelf answered to these; at most 2^64-1.
+    /// The bytes that clients were answered at the events of the window, and that the shelf answered to
+    /// these; at most 2^64-1.
     pub fn window_bytes(&self) -> u64
         ensures { result ≡ window_bytes_lem self.now.window }
     {
@@ -501,8 +506,8 @@ impl Partition {
 }
 
 /// The bytes of the last event's texts.
-fn last_bytes(history: &[Happened]) -> u64
-    ensures { (front : List Happened) (last : Happened) → history.now ≡ front ++ last ∷ [] → result ≡ min (event_bytes_lem last) (2 ^ 64 - 1) }
+fn last_bytes(history: &[LogEntry]) -> u64
+    ensures { (front : List LogEntry) (last : LogEntry) → history.now ≡ front ++ last ∷ [] → result ≡ min (event_bytes_lem last) (2 ^ 64 - 1) }
 {
     match history {
         [.., last] => event_bytes(last),

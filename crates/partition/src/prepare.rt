@@ -4,26 +4,27 @@ ghost use Rattle.player_state.specs.Outputs.{books_after, can_count_all};
 ghost use Rattle.partition.specs.Refusals.{RefusesFrames};
 ghost use Rattle.idle_clients.specs.Rooms.{is_waiting, listed, room_in};
 ghost use Rattle.idle_clients.specs.Settled.{HasRoom, nothing};
-ghost use Rattle.command_plan.specs.Shelves.{is_written};
-ghost use Rattle.idle_clients.specs.Signs.{signs};
+ghost use Rattle.transitions.specs.Shelves.{is_written};
+ghost use Rattle.idle_clients.specs.Fingerprint.{fingerprint};
 ghost use Rattle.player_events.specs.Events.{name_at, name_of as name_of_lem, stand_of};
 ghost use Rattle.partition.specs.Step.{raised_by};
-ghost use Rattle.command_plan.specs.Turns.{report_of};
+ghost use Rattle.transitions.specs.Transitions.{report_of};
 
 use crate::partition::PartitionFault;
-use command_plan::{Plan, Refusals, Stand};
-use idle_clients::{Notices, Signs, waiting};
+use idle_clients::{Fingerprint, Notices, waiting};
 use mpd_command::{Name, Request};
 use player_events::Event;
 use player_state::{Books, Client, Library, Part};
 use std::alloc::{AllocError, Global};
+use transitions::{Refusals, Stand, Transition};
 
-/// Lists for the notices of an event, one to hand out and one to keep, and what tells whether it changed a part of the player.
+/// Lists for the notices of an event, one to hand out and one to keep, and what tells whether it changed a
+/// part of the player.
 #[derive(Drop)]
 pub(crate) struct Prepared {
     pub(crate) given: Notices,
     pub(crate) kept: Notices,
-    pub(crate) before: Signs,
+    pub(crate) before: Fingerprint,
 }
 
 impl Prepared {
@@ -38,19 +39,20 @@ impl Prepared {
         ensures kept { IfOk result (λ prepared. listed prepared.kept ≡ []) }
         ensures given_room { IfOk result (λ prepared. room ≤ room_in prepared.given) }
         ensures kept_room { IfOk result (λ prepared. room ≤ room_in prepared.kept) }
-        ensures before { IfOk result (λ prepared. prepared.before ≡ signs part.now library.now) }
+        ensures before { IfOk result (λ prepared. prepared.before ≡ fingerprint part.now library.now) }
     {
         Ok(Prepared {
             given: Notices::with_room(alloc, room)?,
             kept: Notices::with_room(alloc, room)?,
-            before: Signs::of(alloc, part, library)?,
+            before: Fingerprint::of(alloc, part, library)?,
         })
     }
 }
 
-/// What a plan needs that writes nothing to the shelf, and the books after it.
+/// What a transition needs that writes nothing to the shelf, and the books after it.
 ///
-/// A plan is lent, here and below, so that it isn't dropped at each way out: a proof would go through every kind of doing there.
+/// A transition is lent, here and below, so that it isn't dropped at each way out: a proof would go through
+/// every kind of effect there.
 #[tactic(auto, using(crate::proofs::Settled::more_room))]
 pub(crate) fn prepare_step(
     alloc: Global,
@@ -58,22 +60,22 @@ pub(crate) fn prepare_step(
     library: &Library,
     clients: &[Client],
     books: &Books,
-    plan: &Plan,
+    transition: &Transition,
 ) -> Result<(Prepared, Books), PartitionFault>
-    requires { is_written plan.now.written ≡ false }
+    requires { is_written transition.now.written ≡ false }
     ensures given { IfOk result (λ made. listed made.0.given ≡ []) }
     ensures kept { IfOk result (λ made. listed made.0.kept ≡ []) }
-    ensures given_room { IfOk result (λ made. HasRoom (raised_by part.now library.now plan.now) clients.now (room_in made.0.given)) }
-    ensures kept_room { IfOk result (λ made. HasRoom (raised_by part.now library.now plan.now) clients.now (room_in made.0.kept)) }
-    ensures before { IfOk result (λ made. made.0.before ≡ signs part.now library.now) }
-    ensures counted { IfOk result (λ made. can_count_all (books_after books.now part.now.outputs plan.now.doing (report_of part.now library.now plan.now)) ≡ true) }
-    ensures books { IfOk result (λ made. made.1 ≡ books_after books.now part.now.outputs plan.now.doing (report_of part.now library.now plan.now)) }
-    ensures refused { IfErr result (λ fault. RefusesFrames books.now part.now library.now plan.now fault) }
+    ensures given_room { IfOk result (λ made. HasRoom (raised_by part.now library.now transition.now) clients.now (room_in made.0.given)) }
+    ensures kept_room { IfOk result (λ made. HasRoom (raised_by part.now library.now transition.now) clients.now (room_in made.0.kept)) }
+    ensures before { IfOk result (λ made. made.0.before ≡ fingerprint part.now library.now) }
+    ensures counted { IfOk result (λ made. can_count_all (books_after books.now part.now.outputs transition.now.effect (report_of part.now library.now transition.now)) ≡ true) }
+    ensures books { IfOk result (λ made. made.1 ≡ books_after books.now part.now.outputs transition.now.effect (report_of part.now library.now transition.now)) }
+    ensures refused { IfErr result (λ fault. RefusesFrames books.now part.now library.now transition.now fault) }
 {
-    let Some(books) = books.after(part, &plan.doing) else {
+    let Some(books) = books.after(part, &transition.effect) else {
         return Err(PartitionFault::AtLimit);
     };
-    let room = room_wanted(plan, part, library, clients);
+    let room = room_wanted(transition, part, library, clients);
     let prepared = Prepared::with_room(alloc, part, library, room)?;
     Ok((prepared, books))
 }
@@ -90,7 +92,7 @@ pub(crate) fn prepare_write(
     ensures kept { IfOk result (λ made. listed made.0.kept ≡ []) }
     ensures given_room { IfOk result (λ made. count_by is_waiting clients.now ≤ room_in made.0.given) }
     ensures kept_room { IfOk result (λ made. count_by is_waiting clients.now ≤ room_in made.0.kept) }
-    ensures before { IfOk result (λ made. made.0.before ≡ signs part.now library.now) }
+    ensures before { IfOk result (λ made. made.0.before ≡ fingerprint part.now library.now) }
     ensures refusals { IfOk result (λ made. made.1 ≡ (stand_of event.now, name_at event.now)) }
 {
     let prepared = Prepared::with_room(alloc, part, library, waiting(clients))?;
@@ -98,24 +100,24 @@ pub(crate) fn prepare_write(
     Ok((prepared, refusals))
 }
 
-/// How many notices a plan can give at most. For one that changes nothing no client is looked at.
-fn room_wanted(plan: &Plan, part: &Part, library: &Library, clients: &[Client]) -> usize
-    requires { is_written plan.now.written ≡ false }
-    ensures { HasRoom (raised_by part.now library.now plan.now) clients.now result }
+/// How many notices a transition can give at most. For one that changes nothing no client is looked at.
+fn room_wanted(transition: &Transition, part: &Part, library: &Library, clients: &[Client]) -> usize
+    requires { is_written transition.now.written ≡ false }
+    ensures { HasRoom (raised_by part.now library.now transition.now) clients.now result }
 {
-    if changes(plan, part, library) {
+    if changes(transition, part, library) {
         waiting(clients)
     } else {
         0
     }
 }
 
-/// Whether a plan may change what clients are told of.
-fn changes(plan: &Plan, part: &Part, library: &Library) -> bool
-    requires { is_written plan.now.written ≡ false }
-    ensures { result ≡ false → raised_by part.now library.now plan.now ≡ nothing }
+/// Whether a transition may change what clients are told of.
+fn changes(transition: &Transition, part: &Part, library: &Library) -> bool
+    requires { is_written transition.now.written ≡ false }
+    ensures { result ≡ false → raised_by part.now library.now transition.now ≡ nothing }
 {
-    let still = plan.scan.stays() & plan.doing.rests();
+    let still = transition.scan.stays() & transition.effect.rests();
     !still
 }
 

@@ -82,7 +82,8 @@ impl State {
         }
     }
 
-    /// The state, a second time: what becomes of either leaves the other as it is. No song and no text is copied.
+    /// The state, a second time: what becomes of either leaves the other as it is. No song and no text is
+    /// copied.
     pub(crate) fn image(&self, alloc: Global) -> Result<State, AllocError>
         ensures { IfOk result (λ image. image_of_state image ≡ image_of_state self.now) }
     {

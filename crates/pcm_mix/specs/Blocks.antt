@@ -3,7 +3,8 @@ use Rattle.std.specs.Prelude.{ℕ, ℤ, ◌≡◌, ◌+◌, ◌≤◌, List, [],
 use Rattle.std.specs.List.{range_with_len}
 use Rattle.pcm_mix.specs.Samples.{faded_frame, gained}
 
--- the frames of another song that a block fades into, which frame of the fade its first one is, and how many the whole fade has
+-- the frames of another song that a block fades into, which frame of the fade its first one is, and how many
+-- the whole fade has
 pub record FadingData : Type 0 where
   pub others : List (List ℤ)
   pub place : ℕ

@@ -1,4 +1,5 @@
--- How samples lie in bytes: in the data of a file (RIFF WAVE, "Data Format of the Samples"), and at an output (this profile's).
+-- How samples lie in bytes: in the data of a file (RIFF WAVE, "Data Format of the Samples"), and at an output
+-- (this profile's).
 use Rattle.std.specs.Prelude.{◌%◌, ◌/◌, ◌++◌, ℕ, ◌+◌, ◌*◌, List, [], ◌∷◌, ℤ, pos, ◌-ℤ◌, ◌*ℤ◌, nat_lt, slice_index, if◌then◌else◌}
 use Rattle.std.specs.Int.{int_div_euclid, cast_unsigned, w16}
 use Rattle.pcm_mix.specs.Samples.{left, right}
@@ -22,8 +23,8 @@ count Stereo = 2
 abbrev pub signed : ℕ → ℕ → ℤ
 signed half n = if nat_lt n half then pos n else (pos n -ℤ pos (2 * half))
 
--- The sample whose bytes begin at a place, the low byte first. 8 bits have silence at 128 and become the upper byte;
--- of 24 bits the upper 16 are taken, so that the rest is rounded down.
+-- The sample whose bytes begin at a place, the low byte first. 8 bits have silence at 128 and become the
+-- upper byte; of 24 bits the upper 16 are taken, so that the rest is rounded down.
 abbrev pub sample_at : Depth → List ℕ → ℕ → ℤ
 sample_at Eight bytes at = (pos (slice_index bytes at) -ℤ pos 128) *ℤ pos 256
 sample_at Sixteen bytes at = signed 32768 (slice_index bytes at + 256 * slice_index bytes (at + 1))

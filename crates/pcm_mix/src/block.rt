@@ -26,8 +26,8 @@ impl<'a> Model for Fading<'a> {
     ghost view = { λ f. record { others = f.others.now; place = f.place; len = f.len } };
 }
 
-/// Makes a block of a job's frames: they are first faded, if the job has a part of a fade, and then set to the volume, in percent
-/// from 0 to 100, of the event that accepted them.
+/// Makes a block of a job's frames: they are first faded, if the job has a part of a fade, and then set to
+/// the volume, in percent from 0 to 100, of the event that accepted them.
 #[tactic(auto, using(crate::proofs::Blocks::faded_then_gained, crate::proofs::Blocks::gained_alone))]
 pub fn mix(frames: &mut [Frame], fading: Option<Fading>, volume: u8)
     requires volume { volume ≤ 100 }

@@ -1,5 +1,6 @@
-//! Sample kernels: frames out of the bytes of PCM data, at a volume, faded into one another, and into an output's bytes.
-//! All work in place on slices and take no memory; that the lengths agree is the caller's part.
+//! Sample kernels: frames out of the bytes of PCM data, at a volume, faded into one another, and into an
+//! output's bytes. All work in place on slices and take no memory; that the lengths agree is the caller's
+//! part.
 #![tactic(auto)]
 
 pub mod block;

@@ -4,7 +4,8 @@ ghost use Rattle.pcm_mix.specs.Samples.{gained};
 
 use crate::Frame;
 
-/// Sets frames to a volume in percent, from 0 to 100: each sample becomes `sample * volume / 100`, rounded toward zero.
+/// Sets frames to a volume in percent, from 0 to 100: each sample becomes `sample * volume / 100`, rounded
+/// toward zero.
 pub fn gain(frames: &mut [Frame], volume: u8)
     requires { volume ≤ 100 }
     ensures { frames.new ≡ map (map (gained volume)) frames.old }

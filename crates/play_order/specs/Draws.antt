@@ -1,5 +1,6 @@
--- What is remembered of a random order: ranks, played songs, and the generator that ranks are drawn from (MPD protocol
--- reference, Playback options, `random`; that an order goes in rounds, and how ranks are drawn, is this profile's).
+-- What is remembered of a random order: ranks, played songs, and the generator that ranks are drawn from (MPD
+-- protocol reference, Playback options, `random`; that an order goes in rounds, and how ranks are drawn, is
+-- this profile's).
 use Rattle.std.specs.Prelude.{ℕ, zero, suc, Bool, ◌==◌, not, List, [], ◌∷◌, ◌++◌, map, filter, find}
 use Rattle.std.specs.List.{list_any}
 use Rattle.std.specs.Option.{option_map_or}
@@ -8,8 +9,8 @@ use Rattle.rand_pcg.specs.Pcg.{pcg32}
 use Rattle.song_queue.specs.declared.entry.Entry.{Entry}
 use Rattle.play_order.specs.declared.modes.Rank.{Rank}
 
--- each entry's rank, in the order in which they were drawn; the ids of the songs that were played in this round, the last
--- one last; and the generator
+-- each entry's rank, in the order in which they were drawn; the ids of the songs that were played in this
+-- round, the last one last; and the generator
 pub record RoundState : Type 0 where
   pub ranks : List Rank
   pub played : List ℕ

@@ -1,5 +1,5 @@
--- What follows when a song ends (MPD protocol reference, Playback options, `single` and `consume`; Controlling playback,
--- `next` and `previous`; how the modes act together is this profile's).
+-- What follows when a song ends (MPD protocol reference, Playback options, `single` and `consume`;
+-- Controlling playback, `next` and `previous`; how the modes act together is this profile's).
 use Rattle.std.specs.Prelude.{ℕ, ◌+◌, ◌-◌, Bool, true, false, ◌==◌, ◌&&◌, not, if◌then◌else◌, List, [], ◌∷◌, filter, length, slice_get, unwrap_or, option_map, Option, Some, None}
 use Rattle.song_queue.specs.declared.entry.Entry.{Entry}
 use Rattle.play_order.specs.declared.ending.Ending.{Ending}
@@ -44,8 +44,8 @@ place_after modes entries id = if consumes modes.consume then place_of entries i
 abbrev pub staying : Modes → ℕ → Option ℕ
 staying modes id = if consumes modes.consume then None else Some id
 
--- what the end of a song leads to: the modes, what is left of the queue, the round, the entry that starts, and the
--- current song if none does
+-- what the end of a song leads to: the modes, what is left of the queue, the round, the entry that starts,
+-- and the current song if none does
 pub record Following : Type 0 where
   pub modes : Modes
   pub left : List Entry
@@ -132,8 +132,8 @@ last_of (id ∷ next ∷ more) = last_of (next ∷ more)
 abbrev pub played_before : RoundState → ℕ → List ℕ
 played_before round id = others id round.played
 
--- what `previous` starts: in random order the song played before, else the one at the place before; if there is none,
--- the same again
+-- what `previous` starts: in random order the song played before, else the one at the place before; if there
+-- is none, the same again
 abbrev pub before : Modes → RoundState → List Entry → ℕ → Option Entry
 before modes round entries id =
     if modes.random

@@ -1,5 +1,5 @@
--- Which entry comes next (MPD protocol reference, Playback options, `random` and `repeat`; The queue, `prio`; rounds and
--- ranks are this profile's).
+-- Which entry comes next (MPD protocol reference, Playback options, `random` and `repeat`; The queue, `prio`;
+-- rounds and ranks are this profile's).
 use Rattle.std.specs.Prelude.{ℕ, ◌+◌, Bool, ◌==◌, ◌&&◌, ◌||◌, not, nat_lt, if◌then◌else◌, List, [], ◌∷◌, ◌++◌, filter, find, slice_get, take, drop, Option, Some, None, is_none}
 use Rattle.std.specs.List.{list_all, position_or_len, slice_range}
 use Rattle.mpd_text.specs.Songs.Song.{SongData}

@@ -86,8 +86,8 @@ new_round g = refl
 new_played : (g : Lcg) → (round_after (after_next repeating (all_played g) three 2)).played ≡ 2 ∷ []
 new_played g = refl
 
--- `previous`: the song played before, else the same; in the order of the queue the place before, at the front with repeat
--- the last
+-- `previous`: the song played before, else the same; in the order of the queue the place before, at the front
+-- with repeat the last
 played_before_it : (g : Lcg) → id_of (before repeating (all_played g) three 2) ≡ Some 3
 played_before_it g = refl
 

@@ -1,4 +1,5 @@
--- What is kept beside the lists of a round, so that an id is found in them at once, and how a queue is gone through.
+-- What is kept beside the lists of a round, so that an id is found in them at once, and how a queue is gone
+-- through.
 use Rattle.std.specs.Prelude.{ℕ, ◌≡◌, ◌==◌, nat_eq, if◌then◌else◌, List, find, Option, Some, None}
 use Rattle.std.specs.Option.{option_map}
 use Rattle.std.specs.HashMap.{HashMap, get}

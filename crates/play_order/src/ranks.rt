@@ -87,8 +87,8 @@ impl Ranks {
         Ok(())
     }
 
-    /// Songs are put into a queue that can take them, and each of the new entries draws a rank. Where memory is wanted,
-    /// nothing changes.
+    /// Songs are put into a queue that can take them, and each of the new entries draws a rank. Where memory
+    /// is wanted, nothing changes.
     pub(crate) fn insert(
         &mut self,
         generator: &mut Lcg64Xsh32,

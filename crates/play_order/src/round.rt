@@ -25,8 +25,8 @@ use std::alloc::{AllocError, Global};
 use std::marker::Model;
 use std::ops::Range;
 
-/// What is remembered of a random order: each entry's rank, the songs that were played in this round, and the generator
-/// that ranks are drawn from. Contracts see the ranks and the ids as lists.
+/// What is remembered of a random order: each entry's rank, the songs that were played in this round, and the
+/// generator that ranks are drawn from. Contracts see the ranks and the ids as lists.
 #[derive(Drop)]
 pub struct Round {
     ranks: Ranks,
@@ -73,8 +73,8 @@ impl Round {
         self.ranks.draw(&mut self.generator, ids)
     }
 
-    /// Puts songs into a queue that can take them, and each of the new entries draws a rank. Where memory is wanted, nothing
-    /// changes.
+    /// Puts songs into a queue that can take them, and each of the new entries draws a rank. Where memory is
+    /// wanted, nothing changes.
     pub fn insert(
         &mut self,
         queue: &mut Queue,
@@ -90,8 +90,8 @@ impl Round {
         self.ranks.insert(&mut self.generator, queue, at, songs)
     }
 
-    /// Shuffles the entries of a range of the queue by words of the generator, one for each place of it but the first. Ranks
-    /// and played songs stay. Where memory is wanted, nothing changes.
+    /// Shuffles the entries of a range of the queue by words of the generator, one for each place of it but
+    /// the first. Ranks and played songs stay. Where memory is wanted, nothing changes.
     pub fn shuffle(&mut self, queue: &mut Queue, range: Range<usize>) -> Result<(), AllocError>
         requires order { range.start ≤ range.end }
         requires within { range.end ≤ length (queue_of queue.old) }
@@ -132,7 +132,8 @@ impl Round {
         }
     }
 
-    /// Random order is turned on: each entry draws a rank, in order of place, and only the current song was played.
+    /// Random order is turned on: each entry draws a rank, in order of place, and only the current song was
+    /// played.
     pub fn randomized(&mut self, queue: &Queue, current: Option<u32>) -> Result<(), AllocError>
         ensures ok { OnOk result (self.new ≡ randomized_lem self.old (queue_of queue.now) current) }
         ensures err { OnErr result (self.new ≡ self.old) }
@@ -152,7 +153,8 @@ impl Round {
         self.played.clear();
     }
 
-    /// What the natural end of the song with this id would start, where no new round is needed. It takes no memory.
+    /// What the natural end of the song with this id would start, where no new round is needed. It takes no
+    /// memory.
     pub fn peek<'a>(&self, modes: Modes, queue: &'a Queue, id: u32) -> Option<&'a Entry>
         ensures { option_copied result ≡ peek_lem modes self.now (queue_of queue.now) id }
     {
@@ -181,8 +183,8 @@ impl Round {
         }
     }
 
-    /// Whether an entry starts at the natural end of the song with this id, also where a new round is needed. It takes no
-    /// memory, so it can be asked before anything changes.
+    /// Whether an entry starts at the natural end of the song with this id, also where a new round is needed.
+    /// It takes no memory, so it can be asked before anything changes.
     pub fn starts_after_end(&self, modes: Modes, queue: &Queue, id: u32) -> bool
         ensures { result ≡ is_some (after_end_lem modes self.now (queue_of queue.now) id).entry }
     {
@@ -201,7 +203,8 @@ impl Round {
         self.goes_on(modes, queue, from, end, place)
     }
 
-    /// Whether an entry starts where those of a range are taken out, of which one is current, as `starts_after_end`.
+    /// Whether an entry starts where those of a range are taken out, of which one is current, as
+    /// `starts_after_end`.
     pub fn starts_after_removal(&self, modes: Modes, queue: &Queue, range: Range<usize>) -> bool
         requires order { range.start ≤ range.end }
         requires within { range.end ≤ length (queue_of queue.now) }
@@ -229,8 +232,8 @@ impl Round {
         Ok(starts)
     }
 
-    /// The player begins with no current song: a round that is over is renewed, whatever repeat is, and what comes first
-    /// starts.
+    /// The player begins with no current song: a round that is over is renewed, whatever repeat is, and what
+    /// comes first starts.
     pub fn opening(&mut self, modes: Modes, queue: &Queue) -> Result<Option<u32>, AllocError>
         ensures round { OnOk result (self.new ≡ begun modes (round_for modes self.old (queue_of queue.now)) (opening_of modes self.old (queue_of queue.now))) }
         ensures starts { IfOk result (λ starts. starts ≡ id_of (opening_of modes self.old (queue_of queue.now))) }
@@ -243,8 +246,9 @@ impl Round {
         self.go_on(repeating, queue, 0, 0, &[], 0)
     }
 
-    /// The song with this id came to its natural end. It is taken out of the queue and of the round where it is consumed,
-    /// a round that is over is renewed, and what comes next starts. Where memory is wanted, nothing changes.
+    /// The song with this id came to its natural end. It is taken out of the queue and of the round where it
+    /// is consumed, a round that is over is renewed, and what comes next starts. Where memory is wanted,
+    /// nothing changes.
     pub fn after_end(
         &mut self,
         modes: Modes,
@@ -292,8 +296,8 @@ impl Round {
         })
     }
 
-    /// Takes the entries of a range, of which one is current, out of the queue and of the round; a round that is over is
-    /// renewed, and what comes next starts. Where memory is wanted, nothing changes.
+    /// Takes the entries of a range, of which one is current, out of the queue and of the round; a round that
+    /// is over is renewed, and what comes next starts. Where memory is wanted, nothing changes.
     pub fn after_removal(
         &mut self,
         modes: Modes,
@@ -315,8 +319,8 @@ impl Round {
         Ok(starts)
     }
 
-    /// Takes the entries of a range, of which none is current, out of the queue and of the round. Where memory is wanted,
-    /// nothing changes.
+    /// Takes the entries of a range, of which none is current, out of the queue and of the round. Where
+    /// memory is wanted, nothing changes.
     pub fn remove(&mut self, queue: &mut Queue, range: Range<usize>) -> Result<(), AllocError>
         requires order { range.start ≤ range.end }
         requires within { range.end ≤ length (queue_of queue.old) }
@@ -332,9 +336,9 @@ impl Round {
         Ok(())
     }
 
-    /// The entries from a place up to another are about to leave the queue. Some ids, which are not those of what is left,
-    /// leave the round; it is renewed where it is then over, and what comes next starts. Where memory is wanted, nothing
-    /// changes.
+    /// The entries from a place up to another are about to leave the queue. Some ids, which are not those of
+    /// what is left, leave the round; it is renewed where it is then over, and what comes next starts. Where
+    /// memory is wanted, nothing changes.
     fn go_on(
         &mut self,
         modes: Modes,
@@ -380,8 +384,8 @@ impl Round {
         first_left(&self.ranks, &self.played, queue, from, end).is_some() || (modes.repeat && some)
     }
 
-    /// The round is over: each entry of what is left when those from a place up to another are taken out draws a rank, and
-    /// with repeat the first one starts.
+    /// The round is over: each entry of what is left when those from a place up to another are taken out
+    /// draws a rank, and with repeat the first one starts.
     fn begin_anew(
         &mut self,
         modes: Modes,
@@ -498,7 +502,8 @@ impl Round {
     }
 }
 
-/// What consume takes out of a queue when a song ends, as places, and where the order goes on in what is left.
+/// What consume takes out of a queue when a song ends, as places, and where the order goes on in what is
+/// left.
 #[derive(Clone, Copy)]
 struct Span {
     from: usize,

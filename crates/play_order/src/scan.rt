@@ -185,7 +185,8 @@ fn push_ids(ids: &mut Vec<u32>, queue: &Queue, from: usize, end: usize) -> Resul
     Ok(())
 }
 
-/// Puts songs into a queue that can take them, and gives the ids of their entries. Where memory is wanted, nothing changes.
+/// Puts songs into a queue that can take them, and gives the ids of their entries. Where memory is wanted,
+/// nothing changes.
 pub(crate) fn put_in(
     alloc: Global,
     queue: &mut Queue,

@@ -1,6 +1,7 @@
 //! A round and the queue that it orders, led by steps.
 //!
-//! A step is a line, of a word and numbers, and tells what starts. These functions are the only ones that hold a round.
+//! A step is a line, of a word and numbers, and tells what starts. These functions are the only ones that
+//! hold a round.
 use crate::tables::{first_word, number_of, push_line, song};
 use mpd_text::Sequence;
 use play_order::{Consume, Ending, Modes, Round, Single};
@@ -315,7 +316,8 @@ fn step(course: &mut Course, alloc: Global, line: &str) -> Result<String, AllocE
     }
 }
 
-/// What a step tells, which may be `keep`, that takes an image, or `back`, at which a course and its image change places.
+/// What a step tells, which may be `keep`, that takes an image, or `back`, at which a course and its image
+/// change places.
 fn step_of_two(
     course: &mut Course,
     kept: &mut Course,

@@ -1,4 +1,5 @@
-//! Worked rows of the order of play. The ids that random orders give are those of `rand_pcg` in Rust, seeded with 0.
+//! Worked rows of the order of play. The ids that random orders give are those of `rand_pcg` in Rust, seeded
+//! with 0.
 use crate::course::{count_in_random_order, told};
 use crate::tables::wants;
 use std::alloc::Global;

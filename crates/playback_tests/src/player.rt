@@ -1,4 +1,5 @@
-//! Worked rows of the player. The first two words of the generator rise, so the first song comes first in random order.
+//! Worked rows of the player. The first two words of the generator rise, so the first song comes first in
+//! random order.
 use crate::seat::told;
 use crate::tables::wants;
 use std::alloc::Global;

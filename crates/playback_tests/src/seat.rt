@@ -1,6 +1,7 @@
 //! A player and its queue, led by steps.
 //!
-//! A step is a line, of a word and numbers, and tells what is answered. These functions are the only ones that hold a player.
+//! A step is a line, of a word and numbers, and tells what is answered. These functions are the only ones
+//! that hold a player.
 use crate::tables::{first_word, number_of, push_line};
 use mpd_text::{Sequence, Song};
 use play_order::{Consume, Single};
@@ -256,7 +257,8 @@ fn step(seat: &mut Seat, alloc: Global, line: &str) -> Result<String, AllocError
     }
 }
 
-/// What a step tells, which may be `keep`, that takes an image, or `back`, at which a seat and its image change places.
+/// What a step tells, which may be `keep`, that takes an image, or `back`, at which a seat and its image
+/// change places.
 fn step_of_two(
     seat: &mut Seat,
     kept: &mut Seat,
@@ -271,7 +273,8 @@ fn step_of_two(
     String::from_str(alloc, "ok")
 }
 
-/// What the steps tell, with a line for each that tells more than `ok`. The player's numbers go up to a greatest one.
+/// What the steps tell, with a line for each that tells more than `ok`. The player's numbers go up to a
+/// greatest one.
 pub fn told(alloc: Global, max_cut: u32, steps: &str) -> Result<String, AllocError> {
     let mut seat = Seat {
         player: Player::new(alloc, 0, u64::from(max_cut)),

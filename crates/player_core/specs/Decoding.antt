@@ -1,6 +1,6 @@
--- The steps that the decoder makes: wants, haves and failures, and the fade into the next song (MPD protocol reference,
--- Playback options, `crossfade`; Querying MPD's status, `clearerror`; jobs, and how a fade is fixed and given up, are this
--- profile's).
+-- The steps that the decoder makes: wants, haves and failures, and the fade into the next song (MPD protocol
+-- reference, Playback options, `crossfade`; Querying MPD's status, `clearerror`; jobs, and how a fade is
+-- fixed and given up, are this profile's).
 use Rattle.std.specs.Prelude.{ℕ, ◌+◌, ◌-◌, ◌*◌, Bool, false, ◌==◌, ◌&&◌, ◌||◌, not, nat_le, nat_lt, min, if◌then◌else◌, List, ◌++◌, Option, Some, None, is_some, codes}
 use Rattle.song_queue.specs.declared.entry.Entry.{Entry}
 use Rattle.play_order.specs.Order.{entry_of}
@@ -166,6 +166,7 @@ failed_of p entries (Some job) number partner =
 abbrev pub failed : PlayerState → List Entry → ℕ → Bool → PlayerState
 failed p entries number partner = failed_of p entries p.job number partner
 
--- what an output is told at its turn: the cut whose frames are to be heard, whether it is enabled, whether it keeps its frames
+-- what an output is told at its turn: the cut whose frames are to be heard, whether it is enabled, whether it
+-- keeps its frames
 abbrev pub turn : PlayerState → Bool → Live
 turn p enabled = record { cut = p.cuts; enabled = enabled; paused = is_paused p.playback }

@@ -77,7 +77,8 @@ FeedsOnce =
     → (between : List Event) (later : List Entry) (more : ℕ)
     → (decoding.have (run (run (opened max_cut g) before) (Have entries number count ∷ between)) later number more).feed ≡ None
 
--- frames are fed with the cut that was when they were asked for: what raises the cut makes each earlier job stale
+-- frames are fed with the cut that was when they were asked for: what raises the cut makes each earlier job
+-- stale
 abbrev pub FeedsAsAsked : Type 0
 FeedsAsAsked =
     (max_cut : ℕ) (g : Lcg) (before : List Event) (rate : ℕ) (entries : List Entry) (enabled owes : Bool) (job : Job)

@@ -1,5 +1,5 @@
--- The player, and how songs start and stop (MPD protocol reference, Querying MPD's status, `status`; Controlling playback;
--- cuts, starts and jobs, their limit, and fades are this profile's).
+-- The player, and how songs start and stop (MPD protocol reference, Querying MPD's status, `status`;
+-- Controlling playback; cuts, starts and jobs, their limit, and fades are this profile's).
 use Rattle.std.specs.Prelude.{ℕ, ◌+◌, ◌≤◌, ◌<◌, ◌^◌, Bool, true, false, ◌&&◌, nat_le, List, Option, Some, None}
 use Rattle.std.specs.Option.{ForSome}
 use Rattle.rand_pcg.specs.Lcg.{Lcg}

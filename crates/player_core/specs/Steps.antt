@@ -1,5 +1,6 @@
--- The steps that clients make (MPD protocol reference, Controlling playback; Playback options; The queue; which steps cut
--- and start, and what a deletion leads to, are this profile's). A step is a plain function that refuses nothing.
+-- The steps that clients make (MPD protocol reference, Controlling playback; Playback options; The queue;
+-- which steps cut and start, and what a deletion leads to, are this profile's). A step is a plain function
+-- that refuses nothing.
 use Rattle.std.specs.Prelude.{ℕ, ◌-◌, Bool, true, false, ◌==◌, ◌&&◌, not, nat_le, nat_lt, min, if◌then◌else◌, List, Option, Some, None}
 use Rattle.mpd_text.specs.Songs.Song.{SongData}
 use Rattle.song_queue.specs.declared.entry.Entry.{Entry}
@@ -124,8 +125,8 @@ holds_current entries (Some id) from end = nat_le from (place_of entries id) && 
 abbrev pub without : PlayerState → List Entry → ℕ → ℕ → PlayerState
 without p entries from end = record p { round = draws.without p.round (order.ids_taken entries from end) }
 
--- the current song leaves with them, and what comes next in the order starts, in the state that is and with a cut;
--- stopped, there is then no current song
+-- the current song leaves with them, and what comes next in the order starts, in the state that is and with a
+-- cut; stopped, there is then no current song
 abbrev pub goes_on_without : PlayerState → List Entry → ℕ → ℕ → PlayerState
 goes_on_without p entries from end =
     if is_stopped p.playback

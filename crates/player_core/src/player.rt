@@ -21,8 +21,8 @@ use song_queue::{Entry, Queue};
 use std::alloc::{AllocError, Global};
 use std::marker::Model;
 
-/// A player beside the queue that it plays. A clause sees a record: modes, round, playback, current song, place, numbers
-/// of starts, cuts and jobs, job, fade and error.
+/// A player beside the queue that it plays. A clause sees a record: modes, round, playback, current song,
+/// place, numbers of starts, cuts and jobs, job, fade and error.
 #[derive(Drop)]
 pub struct Player {
     alloc: Global,
@@ -54,8 +54,8 @@ impl Model for Player {
 }
 
 impl Player {
-    /// A stopped player beside an empty queue, whose ranks are drawn by a generator made of this seed. Its numbers of
-    /// cuts, starts and jobs are at most `max_cut`.
+    /// A stopped player beside an empty queue, whose ranks are drawn by a generator made of this seed. Its
+    /// numbers of cuts, starts and jobs are at most `max_cut`.
     pub fn new(alloc: Global, seed: u64, max_cut: u64) -> Player
         requires { max_cut < 9223372036854775808 }
         ensures { result ≡ player.opened max_cut (pcg32_of_seed (pcg32_seed 16 seed)) }
@@ -188,7 +188,8 @@ impl Player {
         self.jobs
     }
 
-    /// What the natural end of the current song would start, where no new round is needed. It takes no memory.
+    /// What the natural end of the current song would start, where no new round is needed. It takes no
+    /// memory.
     pub fn peek<'a>(&self, queue: &'a Queue) -> Option<&'a Entry>
         ensures { option_copied result ≡ steps.peek self.now (queue_of queue.now) }
     {

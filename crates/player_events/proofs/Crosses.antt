@@ -1,5 +1,5 @@
--- An event may go to another thread. A filter is a tree that holds itself, and `search` does not go through a command's many
--- variants at one call: so each type between a filter and an event has its lemma.
+-- An event may go to another thread. A filter is a tree that holds itself, and `search` does not go through a
+-- command's many variants at one call: so each type between a filter and an event has its lemma.
 use denote.Param.Send.{IsSend, sendable, view_send}
 use denote.Param.SendFields.{declared_send, variants_send}
 use Rattle.std.proofs.Crossing.{crosses}
@@ -10,9 +10,9 @@ use Rattle.mpd_command.specs.contracts.command.Command as Command
 use Rattle.mpd_command.specs.contracts.request.Request as Request
 use Rattle.mpd_command.specs.contracts.wanted.FilterHandle as Handle
 use Rattle.player_events.proofs.event.Outcome.TheSendSync as outcome
-use Rattle.command_plan.proofs.shelf_calls.Heard.TheSendSync as heard
+use Rattle.transitions.proofs.shelf_calls.StoreReply.TheSendSync as heard
 use Rattle.player_events.specs.contracts.event.Event as Event
-use Rattle.player_events.specs.contracts.event.Happened as Happened
+use Rattle.player_events.specs.contracts.event.LogEntry as LogEntry
 
 -- One field, or one variant, and the next.
 infixr 30 ◌⨟◌
@@ -121,5 +121,5 @@ event_send = variants_send Event.enum (
     tt ⨟
     tt)
 
-pub happened_send : IsSend Happened.the_row
-happened_send = declared_send Happened.the_type (search parts depth 60 fits 20000 ⨟ event_send ⨟ outcome.the_send ⨟ tt)
+pub log_entry_send : IsSend LogEntry.the_row
+log_entry_send = declared_send LogEntry.the_type (search parts depth 60 fits 20000 ⨟ event_send ⨟ outcome.the_send ⨟ tt)

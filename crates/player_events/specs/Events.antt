@@ -3,14 +3,14 @@ use Rattle.std.specs.Prelude.{Bool, true, false, ◌||◌, Option, Some, None}
 use Rattle.mpd_command.specs.declared.name.Name.{Name}
 use Rattle.mpd_command.specs.declared.request.Request.{Request}
 use Rattle.mpd_command.specs.declared.request.Request.TheVariants.{Run, Refused}
-use Rattle.command_plan.specs.Shelves.{nothing_heard}
-use Rattle.command_plan.specs.declared.asked.Stand.{Stand}
-use Rattle.command_plan.specs.declared.asked.Stand.TheVariants.{Alone}
-use Rattle.command_plan.specs.declared.shelf_calls.Heard.{Heard}
+use Rattle.transitions.specs.Shelves.{no_store_reply}
+use Rattle.transitions.specs.declared.asked.Stand.{Stand}
+use Rattle.transitions.specs.declared.asked.Stand.TheVariants.{Alone}
+use Rattle.transitions.specs.declared.shelf_calls.StoreReply.{StoreReply}
 use Rattle.idle_clients.specs.Clients.{closes}
 use Rattle.player_events.specs.declared.event.Event.{Event}
 use Rattle.player_events.specs.declared.event.Event.TheVariants.{Line}
-use Rattle.player_events.specs.Told.{Told}
+use Rattle.player_events.specs.Outcomes.{OutcomeData}
 
 -- a line is the one event that a shelf is lent to
 abbrev pub is_line : Event → Bool
@@ -23,9 +23,9 @@ name_of (Run name command) = Some name
 name_of (Refused ack) = ack.command
 
 -- what a shelf answered to an event
-abbrev pub heard_at : Event → Heard
-heard_at (Line number stand request heard) = heard
-heard_at _ = nothing_heard
+abbrev pub store_reply_at : Event → StoreReply
+store_reply_at (Line number stand request heard) = heard
+store_reply_at _ = no_store_reply
 
 -- how a line comes, and the command that it names, for what the shelf refuses
 abbrev pub stand_of : Event → Stand
@@ -37,10 +37,10 @@ name_at (Line number stand request heard) = name_of request
 name_at _ = None
 
 -- the event, with what a shelf answered to it
-abbrev pub hearing : Event → Heard → Event
-hearing (Line number stand request before) heard = Line number stand request heard
-hearing event heard = event
+abbrev pub with_store_reply : Event → StoreReply → Event
+with_store_reply (Line number stand request before) heard = Line number stand request heard
+with_store_reply event heard = event
 
 -- a list ends at its first refusal, and where its client is closed
-abbrev pub ends_list : Told → Bool
+abbrev pub ends_list : OutcomeData → Bool
 ends_list t = t.answer.refused || closes t.answer.next

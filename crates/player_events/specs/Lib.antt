@@ -1,3 +1,3 @@
 pub mod Events
 pub mod Sizes
-pub mod Told
+pub mod Outcomes

@@ -1,17 +1,17 @@
 //! Events, and what they make clients hear.
 ghost use Rattle.std.specs.Prelude.{◌≡◌, Some};
-ghost use Rattle.command_plan.specs.Shelves.{nothing_heard};
-ghost use Rattle.player_events.specs.Events.{hearing, heard_at};
+ghost use Rattle.transitions.specs.Shelves.{no_store_reply};
+ghost use Rattle.player_events.specs.Events.{with_store_reply, store_reply_at};
 ghost use Rattle.player_events.specs.Events.{is_line as is_line_lem};
 ghost use Rattle.player_events.specs.declared.event.Event.{Event};
 
-use command_plan::{Heard, Next, Reply, Stand};
 use idle_clients::{Notice, Notices};
 use mpd_command::Request;
 use player_state::Report;
 use shelf::ShelfFault;
 use song_db::SharedDb;
 use std::marker::Model;
+use transitions::{Next, Reply, Stand, StoreReply};
 
 /// Something that happens to the player. Each is applied whole.
 #[derive(Drop)]
@@ -20,9 +20,9 @@ pub enum Event {
     Connect(u32),
     /// A client goes.
     Disconnect(u32),
-    /// A line of a client, how it comes, and what the lent shelf answered to it. That is put in as the event is applied, in place of
-    /// whatever was there.
-    Line(u32, Stand, Request, Heard),
+    /// A line of a client, how it comes, and what the lent shelf answered to it. That is put in as the event
+    /// is applied, in place of whatever was there.
+    Line(u32, Stand, Request, StoreReply),
     /// Whether a scan is to be made.
     ScanQuestion,
     /// The library that a scan found; one that failed found none.
@@ -33,7 +33,8 @@ pub enum Event {
     Have(u64, u64),
     /// The song of a job could not be read, or where this is so, that of its partner in a fade.
     Failed(u64, bool),
-    /// An output has its turn: its number, how many frames it wrote and discarded since its last one, and whether it failed.
+    /// An output has its turn: its number, how many frames it wrote and discarded since its last one, and
+    /// whether it failed.
     OutputTurn(usize, u64, u64, bool),
     /// The daemon ends: from now on nothing is decoded and no scan begins.
     End,
@@ -42,9 +43,9 @@ pub enum Event {
 impl Event {
     /// A line of a client, before a shelf heard of it.
     pub fn line(client: u32, stand: Stand, request: Request) -> Event
-        ensures { result ≡ Event.Line client stand request nothing_heard }
+        ensures { result ≡ Event.Line client stand request no_store_reply }
     {
-        Event::Line(client, stand, request, Heard::nothing())
+        Event::Line(client, stand, request, StoreReply::nothing())
     }
 
     /// Whether a client said it. A shelf is lent to a line alone.
@@ -55,12 +56,12 @@ impl Event {
     }
 
     /// Puts in what the shelf answered.
-    pub fn hear(&mut self, heard: Heard)
-        ensures { self.new ≡ hearing self.old heard }
+    pub fn hear(&mut self, heard: StoreReply)
+        ensures { self.new ≡ with_store_reply self.old heard }
     {
         match self {
             Event::Line(_, _, _, before) => *before = heard,
-            _ => discard_heard(heard),
+            _ => discard_store_reply(heard),
         }
     }
 }
@@ -68,7 +69,7 @@ impl Event {
 impl Event {
     /// Puts in why the shelf refused what was to be written.
     pub fn refuse(&mut self, fault: ShelfFault)
-        ensures { self.new ≡ hearing self.old (record (heard_at self.old) { refused = Some fault }) }
+        ensures { self.new ≡ with_store_reply self.old (record (store_reply_at self.old) { refused = Some fault }) }
     {
         match self {
             Event::Line(_, _, _, heard) => heard.refused = Some(fault),
@@ -78,9 +79,10 @@ impl Event {
 }
 
 /// Drops what a shelf answered. It is a function of its own, as [`discard`] is.
-fn discard_heard(_heard: Heard) {}
+fn discard_store_reply(_store_reply: StoreReply) {}
 
-/// Drops an event. It is a function of its own so that the proofs of what holds one do not go through every kind of event.
+/// Drops an event. It is a function of its own so that the proofs of what holds one do not go through every
+/// kind of event.
 pub fn discard(_event: Event) {}
 
 /// What an event makes clients hear.
@@ -92,10 +94,10 @@ pub struct Outcome {
 }
 
 impl Model for Outcome {
-    ghost use Rattle.player_events.specs.Told.{Told};
+    ghost use Rattle.player_events.specs.Outcomes.{OutcomeData};
     ghost use Rattle.idle_clients.specs.Rooms.{listed};
 
-    ghost Value = { Told };
+    ghost Value = { OutcomeData };
 
     ghost view = { λ o. record { answer = o.reply; notices = listed o.notices; report = o.report } };
 }
@@ -110,7 +112,8 @@ impl Outcome {
         &self.reply
     }
 
-    /// Whether a command list ends with this outcome of one of its commands: it is a refusal, or it closes the client.
+    /// Whether a command list ends with this outcome of one of its commands: it is a refusal, or it closes
+    /// the client.
     pub fn ends_list(&self) -> bool
         ensures { result ≡ ends_list self.now }
     {
@@ -134,7 +137,7 @@ impl Outcome {
 
 /// One entry of the history: an event, whose it is, and what was told.
 #[derive(Drop)]
-pub struct Happened {
+pub struct LogEntry {
     pub seat: u8,
     pub event: Event,
     pub told: Outcome,

@@ -2,22 +2,22 @@
 ghost use Rattle.std.specs.Prelude.{◌≡◌, ◌+◌, ◌-◌, ◌^◌, min, length, map, string_bytes, sum_by};
 ghost use Rattle.shelf.specs.Entries.{entry_texts};
 ghost use Rattle.player_events.specs.Sizes.{event_bytes as event_bytes_lem, read_bytes as read_bytes_lem};
-ghost use Rattle.player_events.specs.Events.{heard_at};
+ghost use Rattle.player_events.specs.Events.{store_reply_at};
 
-use crate::event::{Event, Happened};
-use command_plan::Read;
+use crate::event::{Event, LogEntry};
 use shelf::Entry;
+use transitions::Read;
 
 /// The bytes that a client was answered at an event, and that the shelf answered to it; at most 2^64-1.
-pub fn event_bytes(happened: &Happened) -> u64
-    ensures { result ≡ min (event_bytes_lem happened.now) (2 ^ 64 - 1) }
+pub fn event_bytes(log_entry: &LogEntry) -> u64
+    ensures { result ≡ min (event_bytes_lem log_entry.now) (2 ^ 64 - 1) }
 {
-    let answer = happened.told.reply().text().len() as u64;
-    answer.saturating_add(heard_bytes(&happened.event))
+    let answer = log_entry.told.reply().text().len() as u64;
+    answer.saturating_add(store_reply_bytes(&log_entry.event))
 }
 
-fn heard_bytes(event: &Event) -> u64
-    ensures { result ≡ min (read_bytes_lem (heard_at event.now).read) (2 ^ 64 - 1) }
+fn store_reply_bytes(event: &Event) -> u64
+    ensures { result ≡ min (read_bytes_lem (store_reply_at event.now).read) (2 ^ 64 - 1) }
 {
     match event {
         Event::Line(_, _, _, heard) => read_bytes(&heard.read),

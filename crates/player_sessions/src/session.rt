@@ -1,8 +1,8 @@
 //! Runs sessions of the player of one thread.
 //!
-//! A session is a text with a step in each line, and tells what is heard or shown at each. So few functions hold a player.
+//! A session is a text with a step in each line, and tells what is heard or shown at each. So few functions
+//! hold a player.
 use command_lists::ListForm;
-use command_plan::{Next, Stand};
 use idle_clients::Notice;
 use mpd_command::Request;
 use mpd_text::{Answer, SharedText, Song};
@@ -13,6 +13,7 @@ use queue_tests::steps::{entry, first_word, number_of, song};
 use shelf::MemShelf;
 use song_db::{Db, Rate, SharedDb};
 use std::alloc::{AllocError, Global};
+use transitions::{Next, Stand};
 
 /// A song of one second for each line, without tags.
 fn songs(alloc: Global, uris: &str) -> Result<Vec<Song>, AllocError> {
@@ -134,8 +135,8 @@ fn report_told(alloc: Global, report: Report) -> Result<String, AllocError> {
     }
 }
 
-/// Adds what clients hear of an event: the answer, `waits` or `closed` where the client does or is, and each notice after its
-/// client; and what a scanner is told.
+/// Adds what clients hear of an event: the answer, `waits` or `closed` where the client does or is, and each
+/// notice after its client; and what a scanner is told.
 fn add_heard(all: &mut String, alloc: Global, outcome: &Outcome) -> Result<(), AllocError> {
     all.push_str(outcome.reply().text())?;
     all.push_str(after(outcome.reply().next()))?;
@@ -168,7 +169,8 @@ fn events(player: &Partition) -> u64 {
     all
 }
 
-/// What the player shows of itself: the events of seats 15 and 3, all events, its entries, its clients, its volume.
+/// What the player shows of itself: the events of seats 15 and 3, all events, its entries, its clients, its
+/// volume.
 fn counts(player: &Partition, alloc: Global) -> Result<String, AllocError> {
     let (last, own) = (player.own(15), player.own(3));
     let all = events(player);
@@ -315,7 +317,8 @@ fn list_answer(alloc: Global, outcome: &ListOutcome) -> Result<String, AllocErro
     String::from_str(alloc, str::from_utf8(&answer).unwrap_or("no text\n"))
 }
 
-/// Adds what clients hear of a list: its whole answer, `closed` where the client is, and each notice after its client.
+/// Adds what clients hear of a list: its whole answer, `closed` where the client is, and each notice after
+/// its client.
 fn add_list(all: &mut String, alloc: Global, outcome: &ListOutcome) -> Result<(), AllocError> {
     let answer = list_answer(alloc, outcome)?;
     all.push_str(answer.as_str())?;
@@ -394,8 +397,8 @@ fn decodes(lent: &mut Lent, alloc: Global, rest: &str, all: &mut String) -> Resu
     happens(lent, alloc, 6, event, all)
 }
 
-/// An output has its turn, at seat 7: its number, the frames that it wrote, and those that it discarded; one that discarded
-/// 4,294,967,295 has failed.
+/// An output has its turn, at seat 7: its number, the frames that it wrote, and those that it discarded; one
+/// that discarded 4,294,967,295 has failed.
 fn turns(lent: &mut Lent, alloc: Global, rest: &str, all: &mut String) -> Result<(), AllocError> {
     let (output, rest) = first_word(rest);
     let (written, discarded) = two_numbers(rest);
@@ -414,9 +417,9 @@ fn folds(player: &mut Partition, all: &mut String) -> Result<(), AllocError> {
     }
 }
 
-/// Adds what is told at a step, by its first word: a client comes or goes, at the last seat; client 1 says a line in a list, or where
-/// `kill` is allowed; a scanner asks or brings something; so does the decoder; an output has its turn; the history is folded;
-/// something is shown; or a client says a line alone.
+/// Adds what is told at a step, by its first word: a client comes or goes, at the last seat; client 1 says a
+/// line in a list, or where `kill` is allowed; a scanner asks or brings something; so does the decoder; an
+/// output has its turn; the history is folded; something is shown; or a client says a line alone.
 fn step(lent: &mut Lent, alloc: Global, line: &str, all: &mut String) -> Result<(), AllocError> {
     let (word, rest) = first_word(line);
     if word == "comes" {
@@ -458,7 +461,8 @@ fn look_at_window(lent: &Lent, all: &mut String) -> Result<(), AllocError> {
     Ok(())
 }
 
-/// What a session of these steps tells, over a library with a song for each line of the URIs, in a window of at most so many events.
+/// What a session of these steps tells, over a library with a song for each line of the URIs, in a window of
+/// at most so many events.
 pub fn session_within(
     alloc: Global,
     history: u32,

@@ -1,7 +1,7 @@
 -- Books that an event leaves as they are.
 use Rattle.std.proofs.Common.{◌≡◌, ℕ, ◌+◌, true, false, List, [], ◌∷◌, length, refl, arith, if◌then◌else◌}
-use Rattle.player_state.specs.declared.doing.Doing.TheVariants.{ByCommand}
-use Rattle.player_state.specs.declared.doing.Effect.TheVariants.{Rests}
+use Rattle.player_state.specs.declared.effect.Effect.TheVariants.{ByCommand}
+use Rattle.player_state.specs.declared.effect.CommandEffect.TheVariants.{Rests}
 use Rattle.player_state.specs.declared.report.Report.TheVariants.{Nothing}
 use Rattle.player_state.specs.Outputs.{OutputsData, books_after, can_count, can_count_all, decoded_by, grown, is_enabled}
 

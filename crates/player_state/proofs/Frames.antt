@@ -12,14 +12,14 @@ use Rattle.player_core.specs.declared.state.Job.{Job}
 use Rattle.player_core.specs.Player.{PlayerState, given_up, stays, is_playing}
 use Rattle.player_core.specs.Steps as steps
 use Rattle.player_core.specs.Decoding as decoding
-use Rattle.player_state.specs.declared.doing.Doing.{Doing}
-use Rattle.player_state.specs.declared.doing.Doing.TheVariants.{ByCommand, ByAudio}
-use Rattle.player_state.specs.declared.doing.Effect.TheVariants.{GoesOn}
-use Rattle.player_state.specs.declared.doing.AudioStep.TheVariants.{Wants, Accepts}
+use Rattle.player_state.specs.declared.effect.Effect.{Effect}
+use Rattle.player_state.specs.declared.effect.Effect.TheVariants.{ByCommand, ByAudio}
+use Rattle.player_state.specs.declared.effect.CommandEffect.TheVariants.{GoesOn}
+use Rattle.player_state.specs.declared.effect.AudioStep.TheVariants.{Wants, Accepts}
 use Rattle.player_state.specs.declared.report.Report.TheVariants.{ToFeed}
 use Rattle.player_state.specs.declared.state.Part.{Part}
 use Rattle.player_state.specs.Outputs.{any_enabled, frames_fed}
-use Rattle.player_state.specs.Doings.{Change, ByEdit, ByStep, change_of, entries, feed_of}
+use Rattle.player_state.specs.Effects.{Change, ByEdit, ByStep, change_of, entries, feed_of}
 
 -- the frames of a have are fed where they are accepted
 pub fed : (number frames volume : ℕ) (cut : Option ℕ) → frames_fed (ByAudio (Accepts number frames)) (ToFeed (feed_of volume cut)) ≡ (if is_some cut then frames else 0)
@@ -89,7 +89,7 @@ job_keeps p es (Some job) number count =
       | false ↦ tt
     ]
 
-pub keeps : (rate : ℕ) (part : Part) (doing : Doing) → Keeps (entries part) (change_of rate part doing)
+pub keeps : (rate : ℕ) (part : Part) (effect : Effect) → Keeps (entries part) (change_of rate part effect)
 keeps rate part (ByCommand GoesOn) = next_keeps part.player (entries part) part.player.current
 keeps rate part (ByAudio (Wants owes)) = want_keeps rate part.player (entries part) (any_enabled part.outputs) owes
 keeps rate part (ByAudio (Accepts number frames)) = job_keeps part.player (entries part) part.player.job number frames

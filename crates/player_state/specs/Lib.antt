@@ -1,6 +1,6 @@
 pub mod Books
-pub mod Doings
+pub mod Effects
 pub mod Libraries
 pub mod Outputs
-pub mod Plans
+pub mod Fits
 pub mod Scans

@@ -1,10 +1,10 @@
--- The outputs, and the frames that each was given, wrote and discarded (MPD protocol reference, Audio output devices; the books of
--- frames are this profile's).
+-- The outputs, and the frames that each was given, wrote and discarded (MPD protocol reference, Audio output
+-- devices; the books of frames are this profile's).
 use Rattle.std.specs.Prelude.{ℕ, ◌+◌, ◌==◌, Bool, true, false, ◌&&◌, nat_le, nat_lt, if◌then◌else◌, List, [], ◌∷◌, length, map, slice_index_or, slice_set, Some}
 use Rattle.std.specs.List.{list_any, range_with_len}
-use Rattle.player_state.specs.declared.doing.Doing.{Doing}
-use Rattle.player_state.specs.declared.doing.Doing.TheVariants.{ByAudio}
-use Rattle.player_state.specs.declared.doing.AudioStep.TheVariants.{Accepts, Settles}
+use Rattle.player_state.specs.declared.effect.Effect.{Effect}
+use Rattle.player_state.specs.declared.effect.Effect.TheVariants.{ByAudio}
+use Rattle.player_state.specs.declared.effect.AudioStep.TheVariants.{Accepts, Settles}
 use Rattle.player_state.specs.declared.report.Report.{Report}
 use Rattle.player_state.specs.declared.report.Report.TheVariants.{ToFeed}
 
@@ -57,21 +57,21 @@ abbrev pub empty_books : FrameBooks
 empty_books = record { decoded = no_frames; written = no_frames; discarded = no_frames }
 
 -- the frames of a have that was accepted
-abbrev pub frames_fed : Doing → Report → ℕ
+abbrev pub frames_fed : Effect → Report → ℕ
 frames_fed (ByAudio (Accepts number frames)) (ToFeed (Some feed)) = frames
 frames_fed _ _ = 0
 
 -- the frames that an output is given at an event: those of a have that was accepted, where it is enabled
-abbrev pub decoded_by : OutputsData → Doing → Report → ℕ → ℕ
-decoded_by outputs doing report number = if is_enabled outputs number then frames_fed doing report else 0
+abbrev pub decoded_by : OutputsData → Effect → Report → ℕ → ℕ
+decoded_by outputs effect report number = if is_enabled outputs number then frames_fed effect report else 0
 
 -- the frames that an output wrote by its turn
-abbrev pub written_by : Doing → ℕ → ℕ
+abbrev pub written_by : Effect → ℕ → ℕ
 written_by (ByAudio (Settles output written discarded failed)) number = if number == output then written else 0
 written_by _ number = 0
 
 -- the frames that it discarded
-abbrev pub discarded_by : Doing → ℕ → ℕ
+abbrev pub discarded_by : Effect → ℕ → ℕ
 discarded_by (ByAudio (Settles output written discarded failed)) number = if number == output then discarded else 0
 discarded_by _ number = 0
 
@@ -80,11 +80,11 @@ abbrev pub grown : List ℕ → (ℕ → ℕ) → List ℕ
 grown numbers more = map (λ number. more number + slice_index_or numbers number 0) (range_with_len 0 8)
 
 -- the books after an event
-abbrev pub books_after : FrameBooks → OutputsData → Doing → Report → FrameBooks
-books_after books outputs doing report = record {
-  decoded = grown books.decoded (decoded_by outputs doing report);
-  written = grown books.written (written_by doing);
-  discarded = grown books.discarded (discarded_by doing);
+abbrev pub books_after : FrameBooks → OutputsData → Effect → Report → FrameBooks
+books_after books outputs effect report = record {
+  decoded = grown books.decoded (decoded_by outputs effect report);
+  written = grown books.written (written_by effect);
+  discarded = grown books.discarded (discarded_by effect);
 }
 
 -- the numbers of eight outputs together

@@ -1,15 +1,15 @@
 //! The frames that outputs were given, wrote and discarded.
-ghost use Rattle.player_state.specs.declared.doing.Doing.TheVariants.{ByCommand};
-ghost use Rattle.player_state.specs.declared.doing.Effect.TheVariants.{Rests};
+ghost use Rattle.player_state.specs.declared.effect.Effect.TheVariants.{ByCommand};
+ghost use Rattle.player_state.specs.declared.effect.CommandEffect.TheVariants.{Rests};
 ghost use Rattle.player_state.specs.declared.report.Report.TheVariants.{Nothing};
 ghost use Rattle.std.specs.Prelude.{◌≡◌, ◌+◌, ◌==◌, true, ℕ, if◌then◌else◌, length, map, slice_index_or};
 ghost use Rattle.std.specs.List.{range_with_len};
 ghost use Rattle.player_state.specs.declared.report.Report.{Report};
 ghost use Rattle.player_state.specs.Books.{IsBooked, IsCounted};
-ghost use Rattle.player_state.specs.Doings.{report_after};
+ghost use Rattle.player_state.specs.Effects.{report_after};
 ghost use Rattle.player_state.specs.Outputs.{OutputsData, can_count_all, books_after as books_after_lem, discarded_by, empty_books, frames_fed as frames_fed_lem, is_enabled, total as total_lem, written_by};
 
-use crate::doing::{AudioStep, Doing};
+use crate::effect::{AudioStep, Effect};
 use crate::outputs::Outputs;
 use crate::state::Part;
 use std::marker::Model;
@@ -61,8 +61,8 @@ impl Books {
         }
     }
 
-    /// What is true of all books: their frames are counted together, and an event that feeds none, and by which no output has its
-    /// turn, leaves them as they are.
+    /// What is true of all books: their frames are counted together, and an event that feeds none, and by
+    /// which no output has its turn, leaves them as they are.
     pub fn rest(&self)
         ensures counted { can_count_all self.now ≡ true }
         ensures same { (outputs : OutputsData) → books_after_lem self.now outputs (ByCommand Rests) Nothing ≡ self.now }
@@ -97,25 +97,25 @@ impl Books {
     }
 
     /// The books after an event, if the frames of all outputs together can be counted then.
-    pub fn after(&self, part: &Part, doing: &Doing) -> Option<Books>
-        ensures { (rate : ℕ) (report : Report) → IsBooked result (books_after_lem self.now part.now.outputs doing.now (report_after rate part.now doing.now report)) }
+    pub fn after(&self, part: &Part, effect: &Effect) -> Option<Books>
+        ensures { (rate : ℕ) (report : Report) → IsBooked result (books_after_lem self.now part.now.outputs effect.now (report_after rate part.now effect.now report)) }
     {
-        let fed = frames_fed(part, doing);
+        let fed = frames_fed(part, effect);
         Some(Books {
             decoded: grown(&self.decoded, &shares(&part.outputs, fed))?,
-            written: grown(&self.written, &written(doing))?,
-            discarded: grown(&self.discarded, &discarded(doing))?,
+            written: grown(&self.written, &written(effect))?,
+            discarded: grown(&self.discarded, &discarded(effect))?,
         })
     }
 }
 
 /// The frames that an event feeds.
 #[tactic(auto, using(crate::proofs::Frames::fed))]
-fn frames_fed(part: &Part, doing: &Doing) -> u64
-    ensures { (rate : ℕ) (report : Report) → result ≡ frames_fed_lem doing.now (report_after rate part.now doing.now report) }
+fn frames_fed(part: &Part, effect: &Effect) -> u64
+    ensures { (rate : ℕ) (report : Report) → result ≡ frames_fed_lem effect.now (report_after rate part.now effect.now report) }
 {
-    match doing {
-        Doing::ByAudio(AudioStep::Accepts(number, frames))
+    match effect {
+        Effect::ByAudio(AudioStep::Accepts(number, frames))
             if part.player.would_feed(&part.queue, *number, *frames) => { *frames }
         _ => 0,
     }
@@ -148,21 +148,21 @@ fn share(outputs: &Outputs, frames: u64, number: usize) -> u64
 }
 
 /// The frames that an event tells of, which outputs wrote.
-fn written(doing: &Doing) -> Numbers
-    ensures { result ≡ map (written_by doing.now) (range_with_len 0 8) }
+fn written(effect: &Effect) -> Numbers
+    ensures { result ≡ map (written_by effect.now) (range_with_len 0 8) }
 {
-    match doing {
-        Doing::ByAudio(AudioStep::Settles(output, written, _, _)) => alone(*output, *written),
+    match effect {
+        Effect::ByAudio(AudioStep::Settles(output, written, _, _)) => alone(*output, *written),
         _ => [0; 8],
     }
 }
 
 /// The frames that an event tells of, which outputs discarded.
-fn discarded(doing: &Doing) -> Numbers
-    ensures { result ≡ map (discarded_by doing.now) (range_with_len 0 8) }
+fn discarded(effect: &Effect) -> Numbers
+    ensures { result ≡ map (discarded_by effect.now) (range_with_len 0 8) }
 {
-    match doing {
-        Doing::ByAudio(AudioStep::Settles(output, _, discarded, _)) => alone(*output, *discarded),
+    match effect {
+        Effect::ByAudio(AudioStep::Settles(output, _, discarded, _)) => alone(*output, *discarded),
         _ => [0; 8],
     }
 }

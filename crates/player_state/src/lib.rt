@@ -2,14 +2,14 @@
 #![tactic(auto)]
 
 mod books;
-mod doing;
+mod effect;
 mod outputs;
 mod report;
 mod scan;
 mod state;
 
 pub use books::Books;
-pub use doing::{AudioStep, Doing, Effect, carry_out, done};
+pub use effect::{AudioStep, CommandEffect, Effect, carry_out, done};
 pub use outputs::{MAX_OUTPUTS, Outputs};
 pub use report::{Feed, Report};
 pub use scan::{Scan, ScanMove};

@@ -1,6 +1,6 @@
 //! The scans that look for what can be played.
 ghost use Rattle.std.specs.Prelude.{◌≡◌, ◌+◌, true};
-ghost use Rattle.player_state.specs.Doings.{begins_beyond as begins_beyond_lem};
+ghost use Rattle.player_state.specs.Effects.{begins_beyond as begins_beyond_lem};
 ghost use Rattle.player_state.specs.Scans.{never_scanned, running, scan_after};
 ghost use Rattle.player_state.specs.declared.scan.ScanMove.TheVariants.{Begin, Stay};
 
@@ -107,7 +107,8 @@ pub enum ScanMove {
     Stay,
     /// A scan begins, if none runs.
     Begin,
-    /// The scan that runs ends, with the library that it found. One that failed found none, and the songs stay.
+    /// The scan that runs ends, with the library that it found. One that failed found none, and the songs
+    /// stay.
     End(Option<SharedDb>),
 }
 

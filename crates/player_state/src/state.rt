@@ -59,7 +59,8 @@ pub struct Part {
 }
 
 impl Part {
-    /// What it owns, a second time: what becomes of either leaves the other as it is. No song and no message is copied.
+    /// What it owns, a second time: what becomes of either leaves the other as it is. No song and no message
+    /// is copied.
     pub fn image(&self, alloc: Global) -> Result<Part, AllocError>
         ensures { IfOk result (λ image. image ≡ self.now) }
     {

@@ -1,4 +1,5 @@
-//! Folds of the history: a session tells the same in a window of any size, and with a fold by hand between any two events.
+//! Folds of the history: a session tells the same in a window of any size, and with a fold by hand between
+//! any two events.
 use crate::fades::{FADES, FADES_TELL};
 use crate::sessions::{
     DELETION, DELETION_TELLS, EDITS, EDITS_TELL, LISTS, LISTS_TELL, ROOMS, ROOMS_TELL, SCANS,
@@ -40,7 +41,8 @@ fn with_fold(alloc: Global, steps: &str, place: usize) -> Result<String, AllocEr
     Ok(all)
 }
 
-/// The places of the steps before which a fold makes a session tell something else than is wanted, each in a line.
+/// The places of the steps before which a fold makes a session tell something else than is wanted, each in a
+/// line.
 fn with_folds(alloc: Global, uris: &str, steps: &str, wanted: &str) -> Result<String, AllocError> {
     let mut all = String::new(alloc);
     for place in 0..steps.lines().count() {
@@ -239,7 +241,8 @@ show window
 turn 0 0 0
 show window";
 
-/// What is told of four events, with what is shown after each: the events of the window, their bytes, and all events.
+/// What is told of four events, with what is shown after each: the events of the window, their bytes, and all
+/// events.
 fn four_events(alloc: Global, shown: [&str; 4]) -> Result<String, AllocError> {
     let [first, second, third, last] = shown;
     let refused = "ACK [5@0] {} unknown command \"nosuch\"\n";
@@ -264,8 +267,8 @@ fn a_full_window_is_folded_before_the_next_event(rt: HostRuntime) {
     wants_made(&rt, four_events_within(alloc, 3), three);
 }
 
-/// What the shelf answers counts too: a list of one URI and its newline, a name of one letter, a value of one, a sticker of two, and
-/// a sticker of six with its URI. Where it refused, nothing does.
+/// What the shelf answers counts too: a list of one URI and its newline, a name of one letter, a value of
+/// one, a sticker of two, and a sticker of six with its URI. Where it refused, nothing does.
 const BYTES: &str = "comes 1
 1 playlistadd x a.wav
 show window
@@ -339,8 +342,8 @@ fn the_greatest_window_is_folded(rt: HostRuntime) {
     );
 }
 
-/// The window of 93 events is full, is folded by the next event, and then by hand. The order of play is the one of a round over
-/// as many songs.
+/// The window of 93 events is full, is folded by the next event, and then by hand. The order of play is the
+/// one of a round over as many songs.
 const GREATEST: &str = "show window
 show counts
 1 random 1

@@ -1,7 +1,8 @@
 //! Tests of the player of one thread, by sessions.
 //!
-//! What a check costs grows faster than the size of a body, and most by its exits and asserts. So a test asserts once, over a text
-//! that tells all that came of a text of steps, and each call of a crate under test stands in a small function with no clause.
+//! What a check costs grows faster than the size of a body, and most by its exits and asserts. So a test
+//! asserts once, over a text that tells all that came of a text of steps, and each call of a crate under test
+//! stands in a small function with no clause.
 #![tactic(auto)]
 
 #[cfg(test)]

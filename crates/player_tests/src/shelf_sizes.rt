@@ -4,7 +4,8 @@ use crate::wanted::{wants, wants_made};
 use player_sessions::session::session;
 use std::alloc::{AllocError, Global};
 
-/// What is told where a client subscribes to 16 channels, then to another, and to that one after it left the first.
+/// What is told where a client subscribes to 16 channels, then to another, and to that one after it left the
+/// first.
 fn subscriptions(alloc: Global) -> Result<String, AllocError> {
     let subscribe = numbered(alloc, "1 subscribe c", 49, "")?;
     let rest = "1 subscribe c65\n2 subscribe c65\n1 unsubscribe c49\n1 subscribe c65\n";

@@ -34,7 +34,7 @@ module _ (f : ℕ × Entry → List ℕ) where
       ∙ ap (λ (l : List ℕ). a ++ l) (sym (text_of-append row rest) ∙ ap (λ (l : List ℕ). text_of (rows_at queue l)) (sym (next_drop places i h)))
       ∙ e
 
-  -- behind the last row
+  -- after the last row
   pub all_rows : (queue : List Entry) (places : List ℕ) (i : ℕ) (a total : List ℕ) → length places ≤ i
       → a ++ text_of (rows_at queue (drop i places)) ≡ total → a ≡ total
   all_rows queue places i a total past e = sym (append-nil a) ∙ ap (λ (l : List ℕ). a ++ text_of (rows_at queue l)) (sym (drop_all i places past)) ∙ e
@@ -60,6 +60,6 @@ pub changed_rows : (queue : QueueState) (version : ℕ) (r : Places ℕ) (places
 changed_rows queue version r places are =
     rows_within (queue_of queue) r places ∙ ap (λ (l : List ℕ). filter (is_between r) (rows_at (queue_of queue) l)) are ∙ ap (filter (is_between r)) (rows-changed queue version)
 
--- behind the last place that is looked at
+-- after the last place that is looked at
 pub kept_all : (p : ℕ → Bool) (places : List ℕ) (i : ℕ) (kept : List ℕ) → length places ≤ i → kept ++ filter p (drop i places) ≡ filter p places → kept ≡ filter p places
 kept_all p places i kept past e = sym (append-nil kept) ∙ ap (λ (l : List ℕ). kept ++ filter p l) (sym (drop_all i places past)) ∙ e

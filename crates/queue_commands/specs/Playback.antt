@@ -1,5 +1,5 @@
--- The commands that control what is played (MPD protocol reference, Controlling playback; `currentsong` and `clearerror`: Querying
--- MPD's status).
+-- The commands that control what is played (MPD protocol reference, Controlling playback; `currentsong` and
+-- `clearerror`: Querying MPD's status).
 use Rattle.std.specs.Prelude.{ℕ, ◌+◌, ◌-◌, ◌*◌, ◌/◌, Bool, nat_lt, min, if◌then◌else◌, List, [], Option, Some, None, slice_get}
 use Rattle.mpd_command.specs.declared.forms.Seeking.{Seeking}
 use Rattle.mpd_command.specs.declared.forms.Seeking.TheVariants.{To, Forward, Back}
@@ -7,41 +7,41 @@ use Rattle.song_db.specs.Lines.{millis}
 use Rattle.song_queue.specs.declared.entry.Entry.{Entry}
 use Rattle.song_queue.specs.State.{QueueState, queue_of, position_of}
 use Rattle.player_core.specs.Player.{is_stopped}
-use Rattle.command_plan.specs.Deeds.{bad_index, does, no_such_song, not_playing, shows}
+use Rattle.transitions.specs.CommandResults.{bad_index, does, no_such_song, not_playing, shows}
 use Rattle.queue_commands.specs.Queue.{count, current_place, entry_lines}
-use Rattle.player_state.specs.declared.doing.Effect.TheVariants.{ClearsError, GoesBack, GoesOn, Pauses, Plays, PlaysPlace, Seeks, Stops, TogglesPause}
-use Rattle.command_plan.specs.declared.asked.Asked.{Asked}
+use Rattle.player_state.specs.declared.effect.CommandEffect.TheVariants.{ClearsError, GoesBack, GoesOn, Pauses, Plays, PlaysPlace, Seeks, Stops, TogglesPause}
+use Rattle.transitions.specs.declared.asked.Asked.{Asked}
 use Rattle.player_state.specs.declared.state.Library.{Library}
 use Rattle.player_state.specs.declared.state.Part.{Part}
-use Rattle.command_plan.specs.Turns.{Deed}
+use Rattle.transitions.specs.Transitions.{CommandResult}
 
 -- the song at a place starts; without one the player goes on, or begins
-abbrev pub play : Asked → Part → Option ℕ → Deed
+abbrev pub play : Asked → Part → Option ℕ → CommandResult
 play asked part None = does asked Plays
 play asked part (Some place) = if nat_lt place (count part) then does asked (PlaysPlace place) else bad_index asked
 
-abbrev pub play_found : Asked → Option ℕ → Deed
+abbrev pub play_found : Asked → Option ℕ → CommandResult
 play_found asked None = no_such_song asked
 play_found asked (Some place) = does asked (PlaysPlace place)
 
 -- the song with an id starts
-abbrev pub play_id : Asked → Part → Option ℕ → Deed
+abbrev pub play_id : Asked → Part → Option ℕ → CommandResult
 play_id asked part None = does asked Plays
 play_id asked part (Some id) = play_found asked (position_of part.queue id)
 
-abbrev pub pause : Asked → Option Bool → Deed
+abbrev pub pause : Asked → Option Bool → CommandResult
 pause asked None = does asked TogglesPause
 pause asked (Some on) = does asked (Pauses on)
 
-abbrev pub stop : Asked → Deed
+abbrev pub stop : Asked → CommandResult
 stop asked = does asked Stops
 
 -- a song that is played ends, and the order goes on
-abbrev pub next : Asked → Part → Deed
+abbrev pub next : Asked → Part → CommandResult
 next asked part = if is_stopped part.player.playback then not_playing asked else does asked GoesOn
 
 -- the song before it starts
-abbrev pub previous : Asked → Part → Deed
+abbrev pub previous : Asked → Part → CommandResult
 previous asked part = if is_stopped part.player.playback then not_playing asked else does asked GoesBack
 
 -- the frame at a time, as far as frames can be counted
@@ -49,16 +49,16 @@ abbrev pub frame_at : ℕ → ℕ → ℕ
 frame_at rate time = min (time * rate / 1000) 18446744073709551615
 
 -- to a time in the song at a place
-abbrev pub seek : Asked → Part → Library → ℕ → ℕ → Deed
+abbrev pub seek : Asked → Part → Library → ℕ → ℕ → CommandResult
 seek asked part library place time =
     if nat_lt place (count part) then does asked (Seeks place (frame_at library.rate time)) else bad_index asked
 
-abbrev pub seek_found : Asked → Library → Option ℕ → ℕ → Deed
+abbrev pub seek_found : Asked → Library → Option ℕ → ℕ → CommandResult
 seek_found asked library None time = no_such_song asked
 seek_found asked library (Some place) time = does asked (Seeks place (frame_at library.rate time))
 
 -- to a time in the song with an id
-abbrev pub seek_id : Asked → Part → Library → ℕ → ℕ → Deed
+abbrev pub seek_id : Asked → Part → Library → ℕ → ℕ → CommandResult
 seek_id asked part library id time = seek_found asked library (position_of part.queue id) time
 
 -- the time that a place in a song is to be counted from, in thousandths of a second
@@ -70,12 +70,12 @@ time_of from (To time) = time.0
 time_of from (Forward time) = from + time.0
 time_of from (Back time) = from - time.0
 
-abbrev pub seek_current : Asked → Library → Option ℕ → ℕ → Deed
+abbrev pub seek_current : Asked → Library → Option ℕ → ℕ → CommandResult
 seek_current asked library None time = not_playing asked
 seek_current asked library (Some place) time = does asked (Seeks place (frame_at library.rate time))
 
 -- to a time in the current song, which may count from the time that has elapsed
-abbrev pub seek_cur : Asked → Part → Library → Seeking → Deed
+abbrev pub seek_cur : Asked → Part → Library → Seeking → CommandResult
 seek_cur asked part library seeking =
     if is_stopped part.player.playback then not_playing asked
     else seek_current asked library (current_place part) (time_of (elapsed part library) seeking)
@@ -89,8 +89,8 @@ lines_at rate queue None = []
 lines_at rate queue (Some place) = lines_of_entry rate place (slice_get (queue_of queue) place)
 
 -- the lines of the current song, if there is one
-abbrev pub current_song : Asked → Part → Library → Deed
+abbrev pub current_song : Asked → Part → Library → CommandResult
 current_song asked part library = shows asked (lines_at library.rate part.queue (current_place part))
 
-abbrev pub clear_error : Asked → Deed
+abbrev pub clear_error : Asked → CommandResult
 clear_error asked = does asked ClearsError

@@ -16,12 +16,12 @@ use Rattle.song_queue.specs.declared.entry.Entry.{Entry}
 use Rattle.song_queue.specs.Entries.{rows_at}
 use Rattle.song_queue.specs.State.{QueueState, queue_of, changed, position_of}
 use Rattle.song_search.specs.Folders.{is_folder, under}
-use Rattle.command_plan.specs.Deeds.{bad_index, does, edits, no_such_song, refusal, shows}
-use Rattle.player_state.specs.declared.doing.Effect.TheVariants.{Shuffles}
-use Rattle.command_plan.specs.declared.asked.Asked.{Asked}
+use Rattle.transitions.specs.CommandResults.{bad_index, does, edits, no_such_song, refusal, shows}
+use Rattle.player_state.specs.declared.effect.CommandEffect.TheVariants.{Shuffles}
+use Rattle.transitions.specs.declared.asked.Asked.{Asked}
 use Rattle.player_state.specs.declared.state.Library.{Library}
 use Rattle.player_state.specs.declared.state.Part.{Part}
-use Rattle.command_plan.specs.Turns.{Deed}
+use Rattle.transitions.specs.Transitions.{CommandResult}
 
 abbrev pub count : Part → ℕ
 count part = length (queue_of part.queue)
@@ -32,45 +32,45 @@ lack part songs =
     if nat_lt part.queue.max_len (count part + songs) then Some (codes "playlist is full")
     else (if nat_lt part.queue.max_id (part.queue.greatest_id + songs) then Some (codes "no more song ids") else None)
 
-abbrev pub unless_lacking : Asked → Part → Option (List ℕ) → Deed → Deed
+abbrev pub unless_lacking : Asked → Part → Option (List ℕ) → CommandResult → CommandResult
 unless_lacking asked part None added = added
 unless_lacking asked part (Some text) added = refusal asked PlaylistMax text
 
 -- so many songs are added, where nothing lacks
-abbrev pub with_room : Asked → Part → ℕ → Deed → Deed
+abbrev pub with_room : Asked → Part → ℕ → CommandResult → CommandResult
 with_room asked part songs added = unless_lacking asked part (lack part songs) added
 
 -- songs go to the end of the queue: all of them, or none
-abbrev pub add_songs : Asked → Part → List SongData → Deed
+abbrev pub add_songs : Asked → Part → List SongData → CommandResult
 add_songs asked part songs = with_room asked part (length songs) (edits asked (Insert (count part) songs) (codes ""))
 
-abbrev pub add_folder : Asked → Part → Library → List ℕ → Deed
+abbrev pub add_folder : Asked → Part → Library → List ℕ → CommandResult
 add_folder asked part library folder = if is_folder folder library.songs then add_songs asked part (under folder library.songs) else no_such_song asked
 
-abbrev pub add_song_or_folder : Asked → Part → Library → Option SongData → List ℕ → Deed
+abbrev pub add_song_or_folder : Asked → Part → Library → Option SongData → List ℕ → CommandResult
 add_song_or_folder asked part library (Some song) uri = add_songs asked part (song ∷ [])
 add_song_or_folder asked part library None uri = add_folder asked part library uri
 
 -- a song is added, or all songs under a folder; a name that is a song's is taken as the song
-abbrev pub add : Asked → Part → Library → List ℕ → Deed
+abbrev pub add : Asked → Part → Library → List ℕ → CommandResult
 add asked part library uri = add_song_or_folder asked part library (song_of library.songs uri) uri
 
 -- a song goes to a place, and its id is told
-abbrev pub insert_at : Asked → Part → SongData → ℕ → Deed
+abbrev pub insert_at : Asked → Part → SongData → ℕ → CommandResult
 insert_at asked part song place =
     if nat_lt (count part) place then bad_index asked
     else with_room asked part 1 (edits asked (Insert place (song ∷ [])) (pair_line (codes "Id") (decimal (part.queue.greatest_id + 1))))
 
-abbrev pub no_current_song : Asked → Deed
+abbrev pub no_current_song : Asked → CommandResult
 no_current_song asked = refusal asked PlayerSync (codes "no current song")
 
 -- at a place after the one that follows the current song
-abbrev pub insert_after : Asked → Part → SongData → Option ℕ → ℕ → Deed
+abbrev pub insert_after : Asked → Part → SongData → Option ℕ → ℕ → CommandResult
 insert_after asked part song None steps = no_current_song asked
 insert_after asked part song (Some place) steps = insert_at asked part song (place + 1 + steps)
 
 -- at a place before the current song
-abbrev pub insert_before : Asked → Part → SongData → Option ℕ → ℕ → Deed
+abbrev pub insert_before : Asked → Part → SongData → Option ℕ → ℕ → CommandResult
 insert_before asked part song None steps = no_current_song asked
 insert_before asked part song (Some place) steps = if nat_lt place steps then bad_index asked else insert_at asked part song (place - steps)
 
@@ -84,60 +84,60 @@ abbrev pub current_place : Part → Option ℕ
 current_place part = place_of_id part.queue part.player.current
 
 -- without a place it goes to the end; a place may count from the current song
-abbrev pub insert_song : Asked → Part → SongData → Option Place → Deed
+abbrev pub insert_song : Asked → Part → SongData → Option Place → CommandResult
 insert_song asked part song None = insert_at asked part song (count part)
 insert_song asked part song (Some (At place)) = insert_at asked part song place
 insert_song asked part song (Some (After steps)) = insert_after asked part song (current_place part) steps
 insert_song asked part song (Some (Before steps)) = insert_before asked part song (current_place part) steps
 
-abbrev pub add_one : Asked → Part → Option SongData → Option Place → Deed
+abbrev pub add_one : Asked → Part → Option SongData → Option Place → CommandResult
 add_one asked part None place = no_such_song asked
 add_one asked part (Some song) place = insert_song asked part song place
 
-abbrev pub add_id : Asked → Part → Library → List ℕ → Option Place → Deed
+abbrev pub add_id : Asked → Part → Library → List ℕ → Option Place → CommandResult
 add_id asked part library uri place = add_one asked part (song_of library.songs uri) place
 
 -- all songs leave the queue
-abbrev pub clear : Asked → Part → Deed
+abbrev pub clear : Asked → Part → CommandResult
 clear asked part = edits asked (Remove 0 (count part)) (codes "")
 
-abbrev pub remove : Asked → Part → Option (Places ℕ) → Deed
+abbrev pub remove : Asked → Part → Option (Places ℕ) → CommandResult
 remove asked part None = bad_index asked
 remove asked part (Some r) = edits asked (Remove r.start r.end) (codes "")
 
 -- the songs of a range leave the queue
-abbrev pub delete : Asked → Part → Range → Deed
+abbrev pub delete : Asked → Part → Range → CommandResult
 delete asked part range = remove asked part (within range (count part))
 
-abbrev pub remove_one : Asked → Part → Option ℕ → Deed
+abbrev pub remove_one : Asked → Part → Option ℕ → CommandResult
 remove_one asked part None = no_such_song asked
 remove_one asked part (Some place) = edits asked (Remove place (place + 1)) (codes "")
 
 -- the song with an id leaves it
-abbrev pub delete_id : Asked → Part → ℕ → Deed
+abbrev pub delete_id : Asked → Part → ℕ → CommandResult
 delete_id asked part id = remove_one asked part (position_of part.queue id)
 
 -- no songs may be moved to any place, others where all of them find room
-abbrev pub move_places : Asked → Part → Option (Places ℕ) → ℕ → Deed
+abbrev pub move_places : Asked → Part → Option (Places ℕ) → ℕ → CommandResult
 move_places asked part None to = bad_index asked
 move_places asked part (Some r) to =
     if nat_lt r.start r.end && nat_lt (count part) (to + (r.end - r.start)) then bad_index asked
     else edits asked (Move r.start r.end to) (codes "")
 
 -- the songs of a range move, so that the first of them is at a place of the queue that they leave
-abbrev pub move : Asked → Part → Range → ℕ → Deed
+abbrev pub move : Asked → Part → Range → ℕ → CommandResult
 move asked part range to = move_places asked part (within range (count part)) to
 
-abbrev pub move_one : Asked → Part → Option ℕ → ℕ → Deed
+abbrev pub move_one : Asked → Part → Option ℕ → ℕ → CommandResult
 move_one asked part None to = no_such_song asked
 move_one asked part (Some place) to = edits asked (Move place (place + 1) to) (codes "")
 
 -- the song with an id moves; its new place is looked at before the id
-abbrev pub move_id : Asked → Part → ℕ → ℕ → Deed
+abbrev pub move_id : Asked → Part → ℕ → ℕ → CommandResult
 move_id asked part id to = if nat_le (count part) to then bad_index asked else move_one asked part (position_of part.queue id) to
 
 -- the songs at two places change round
-abbrev pub swap : Asked → Part → ℕ → ℕ → Deed
+abbrev pub swap : Asked → Part → ℕ → ℕ → CommandResult
 swap asked part first second =
     if nat_le (count part) first || nat_le (count part) second then bad_index asked else edits asked (Swap first second) (codes "")
 
@@ -145,20 +145,20 @@ abbrev pub range_or_all : Option Range → ℕ → Option (Places ℕ)
 range_or_all None len = Some (places 0 len)
 range_or_all (Some range) len = within range len
 
-abbrev pub shuffle_places : Asked → Option (Places ℕ) → Deed
+abbrev pub shuffle_places : Asked → Option (Places ℕ) → CommandResult
 shuffle_places asked None = bad_index asked
 shuffle_places asked (Some r) = does asked (Shuffles r.start r.end)
 
 -- the songs of a range are shuffled, or all
-abbrev pub shuffle : Asked → Part → Option Range → Deed
+abbrev pub shuffle : Asked → Part → Option Range → CommandResult
 shuffle asked part range = shuffle_places asked (range_or_all range (count part))
 
-abbrev pub swap_both : Asked → Part → Option ℕ → Option ℕ → Deed
+abbrev pub swap_both : Asked → Part → Option ℕ → Option ℕ → CommandResult
 swap_both asked part None second = no_such_song asked
 swap_both asked part (Some first) None = no_such_song asked
 swap_both asked part (Some first) (Some second) = edits asked (Swap first second) (codes "")
 
-abbrev pub swap_id : Asked → Part → ℕ → ℕ → Deed
+abbrev pub swap_id : Asked → Part → ℕ → ℕ → CommandResult
 swap_id asked part first second = swap_both asked part (position_of part.queue first) (position_of part.queue second)
 
 -- a list with one more in front, where both are there
@@ -176,12 +176,12 @@ all_of f (x ∷ xs) = consed (f x) (all_of f xs)
 abbrev pub all_within : ℕ → List Range → Option (List (Places ℕ))
 all_within len ranges = all_of (λ range. within range len) ranges
 
-abbrev pub prioritize : Asked → Part → Deed → ℕ → Option (List (Places ℕ)) → Deed
+abbrev pub prioritize : Asked → Part → CommandResult → ℕ → Option (List (Places ℕ)) → CommandResult
 prioritize asked part refused priority None = refused
 prioritize asked part refused priority (Some ranges) = edits asked (Prioritize ranges priority) (codes "")
 
 -- the songs of some ranges get a priority: all of them, or none where a range is not in the queue
-abbrev pub prio : Asked → Part → ℕ → List Range → Deed
+abbrev pub prio : Asked → Part → ℕ → List Range → CommandResult
 prio asked part priority ranges = prioritize asked part (bad_index asked) priority (all_within (count part) ranges)
 
 abbrev pub alone_at : Option ℕ → Option (Places ℕ)
@@ -196,7 +196,7 @@ place_with queue id = alone_at (position_of queue id)
 abbrev pub all_with_ids : QueueState → List ℕ → Option (List (Places ℕ))
 all_with_ids queue ids = all_of (λ id. place_with queue id) ids
 
-abbrev pub prio_id : Asked → Part → ℕ → List ℕ → Deed
+abbrev pub prio_id : Asked → Part → ℕ → List ℕ → CommandResult
 prio_id asked part priority ids = prioritize asked part (no_such_song asked) priority (all_with_ids part.queue ids)
 
 -- a priority is shown where there is one
@@ -212,20 +212,20 @@ entry_lines rate row =
 abbrev pub place_lines : ℕ × Entry → List ℕ
 place_lines row = pair_line (codes "cpos") (decimal row.0) ++ pair_line (codes "Id") (decimal row.1.id)
 
-abbrev pub show_places : Asked → Part → Library → Option (Places ℕ) → Deed
+abbrev pub show_places : Asked → Part → Library → Option (Places ℕ) → CommandResult
 show_places asked part library None = bad_index asked
 show_places asked part library (Some r) = shows asked (flat_map (entry_lines library.rate) (rows_at (queue_of part.queue) (range_with_len r.start (r.end - r.start))))
 
 -- the songs of a range, or all of them
-abbrev pub playlist_info : Asked → Part → Library → Option Range → Deed
+abbrev pub playlist_info : Asked → Part → Library → Option Range → CommandResult
 playlist_info asked part library range = show_places asked part library (range_or_all range (count part))
 
-abbrev pub show_one : Asked → Part → Library → Option ℕ → Deed
+abbrev pub show_one : Asked → Part → Library → Option ℕ → CommandResult
 show_one asked part library None = no_such_song asked
 show_one asked part library (Some place) = show_places asked part library (Some (places place (place + 1)))
 
 -- the song with an id, or all songs
-abbrev pub playlist_id : Asked → Part → Library → Option ℕ → Deed
+abbrev pub playlist_id : Asked → Part → Library → Option ℕ → CommandResult
 playlist_id asked part library None = playlist_info asked part library None
 playlist_id asked part library (Some id) = show_one asked part library (position_of part.queue id)
 
@@ -235,14 +235,14 @@ is_in r place = nat_le r.start place && nat_lt place r.end
 abbrev pub is_between : Places ℕ → ℕ × Entry → Bool
 is_between r row = is_in r row.0
 
-abbrev pub show_changed : Asked → Part → (ℕ × Entry → List ℕ) → ℕ → Option (Places ℕ) → Deed
+abbrev pub show_changed : Asked → Part → (ℕ × Entry → List ℕ) → ℕ → Option (Places ℕ) → CommandResult
 show_changed asked part lines version None = bad_index asked
 show_changed asked part lines version (Some r) = shows asked (flat_map lines (filter (is_between r) (changed part.queue version)))
 
 -- the songs at the places that changed since a version, of a range or all
-abbrev pub changes : Asked → Part → Library → ℕ → Option Range → Deed
+abbrev pub changes : Asked → Part → Library → ℕ → Option Range → CommandResult
 changes asked part library version range = show_changed asked part (entry_lines library.rate) version (range_or_all range (count part))
 
 -- these places, with the ids of their songs
-abbrev pub changed_places : Asked → Part → ℕ → Option Range → Deed
+abbrev pub changed_places : Asked → Part → ℕ → Option Range → CommandResult
 changed_places asked part version range = show_changed asked part place_lines version (range_or_all range (count part))

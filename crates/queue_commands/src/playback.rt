@@ -1,36 +1,36 @@
-//! The commands that control what is played (MPD protocol reference, Controlling playback; `currentsong` and `clearerror`: Querying
-//! MPD's status).
+//! The commands that control what is played (MPD protocol reference, Controlling playback; `currentsong` and
+//! `clearerror`: Querying MPD's status).
 ghost use Rattle.std.specs.Prelude.{◌≡◌, ◌≤◌, ◌++◌, Some, IfOk, OnOk};
 ghost use Rattle.player_core.specs.Player.{is_stopped as is_stopped_lem};
 ghost use Rattle.queue_commands.specs.Playback.{clear_error as clear_error_lem, current_song as current_song_lem, elapsed as elapsed_lem, frame_at as frame_at_lem, lines_at, next as next_lem, pause as pause_lem, play as play_lem, play_id as play_id_lem, previous as previous_lem, seek as seek_lem, seek_cur as seek_cur_lem, seek_id as seek_id_lem, stop as stop_lem, time_of as time_of_lem};
-ghost use Rattle.command_plan.specs.Turns.{turn_by};
+ghost use Rattle.transitions.specs.Transitions.{transition_by};
 
 use crate::queue_edits::current_place;
 use crate::queue_songs::push_entry;
-use command_plan::{Asked, Plan};
 use mpd_command::Seeking;
 use mpd_text::{Answer, Millis};
 use player_core::Playback;
-use player_state::{Effect, Library, Part};
+use player_state::{CommandEffect, Library, Part};
 use song_db::{Rate, length_of};
 use std::alloc::{AllocError, Global};
+use transitions::{Asked, Transition};
 
 pub fn play(
     alloc: Global,
     asked: Asked,
     part: &Part,
     place: Option<u32>,
-) -> Result<Plan, AllocError>
-    ensures { IfOk result (λ plan. plan ≡ turn_by (play_lem asked part.now place)) }
+) -> Result<Transition, AllocError>
+    ensures { IfOk result (λ transition. transition ≡ transition_by (play_lem asked part.now place)) }
 {
     let Some(place) = place else {
-        return Plan::does(alloc, asked, Effect::Plays);
+        return Transition::does(alloc, asked, CommandEffect::Plays);
     };
     let place = place as usize;
     if place >= part.queue.len() {
-        return Plan::bad_index(alloc, asked);
+        return Transition::bad_index(alloc, asked);
     }
-    Plan::does(alloc, asked, Effect::PlaysPlace(place))
+    Transition::does(alloc, asked, CommandEffect::PlaysPlace(place))
 }
 
 pub fn play_id(
@@ -38,49 +38,49 @@ pub fn play_id(
     asked: Asked,
     part: &Part,
     id: Option<u32>,
-) -> Result<Plan, AllocError>
-    ensures { IfOk result (λ plan. plan ≡ turn_by (play_id_lem asked part.now id)) }
+) -> Result<Transition, AllocError>
+    ensures { IfOk result (λ transition. transition ≡ transition_by (play_id_lem asked part.now id)) }
 {
     let Some(id) = id else {
-        return Plan::does(alloc, asked, Effect::Plays);
+        return Transition::does(alloc, asked, CommandEffect::Plays);
     };
     match part.queue.position_of(id) {
-        Some(place) => Plan::does(alloc, asked, Effect::PlaysPlace(place)),
-        None => Plan::no_such_song(alloc, asked),
+        Some(place) => Transition::does(alloc, asked, CommandEffect::PlaysPlace(place)),
+        None => Transition::no_such_song(alloc, asked),
     }
 }
 
-pub fn pause(alloc: Global, asked: Asked, on: Option<bool>) -> Result<Plan, AllocError>
-    ensures { IfOk result (λ plan. plan ≡ turn_by (pause_lem asked on)) }
+pub fn pause(alloc: Global, asked: Asked, on: Option<bool>) -> Result<Transition, AllocError>
+    ensures { IfOk result (λ transition. transition ≡ transition_by (pause_lem asked on)) }
 {
     match on {
-        Some(on) => Plan::does(alloc, asked, Effect::Pauses(on)),
-        None => Plan::does(alloc, asked, Effect::TogglesPause),
+        Some(on) => Transition::does(alloc, asked, CommandEffect::Pauses(on)),
+        None => Transition::does(alloc, asked, CommandEffect::TogglesPause),
     }
 }
 
-pub fn stop(alloc: Global, asked: Asked) -> Result<Plan, AllocError>
-    ensures { IfOk result (λ plan. plan ≡ turn_by (stop_lem asked)) }
+pub fn stop(alloc: Global, asked: Asked) -> Result<Transition, AllocError>
+    ensures { IfOk result (λ transition. transition ≡ transition_by (stop_lem asked)) }
 {
-    Plan::does(alloc, asked, Effect::Stops)
+    Transition::does(alloc, asked, CommandEffect::Stops)
 }
 
-pub fn next(alloc: Global, asked: Asked, part: &Part) -> Result<Plan, AllocError>
-    ensures { IfOk result (λ plan. plan ≡ turn_by (next_lem asked part.now)) }
-{
-    if is_stopped(part) {
-        return Plan::not_playing(alloc, asked);
-    }
-    Plan::does(alloc, asked, Effect::GoesOn)
-}
-
-pub fn previous(alloc: Global, asked: Asked, part: &Part) -> Result<Plan, AllocError>
-    ensures { IfOk result (λ plan. plan ≡ turn_by (previous_lem asked part.now)) }
+pub fn next(alloc: Global, asked: Asked, part: &Part) -> Result<Transition, AllocError>
+    ensures { IfOk result (λ transition. transition ≡ transition_by (next_lem asked part.now)) }
 {
     if is_stopped(part) {
-        return Plan::not_playing(alloc, asked);
+        return Transition::not_playing(alloc, asked);
     }
-    Plan::does(alloc, asked, Effect::GoesBack)
+    Transition::does(alloc, asked, CommandEffect::GoesOn)
+}
+
+pub fn previous(alloc: Global, asked: Asked, part: &Part) -> Result<Transition, AllocError>
+    ensures { IfOk result (λ transition. transition ≡ transition_by (previous_lem asked part.now)) }
+{
+    if is_stopped(part) {
+        return Transition::not_playing(alloc, asked);
+    }
+    Transition::does(alloc, asked, CommandEffect::GoesBack)
 }
 
 pub fn is_stopped(part: &Part) -> bool
@@ -100,15 +100,15 @@ pub fn seek(
     library: &Library,
     place: u32,
     time: Millis,
-) -> Result<Plan, AllocError>
-    ensures { IfOk result (λ plan. plan ≡ turn_by (seek_lem asked part.now library.now place time.0)) }
+) -> Result<Transition, AllocError>
+    ensures { IfOk result (λ transition. transition ≡ transition_by (seek_lem asked part.now library.now place time.0)) }
 {
     let place = place as usize;
     if place >= part.queue.len() {
-        return Plan::bad_index(alloc, asked);
+        return Transition::bad_index(alloc, asked);
     }
     let frame = frame_at(&library.rate, u128::from(time.0));
-    Plan::does(alloc, asked, Effect::Seeks(place, frame))
+    Transition::does(alloc, asked, CommandEffect::Seeks(place, frame))
 }
 
 /// To a time in the song with an id.
@@ -119,14 +119,14 @@ pub fn seek_id(
     library: &Library,
     id: u32,
     time: Millis,
-) -> Result<Plan, AllocError>
-    ensures { IfOk result (λ plan. plan ≡ turn_by (seek_id_lem asked part.now library.now id time.0)) }
+) -> Result<Transition, AllocError>
+    ensures { IfOk result (λ transition. transition ≡ transition_by (seek_id_lem asked part.now library.now id time.0)) }
 {
     let Some(place) = part.queue.position_of(id) else {
-        return Plan::no_such_song(alloc, asked);
+        return Transition::no_such_song(alloc, asked);
     };
     let frame = frame_at(&library.rate, u128::from(time.0));
-    Plan::does(alloc, asked, Effect::Seeks(place, frame))
+    Transition::does(alloc, asked, CommandEffect::Seeks(place, frame))
 }
 
 /// To a time in the current song, which may count from the time that has elapsed.
@@ -136,18 +136,18 @@ pub fn seek_cur(
     part: &Part,
     library: &Library,
     seeking: Seeking,
-) -> Result<Plan, AllocError>
-    ensures { IfOk result (λ plan. plan ≡ turn_by (seek_cur_lem asked part.now library.now seeking)) }
+) -> Result<Transition, AllocError>
+    ensures { IfOk result (λ transition. transition ≡ transition_by (seek_cur_lem asked part.now library.now seeking)) }
 {
     if is_stopped(part) {
-        return Plan::not_playing(alloc, asked);
+        return Transition::not_playing(alloc, asked);
     }
     let Some(place) = current_place(part) else {
-        return Plan::not_playing(alloc, asked);
+        return Transition::not_playing(alloc, asked);
     };
     let time = time_of(elapsed(part, library), seeking);
     let frame = frame_at(&library.rate, time);
-    Plan::does(alloc, asked, Effect::Seeks(place, frame))
+    Transition::does(alloc, asked, CommandEffect::Seeks(place, frame))
 }
 
 /// The time that a place in a song is counted from, in thousandths of a second.
@@ -186,14 +186,14 @@ pub fn current_song(
     asked: Asked,
     part: &Part,
     library: &Library,
-) -> Result<Plan, AllocError>
-    ensures { IfOk result (λ plan. plan ≡ turn_by (current_song_lem asked part.now library.now)) }
+) -> Result<Transition, AllocError>
+    ensures { IfOk result (λ transition. transition ≡ transition_by (current_song_lem asked part.now library.now)) }
 {
     let mut lines = Answer::new(alloc);
     if let Some(place) = current_place(part) {
         push_place_lines(alloc, &mut lines, part, library, place)?;
     }
-    Plan::shows(asked, lines)
+    Transition::shows(asked, lines)
 }
 
 fn push_place_lines(
@@ -211,8 +211,8 @@ fn push_place_lines(
     }
 }
 
-pub fn clear_error(alloc: Global, asked: Asked) -> Result<Plan, AllocError>
-    ensures { IfOk result (λ plan. plan ≡ turn_by (clear_error_lem asked)) }
+pub fn clear_error(alloc: Global, asked: Asked) -> Result<Transition, AllocError>
+    ensures { IfOk result (λ transition. transition ≡ transition_by (clear_error_lem asked)) }
 {
-    Plan::does(alloc, asked, Effect::ClearsError)
+    Transition::does(alloc, asked, CommandEffect::ClearsError)
 }

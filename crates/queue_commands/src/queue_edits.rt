@@ -1,25 +1,25 @@
 //! The commands that edit the queue (MPD protocol reference, The queue).
-ghost use Rattle.player_state.specs.declared.doing.Doing.TheVariants.{ByCommand};
-ghost use Rattle.player_state.specs.declared.doing.Effect.TheVariants.{Rests};
+ghost use Rattle.player_state.specs.declared.effect.Effect.TheVariants.{ByCommand};
+ghost use Rattle.player_state.specs.declared.effect.CommandEffect.TheVariants.{Rests};
 ghost use Rattle.std.specs.Prelude.{◌≡◌, ◌≤◌, ◌<◌, ◌∷◌, [], Option, Some, None, IfOk, IfSome, IfNone, All, length, map, ◌+◌};
 ghost use Rattle.std.specs.Option.{option_copied};
 ghost use Rattle.song_queue.specs.State.{queue_of};
-ghost use Rattle.command_plan.specs.Deeds.{edits};
-ghost use Rattle.player_state.specs.declared.doing.Effect.{Effect};
+ghost use Rattle.transitions.specs.CommandResults.{edits};
+ghost use Rattle.player_state.specs.declared.effect.CommandEffect.{CommandEffect};
 ghost use Rattle.queue_commands.specs.Queue.{add as add_lem, add_folder as add_folder_lem, add_songs, lack as lack_lem, add_id as add_id_lem, insert_song as insert_song_lem, insert_after as insert_after_lem, insert_at as insert_at_lem, insert_before as insert_before_lem, current_place as current_place_lem, no_current_song as no_current_song_lem, shuffle as shuffle_lem, clear as clear_lem, delete as delete_lem, delete_id as delete_id_lem, move as move_lem, move_id as move_id_lem, swap as swap_lem, swap_id as swap_id_lem, prio as prio_lem, prio_id as prio_id_lem, all_within, all_with_ids, place_with, with_room};
-ghost use Rattle.command_plan.specs.Turns.{turn_by};
-ghost use Rattle.player_state.specs.Plans.{Fits};
+ghost use Rattle.transitions.specs.Transitions.{transition_by};
+ghost use Rattle.player_state.specs.Fits.{Fits};
 
 use crate::queue_songs::places_of;
-use command_plan::{Asked, Plan};
 use mpd_command::{Place, Uri};
 use mpd_text::{Answer, ErrorNumber, Range, Sequence};
-use player_state::{Effect, Library, Part};
+use player_state::{CommandEffect, Library, Part};
 use song_db::SharedSong;
 use song_queue::{Edit, Queue};
 use song_search::{is_folder, under};
 use std::alloc::{AllocError, Global};
 use std::ops;
+use transitions::{Asked, Transition};
 
 pub fn add(
     alloc: Global,
@@ -27,9 +27,9 @@ pub fn add(
     part: &Part,
     library: &Library,
     uri: &Uri,
-) -> Result<Plan, AllocError>
-    ensures plan { IfOk result (λ plan. plan ≡ turn_by (add_lem asked part.now library.now uri.now.0)) }
-    ensures fits { IfOk result (λ plan. Fits part.now plan.doing) }
+) -> Result<Transition, AllocError>
+    ensures transition { IfOk result (λ transition. transition ≡ transition_by (add_lem asked part.now library.now uri.now.0)) }
+    ensures fits { IfOk result (λ transition. Fits part.now transition.effect) }
 {
     match library.songs.db().share(uri.0.as_str())? {
         Some(song) => {
@@ -47,19 +47,19 @@ fn add_folder(
     part: &Part,
     library: &Library,
     folder: &str,
-) -> Result<Plan, AllocError>
-    ensures plan { IfOk result (λ plan. plan ≡ turn_by (add_folder_lem asked part.now library.now folder.now)) }
-    ensures fits { IfOk result (λ plan. Fits part.now plan.doing) }
+) -> Result<Transition, AllocError>
+    ensures transition { IfOk result (λ transition. transition ≡ transition_by (add_folder_lem asked part.now library.now folder.now)) }
+    ensures fits { IfOk result (λ transition. Fits part.now transition.effect) }
 {
     if !is_folder(library.songs.db(), folder) {
-        return Plan::no_such_song(alloc, asked);
+        return Transition::no_such_song(alloc, asked);
     }
     let songs = under(library.songs.db(), folder);
     if let Some(text) = lack(part, songs.len()) {
-        return Plan::refuses(alloc, asked, ErrorNumber::PlaylistMax, text);
+        return Transition::refuses(alloc, asked, ErrorNumber::PlaylistMax, text);
     }
     let edit = Edit::Insert(part.queue.len(), shares(alloc, songs)?);
-    Plan::edits(asked, edit, Answer::new(alloc))
+    Transition::edits(asked, edit, Answer::new(alloc))
 }
 
 /// A handle to each of some songs.
@@ -79,15 +79,15 @@ pub fn add_found(
     asked: Asked,
     part: &Part,
     songs: &[&SharedSong],
-) -> Result<Plan, AllocError>
-    ensures plan { IfOk result (λ plan. plan ≡ turn_by (add_songs asked part.now (map (λ song. song.now) songs.now))) }
-    ensures fits { IfOk result (λ plan. Fits part.now plan.doing) }
+) -> Result<Transition, AllocError>
+    ensures transition { IfOk result (λ transition. transition ≡ transition_by (add_songs asked part.now (map (λ song. song.now) songs.now))) }
+    ensures fits { IfOk result (λ transition. Fits part.now transition.effect) }
 {
     if let Some(text) = lack(part, songs.len()) {
-        return Plan::refuses(alloc, asked, ErrorNumber::PlaylistMax, text);
+        return Transition::refuses(alloc, asked, ErrorNumber::PlaylistMax, text);
     }
     let edit = Edit::Insert(part.queue.len(), shares_of_found(alloc, songs)?);
-    Plan::edits(asked, edit, Answer::new(alloc))
+    Transition::edits(asked, edit, Answer::new(alloc))
 }
 
 /// Adds songs of a stored playlist.
@@ -96,15 +96,15 @@ pub fn add_loaded(
     asked: Asked,
     part: &Part,
     songs: Vec<SharedSong>,
-) -> Result<Plan, AllocError>
-    ensures plan { IfOk result (λ plan. plan ≡ turn_by (add_songs asked part.now songs.items)) }
-    ensures fits { IfOk result (λ plan. Fits part.now plan.doing) }
+) -> Result<Transition, AllocError>
+    ensures transition { IfOk result (λ transition. transition ≡ transition_by (add_songs asked part.now songs.items)) }
+    ensures fits { IfOk result (λ transition. Fits part.now transition.effect) }
 {
     if let Some(text) = lack(part, songs.len()) {
-        return Plan::refuses(alloc, asked, ErrorNumber::PlaylistMax, text);
+        return Transition::refuses(alloc, asked, ErrorNumber::PlaylistMax, text);
     }
     let edit = Edit::Insert(part.queue.len(), shares(alloc, &songs)?);
-    Plan::edits(asked, edit, Answer::new(alloc))
+    Transition::edits(asked, edit, Answer::new(alloc))
 }
 
 /// A handle to each of some songs that were found.
@@ -140,17 +140,17 @@ fn insert_one(
     song: SharedSong,
     place: usize,
     lines: Answer,
-) -> Result<Plan, AllocError>
+) -> Result<Transition, AllocError>
     requires { place ≤ length (queue_of part.now.queue) }
-    ensures plan { IfOk result (λ plan. plan ≡ turn_by (with_room asked part.now 1 (edits asked (Edit.Insert place (song ∷ [])) lines))) }
-    ensures fits { IfOk result (λ plan. Fits part.now plan.doing) }
+    ensures transition { IfOk result (λ transition. transition ≡ transition_by (with_room asked part.now 1 (edits asked (Edit.Insert place (song ∷ [])) lines))) }
+    ensures fits { IfOk result (λ transition. Fits part.now transition.effect) }
 {
     if let Some(text) = lack(part, 1) {
-        return Plan::refuses(alloc, asked, ErrorNumber::PlaylistMax, text);
+        return Transition::refuses(alloc, asked, ErrorNumber::PlaylistMax, text);
     }
     let mut songs = Sequence::new(alloc);
     songs.push(song).map_err(AllocError::from)?;
-    Plan::edits(asked, Edit::Insert(place, songs), lines)
+    Transition::edits(asked, Edit::Insert(place, songs), lines)
 }
 
 pub fn add_id(
@@ -160,13 +160,13 @@ pub fn add_id(
     library: &Library,
     uri: &Uri,
     place: Option<Place>,
-) -> Result<Plan, AllocError>
-    ensures plan { IfOk result (λ plan. plan ≡ turn_by (add_id_lem asked part.now library.now uri.now.0 place)) }
-    ensures fits { IfOk result (λ plan. Fits part.now plan.doing) }
+) -> Result<Transition, AllocError>
+    ensures transition { IfOk result (λ transition. transition ≡ transition_by (add_id_lem asked part.now library.now uri.now.0 place)) }
+    ensures fits { IfOk result (λ transition. Fits part.now transition.effect) }
 {
     match library.songs.db().share(uri.0.as_str())? {
         Some(song) => insert_song(alloc, asked, part, song, place),
-        None => Plan::no_such_song(alloc, asked),
+        None => Transition::no_such_song(alloc, asked),
     }
 }
 
@@ -176,9 +176,9 @@ fn insert_song(
     part: &Part,
     song: SharedSong,
     place: Option<Place>,
-) -> Result<Plan, AllocError>
-    ensures plan { IfOk result (λ plan. plan ≡ turn_by (insert_song_lem asked part.now song place)) }
-    ensures fits { IfOk result (λ plan. Fits part.now plan.doing) }
+) -> Result<Transition, AllocError>
+    ensures transition { IfOk result (λ transition. transition ≡ transition_by (insert_song_lem asked part.now song place)) }
+    ensures fits { IfOk result (λ transition. Fits part.now transition.effect) }
 {
     match place {
         None => insert_at(alloc, asked, part, song, part.queue.len()),
@@ -195,15 +195,15 @@ fn insert_after(
     part: &Part,
     song: SharedSong,
     steps: usize,
-) -> Result<Plan, AllocError>
-    ensures plan { IfOk result (λ plan. plan ≡ turn_by (insert_after_lem asked part.now song (current_place_lem part.now) steps)) }
-    ensures fits { IfOk result (λ plan. Fits part.now plan.doing) }
+) -> Result<Transition, AllocError>
+    ensures transition { IfOk result (λ transition. transition ≡ transition_by (insert_after_lem asked part.now song (current_place_lem part.now) steps)) }
+    ensures fits { IfOk result (λ transition. Fits part.now transition.effect) }
 {
     let Some(place) = current_place(part) else {
         return no_current_song(alloc, asked);
     };
     if steps >= part.queue.len() - place {
-        return Plan::bad_index(alloc, asked);
+        return Transition::bad_index(alloc, asked);
     }
     insert_at(alloc, asked, part, song, place + 1 + steps)
 }
@@ -215,15 +215,15 @@ fn insert_before(
     part: &Part,
     song: SharedSong,
     steps: usize,
-) -> Result<Plan, AllocError>
-    ensures plan { IfOk result (λ plan. plan ≡ turn_by (insert_before_lem asked part.now song (current_place_lem part.now) steps)) }
-    ensures fits { IfOk result (λ plan. Fits part.now plan.doing) }
+) -> Result<Transition, AllocError>
+    ensures transition { IfOk result (λ transition. transition ≡ transition_by (insert_before_lem asked part.now song (current_place_lem part.now) steps)) }
+    ensures fits { IfOk result (λ transition. Fits part.now transition.effect) }
 {
     let Some(place) = current_place(part) else {
         return no_current_song(alloc, asked);
     };
     if place < steps {
-        return Plan::bad_index(alloc, asked);
+        return Transition::bad_index(alloc, asked);
     }
     insert_at(alloc, asked, part, song, place - steps)
 }
@@ -236,11 +236,11 @@ pub(crate) fn current_place(part: &Part) -> Option<usize>
     part.queue.position_of(part.player.current()?)
 }
 
-fn no_current_song(alloc: Global, asked: Asked) -> Result<Plan, AllocError>
-    ensures plan { IfOk result (λ plan. plan ≡ turn_by (no_current_song_lem asked)) }
-    ensures rests { IfOk result (λ plan. plan.doing ≡ ByCommand Rests) }
+fn no_current_song(alloc: Global, asked: Asked) -> Result<Transition, AllocError>
+    ensures transition { IfOk result (λ transition. transition ≡ transition_by (no_current_song_lem asked)) }
+    ensures rests { IfOk result (λ transition. transition.effect ≡ ByCommand Rests) }
 {
-    Plan::refuses(alloc, asked, ErrorNumber::PlayerSync, "no current song")
+    Transition::refuses(alloc, asked, ErrorNumber::PlayerSync, "no current song")
 }
 
 /// Puts a song in at a place, and tells its id.
@@ -250,46 +250,56 @@ fn insert_at(
     part: &Part,
     song: SharedSong,
     place: usize,
-) -> Result<Plan, AllocError>
-    ensures plan { IfOk result (λ plan. plan ≡ turn_by (insert_at_lem asked part.now song place)) }
-    ensures fits { IfOk result (λ plan. Fits part.now plan.doing) }
+) -> Result<Transition, AllocError>
+    ensures transition { IfOk result (λ transition. transition ≡ transition_by (insert_at_lem asked part.now song place)) }
+    ensures fits { IfOk result (λ transition. Fits part.now transition.effect) }
 {
     if place > part.queue.len() {
-        return Plan::bad_index(alloc, asked);
+        return Transition::bad_index(alloc, asked);
     }
     let mut lines = Answer::new(alloc);
     lines.pair("Id", u64::from(part.queue.greatest_id()) + 1)?;
     insert_one(alloc, asked, part, song, place, lines)
 }
 
-pub fn clear(alloc: Global, asked: Asked, part: &Part) -> Result<Plan, AllocError>
-    ensures plan { IfOk result (λ plan. plan ≡ turn_by (clear_lem asked part.now)) }
-    ensures fits { IfOk result (λ plan. Fits part.now plan.doing) }
+pub fn clear(alloc: Global, asked: Asked, part: &Part) -> Result<Transition, AllocError>
+    ensures transition { IfOk result (λ transition. transition ≡ transition_by (clear_lem asked part.now)) }
+    ensures fits { IfOk result (λ transition. Fits part.now transition.effect) }
 {
     let edit = Edit::Remove(0, part.queue.len());
-    Plan::edits(asked, edit, Answer::new(alloc))
+    Transition::edits(asked, edit, Answer::new(alloc))
 }
 
-pub fn delete(alloc: Global, asked: Asked, part: &Part, range: Range) -> Result<Plan, AllocError>
-    ensures plan { IfOk result (λ plan. plan ≡ turn_by (delete_lem asked part.now range)) }
-    ensures fits { IfOk result (λ plan. Fits part.now plan.doing) }
+pub fn delete(
+    alloc: Global,
+    asked: Asked,
+    part: &Part,
+    range: Range,
+) -> Result<Transition, AllocError>
+    ensures transition { IfOk result (λ transition. transition ≡ transition_by (delete_lem asked part.now range)) }
+    ensures fits { IfOk result (λ transition. Fits part.now transition.effect) }
 {
     let Some(places) = range.within(part.queue.len()) else {
-        return Plan::bad_index(alloc, asked);
+        return Transition::bad_index(alloc, asked);
     };
     let edit = Edit::Remove(places.start, places.end);
-    Plan::edits(asked, edit, Answer::new(alloc))
+    Transition::edits(asked, edit, Answer::new(alloc))
 }
 
-pub fn delete_id(alloc: Global, asked: Asked, part: &Part, id: u32) -> Result<Plan, AllocError>
-    ensures plan { IfOk result (λ plan. plan ≡ turn_by (delete_id_lem asked part.now id)) }
-    ensures fits { IfOk result (λ plan. Fits part.now plan.doing) }
+pub fn delete_id(
+    alloc: Global,
+    asked: Asked,
+    part: &Part,
+    id: u32,
+) -> Result<Transition, AllocError>
+    ensures transition { IfOk result (λ transition. transition ≡ transition_by (delete_id_lem asked part.now id)) }
+    ensures fits { IfOk result (λ transition. Fits part.now transition.effect) }
 {
     let Some(place) = part.queue.position_of(id) else {
-        return Plan::no_such_song(alloc, asked);
+        return Transition::no_such_song(alloc, asked);
     };
     let edit = Edit::Remove(place, place + 1);
-    Plan::edits(asked, edit, Answer::new(alloc))
+    Transition::edits(asked, edit, Answer::new(alloc))
 }
 
 pub fn move_range(
@@ -298,20 +308,20 @@ pub fn move_range(
     part: &Part,
     range: Range,
     to: u32,
-) -> Result<Plan, AllocError>
-    ensures plan { IfOk result (λ plan. plan ≡ turn_by (move_lem asked part.now range to)) }
-    ensures fits { IfOk result (λ plan. Fits part.now plan.doing) }
+) -> Result<Transition, AllocError>
+    ensures transition { IfOk result (λ transition. transition ≡ transition_by (move_lem asked part.now range to)) }
+    ensures fits { IfOk result (λ transition. Fits part.now transition.effect) }
 {
     let len = part.queue.len();
     let to = to as usize;
     let Some(places) = range.within(len) else {
-        return Plan::bad_index(alloc, asked);
+        return Transition::bad_index(alloc, asked);
     };
     let ops::Range { start, end } = places;
     if start < end && to > len - (end - start) {
-        return Plan::bad_index(alloc, asked);
+        return Transition::bad_index(alloc, asked);
     }
-    Plan::edits(asked, Edit::Move(start, end, to), Answer::new(alloc))
+    Transition::edits(asked, Edit::Move(start, end, to), Answer::new(alloc))
 }
 
 pub fn move_id(
@@ -320,19 +330,19 @@ pub fn move_id(
     part: &Part,
     id: u32,
     to: u32,
-) -> Result<Plan, AllocError>
-    ensures plan { IfOk result (λ plan. plan ≡ turn_by (move_id_lem asked part.now id to)) }
-    ensures fits { IfOk result (λ plan. Fits part.now plan.doing) }
+) -> Result<Transition, AllocError>
+    ensures transition { IfOk result (λ transition. transition ≡ transition_by (move_id_lem asked part.now id to)) }
+    ensures fits { IfOk result (λ transition. Fits part.now transition.effect) }
 {
     let to = to as usize;
     if to >= part.queue.len() {
-        return Plan::bad_index(alloc, asked);
+        return Transition::bad_index(alloc, asked);
     }
     let Some(place) = part.queue.position_of(id) else {
-        return Plan::no_such_song(alloc, asked);
+        return Transition::no_such_song(alloc, asked);
     };
     let edit = Edit::Move(place, place + 1, to);
-    Plan::edits(asked, edit, Answer::new(alloc))
+    Transition::edits(asked, edit, Answer::new(alloc))
 }
 
 /// Shuffles the songs of a range, or all.
@@ -341,15 +351,19 @@ pub fn shuffle(
     asked: Asked,
     part: &Part,
     range: Option<Range>,
-) -> Result<Plan, AllocError>
-    ensures plan { IfOk result (λ plan. plan ≡ turn_by (shuffle_lem asked part.now range)) }
-    ensures fits { IfOk result (λ plan. Fits part.now plan.doing) }
+) -> Result<Transition, AllocError>
+    ensures transition { IfOk result (λ transition. transition ≡ transition_by (shuffle_lem asked part.now range)) }
+    ensures fits { IfOk result (λ transition. Fits part.now transition.effect) }
 {
     let len = part.queue.len();
     let Some(places) = places_of(range, len) else {
-        return Plan::bad_index(alloc, asked);
+        return Transition::bad_index(alloc, asked);
     };
-    Plan::does(alloc, asked, Effect::Shuffles(places.start, places.end))
+    Transition::does(
+        alloc,
+        asked,
+        CommandEffect::Shuffles(places.start, places.end),
+    )
 }
 
 pub fn swap(
@@ -358,17 +372,17 @@ pub fn swap(
     part: &Part,
     first: u32,
     second: u32,
-) -> Result<Plan, AllocError>
-    ensures plan { IfOk result (λ plan. plan ≡ turn_by (swap_lem asked part.now first second)) }
-    ensures fits { IfOk result (λ plan. Fits part.now plan.doing) }
+) -> Result<Transition, AllocError>
+    ensures transition { IfOk result (λ transition. transition ≡ transition_by (swap_lem asked part.now first second)) }
+    ensures fits { IfOk result (λ transition. Fits part.now transition.effect) }
 {
     let (first, second) = (first as usize, second as usize);
     let len = part.queue.len();
     if first >= len || second >= len {
-        return Plan::bad_index(alloc, asked);
+        return Transition::bad_index(alloc, asked);
     }
     let edit = Edit::Swap(first, second);
-    Plan::edits(asked, edit, Answer::new(alloc))
+    Transition::edits(asked, edit, Answer::new(alloc))
 }
 
 pub fn swap_id(
@@ -377,18 +391,18 @@ pub fn swap_id(
     part: &Part,
     first: u32,
     second: u32,
-) -> Result<Plan, AllocError>
-    ensures plan { IfOk result (λ plan. plan ≡ turn_by (swap_id_lem asked part.now first second)) }
-    ensures fits { IfOk result (λ plan. Fits part.now plan.doing) }
+) -> Result<Transition, AllocError>
+    ensures transition { IfOk result (λ transition. transition ≡ transition_by (swap_id_lem asked part.now first second)) }
+    ensures fits { IfOk result (λ transition. Fits part.now transition.effect) }
 {
     let Some(first) = part.queue.position_of(first) else {
-        return Plan::no_such_song(alloc, asked);
+        return Transition::no_such_song(alloc, asked);
     };
     let Some(second) = part.queue.position_of(second) else {
-        return Plan::no_such_song(alloc, asked);
+        return Transition::no_such_song(alloc, asked);
     };
     let edit = Edit::Swap(first, second);
-    Plan::edits(asked, edit, Answer::new(alloc))
+    Transition::edits(asked, edit, Answer::new(alloc))
 }
 
 pub fn prio(
@@ -397,15 +411,15 @@ pub fn prio(
     part: &Part,
     priority: u8,
     ranges: &[Range],
-) -> Result<Plan, AllocError>
-    ensures plan { IfOk result (λ plan. plan ≡ turn_by (prio_lem asked part.now priority ranges.now)) }
-    ensures fits { IfOk result (λ plan. Fits part.now plan.doing) }
+) -> Result<Transition, AllocError>
+    ensures transition { IfOk result (λ transition. transition ≡ transition_by (prio_lem asked part.now priority ranges.now)) }
+    ensures fits { IfOk result (λ transition. Fits part.now transition.effect) }
 {
     let Some(places) = places_of_ranges(alloc, ranges, part.queue.len())? else {
-        return Plan::bad_index(alloc, asked);
+        return Transition::bad_index(alloc, asked);
     };
     let edit = Edit::Prioritize(places, priority);
-    Plan::edits(asked, edit, Answer::new(alloc))
+    Transition::edits(asked, edit, Answer::new(alloc))
 }
 
 /// The places of ranges, if all of them are in a list of so many items.
@@ -433,15 +447,15 @@ pub fn prio_id(
     part: &Part,
     priority: u8,
     ids: &[u32],
-) -> Result<Plan, AllocError>
-    ensures plan { IfOk result (λ plan. plan ≡ turn_by (prio_id_lem asked part.now priority ids.now)) }
-    ensures fits { IfOk result (λ plan. Fits part.now plan.doing) }
+) -> Result<Transition, AllocError>
+    ensures transition { IfOk result (λ transition. transition ≡ transition_by (prio_id_lem asked part.now priority ids.now)) }
+    ensures fits { IfOk result (λ transition. Fits part.now transition.effect) }
 {
     let Some(places) = places_of_ids(alloc, &part.queue, ids)? else {
-        return Plan::no_such_song(alloc, asked);
+        return Transition::no_such_song(alloc, asked);
     };
     let edit = Edit::Prioritize(places, priority);
-    Plan::edits(asked, edit, Answer::new(alloc))
+    Transition::edits(asked, edit, Answer::new(alloc))
 }
 
 /// The places of the songs with these ids, if all of them are in the queue.

@@ -6,15 +6,15 @@ ghost use Rattle.song_queue.specs.Entries.{row_of, rows_at};
 ghost use Rattle.song_queue.specs.State.{queue_of, changed};
 ghost use Rattle.queue_commands.specs.Queue.{changed_places as changed_places_lem, changes as changes_lem, entry_lines, is_between, playlist_id as playlist_id_lem, playlist_info as playlist_info_lem, place_lines, priority_line, range_or_all, show_changed as show_changed_lem, show_places as show_places_lem};
 ghost use Rattle.queue_commands.specs.Shown.{row_lines};
-ghost use Rattle.command_plan.specs.Turns.{turn_by};
+ghost use Rattle.transitions.specs.Transitions.{transition_by};
 
-use command_plan::{Asked, Plan};
 use mpd_text::{Answer, Range};
 use player_state::{Library, Part};
 use song_db::push_song;
 use song_queue::{Entry, Queue};
 use std::alloc::{AllocError, Global};
 use std::ops;
+use transitions::{Asked, Transition};
 
 /// What is shown of an entry.
 #[derive(Clone, Copy)]
@@ -31,12 +31,12 @@ pub fn playlist_info(
     part: &Part,
     library: &Library,
     range: Option<Range>,
-) -> Result<Plan, AllocError>
-    ensures { IfOk result (λ plan. plan ≡ turn_by (playlist_info_lem asked part.now library.now range)) }
+) -> Result<Transition, AllocError>
+    ensures { IfOk result (λ transition. transition ≡ transition_by (playlist_info_lem asked part.now library.now range)) }
 {
     match places_of(range, part.queue.len()) {
         Some(places) => show_places(alloc, asked, part, library, places),
-        None => Plan::bad_index(alloc, asked),
+        None => Transition::bad_index(alloc, asked),
     }
 }
 
@@ -46,15 +46,15 @@ pub fn playlist_id(
     part: &Part,
     library: &Library,
     id: Option<u32>,
-) -> Result<Plan, AllocError>
-    ensures { IfOk result (λ plan. plan ≡ turn_by (playlist_id_lem asked part.now library.now id)) }
+) -> Result<Transition, AllocError>
+    ensures { IfOk result (λ transition. transition ≡ transition_by (playlist_id_lem asked part.now library.now id)) }
 {
     let Some(id) = id else {
         return playlist_info(alloc, asked, part, library, None);
     };
     match part.queue.position_of(id) {
         Some(place) => show_places(alloc, asked, part, library, place..place + 1),
-        None => Plan::no_such_song(alloc, asked),
+        None => Transition::no_such_song(alloc, asked),
     }
 }
 
@@ -75,12 +75,12 @@ fn show_places(
     part: &Part,
     library: &Library,
     places: ops::Range<usize>,
-) -> Result<Plan, AllocError>
-    ensures { IfOk result (λ plan. plan ≡ turn_by (show_places_lem asked part.now library.now (Some places))) }
+) -> Result<Transition, AllocError>
+    ensures { IfOk result (λ transition. transition ≡ transition_by (show_places_lem asked part.now library.now (Some places))) }
 {
     let places: Vec<usize> = places.collect(alloc)?;
     let lines = rows(alloc, &part.queue, library, &places, Shown::Song)?;
-    Plan::shows(asked, lines)
+    Transition::shows(asked, lines)
 }
 
 pub fn changes(
@@ -90,8 +90,8 @@ pub fn changes(
     library: &Library,
     version: u32,
     range: Option<Range>,
-) -> Result<Plan, AllocError>
-    ensures { IfOk result (λ plan. plan ≡ turn_by (changes_lem asked part.now library.now version range)) }
+) -> Result<Transition, AllocError>
+    ensures { IfOk result (λ transition. transition ≡ transition_by (changes_lem asked part.now library.now version range)) }
 {
     show_changed(alloc, asked, part, library, version, range, Shown::Song)
 }
@@ -103,8 +103,8 @@ pub fn changed_places(
     library: &Library,
     version: u32,
     range: Option<Range>,
-) -> Result<Plan, AllocError>
-    ensures { IfOk result (λ plan. plan ≡ turn_by (changed_places_lem asked part.now version range)) }
+) -> Result<Transition, AllocError>
+    ensures { IfOk result (λ transition. transition ≡ transition_by (changed_places_lem asked part.now version range)) }
 {
     show_changed(alloc, asked, part, library, version, range, Shown::Place)
 }
@@ -118,15 +118,15 @@ fn show_changed(
     version: u32,
     range: Option<Range>,
     shown: Shown,
-) -> Result<Plan, AllocError>
-    ensures { IfOk result (λ plan. plan ≡ turn_by (show_changed_lem asked part.now (row_lines shown library.now.rate) version (range_or_all range (length (queue_of part.now.queue))))) }
+) -> Result<Transition, AllocError>
+    ensures { IfOk result (λ transition. transition ≡ transition_by (show_changed_lem asked part.now (row_lines shown library.now.rate) version (range_or_all range (length (queue_of part.now.queue))))) }
 {
     let Some(places) = places_of(range, part.queue.len()) else {
-        return Plan::bad_index(alloc, asked);
+        return Transition::bad_index(alloc, asked);
     };
     let changed = changed_within(alloc, &part.queue, version, &places)?;
     let lines = rows(alloc, &part.queue, library, &changed, shown)?;
-    Plan::shows(asked, lines)
+    Transition::shows(asked, lines)
 }
 
 /// The changed places that lie in a range, rising.

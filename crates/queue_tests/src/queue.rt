@@ -77,7 +77,8 @@ fn shown(queue: &Queue, alloc: Global, what: &str, number: u32) -> Result<String
     }
 }
 
-/// What a step tells: an edit, or `show` and what is asked for: `ids`, or, with a number, `new`, `size`, `place` or `id`.
+/// What a step tells: an edit, or `show` and what is asked for: `ids`, or, with a number, `new`, `size`,
+/// `place` or `id`.
 fn step(queue: &mut Queue, alloc: Global, line: &str) -> Result<String, AllocError> {
     let (word, rest) = first_word(line);
     if word == "show" {

@@ -1,7 +1,7 @@
 //! Entries that are moved, and entries that get a priority.
 //!
-//! Each edit tells one line: whether it was done, the version and the parity, each entry's id and priority, and the places of slots
-//! new since the version before it.
+//! Each edit tells one line: whether it was done, the version and the parity, each entry's id and priority,
+//! and the places of slots new since the version before it.
 
 use crate::queues::{changed, count_changed, edit, empty, inserts, numbers, state};
 use crate::steps::{entry, first_word, number_of, push_line};

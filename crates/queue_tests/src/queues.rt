@@ -1,6 +1,7 @@
 //! Queues that are edited by steps.
 //!
-//! A step is a line, of a word and numbers, and tells what is answered and what is left. So few functions hold a queue.
+//! A step is a line, of a word and numbers, and tells what is answered and what is left. So few functions
+//! hold a queue.
 use crate::steps::{number_of, song};
 use song_db::SharedSong;
 use song_queue::{Queue, QueueFault};
@@ -90,8 +91,9 @@ pub fn nth(numbers: &[usize], place: usize) -> usize {
     }
 }
 
-/// What is answered to an edit, by its word: `insert` at a place so many, `remove` from a place to one, `swap` a place and another,
-/// `move` from a place to one to a place, and `prio` of a priority and any number of ranges.
+/// What is answered to an edit, by its word: `insert` at a place so many, `remove` from a place to one,
+/// `swap` a place and another, `move` from a place to one to a place, and `prio` of a priority and any number
+/// of ranges.
 pub fn edit(
     queue: &mut Queue,
     alloc: Global,

@@ -1,7 +1,7 @@
 //! What tests read of their steps, and what they need for them.
 //!
-//! A test gives one text, of which each line is a step, and wants one text. So it knows nothing of what it calls, and is cheap to
-//! prove. What a test needs and cannot make counts as want of memory.
+//! A test gives one text, of which each line is a step, and wants one text. So it knows nothing of what it
+//! calls, and is cheap to prove. What a test needs and cannot make counts as want of memory.
 use mpd_text::{Song, number};
 use song_queue::Queue;
 use std::alloc::{AllocError, Global};

@@ -5,8 +5,9 @@ ghost use Rattle.scan_report.specs.Speeds.{per_second as per_second_lem};
 use library_scan::Watcher;
 use std::time::{Clock, Instant};
 
-/// Tells on a terminal at standard error how far a scan is: the files and folders that were seen, and how many a second. It
-/// writes anew at most five times a second, and nothing in the first fifth, so a short scan says nothing.
+/// Tells on a terminal at standard error how far a scan is: the files and folders that were seen, and how
+/// many a second. It writes anew at most five times a second, and nothing in the first fifth, so a short scan
+/// says nothing.
 #[derive(Drop)]
 pub struct Progress<'a, R: Clock + Eprint> {
     rt: &'a R,

@@ -16,8 +16,8 @@ pub struct Report {
     pub refused: Answer,
 }
 
-/// What a scan at this rate prints: the lines of each song, and `URI: REFUSAL` for each file that is none, both in the order that the
-/// scan gave them.
+/// What a scan at this rate prints: the lines of each song, and `URI: REFUSAL` for each file that is none,
+/// both in the order that the scan gave them.
 pub fn report_of(alloc: Global, scanned: &Scanned, rate: &Rate) -> Result<Report, AllocError>
     ensures songs { IfOk result (λ r. r.songs ≡ all_song_lines rate.now scanned.now.songs.items) }
     ensures refused { IfOk result (λ r. r.refused ≡ all_refused_lines scanned.now.refused.items) }

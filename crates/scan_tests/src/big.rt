@@ -7,7 +7,8 @@ use song_search::{Count, counted, find, list_folder, listed, under};
 use std::alloc::Global;
 use std::process::Abort;
 
-/// The song of a number: in a folder of a thousand, with the greatest number of frames and an artist of hundred.
+/// The song of a number: in a folder of a thousand, with the greatest number of frames and an artist of
+/// hundred.
 fn numbered<R: Abort>(rt: &R, alloc: Global, number: u64) -> Song {
     let folder = number / 1_000;
     let uri = format!(in alloc; "{folder:03}/{number:06}.wav").expect(rt, "no memory");

@@ -34,7 +34,8 @@ pub fn repeated<R: Abort>(rt: &R, alloc: Global, text: &str, count: usize) -> St
     text.repeat(alloc, count).expect(rt, "no memory")
 }
 
-/// The tags of `NAME=TEXT`, with `;` between them; a name is its first letter, but `D` for Date and `C` for Comment.
+/// The tags of `NAME=TEXT`, with `;` between them; a name is its first letter, but `D` for Date and `C` for
+/// Comment.
 fn tags<R: Abort>(rt: &R, alloc: Global, given: &str) -> Vec<Tag> {
     let mut all = Vec::new(alloc);
     for one in given.split(';') {

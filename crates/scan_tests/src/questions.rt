@@ -7,7 +7,8 @@ use song_search::{Count, counted, find, is_folder, list_folder, listed, under};
 use std::alloc::Global;
 use std::process::Abort;
 
-/// Songs in folders: their URIs, frames and tags. The folder `a` comes before `a-b`, though `a-b/y.wav` comes before `a/x.wav`.
+/// Songs in folders: their URIs, frames and tags. The folder `a` comes before `a-b`, though `a-b/y.wav` comes
+/// before `a/x.wav`.
 const SONGS: [(&str, u64, &str); 10] = [
     ("a/x.wav", 8_000, "Artist=Zoe;Title=One"),
     ("a/deep/er/y.wav", 7_999, "Artist=zoe"),

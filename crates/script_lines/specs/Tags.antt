@@ -1,4 +1,5 @@
--- The tags of a song in a script (this profile's script; texts are taken as those of a RIFF WAVE file's INFO list).
+-- The tags of a song in a script (this profile's script; texts are taken as those of a RIFF WAVE file's INFO
+-- list).
 use Rattle.std.specs.Prelude.{ℕ, List, length, Option, Bool, ◌&&◌, nat_le, option_map, find}
 use Rattle.std.specs.List.{list_all, list_any, filter_map}
 use Rattle.std.specs.Str.{str_eq_ignore_ascii_case}

@@ -2,7 +2,8 @@
 ghost use Rattle.std.specs.Prelude.{◌≡◌, ◌<◌};
 ghost use Rattle.script_lines.specs.Cuts.{has_byte, before, after};
 
-/// What is before the first ASCII delimiter, and what is after it; the whole text and nothing where there is none.
+/// What is before the first ASCII delimiter, and what is after it; the whole text and nothing where there is
+/// none.
 pub(crate) fn cut(text: &str, delimiter: char) -> (&str, &str)
     requires { delimiter < 128 }
     ensures front { result.0.now ≡ before delimiter text.now }

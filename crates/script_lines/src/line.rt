@@ -16,7 +16,8 @@ pub enum ScriptLine<'a> {
 }
 
 impl<'a> ScriptLine<'a> {
-    /// Reads the head: one digit from `1` to `9`, or `!`. A line without a space is all head, and its rest is empty.
+    /// Reads the head: one digit from `1` to `9`, or `!`. A line without a space is all head, and its rest is
+    /// empty.
     #[tactic(auto, unfolding(crate::specs::Lines::script_line_of))]
     pub fn of(line: &'a str) -> ScriptLine<'a>
         ensures { shown result ≡ script_line_of line.now }

@@ -30,7 +30,8 @@ pub enum Step {
     Want,
     /// Of the job with the first number, so many frames are there.
     Have(u32, u32),
-    /// The song of the job with this number cannot be read, or, where true, that of the partner that is mixed in.
+    /// The song of the job with this number cannot be read, or, where true, that of the partner that is mixed
+    /// in.
     Failed(u32, bool),
     /// A turn of output 0: how many frames it wrote, how many it discarded, and whether it failed.
     Turn(u32, u32, bool),
@@ -39,8 +40,8 @@ pub enum Step {
 }
 
 impl Step {
-    /// The step that follows a step's head; `None` where it is bad: its words cannot be read, the first one names
-    /// no step, or the others are not what it takes. `Err` where memory runs out.
+    /// The step that follows a step's head; `None` where it is bad: its words cannot be read, the first one
+    /// names no step, or the others are not what it takes. `Err` where memory runs out.
     #[tactic(auto, unfolding(crate::specs::Steps::step_of))]
     pub fn of_line(alloc: Global, rest: &str) -> Result<Option<Step>, AllocError>
         ensures { IfOk result (λ step. step ≡ step_of rest.now) }

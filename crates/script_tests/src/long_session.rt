@@ -1,5 +1,5 @@
-//! One long session: bodies that give up with want of memory from some size on meet every clause, so that only a run shows
-//! that they go on.
+//! One long session: bodies that give up with want of memory from some size on meet every clause, so that
+//! only a run shows that they go on.
 
 use crate::runs::run_whole;
 use crate::wanted::wants;
@@ -39,8 +39,8 @@ fn filling(alloc: Global) -> Result<String, AllocError> {
     Ok(all)
 }
 
-/// What the session says: after the filling all entries are shown, then come lines that change nothing, and one of 16,000 bytes
-/// that names no song. The first entry leaves, and another client comes.
+/// What the session says: after the filling all entries are shown, then come lines that change nothing, and
+/// one of 16,000 bytes that names no song. The first entry leaves, and another client comes.
 fn says(alloc: Global) -> Result<String, AllocError> {
     let filling = filling(alloc)?;
     let pings = "1 ping\n".repeat(alloc, PINGS)?;
@@ -88,7 +88,8 @@ fn prints(alloc: Global, rows: &str) -> Result<String, AllocError> {
     format!(in alloc; "ok\n1 OK MPD 0.23.0\n{added}{rows}{pinged}{refused}1 OK\n{status}")
 }
 
-/// Whether the answer that shows all entries has more than 64 KiB, and whether the session ends well and prints what is wanted.
+/// Whether the answer that shows all entries has more than 64 KiB, and whether the session ends well and
+/// prints what is wanted.
 fn long_session(alloc: Global) -> Result<(bool, bool), AllocError> {
     let rows = rows(alloc)?;
     let wanted = prints(alloc, rows.as_str())?;

@@ -22,8 +22,8 @@ fn told(alloc: Global, end: &str, written: &[u8]) -> Result<String, AllocError> 
     format!(in alloc; "{end}\n{text}")
 }
 
-/// How a run of a script ends, and what it prints before that: `ok`, `read fault`, `write fault` or `no memory`, a newline, and
-/// what was written.
+/// How a run of a script ends, and what it prints before that: `ok`, `read fault`, `write fault` or `no
+/// memory`, a newline, and what was written.
 pub fn run(
     alloc: Global,
     input: &str,

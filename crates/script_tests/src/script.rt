@@ -3,7 +3,7 @@
 use crate::runs::{run, run_whole};
 use crate::wanted::wants;
 use counted_devices::FailurePoint;
-use daemon_script::runs_are_lived;
+use daemon_script::runs_are_traced;
 use mpd_text::MAX_LINE;
 use std::alloc::{AllocError, Global};
 
@@ -57,7 +57,7 @@ fn a_deletion_restamps_the_slots_after_it(rt: HostRuntime) {
 
 #[test]
 fn the_law_does_nothing() {
-    runs_are_lived();
+    runs_are_traced();
 }
 
 #[test]

@@ -85,8 +85,8 @@ fn the_peer_ends(rt: HostRuntime) -> Result<(), Fail> {
     Ok(())
 }
 
-/// Two stickers, and questions for their values: 2,047 for the first, whose value has 8,177 letters, and one for the second, whose value
-/// has so many letters.
+/// Two stickers, and questions for their values: 2,047 for the first, whose value has 8,177 letters, and one
+/// for the second, whose value has so many letters.
 fn questions(alloc: Global, last: usize) -> Result<Vec<u8>, AllocError> {
     let mut bytes = Vec::from_slice(alloc, b"sticker set song a.wav n ")?;
     bytes.extend_from_slice(&repeated(alloc, b'x', 8_177, b"\n")?)?;
@@ -99,10 +99,11 @@ fn questions(alloc: Global, last: usize) -> Result<Vec<u8>, AllocError> {
     Ok(bytes)
 }
 
-/// A client that takes nothing asks for the values of stickers, and then pings. An answer with a value has 15 bytes beside its letters:
-/// `sticker: n=`, two newlines and `OK`. So the first value makes 2,047 answers of 8,192 bytes, which are 8,192 bytes less than the
-/// 16,777,216 that may be unsent. The greeting has 14 bytes, and the answers to the two lines that set stickers and to the ping have 3
-/// each: with 8,154 letters in the second value the limit is met, and with 8,155 it is passed, by the answer to the ping.
+/// A client that takes nothing asks for the values of stickers, and then pings. An answer with a value has 15
+/// bytes beside its letters: `sticker: n=`, two newlines and `OK`. So the first value makes 2,047 answers of
+/// 8,192 bytes, which are 8,192 bytes less than the 16,777,216 that may be unsent. The greeting has 14 bytes,
+/// and the answers to the two lines that set stickers and to the ping have 3 each: with 8,154 letters in the
+/// second value the limit is met, and with 8,155 it is passed, by the answer to the ping.
 fn told_of_unsent<R: Wait>(rt: &R, alloc: Global, last: usize) -> Result<String, PartitionFault> {
     let bytes = questions(alloc, last)?;
     let steps = [

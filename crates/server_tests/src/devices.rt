@@ -71,7 +71,8 @@ fn a_writer_that_blocks_between(rt: HostRuntime) -> Result<(), Fail> {
     Ok(())
 }
 
-/// What a writer took that fails after so many bytes is the front of all answers, and then nothing more is written.
+/// What a writer took that fails after so many bytes is the front of all answers, and then nothing more is
+/// written.
 #[test]
 fn a_writer_that_fails(rt: HostRuntime) -> Result<(), Fail> {
     let alloc = rt.alloc();

@@ -30,7 +30,8 @@ OK
     Ok(())
 }
 
-/// A list prints nothing until its end; what stands in no list is an unknown command; an empty list is answered.
+/// A list prints nothing until its end; what stands in no list is an unknown command; an empty list is
+/// answered.
 #[test]
 fn list_words_in_other_places(rt: HostRuntime) -> Result<(), Fail> {
     let steps = [
@@ -91,8 +92,8 @@ fn an_open_list_is_not_run(rt: HostRuntime) -> Result<(), Fail> {
     Ok(())
 }
 
-/// A list of 128 lines of 16,384 bytes each, newlines counted, which is the most; behind them perhaps some more bytes, the end of the
-/// list, and a `ping`. What the lines hold is not shown.
+/// A list of 128 lines of 16,384 bytes each, newlines counted, which is the most; behind them perhaps some
+/// more bytes, the end of the list, and a `ping`. What the lines hold is not shown.
 fn told_of_large_list<R: Wait>(
     rt: &R,
     alloc: Global,

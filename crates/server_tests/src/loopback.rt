@@ -41,7 +41,8 @@ enum Party {
     Scan,
 }
 
-/// A house is served until a client ends the daemon, by a loop that another thread wakes, and a third makes the scans.
+/// A house is served until a client ends the daemon, by a loop that another thread wakes, and a third makes
+/// the scans.
 fn serves_in<
     L: Ledgers + Send + Sync + 'static,
     R: Threads + Wait + Net + Clock + Copy + Send + 'static,

@@ -28,7 +28,8 @@ OK
     Ok(())
 }
 
-/// A notice that waits stands in front of the answer to the next line, also where that line meets it on its way.
+/// A notice that waits stands in front of the answer to the next line, also where that line meets it on its
+/// way.
 #[test]
 fn a_notice_stands_in_front(rt: HostRuntime) -> Result<(), Fail> {
     let steps = [

@@ -8,7 +8,7 @@ use crate::summary::print_summary;
 use counted_devices::{Media, Sink};
 use counted_player::{Ledgers, Seat};
 use crew::{Crew, Scanner, close, let_go, start_decoder, start_outputs, start_scanner};
-use crew_steps::{Open, SongSource, stations};
+use crew_steps::{Open, SongSource, output_setups};
 use held_player::CrewShares;
 use house::House;
 use mpd_server::{ServeFault, Server, start_waker};
@@ -69,7 +69,8 @@ pub(crate) fn run<
     end(&rt, host, &house, &mut seat, crew, waking, served)
 }
 
-/// Starts the threads of the outputs and of the decoder. All that they are given is made before the first of them.
+/// Starts the threads of the outputs and of the decoder. All that they are given is made before the first of
+/// them.
 fn start_crew<
     L: Ledgers + Send + Sync + 'static,
     O: Sink + Drop + Send + 'static,
@@ -91,7 +92,7 @@ fn start_crew<
     requires discarded { (8 < shares.outputs.discarded.parts) × (shares.outputs.discarded.amount ≡ 0) }
 {
     let CrewShares { decoded, outputs } = shares;
-    let rings = stations(alloc, manner.ring, writers)?;
+    let rings = output_setups(alloc, manner.ring, writers)?;
     let gate = shared(alloc, Open)?;
     let (runs, feeders) = start_outputs(rt, alloc, house, &gate, rings, outputs)?;
     start_decoder::<L, N, M, R>(

@@ -24,9 +24,10 @@ use std::sync::ledger::Blank;
 use std::thread::Threads;
 use std::time::Clock;
 
-/// Scans the folder, listens, serves with this shelf until a client ends the daemon, and prints what became of each output's frames. Both
-/// handles are the program's: `rt` is what may wait and start threads, and `host` opens files and prints. Its type is written out, since
-/// what a thread takes with it may not rest on a bound of `R::File`.
+/// Scans the folder, listens, serves with this shelf until a client ends the daemon, and prints what became
+/// of each output's frames. Both handles are the program's: `rt` is what may wait and start threads, and
+/// `host` opens files and prints. Its type is written out, since what a thread takes with it may not rest on
+/// a bound of `R::File`.
 ///
 /// # Errors
 ///

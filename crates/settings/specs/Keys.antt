@@ -1,4 +1,5 @@
--- The keys of the settings, which are a text of TOML (TOML 1.1, Table and Array of Tables; the keys are this profile's).
+-- The keys of the settings, which are a text of TOML (TOML 1.1, Table and Array of Tables; the keys are this
+-- profile's).
 use Rattle.std.specs.Prelude.{ℕ, List, [], ◌∷◌, codes, pos, Bool, true, false, ◌&&◌, ◌+◌, nat_le, Option, Some, None, if◌then◌else◌}
 use Rattle.std.specs.Str.{bytes_eq}
 use Rattle.toml.specs.Data.{Data, string, integer, boolean, array, table, Items, no_items, item, Members, no_members, member, get_member}

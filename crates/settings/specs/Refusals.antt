@@ -18,8 +18,8 @@ pub record IsTaken (entries : Members) : Type 0 where
   pub good : bad settings_keys entries ≡ []
   pub whole : absent settings_keys entries ≡ []
 
--- a text is refused for a key: the empty one where it is not TOML, else the first bad one, and where none is bad the first
--- absent one
+-- a text is refused for a key: the empty one where it is not TOML, else the first bad one, and where none is
+-- bad the first absent one
 abbrev pub IsRefusedFor : Option Members → List ℕ → Type 0
 IsRefusedFor None name = name ≡ []
 IsRefusedFor (Some entries) name =

@@ -6,7 +6,8 @@ use song_db::Rate;
 pub struct Settings {
     /// The folder of the music.
     pub music: String,
-    /// Where clients connect, as `127.0.0.1:6600`. Any text is one here: whether it is an address is found at the start.
+    /// Where clients connect, as `127.0.0.1:6600`. Any text is one here: whether it is an address is found at
+    /// the start.
     pub listen: String,
     /// The file of the shelf, which is in memory where there is none.
     pub shelf: Option<String>,

@@ -1,4 +1,5 @@
--- The calls of a shelf, with the texts that each is given (MPD protocol reference, Stored playlists, Stickers).
+-- The calls of a shelf, with the texts that each is given (MPD protocol reference, Stored playlists,
+-- Stickers).
 use Rattle.std.specs.Prelude.{ℕ, List}
 
 pub data Call : Type 0 where

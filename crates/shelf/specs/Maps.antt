@@ -1,4 +1,5 @@
--- Stored playlists and stickers as two maps, and what each call answers and leaves of them (MPD protocol reference, Stored playlists, Stickers).
+-- Stored playlists and stickers as two maps, and what each call answers and leaves of them (MPD protocol
+-- reference, Stored playlists, Stickers).
 use Rattle.std.specs.Prelude.{◌≡◌, ◌⊎◌, ℕ, ◌+◌, ◌-◌, ◌^◌, ◌≤◌, min, nat_lt, nat_le, Bool, false, not, ◌&&◌, ◌||◌, ◌==◌, if◌then◌else◌, List, length, map, Option, Some, None, is_some, IsSome, IsTrue, Result, Ok, Err, bytes_eq}
 use Rattle.std.specs.Map.{update, lookup}
 use Rattle.std.specs.List.{list_any}
@@ -71,7 +72,8 @@ refusal_of_set name = if is_sticker_name name then None else Some BadName
 abbrev pub refusal_of_sticker : Maps → List ℕ → List ℕ → Option ShelfFault
 refusal_of_sticker m uri name = if is_some (m.stickers uri name) then None else Some NoSticker
 
--- Success means that nothing refuses, and a named refusal is the one that does; want of memory, and the store where it answered an error, may take its place.
+-- Success means that nothing refuses, and a named refusal is the one that does; want of memory, and the store
+-- where it answered an error, may take its place.
 abbrev pub Answers : {X : Type 0} → Type 0 → Option ShelfFault → Result X ShelfFault → Type 0
 Answers failed refusal (Ok x) = refusal ≡ None
 Answers failed refusal (Err NoMemory) = Unit {0}
@@ -118,7 +120,8 @@ Trusted old new = new.IsClean × old.IsOurs
 abbrev pub DeviceFailed : Standing → Standing → Type 0
 DeviceFailed old new = min (old.faults + 1) (2 ^ 64 - 1) ≤ new.faults
 
--- A call that is to turn the maps into `after`: it does, or changes nothing while the store is open. Only a failure of the device shuts the store. A stop during the call leaves the maps from before it or after it.
+-- A call that is to turn the maps into `after`: it does, or changes nothing while the store is open. Only a
+-- failure of the device shuts the store. A stop during the call leaves the maps from before it or after it.
 pub record Turns (old new : Standing) (is_done : Bool) (after : Maps) : Type 0 where
   pub clean : new.IsClean → old.IsClean
   pub counts : old.faults ≤ new.faults

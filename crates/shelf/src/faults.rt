@@ -5,7 +5,8 @@ ghost use Rattle.shelf.specs.declared.faults.ShelfFault.TheVariants.{NoMemory};
 
 use std::alloc::{AllocError, AllocFailed};
 
-/// Why a call of a shelf is refused. The first cause in this order is answered; want of memory comes last and may take the place of another.
+/// Why a call of a shelf is refused. The first cause in this order is answered; want of memory comes last and
+/// may take the place of another.
 #[derive(Debug, Clone, Copy, PartialEq, Eq, Drop)]
 pub enum ShelfFault {
     /// No stored playlist has the name.

@@ -10,8 +10,9 @@ use crate::uri_list::UriList;
 
 /// Stored playlists and stickers, as two maps: a name has a list of URIs, and a URI and a name have a text.
 ///
-/// Names are told apart, and listed, by their bytes. Each call is whole or changes nothing. A name that cannot be a list's, or a
-/// sticker's, is looked at by the calls that would put it on the shelf, and is missing for the others.
+/// Names are told apart, and listed, by their bytes. Each call is whole or changes nothing. A name that
+/// cannot be a list's, or a sticker's, is looked at by the calls that would put it on the shelf, and is
+/// missing for the others.
 pub trait Shelf {
     /// The maps, and what is known of the store that keeps them.
     ghost standing: { Self → Standing };
@@ -41,7 +42,8 @@ pub trait Shelf {
         ensures answers { Trusted (standing self.old) (standing self.new) → Answers (failed self.old self.new (Create name.now uris.now)) (refusal_of_create (standing self.old).maps name.now) result }
         ensures turns { Turns (standing self.old) (standing self.new) (is_ok result) (with_list (standing self.old).maps name.now (Some uris.now)) };
 
-    /// Gives a stored playlist another name. Refused, in this order: `NoSuchList`, `Exists` (also for its own name), `BadName`.
+    /// Gives a stored playlist another name. Refused, in this order: `NoSuchList`, `Exists` (also for its own
+    /// name), `BadName`.
     fn rename(&mut self, name: &str, new_name: &str) -> Result<(), ShelfFault>
         ensures answers { Trusted (standing self.old) (standing self.new) → Answers (failed self.old self.new (Rename name.now new_name.now)) (refusal_of_rename (standing self.old).maps name.now new_name.now) result }
         ensures turns { Turns (standing self.old) (standing self.new) (is_ok result) (with_renamed (standing self.old).maps name.now new_name.now) };

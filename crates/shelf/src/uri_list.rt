@@ -9,7 +9,8 @@ use std::marker::Model;
 
 /// The URIs of a stored playlist, in order, none of them with a newline. A clause sees the list of them.
 ///
-/// They are one text, so that a long list is one piece of memory. Calls that find no memory leave the list as it was.
+/// They are one text, so that a long list is one piece of memory. Calls that find no memory leave the list as
+/// it was.
 #[derive(Drop)]
 pub struct UriList {
     text: String,

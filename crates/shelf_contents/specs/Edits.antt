@@ -1,5 +1,6 @@
--- Lists made of others: of a queue, with more songs, without an entry, with one elsewhere; and the songs that a list has in a library
--- (MPD protocol reference, Stored playlists: `load`, `playlistadd`, `playlistdelete`, `playlistmove`, `save`).
+-- Lists made of others: of a queue, with more songs, without an entry, with one elsewhere; and the songs that
+-- a list has in a library (MPD protocol reference, Stored playlists: `load`, `playlistadd`, `playlistdelete`,
+-- `playlistmove`, `save`).
 use Rattle.std.specs.Prelude.{ℕ, List, [], map, slice_index_or}
 use Rattle.std.specs.List.{filter_map, slice_range, insert, remove}
 use Rattle.mpd_text.specs.Songs.Song.{SongData}
@@ -17,6 +18,7 @@ uris_of songs = map (λ (song : SongData). song.uri) songs
 abbrev pub moved : List (List ℕ) → ℕ → ℕ → List (List ℕ)
 moved uris from to = insert (remove uris from) to (slice_index_or uris from [])
 
--- the songs that the library has of the entries from start up to end; an entry whose song is gone is passed over, and counts
+-- the songs that the library has of the entries from start up to end; an entry whose song is gone is passed
+-- over, and counts
 abbrev pub loaded : List SongData → List (List ℕ) → ℕ → ℕ → List SongData
 loaded songs uris start end = filter_map (song_of songs) (slice_range uris start end)

@@ -1,4 +1,5 @@
--- The songs that have a sticker (MPD protocol reference, Stickers: `sticker find`; that values are compared by their bytes is this profile's).
+-- The songs that have a sticker (MPD protocol reference, Stickers: `sticker find`; that values are compared
+-- by their bytes is this profile's).
 use Rattle.std.specs.Prelude.{ℕ, Bool, true, ◌&&◌, List, ◌++◌, flat_map, filter, Option, Some, None, is_some, bytes_eq, if◌then◌else◌}
 use Rattle.std.specs.Cmp.Lexicographic.{slice_cmp}
 use Rattle.std.specs.Ordering.{nat_cmp, is_eq, is_lt, is_gt}
@@ -21,8 +22,8 @@ abbrev pub meets : Option Comparison → List ℕ → Bool
 meets None value = true
 meets (Some test) value = compares test.operator value test.value
 
--- whether a URI is asked for: a song by its own, and a folder by those of the songs under it. A name that is a song's is taken as the
--- song. Each lies under the empty one
+-- whether a URI is asked for: a song by its own, and a folder by those of the songs under it. A name that is
+-- a song's is taken as the song. Each lies under the empty one
 abbrev pub is_asked : Bool → List ℕ → List ℕ → Bool
 is_asked is_song asked uri = if is_song then bytes_eq uri asked else is_under asked uri
 

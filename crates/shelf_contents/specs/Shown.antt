@@ -1,5 +1,5 @@
--- The lines that show stored playlists and stickers (MPD protocol reference, Stored playlists: `listplaylist`, `listplaylistinfo`,
--- `listplaylists`; Stickers: `sticker get`, `sticker list`).
+-- The lines that show stored playlists and stickers (MPD protocol reference, Stored playlists:
+-- `listplaylist`, `listplaylistinfo`, `listplaylists`; Stickers: `sticker get`, `sticker list`).
 use Rattle.std.specs.Prelude.{ℕ, List, ◌++◌, codes, flat_map, Option, Some, None}
 use Rattle.mpd_text.specs.Answers.Answer.{pair_line}
 use Rattle.mpd_text.specs.Songs.Song.{SongData}

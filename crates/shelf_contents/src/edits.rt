@@ -1,4 +1,5 @@
-//! Lists made of others (MPD protocol reference, Stored playlists: `playlistadd`, `playlistdelete`, `playlistmove`, `save`).
+//! Lists made of others (MPD protocol reference, Stored playlists: `playlistadd`, `playlistdelete`,
+//! `playlistmove`, `save`).
 
 ghost use Rattle.std.specs.Prelude.{◌≡◌, ◌++◌, ◌∷◌, ◌<◌, IfOk, length, take, drop};
 ghost use Rattle.std.specs.List.{insert, remove};

@@ -13,8 +13,9 @@ use shelf::Entry;
 use song_db::Db;
 use std::alloc::{AllocError, Global};
 
-/// Of these stickers with a name, each under its URI: those of the song with `uri` or, where it is none, of the songs under it, whose
-/// values meet the test. Each is shown by its URI and the sticker, in the given order. All songs lie under the empty `uri`.
+/// Of these stickers with a name, each under its URI: those of the song with `uri` or, where it is none, of
+/// the songs under it, whose values meet the test. Each is shown by its URI and the sticker, in the given
+/// order. All songs lie under the empty `uri`.
 pub fn found_lines(
     alloc: Global,
     db: &Db,

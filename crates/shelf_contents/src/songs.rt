@@ -12,7 +12,8 @@ use shelf::{UriList, next_uri};
 use song_db::{Db, SharedSong};
 use std::alloc::{AllocError, Global};
 
-/// The songs of the entries from `start` up to `end`, in order. An entry whose song is gone is passed over; the range counts it.
+/// The songs of the entries from `start` up to `end`, in order. An entry whose song is gone is passed over;
+/// the range counts it.
 pub fn loaded(
     alloc: Global,
     db: &Db,

@@ -1,4 +1,5 @@
--- Why the statement of a rename is answered with an error: the row with the new name is not stored, or the steps are bounded.
+-- Why the statement of a rename is answered with an error: the row with the new name is not stored, or the
+-- steps are bounded.
 use Rattle.std.proofs.Common.{◌≡◌, ◌≢◌, ◌⊎◌, inl, inr, ℕ, List, [], ◌∷◌, true, false, find, is_some, Some, None, Option, Ok, Err, refl, sym, subst, ◌∙◌, IsSome}
 use Rattle.sqlite.specs.declared.error.Error.{Error}
 use Rattle.sqlite.specs.declared.error.Error.TheVariants.{SqliteFailure}

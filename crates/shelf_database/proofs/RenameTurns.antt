@@ -1,4 +1,5 @@
--- The turn of a rename: two queries, which say that the old name is there and the new one is not, and the statement.
+-- The turn of a rename: two queries, which say that the old name is there and the new one is not, and the
+-- statement.
 use Rattle.std.proofs.Common.{◌≡◌, ◌≤◌, ◌⊎◌, IsTrue, ℕ, List, [], ◌∷◌, Bool, true, false, Result, is_ok, is_some, sym, subst, ◌∙◌, arith}
 use Rattle.std.specs.Str.{IsUtf8}
 use Rattle.shelf.specs.declared.faults.ShelfFault.{ShelfFault}

@@ -1,4 +1,5 @@
--- What a connection shows after a write that is one statement, whatever it answered, and what a stop during it leaves.
+-- What a connection shows after a write that is one statement, whatever it answered, and what a stop during
+-- it leaves.
 use Rattle.std.proofs.Common.{◌≡◌, ◌⊎◌, inl, inr, ℕ, List, Bool, false, Ok, Err, Result, is_ok, refl, sym, ap, subst, ◌∙◌, IsTrue, arith, append-nil, None}
 use Rattle.std.proofs.lemmas.Bool.{cases_Bool}
 use Rattle.sqlite.specs.declared.error.Error.{Error}
@@ -42,7 +43,8 @@ refused_is old new sql params e (inr h) = elim (cases_Bool (shows_rows false h.0
   | inr runs ↦ elim (rw runs at h.2) [ inl refused ↦ unchanged_is old new refused.1 | inr failed ↦ failed_is old new _ e failed ]
 ]
 
--- what the statement does of the database of a shelf: it stays one with its number, its maps are `after`, and rows that hold texts still do
+-- what the statement does of the database of a shelf: it stays one with its number, its maps are `after`, and
+-- rows that hold texts still do
 abbrev pub DoesSo : State → List ℕ → Row → Command → Maps → Type 0
 DoesSo s text params command after = (tally : Tally) (db : Database)
     → Does s.step_limit (mode_of s) params s.now (statement_of text (understood shelf_schema text)) None command (Ok (tally, db)) → IsDatabase db → IsShelf db × Same after (maps_in db.trees) × (db.trees 0 ≡ s.now.trees 0)

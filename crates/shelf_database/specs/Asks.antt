@@ -34,7 +34,8 @@ abbrev pub Ran : List ℕ → Row → State → State → Result (Unit {0}) Shel
 Ran text params old new (Ok done) = (count : ℕ) × Executes text params old new (Ok count)
 Ran text params old new (Err fault) = (e : Error) × Executes text params old new (Err e) × IsFor (e ≢ SqliteFailure code.OutOfMemory) fault
 
--- A query that was refused leaves the maps, whatever the call was to do. The store is blamed for this reason alone.
+-- A query that was refused leaves the maps, whatever the call was to do. The store is blamed for this reason
+-- alone.
 pub record Refuses (old new : State) (reason : Type 0) (fault : ShelfFault) : Type 0 where
   pub turns : (after : Maps) → Turns (database_standing old) (database_standing new) false after
   pub told : HasCleanDisk new → IsReady old → IsFor reason fault

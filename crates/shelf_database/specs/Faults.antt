@@ -18,7 +18,8 @@ use Rattle.shelf_database.specs.Tables.{has_text}
 abbrev pub HasFailed : State → State → Type 0
 HasFailed old new = MoreFaults old.faults new.faults ⊎ ((old.is_open ≡ false) ⊎ IsSome old.step_limit)
 
--- a row that is not stored: its number does not fit 64 bits, or it has more than a billion bytes, with 18 for each value
+-- a row that is not stored: its number does not fit 64 bits, or it has more than a billion bytes, with 18 for
+-- each value
 abbrev pub IsUnstorable : Row → Type 0
 IsUnstorable row = (fits_i64 (id_in (rowid row)) ≡ false) ⊎ (10 ^ 9 < sum_by (λ v. 18 + length (bytes v)) row)
 

@@ -39,11 +39,14 @@ pub record HasTables (db : Database) : Type 0 where
   pub lists : db.trees 1 ≡ []
   pub stickers : db.trees 3 ≡ []
 
--- what a stop leaves of a store that had these tables or none: the same, or, where it had none, all the tables with the number 1
+-- what a stop leaves of a store that had these tables or none: the same, or, where it had none, all the
+-- tables with the number 1
 abbrev pub IsLeft : State → Trees → Type 0
 IsLeft old trees = (trees ≡ old.now.trees) ⊎ (IsBlank old × HasTables (record { schema = shelf_schema; trees = trees }))
 
--- The open shows the maps that were there, or changes nothing while the store is open; a stop during it leaves them too. Tables that are there are only read, so that the store is a shelf's own only where their rows hold texts. Only a failure of the disk shuts the store.
+-- The open shows the maps that were there, or changes nothing while the store is open; a stop during it
+-- leaves them too. Tables that are there are only read, so that the store is a shelf's own only where their
+-- rows hold texts. Only a failure of the disk shuts the store.
 pub record Opens (old new : State) (is_done : Bool) : Type 0 where
   pub clean : HasCleanDisk new → HasCleanDisk old
   pub counts : old.faults ≤ new.faults
@@ -67,7 +70,8 @@ abbrev pub IsOther : State → State → Type 0
 IsOther old new =
     ((e : Error) × (e ≢ SqliteFailure code.OutOfMemory) × FailsToQuery number_query [] old new e) ⊎ ((rows : List Row) × Shown number_query [] old new rows × (number_of 0 rows ≢ Some (pos 1)))
 
--- Why a shelf is refused with `StoreFault`: since the store failed, where it has no tables, or tables whose number is 1; where it has any, since they lack one of a shelf's, or for what it answers.
+-- Why a shelf is refused with `StoreFault`: since the store failed, where it has no tables, or tables whose
+-- number is 1; where it has any, since they lack one of a shelf's, or for what it answers.
 pub record IsBlamed (old new : State) (fault : ShelfFault) : Type 0 where
   pub made : HasCleanDisk new → IsBlank old → fault ≡ StoreFault → HasFailed old new
   pub read : IsUnread old new fault
@@ -81,7 +85,8 @@ pub record Leads (Before After : Database → Type 0) (old new : State) (is_done
   pub kept : HasCleanDisk new → KeepsCommit old new
   pub survives : Survives old new (λ _. ⊥)
 
--- A step inside a transaction, over such a database, is answered with an error since the store failed, or for want of memory.
+-- A step inside a transaction, over such a database, is answered with an error since the store failed, or for
+-- want of memory.
 abbrev pub IsStopped : (Database → Type 0) → State → State → Error → Type 0
 IsStopped Before old new error = HasCleanDisk new → IsTrue old.in_transaction → Before old.now → error ≢ SqliteFailure code.OutOfMemory → HasFailed old new
 

@@ -1,4 +1,5 @@
--- The tables of a shelf in a database, and the two maps that they hold (this profile's tables of stored playlists and stickers).
+-- The tables of a shelf in a database, and the two maps that they hold (this profile's tables of stored
+-- playlists and stickers).
 use Rattle.std.specs.Prelude.{true, false, Bool, ◌&&◌, [], ◌∷◌, Some, None, Option, option_map, unwrap_or, slice_get, bytes_eq, find, codes, List, ℕ, ℤ, pos, IsTrue, ◌≡◌, ◌≤◌, ◌⊎◌}
 use Rattle.std.specs.List.{AllByRecursion, list_any}
 use Rattle.std.specs.Ordering.{is_eq}
@@ -90,7 +91,8 @@ placed_list = record list_table { tree = 1 }
 abbrev pub placed_sticker : Table
 placed_sticker = record sticker_table { tree = 3 }
 
--- a table of this name, with this primary key; a table's columns are counted from 1, and 0 is the number of a row
+-- a table of this name, with this primary key; a table's columns are counted from 1, and 0 is the number of a
+-- row
 abbrev pub is_keyed : List ℕ → List ℕ → Table → Bool
 is_keyed name primary table = bytes_eq table.name name && bytes_eq table.primary primary
 

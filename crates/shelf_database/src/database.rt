@@ -36,11 +36,11 @@ pub(crate) fn fault(error: Error) -> ShelfFault
 }
 
 impl<S: Alter + Drop> SqlShelf<S> {
-    /// A shelf over the database of a connection outside a transaction. A database without tables gets those of the profile.
-    /// One with some is taken where it has those of the profile, with the number 1; it may have more, in any order.
-    /// Its lists and stickers are not read: where others wrote one that is no text, a call that asks for it answers `StoreFault`.
-    /// The connection comes back with `StoreFault` where it lacks one of them, where making them or reading the number is
-    /// refused, or where it is another number.
+    /// A shelf over the database of a connection outside a transaction. A database without tables gets those
+    /// of the profile. One with some is taken where it has those of the profile, with the number 1; it may
+    /// have more, in any order. Its lists and stickers are not read: where others wrote one that is no text,
+    /// a call that asks for it answers `StoreFault`. The connection comes back with `StoreFault` where it
+    /// lacks one of them, where making them or reading the number is refused, or where it is another number.
     pub fn over(
         alloc: Global,
         mut connection: Connection<S>,
@@ -81,7 +81,8 @@ fn has_list<S: Alter>(connection: &mut Connection<S>, name: &str) -> Result<bool
     Ok(rows.first().is_some())
 }
 
-/// Whether the URI has a sticker of the name. A query that fails leaves the maps, whatever the call was to do.
+/// Whether the URI has a sticker of the name. A query that fails leaves the maps, whatever the call was to
+/// do.
 fn has_sticker<S: Alter>(
     connection: &mut Connection<S>,
     uri: &str,
@@ -96,7 +97,8 @@ fn has_sticker<S: Alter>(
     Ok(rows.first().is_some())
 }
 
-/// Whether the URI has a sticker. A query that fails, or a name that is no text, leaves the maps, whatever the call was to do.
+/// Whether the URI has a sticker. A query that fails, or a name that is no text, leaves the maps, whatever
+/// the call was to do.
 fn has_stickers<S: Alter>(connection: &mut Connection<S>, uri: &str) -> Result<bool, ShelfFault>
     ensures reads { OnOk result (Reads (state S.Store connection.old) (state S.Store connection.new)) }
     ensures found { HasCleanDisk (state S.Store connection.new) → IsReady (state S.Store connection.old) → IfOk result (λ is_there. is_there ≡ true → (name : List ℕ) × IsSome ((maps_in (state S.Store connection.old).now.trees).stickers uri.now name)) }

@@ -1,5 +1,4 @@
 //! A player that is lent a shelf over a database.
-use command_plan::Stand;
 use mpd_command::Request;
 use mpd_text::Song;
 use partition::{Limits, Partition, Setup};
@@ -9,6 +8,7 @@ use shelf_database::SqlShelf;
 use song_db::{Db, Rate, SharedDb};
 use sqlite::Alter;
 use std::alloc::{AllocError, Global};
+use transitions::Stand;
 
 /// A song without tags.
 fn song(alloc: Global, uri: &str, frames: u64) -> Result<Song, AllocError> {
@@ -55,7 +55,8 @@ fn opened(alloc: Global) -> Result<Partition, AllocError> {
     Partition::open(alloc, setup, library(alloc)?)
 }
 
-/// Applies an event, and adds what the client hears of it. Here alone it is proved that a player can be lent this shelf.
+/// Applies an event, and adds what the client hears of it. Here alone it is proved that a player can be lent
+/// this shelf.
 fn happens<S: Alter + Drop>(
     player: &mut Partition,
     shelf: &mut SqlShelf<S>,

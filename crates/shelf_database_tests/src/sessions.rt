@@ -1,5 +1,5 @@
-//! Worked sessions of a player that is lent a shelf over a database: in memory, on files that are opened again, and on files of
-//! which one fails.
+//! Worked sessions of a player that is lent a shelf over a database: in memory, on files that are opened
+//! again, and on files of which one fails.
 use crate::memory::opened as opened_in_memory;
 use crate::player::session;
 use crate::stops::{Half, Side, closed, copied, empty, filled, opened, over, synced, written};
@@ -234,7 +234,8 @@ fn look_again(alloc: Global, run: Run, files: Half) -> Result<(), Fail> {
     wants(may_show(run, text.as_str()), "what was synced")
 }
 
-/// What is told where the log fails after so many calls. What a shelf then shows is looked at where the files were opened.
+/// What is told where the log fails after so many calls. What a shelf then shows is looked at where the files
+/// were opened.
 fn saving(alloc: Global, files: Half) -> Result<Run, Fail> {
     let (told, left) = on_files(alloc, files, SAVING)?;
     let run = run_of(told.as_str());

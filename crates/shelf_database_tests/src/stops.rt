@@ -1,9 +1,10 @@
 //! A store that stops at each call of one of its files in turn, opened again.
 //!
-//! A run opens the files, makes the shelf, makes one call and closes the files, whose log is then copied into the database. One of
-//! the two files fails from some call on, as it does where the machine stops there. Then both are opened again, once as a process
-//! that died leaves them, with all that was written, and once as a lost supply does, with what was synced alone. A stop before the
-//! call leaves the maps from before it, a stop in the call those from before it or after it, and a stop after it those from after it.
+//! A run opens the files, makes the shelf, makes one call and closes the files, whose log is then copied into
+//! the database. One of the two files fails from some call on, as it does where the machine stops there. Then
+//! both are opened again, once as a process that died leaves them, with all that was written, and once as a
+//! lost supply does, with what was synced alone. A stop before the call leaves the maps from before it, a
+//! stop in the call those from before it or after it, and a stop after it those from after it.
 
 use shelf::{Entry, Shelf, ShelfFault, UriList};
 use shelf_database::SqlShelf;
@@ -311,7 +312,8 @@ fn count(stops: &mut Stops, step: Option<Step>) {
     }
 }
 
-/// The step that was stopped by the file after so many calls, if one was, where the shelf shows what it may after it.
+/// The step that was stopped by the file after so many calls, if one was, where the shelf shows what it may
+/// after it.
 fn stopped(alloc: Global, files: Half, call: Call, uris: &UriList) -> Result<Option<Step>, Fail> {
     let mut shown = String::new(alloc);
     let (step, left) = run(alloc, files, Visit::Make(call), uris, &mut shown);
@@ -347,11 +349,12 @@ fn stops_in(alloc: Global, call: Call, side: Side) -> Result<Stops, Fail> {
 
 /// How many calls each step makes of the file, as the sources of the port's log say.
 ///
-/// A commit calls the log six times: zeros after the place of its frames, the frames before and after their gate, a sync, the gate,
-/// a sync. It does not call the database. A close writes each page of the log, sets the length of the database and syncs it; of the
-/// log it tests each frame and reads it, shuts the header's gate and syncs, and then writes the header before and after the gate,
-/// syncs, writes the gate, syncs and cuts the file: eight calls beside those of the frames. The log has the pages of one commit: the
-/// schema, three tables and the indexes of two of them, or else a table and its index.
+/// A commit calls the log six times: zeros after the place of its frames, the frames before and after their
+/// gate, a sync, the gate, a sync. It does not call the database. A close writes each page of the log, sets
+/// the length of the database and syncs it; of the log it tests each frame and reads it, shuts the header's
+/// gate and syncs, and then writes the header before and after the gate, syncs, writes the gate, syncs and
+/// cuts the file: eight calls beside those of the frames. The log has the pages of one commit: the schema,
+/// three tables and the indexes of two of them, or else a table and its index.
 fn wanted(call: Call, side: Side) -> Stops {
     let (over, inside, pages) = match call {
         Call::Over => (6, 0, 6),

@@ -13,7 +13,8 @@ use std::sync::Wait;
 use std::thread::Threads;
 use std::time::Clock;
 
-/// Serves as a file of settings says, until a client ends the daemon. Both handles are the program's, as of [`serve`].
+/// Serves as a file of settings says, until a client ends the daemon. Both handles are the program's, as of
+/// [`serve`].
 ///
 /// # Errors
 ///

@@ -1,5 +1,5 @@
-//! The file in which stored playlists and stickers are kept. What a database is over a file is said here alone: a proof that meets the
-//! bounds of one is dear, so it is met in one call.
+//! The file in which stored playlists and stickers are kept. What a database is over a file is said here
+//! alone: a proof that meets the bounds of one is dear, so it is met in one call.
 ghost use Rattle.settings.specs.Values.{AreWithin};
 
 use crate::database::serve_with_database;
@@ -25,8 +25,8 @@ pub(crate) fn serve_on_file<R: Threads + Wait + Clock + Net + Copy + Send + Sync
     serve_and_close(rt, host, settings, opened)
 }
 
-/// Serves with the shelf of a connection, and closes it, so that the one file holds all of it. Where that fails, a log stands beside the
-/// file, and both together hold all of it.
+/// Serves with the shelf of a connection, and closes it, so that the one file holds all of it. Where that
+/// fails, a log stands beside the file, and both together hold all of it.
 fn serve_and_close<D: Disk + Drop, R: Threads + Wait + Clock + Net + Copy + Send + Sync + 'static>(
     rt: R,
     host: HostRuntime,

@@ -1,4 +1,5 @@
-//! The daemon as a file of settings says, with the shelf that they name: one that is kept in a file, or in memory alone.
+//! The daemon as a file of settings says, with the shelf that they name: one that is kept in a file, or in
+//! memory alone.
 #![tactic(auto)]
 
 mod daemon;

@@ -21,7 +21,8 @@ pub enum Call<'a> {
     DeleteStickers(&'a str),
 }
 
-/// A call and what it tells: `ok`, the fault, or each text of the answer with a bar after it, and `=` between the texts of an entry.
+/// A call and what it tells: `ok`, the fault, or each text of the answer with a bar after it, and `=` between
+/// the texts of an entry.
 pub type Step<'a> = (Call<'a>, &'a str);
 
 /// What a fault is called.

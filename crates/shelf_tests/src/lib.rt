@@ -1,5 +1,6 @@
-//! Tests of a shelf of any kind, as functions that answer an error in place of stopping. They run in the crate `shelf_database_tests`,
-//! over the shelf in memory and over a database: so this crate is proved once, without tests.
+//! Tests of a shelf of any kind, as functions that answer an error in place of stopping. They run in the
+//! crate `shelf_database_tests`, over the shelf in memory and over a database: so this crate is proved once,
+//! without tests.
 #![tactic(auto)]
 
 pub mod calls;

@@ -73,8 +73,8 @@ const ANY_TEXT: &[Step<'_>] = &[
     (Call::SetSticker("a.wav", "=", "5"), "bad name"),
 ];
 
-/// Control bytes, a zero byte among them, quotes and letters of other scripts come back as they were put; a name that is empty or has
-/// `=` is refused.
+/// Control bytes, a zero byte among them, quotes and letters of other scripts come back as they were put; a
+/// name that is empty or has `=` is refused.
 pub fn any_text_comes_back<S: Shelf>(alloc: Global, shelf: &mut S) -> Result<(), Fail> {
     follow(alloc, shelf, ANY_TEXT)
 }
@@ -119,8 +119,8 @@ fn goes<'x, S: Shelf>(
     )
 }
 
-/// A URI of 1,024 bytes, a name of 1,024 bytes and texts of 4,096 bytes, of one more and of a million come back from each call that
-/// shows a sticker.
+/// A URI of 1,024 bytes, a name of 1,024 bytes and texts of 4,096 bytes, of one more and of a million come
+/// back from each call that shows a sticker.
 pub fn long_stickers_come_back<S: Shelf>(alloc: Global, shelf: &mut S) -> Result<(), Fail> {
     let uri = repeated(alloc, "u", 1_024)?;
     let name = repeated(alloc, "n", 1_024)?;

@@ -1,5 +1,5 @@
--- The lines that show a song, and rates (MPD protocol reference, The music database; the range of rates and how lengths are
--- rounded are this profile's).
+-- The lines that show a song, and rates (MPD protocol reference, The music database; the range of rates and
+-- how lengths are rounded are this profile's).
 use Rattle.std.specs.Prelude.{ℕ, ◌+◌, ◌*◌, ◌/◌, ◌%◌, ◌==◌, ◌&&◌, nat_le, List, [], ◌∷◌, ◌++◌, codes, decimal, Option, Some, None, if◌then◌else◌}
 use Rattle.std.specs.List.{flat_map}
 use Rattle.mpd_text.specs.Answers.Answer.{pair_line}

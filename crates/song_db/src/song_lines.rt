@@ -8,8 +8,8 @@ use crate::rate::Rate;
 use mpd_text::{Answer, Song, TAG_NAMES, Tag, TagName};
 use std::alloc::{AllocError, Global};
 
-/// Appends the lines of a song to an answer: its URI, its tags in the order of [`TAG_NAMES`], its length in whole seconds and
-/// in seconds with three decimals.
+/// Appends the lines of a song to an answer: its URI, its tags in the order of [`TAG_NAMES`], its length in
+/// whole seconds and in seconds with three decimals.
 pub fn push_song(
     alloc: Global,
     answer: &mut Answer,

@@ -135,7 +135,8 @@ entries_of-slots_of k queues q (e ∷ es) = λ i. e ∷ entries_of-slots_of k qu
 abbrev pub state_with : ℕ → ℕ → ℕ → ℕ → List (List Entry) → QueueState
 state_with max_len max_version max_id g past = record (state_of max_len max_version max_id past) { greatest_id = g }
 
--- an edit of the state at the end of a past gives the state at the end of the past with the queue that it leaves
+-- an edit of the state at the end of a past gives the state at the end of the past with the queue that it
+-- leaves
 pub edited-state_with : (max_len k max_id g : ℕ) (past : List (List Entry)) (now : List Entry) → 0 < k → 0 < length past
     → edited (state_with max_len k max_id g past) now ≡ state_with max_len k max_id g (after_event past now)
 edited-state_with max_len k max_id g [] now above some = absurd (omega arith)

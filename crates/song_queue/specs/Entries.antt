@@ -34,7 +34,8 @@ same_slot (Some a) None = false
 abbrev pub entries_for : ℕ → List SongData → List Entry
 entries_for first songs = map (λ p. record { id = p.0; song = p.1; priority = 0 }) (enumerate_from first songs)
 
--- the entries from start up to end taken out, and put back so that the first of them is at a place of what is left
+-- the entries from start up to end taken out, and put back so that the first of them is at a place of what is
+-- left
 abbrev pub moved_to : List Entry → ℕ → ℕ → ℕ → List Entry
 moved_to queue start end to = let rest = take start queue ++ drop end queue in take to rest ++ slice_range queue start end ++ drop to rest
 

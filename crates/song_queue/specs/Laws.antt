@@ -1,4 +1,5 @@
--- Laws of the definitions, over every list of edits (this profile's, from the MPD protocol reference, The queue).
+-- Laws of the definitions, over every list of edits (this profile's, from the MPD protocol reference, The
+-- queue).
 use Rattle.std.specs.Prelude.{ℕ, ◌≡◌, ◌≢◌, ◌+◌, ◌-◌, ◌<◌, ◌≤◌, ◌⊎◌, not, List, [], ◌∷◌, ◌++◌, length, take, drop, swap, All, AllPairs, IsPermutation}
 use Rattle.std.specs.List.{slice_range}
 use Rattle.song_queue.specs.declared.edit.Edit.{Edit}
@@ -60,15 +61,16 @@ abbrev pub AllFitIn : List (List Entry) → List Edit → Type 0
 AllFitIn past [] = Unit {0}
 AllFitIn past (edit ∷ edits) = FitsIn (present past) edit × AllFitIn (after_event past (queue_after past edit)) edits
 
--- a past ends in the queue that the last event left, and is never without one; its state has that queue; an empty
--- queue's state begins it
+-- a past ends in the queue that the last event left, and is never without one; its state has that queue; an
+-- empty queue's state begins it
 pub record PastsKeepQueues : Type 0 where
   pub ends : (past : List (List Entry)) (queue : List Entry) → present (after_event past queue) ≡ queue
   pub stays : (past : List (List Entry)) (queue : List Entry) → 1 ≤ length past → 1 ≤ length (after_event past queue)
   pub shows : (max_len max_version max_id : ℕ) (past : List (List Entry)) → queue_of (state_of max_len max_version max_id past) ≡ present past
   pub begins : (max_len max_version max_id : ℕ) → 1 ≤ max_version → opened max_len max_version max_id ≡ state_of max_len max_version max_id ([] ∷ [])
 
--- an edit of the state at the end of a past gives the state at the end of the past with the queue that it leaves
+-- an edit of the state at the end of a past gives the state at the end of the past with the queue that it
+-- leaves
 abbrev pub EditsFollowPast : Type 0
 EditsFollowPast = (max_len max_version max_id : ℕ) (past : List (List Entry)) (edit : Edit) → 1 ≤ max_version → 1 ≤ length past
     → state_after_edit (state_of max_len max_version max_id past) edit ≡ state_of max_len max_version max_id (after_event past (queue_after past edit))
@@ -82,14 +84,15 @@ StatesFollowPasts = (max_len max_version max_id : ℕ) (edits : List Edit) → 1
 abbrev pub ParityTellsChanges : Type 0
 ParityTellsChanges = (q : QueueState) (edit : Edit) → not (same_queue (queue_of q) (queue_of (state_after_edit q edit))) ≡ differ q.parity (state_after_edit q edit).parity
 
--- while versions have not begun anew, a client that knows an earlier queue, and patches it, has the present one
+-- while versions have not begun anew, a client that knows an earlier queue, and patches it, has the present
+-- one
 abbrev pub PatchesGivePresent : Type 0
 PatchesGivePresent = (max_len max_version max_id : ℕ) (newer older : List (List Entry)) (known : List Entry)
     → let past = newer ++ known ∷ older in
     number past < max_version → patch known (changed (state_of max_len max_version max_id past) (version_of max_version (number (known ∷ older)))) (length (present past)) ≡ present past
 
--- the same of the places that a queue answers: with its entries at these places, each earlier queue of the version that
--- was asked is patched to the present one
+-- the same of the places that a queue answers: with its entries at these places, each earlier queue of the
+-- version that was asked is patched to the present one
 abbrev pub PatchesEarlier : QueueState → ℕ → List ℕ → Type 0
 PatchesEarlier q version places = (newer older : List (List Entry)) (known : List Entry)
     → let past = newer ++ known ∷ older in
@@ -100,7 +103,8 @@ PatchesEarlier q version places = (newer older : List (List Entry)) (known : Lis
 abbrev pub IdsAreDistinct : Type 0
 IdsAreDistinct = (edits : List Edit) → AllFitIn ([] ∷ []) edits → AllPairs (λ a b. a.id ≢ b.id) (present (past_after ([] ∷ []) edits))
 
--- a move keeps each entry: the moved ones are at the place in their order, and the others follow one another as before
+-- a move keeps each entry: the moved ones are at the place in their order, and the others follow one another
+-- as before
 pub record MovesKeepEntries : Type 0 where
   pub permutes : (queue : List Entry) (start end to : ℕ) → start ≤ end → IsPermutation queue (moved_to queue start end to)
   pub places : (queue : List Entry) (start end to : ℕ) → start ≤ end → end ≤ length queue → to + (end - start) ≤ length queue

@@ -1,6 +1,6 @@
--- The past of a queue: the present queue first, then each earlier one, and last the empty one. A queue joins the past
--- where it differs from the one before. The queue that has n below it is number n (MPD protocol reference, The queue;
--- what happens above the greatest version is this profile's).
+-- The past of a queue: the present queue first, then each earlier one, and last the empty one. A queue joins
+-- the past where it differs from the one before. The queue that has n below it is number n (MPD protocol
+-- reference, The queue; what happens above the greatest version is this profile's).
 use Rattle.std.specs.Prelude.{ℕ, zero, suc, ◌+◌, ◌-◌, ◌%◌, Bool, false, not, ◌&&◌, nat_lt, nat_le, if◌then◌else◌, List, [], ◌∷◌, length, map, slice_get, max}
 use Rattle.std.specs.List.{enumerate_from}
 use Rattle.song_queue.specs.declared.entry.Entry.{Entry}

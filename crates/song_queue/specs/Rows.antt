@@ -106,7 +106,8 @@ overlapping = refl
 again_the_same : (state_after (opened 10 100 100) (four ++ Prioritize first 7 ∷ Prioritize first 7 ∷ Prioritize [] 9 ∷ [])).version ≡ 6
 again_the_same = refl
 
--- four songs shuffled: the fourth changes places with the second, the third with the first, and the second stays
+-- four songs shuffled: the fourth changes places with the second, the third with the first, and the second
+-- stays
 shuffled_four : map (λ e. e.id) (queue_of (state_after (opened 10 100 100) (four ++ Shuffle 0 4 (5 ∷ 3 ∷ 1 ∷ []) ∷ []))) ≡ 3 ∷ 4 ∷ 1 ∷ 2 ∷ []
 shuffled_four = refl
 

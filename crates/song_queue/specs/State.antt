@@ -1,5 +1,5 @@
--- A queue with the stamps and marks of its slots, and what an edit makes of it (MPD protocol reference, The queue;
--- the marks at a wrap are this profile's).
+-- A queue with the stamps and marks of its slots, and what an edit makes of it (MPD protocol reference, The
+-- queue; the marks at a wrap are this profile's).
 use Rattle.std.specs.Prelude.{ℕ, zero, suc, ◌≢◌, ◌+◌, ◌≤◌, Bool, false, not, ◌||◌, nat_lt, ◌==◌, if◌then◌else◌, List, [], ◌∷◌, ◌++◌, length, take, drop, map, filter, swap, All, AllPairs, Option, position}
 use Rattle.std.specs.Bool.{beq}
 use Rattle.std.specs.List.{enumerate_from}
@@ -10,8 +10,8 @@ use Rattle.song_queue.specs.declared.entry.Slot.{Slot}
 use Rattle.song_queue.specs.Entries.{same_entry, same_queue, entries_for, moved_to, with_priority}
 use Rattle.song_queue.specs.Shuffles.{shuffled}
 
--- slots, the version of the last change, the greatest id that was given, the limits, and whether the number of changes
--- is odd, so that two readings of it tell whether an edit between them changed the queue
+-- slots, the version of the last change, the greatest id that was given, the limits, and whether the number
+-- of changes is odd, so that two readings of it tell whether an edit between them changed the queue
 pub record QueueState : Type 0 where
   pub slots : List Slot
   pub version : ℕ
@@ -77,7 +77,8 @@ inserted q at songs =
 abbrev pub removed : QueueState → ℕ → ℕ → QueueState
 removed q start end = edited q (take start (queue_of q) ++ drop end (queue_of q))
 
--- the entries from start up to end are taken out, and put back so that the first of them is at a place of what is left
+-- the entries from start up to end are taken out, and put back so that the first of them is at a place of
+-- what is left
 abbrev pub moved : QueueState → ℕ → ℕ → ℕ → QueueState
 moved q start end to = edited q (moved_to (queue_of q) start end to)
 

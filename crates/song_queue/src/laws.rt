@@ -21,7 +21,8 @@ pub fn parity_tells_changes()
     ensures { ParityTellsChanges }
 {}
 
-/// A client that knows an earlier queue and patches it has the present one, while versions have not begun anew.
+/// A client that knows an earlier queue and patches it has the present one, while versions have not begun
+/// anew.
 pub fn patches_give_present()
     ensures { PatchesGivePresent }
 {}

@@ -41,7 +41,8 @@ impl From<AllocError> for QueueFault {
     }
 }
 
-/// The queue. Contracts see it as a record: slots with stamp and mark, version, greatest id, limits and parity.
+/// The queue. Contracts see it as a record: slots with stamp and mark, version, greatest id, limits and
+/// parity.
 #[derive(Drop)]
 pub struct Queue {
     slots: Vec<Slot>,
@@ -135,8 +136,8 @@ impl Queue {
         self.version
     }
 
-    /// Whether the number of edits that changed something is odd. It flips with each of them, even where the version
-    /// stays as it was.
+    /// Whether the number of edits that changed something is odd. It flips with each of them, even where the
+    /// version stays as it was.
     pub fn parity(&self) -> bool
         ensures { result ≡ self.now.parity }
     {
@@ -161,8 +162,8 @@ impl Queue {
         self.slots.iter().position(|slot| slot.entry.id == id)
     }
 
-    /// The places that a client has to learn that knows the queue of a version, rising (MPD protocol reference,
-    /// `plchanges`).
+    /// The places that a client has to learn that knows the queue of a version, rising (MPD protocol
+    /// reference, `plchanges`).
     pub fn changed_since(&self, version: u32) -> Result<Vec<usize>, AllocError>
         ensures places { IfOk result (λ places. places.items ≡ map (λ row. row.0) (changed self.now version)) }
         ensures patches { IfOk result (λ places. PatchesEarlier self.now version places.items) }
@@ -226,8 +227,8 @@ impl Queue {
         Ok(())
     }
 
-    /// Takes the entries of a range out, and puts them back so that the first of them is at a place of what is left. An
-    /// empty range changes nothing, whatever the place. It takes no memory.
+    /// Takes the entries of a range out, and puts them back so that the first of them is at a place of what
+    /// is left. An empty range changes nothing, whatever the place. It takes no memory.
     pub fn move_range(&mut self, range: Range<usize>, to: usize) -> Result<(), QueueFault>
         ensures ok { OnOk result (self.new ≡ moved self.old range.start range.end to) }
         ensures bad_index { IsErrOf result QueueFault.BadIndex ↔ ((range.end < range.start) ⊎ (length (queue_of self.old) < range.end) ⊎ ((range.start ≢ range.end) × (length (queue_of self.old) < to + (range.end - range.start)))) }
@@ -255,8 +256,8 @@ impl Queue {
         Ok(())
     }
 
-    /// Gives each entry whose place is in one of the ranges a priority. Ranges may be empty and may overlap. It takes no
-    /// memory.
+    /// Gives each entry whose place is in one of the ranges a priority. Ranges may be empty and may overlap.
+    /// It takes no memory.
     pub fn set_prio(&mut self, ranges: &[Range<usize>], priority: u8) -> Result<(), QueueFault>
         ensures ok { OnOk result (self.new ≡ prioritized self.old ranges.now priority) }
         ensures bad_index { IsErrOf result QueueFault.BadIndex ↔ Any (λ r. (r.end < r.start) ⊎ (length (queue_of self.old) < r.end)) ranges.now }
@@ -297,8 +298,9 @@ impl Queue {
         Ok(())
     }
 
-    /// Shuffles the entries of a range. From its last place down to its second, each takes a word; where words end early,
-    /// the places before stay as they are then. It is one change, or none where each entry is at its place again.
+    /// Shuffles the entries of a range. From its last place down to its second, each takes a word; where
+    /// words end early, the places before stay as they are then. It is one change, or none where each entry
+    /// is at its place again.
     pub fn shuffle(&mut self, range: Range<usize>, words: &[u32]) -> Result<(), QueueFault>
         ensures ok { OnOk result (self.new ≡ shuffled_state self.old range.start range.end words.now) }
         ensures bad_index { IsErrOf result QueueFault.BadIndex ↔ ((range.end < range.start) ⊎ (length (queue_of self.old) < range.end)) }

@@ -135,8 +135,8 @@ pub fn exchange(slots: &mut [Slot], a: usize, b: usize, version: u32, wraps: boo
     write(slots, b, version, wraps);
 }
 
-/// Takes the entries from `start` up to `end` out, and puts them back so that the first of them is at a place of what is
-/// left. Slots whose entry changes are written, and the others kept.
+/// Takes the entries from `start` up to `end` out, and puts them back so that the first of them is at a place
+/// of what is left. Slots whose entry changes are written, and the others kept.
 pub fn move_part(slots: &mut [Slot], start: usize, end: usize, to: usize, version: u32, wraps: bool)
     requires some { start < end }
     requires elsewhere { to ≢ start }
@@ -152,8 +152,8 @@ pub fn move_part(slots: &mut [Slot], start: usize, end: usize, to: usize, versio
     }
 }
 
-/// Lets the entries from `low` up to `middle` and those from there up to `high` change places. All of these slots are
-/// written, and the others kept.
+/// Lets the entries from `low` up to `middle` and those from there up to `high` change places. All of these
+/// slots are written, and the others kept.
 fn turn(slots: &mut [Slot], low: usize, middle: usize, high: usize, version: u32, wraps: bool)
     requires front { low ≤ middle }
     requires back { middle ≤ high }

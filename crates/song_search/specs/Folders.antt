@@ -1,5 +1,5 @@
--- Folders of a library: what lies in them (MPD protocol reference, The music database; that a folder is what stands before a slash
--- of a URI, and that the empty one is the whole library, is this profile's).
+-- Folders of a library: what lies in them (MPD protocol reference, The music database; that a folder is what
+-- stands before a slash of a URI, and that the empty one is the whole library, is this profile's).
 use Rattle.std.specs.Prelude.{ℕ, Bool, not, ◌&&◌, ◌||◌, ◌==◌, nat_eq, List, [], ◌∷◌, ◌++◌, length, drop, Option, Some, None, if◌then◌else◌}
 use Rattle.std.specs.List.{filter, filter_map, list_any, starts_with, before_first}
 use Rattle.mpd_text.specs.Songs.Song.{SongData}

@@ -13,6 +13,7 @@ by_bytes = slice_cmp nat_cmp
 abbrev pub key_of : List ℕ → List ℕ × Unit {0}
 key_of text = (text, tt)
 
--- the texts that stand in a list, in byte order and each once: the keys of the finite map that has a key for each
+-- the texts that stand in a list, in byte order and each once: the keys of the finite map that has a key for
+-- each
 unfoldable pub ascending : List (List ℕ) → List (List ℕ)
 ascending texts = keys (from_entries {R = slice_cmp nat_cmp} (map key_of texts))

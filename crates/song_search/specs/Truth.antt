@@ -1,4 +1,5 @@
--- Whether a song meets a filter, as yes or no (MPD protocol reference, Filters). The filter's truth is a relation; this is what answers it.
+-- Whether a song meets a filter, as yes or no (MPD protocol reference, Filters). The filter's truth is a
+-- relation; this is what answers it.
 use Rattle.std.specs.Prelude.{ℕ, Bool, not, ◌&&◌, ◌||◌, List, [], ◌∷◌, ◌++◌, nat_eq}
 use Rattle.std.specs.List.{list_any, starts_with}
 use lib.Pointwise.{pointwise}
@@ -12,7 +13,8 @@ use Rattle.filters.specs.declared.matching.Case.{Case}
 use Rattle.filters.specs.Expressions.{Expression, Compare, Under, Negation, Both}
 use Rattle.filters.specs.Truth.{folded, text_of_tag}
 
--- what the URIs under a folder begin with: the folder and a slash, or nothing for the empty folder, which is the whole library
+-- what the URIs under a folder begin with: the folder and a slash, or nothing for the empty folder, which is
+-- the whole library
 abbrev pub front_of : List ℕ → List ℕ
 front_of [] = []
 front_of (b ∷ bs) = (b ∷ bs) ++ 47 ∷ []

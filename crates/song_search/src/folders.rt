@@ -1,4 +1,5 @@
-//! Folders of a library (MPD protocol reference, The music database: `lsinfo`, `listall`, and folders in `add`).
+//! Folders of a library (MPD protocol reference, The music database: `lsinfo`, `listall`, and folders in
+//! `add`).
 ghost use Rattle.std.specs.Prelude.{◌≡◌, ◌≢◌, ◌++◌, ◌∷◌, [], ℕ, List, IfOk, MatchOption, map, length, drop, nat_eq, true, false, ◌==◌, ◌+◌, ◌<◌, ◌≤◌};
 ghost use Rattle.std.specs.List.{starts_with, prefix_len, position_or_len};
 ghost use Rattle.std.specs.List.Sorted.{IsPartitionedBy};
@@ -14,8 +15,8 @@ use crate::texts::sort_once;
 use song_db::{Db, SharedSong};
 use std::alloc::{AllocError, Global};
 
-/// The songs under a folder, in byte order of URI; all of them under the empty one. They stand side by side and are searched by
-/// halves. Takes no memory.
+/// The songs under a folder, in byte order of URI; all of them under the empty one. They stand side by side
+/// and are searched by halves. Takes no memory.
 pub fn under<'a>(db: &'a Db, folder: &str) -> &'a [SharedSong]
     ensures songs { result.now ≡ under_lem folder.now db.now }
     ensures order { InByteOrder result.now }
@@ -39,7 +40,8 @@ pub struct Listing<'a> {
     pub songs: Vec<&'a SharedSong>,
 }
 
-/// What lies right in a folder. Each folder below is passed over by halves, and neither songs nor texts are copied.
+/// What lies right in a folder. Each folder below is passed over by halves, and neither songs nor texts are
+/// copied.
 pub fn list_folder<'a>(alloc: Global, db: &'a Db, folder: &str) -> Result<Listing<'a>, AllocError>
     ensures folders { IfOk result (λ found. map (λ text. text.now) found.folders.items ≡ direct_folders folder.now db.now) }
     ensures songs { IfOk result (λ found. map (λ song. song.now) found.songs.items ≡ direct_songs folder.now db.now) }

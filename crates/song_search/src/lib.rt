@@ -1,4 +1,5 @@
-//! What is asked of a song library: the songs that meet a filter, the texts of a tag, and what lies in a folder.
+//! What is asked of a song library: the songs that meet a filter, the texts of a tag, and what lies in a
+//! folder.
 #![tactic(auto)]
 
 mod folders;

@@ -57,8 +57,8 @@ fn is_met(song: &Song, filter: &Filter) -> bool
     }
 }
 
-/// The texts that a tag has among the songs that meet a filter, where case is heeded: in byte order, each once, and none empty.
-/// No text is copied.
+/// The texts that a tag has among the songs that meet a filter, where case is heeded: in byte order, each
+/// once, and none empty. No text is copied.
 pub fn listed<'a>(
     alloc: Global,
     db: &'a Db,

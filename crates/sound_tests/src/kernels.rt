@@ -152,7 +152,8 @@ fn the_ends_of_the_greatest_fade(rt: HostRuntime) {
     assert_eq!(rt; first[1_023], [-32_767i16, 32_766]);
 }
 
-// 7 fades into -5 by 7, 4, 1, -2, which at volume 50 are 3, 2, 0, -1. At volume 50 first, 3 would fade into -2 by 3, 1, 0, 0.
+// 7 fades into -5 by 7, 4, 1, -2, which at volume 50 are 3, 2, 0, -1. At volume 50 first, 3 would fade into
+// -2 by 3, 1, 0, 0.
 #[test]
 fn blocks(rt: HostRuntime) {
     let mut plain = [[301, -3]; 2];

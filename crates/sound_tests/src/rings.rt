@@ -13,7 +13,8 @@ const FIRST: Cut = Cut { number: 1 };
 
 const SECOND: Cut = Cut { number: 2 };
 
-// A call and what it answers: cuts by their numbers, fates as frames written and discarded, faults with the bytes of a torn frame.
+// A call and what it answers: cuts by their numbers, fates as frames written and discarded, faults with the
+// bytes of a torn frame.
 #[derive(Clone, Copy)]
 enum Step {
     Take(u64, &'static [Frame]),
@@ -137,7 +138,8 @@ fn totals_told(alloc: Global, drainer: &Drainer) -> Result<String, AllocError> {
     format!(in alloc; "{written} {discarded} {torn}")
 }
 
-// The totals after all steps, or the place of the first that answers otherwise, or that other bytes were written.
+// The totals after all steps, or the place of the first that answers otherwise, or that other bytes were
+// written.
 fn follow_all(
     alloc: Global,
     sizes: (usize, usize),
@@ -212,7 +214,8 @@ fn the_order_of_fates(rt: HostRuntime) {
     wants(&rt, told, "0 5 0");
 }
 
-// What is told where a writer of three frames fails after so many bytes: these are the totals of what it has to have written.
+// What is told where a writer of three frames fails after so many bytes: these are the totals of what it has
+// to have written.
 fn failed_after(alloc: Global, place: u64) -> Result<String, AllocError> {
     let all = [1, 0, 2, 0, 3, 0, 4, 0, 5, 0, 6, 0];
     let steps = [
@@ -270,8 +273,8 @@ impl Write for Once {
     }
 }
 
-// What is answered to a hand of one frame by a writer that answers its first call so: the frames written and discarded and the bytes
-// of a torn one, and none where that is no fault.
+// What is answered to a hand of one frame by a writer that answers its first call so: the frames written and
+// discarded and the bytes of a torn one, and none where that is no fault.
 fn first_call_answered(
     alloc: Global,
     answer: Option<ErrorKind>,
@@ -301,8 +304,8 @@ fn interrupted_blocked_and_empty_writes_are_faults(rt: HostRuntime) {
     }
 }
 
-// What a ring of four answers: to a push and a pop of seven frames, how many are in the ring, how many are owed at the end and are in
-// the ring after it, how many are held, and what fates are unreported.
+// What a ring of four answers: to a push and a pop of seven frames, how many are in the ring, how many are
+// owed at the end and are in the ring after it, how many are held, and what fates are unreported.
 fn both_ends(alloc: Global) -> Result<String, AllocError> {
     let (mut feeder, mut drainer) = ring(alloc, 4, 2)?;
     feeder.take(&[[1, 2]; 7], FIRST);
@@ -350,7 +353,8 @@ fn take_turn(ends: &mut (Feeder, Drainer), out: &mut FailAt, cut: Cut, which: u6
     }
 }
 
-// One order of five calls, and then enough turns that all frames go through: the bytes that came out, and how many frames were discarded.
+// One order of five calls, and then enough turns that all frames go through: the bytes that came out, and how
+// many frames were discarded.
 fn ran(alloc: Global, cut: Cut, order: u64) -> Result<(Vec<u8>, u64), AllocError> {
     let mut out = FailAt::new(Vec::new(alloc), FailurePoint::Never);
     let mut ends = ring(alloc, 2, 2)?;
@@ -461,8 +465,8 @@ fn frames_as_wanted(bytes: &[u8]) -> usize {
     66_560
 }
 
-// How many blocks the ring takes, and frames of one more; how many hands are written, and frames come after them; how many bytes were
-// written, and how many frames of them are as wanted.
+// How many blocks the ring takes, and frames of one more; how many hands are written, and frames come after
+// them; how many bytes were written, and how many frames of them are as wanted.
 fn greatest_ring(alloc: Global) -> Result<String, AllocError> {
     let mut out = FailAt::new(Vec::new(alloc), FailurePoint::Never);
     let (mut feeder, mut drainer) = ring(alloc, 65_536, 1_024)?;

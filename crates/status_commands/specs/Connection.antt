@@ -1,4 +1,5 @@
--- The commands of the connection, which need nothing of the player (MPD protocol reference, Connection settings; Reflection).
+-- The commands of the connection, which need nothing of the player (MPD protocol reference, Connection
+-- settings; Reflection).
 use Rattle.std.specs.Prelude.{ℕ, Bool, true, false, List, [], codes, if◌then◌else◌}
 use Rattle.std.specs.Bool.{beq}
 use Rattle.std.specs.List.{flat_map}
@@ -6,8 +7,8 @@ use Rattle.mpd_command.specs.Names.{all_names, is_forbidden, text_of}
 use Rattle.mpd_command.specs.declared.name.Name.{Name}
 use Rattle.mpd_text.specs.Answers.Answer.{pair_line}
 use Rattle.mpd_text.specs.Songs.Tags.{tag_names, tag_text}
-use Rattle.command_plan.specs.Answers.{Answer, succeeds}
-use Rattle.command_plan.specs.declared.asked.Asked.{Asked}
+use Rattle.transitions.specs.Answers.{Answer, succeeds}
+use Rattle.transitions.specs.declared.asked.Asked.{Asked}
 
 abbrev pub ping : Asked → Answer
 ping asked = succeeds asked.stand (codes "")

@@ -7,16 +7,16 @@ use Rattle.play_order.specs.declared.modes.Single.{Single}
 use Rattle.play_order.specs.declared.modes.Single.TheVariants as single_mode
 use Rattle.play_order.specs.declared.modes.Consume.{Consume}
 use Rattle.play_order.specs.declared.modes.Consume.TheVariants as consume_mode
-use Rattle.command_plan.specs.Deeds.{does, shows}
-use Rattle.player_state.specs.declared.doing.Effect.TheVariants.{SetsVolume, SetsRepeat, SetsRandom, SetsSingle, SetsConsume, SetsCrossfade}
-use Rattle.command_plan.specs.declared.asked.Asked.{Asked}
+use Rattle.transitions.specs.CommandResults.{does, shows}
+use Rattle.player_state.specs.declared.effect.CommandEffect.TheVariants.{SetsVolume, SetsRepeat, SetsRandom, SetsSingle, SetsConsume, SetsCrossfade}
+use Rattle.transitions.specs.declared.asked.Asked.{Asked}
 use Rattle.player_state.specs.declared.state.Part.{Part}
-use Rattle.command_plan.specs.Turns.{Deed}
+use Rattle.transitions.specs.Transitions.{CommandResult}
 
-abbrev pub repeat : Asked → Bool → Deed
+abbrev pub repeat : Asked → Bool → CommandResult
 repeat asked on = does asked (SetsRepeat on)
 
-abbrev pub random : Asked → Bool → Deed
+abbrev pub random : Asked → Bool → CommandResult
 random asked on = does asked (SetsRandom on)
 
 abbrev pub mode_of : SingleMode → Single
@@ -24,21 +24,21 @@ mode_of asked_mode.Off = single_mode.Off
 mode_of asked_mode.On = single_mode.On
 mode_of asked_mode.Oneshot = single_mode.Oneshot
 
-abbrev pub single : Asked → SingleMode → Deed
+abbrev pub single : Asked → SingleMode → CommandResult
 single asked mode = does asked (SetsSingle (mode_of mode))
 
 abbrev pub consume_of : Bool → Consume
 consume_of true = consume_mode.On
 consume_of false = consume_mode.Off
 
-abbrev pub consume : Asked → Bool → Deed
+abbrev pub consume : Asked → Bool → CommandResult
 consume asked on = does asked (SetsConsume (consume_of on))
 
-abbrev pub crossfade : Asked → ℕ → Deed
+abbrev pub crossfade : Asked → ℕ → CommandResult
 crossfade asked seconds = does asked (SetsCrossfade seconds)
 
-abbrev pub set_volume : Asked → ℕ → Deed
+abbrev pub set_volume : Asked → ℕ → CommandResult
 set_volume asked volume = does asked (SetsVolume volume)
 
-abbrev pub get_volume : Asked → Part → Deed
+abbrev pub get_volume : Asked → Part → CommandResult
 get_volume asked part = shows asked (pair_line (codes "volume") (decimal part.volume))

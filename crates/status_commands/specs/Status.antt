@@ -18,17 +18,17 @@ use Rattle.player_core.specs.declared.state.Playback.{Playback}
 use Rattle.player_core.specs.declared.state.Playback.TheVariants.{Stop, Play, Pause}
 use Rattle.player_core.specs.Player.{is_stopped}
 use Rattle.player_core.specs.Steps.{current_entry, peek}
-use Rattle.command_plan.specs.Answers.{Said, refuses, stays, tells}
-use Rattle.command_plan.specs.Deeds.{shows}
-use Rattle.command_plan.specs.declared.asked.Asked.{Asked}
-use Rattle.command_plan.specs.declared.reply.Move.TheVariants.{Wait, Learn, Resume}
-use Rattle.command_plan.specs.declared.reply.Next.TheVariants.{Waits}
-use Rattle.command_plan.specs.declared.asked.Stand.{Stand}
-use Rattle.command_plan.specs.declared.asked.Stand.TheVariants.{Alone, InList}
+use Rattle.transitions.specs.Answers.{ResponseData, refuses, stays, tells}
+use Rattle.transitions.specs.CommandResults.{shows}
+use Rattle.transitions.specs.declared.asked.Asked.{Asked}
+use Rattle.transitions.specs.declared.reply.Move.TheVariants.{Wait, Learn, Resume}
+use Rattle.transitions.specs.declared.reply.Next.TheVariants.{Waits}
+use Rattle.transitions.specs.declared.asked.Stand.{Stand}
+use Rattle.transitions.specs.declared.asked.Stand.TheVariants.{Alone, InList}
 use Rattle.player_state.specs.declared.state.Client.{Client}
 use Rattle.player_state.specs.declared.state.Part.{Part}
 use Rattle.player_state.specs.declared.state.Library.{Library}
-use Rattle.command_plan.specs.Turns.{Deed}
+use Rattle.transitions.specs.Transitions.{CommandResult}
 use Rattle.player_state.specs.Scans.{running}
 use Rattle.mpd_text.specs.Answers.Answer.{pair_line}
 
@@ -46,24 +46,24 @@ abbrev pub notice_text : Subsystems → List ℕ
 notice_text names = changed_lines names ++ codes "OK\n"
 
 -- a client that asks for what changed already is told at once; else it waits
-abbrev pub idles : Subsystems → Option Subsystems → Said
+abbrev pub idles : Subsystems → Option Subsystems → ResponseData
 idles named None = record { answer = record { text = codes ""; next = Waits; refused = false }; move = Wait named }
 idles named (Some names) = record { answer = tells (notice_text names); move = Learn }
 
 -- a client that waits no more is answered OK; one that did not wait is not answered
-abbrev pub resumes : Client → Said
+abbrev pub resumes : Client → ResponseData
 resumes client = if is_some client.pending.waiting then record { answer = tells (codes "OK\n"); move = Resume } else stays (tells (codes ""))
 
-abbrev pub granted : Client → Wish → Said
+abbrev pub granted : Client → Wish → ResponseData
 granted client (ToWait named) = idles named (notice_of (waits named client.pending))
 granted client ToGoOn = resumes client
 
 -- how a client waits is no matter of a list
-abbrev pub wished_at : Stand → Asked → Client → Wish → Said
+abbrev pub wished_at : Stand → Asked → Client → Wish → ResponseData
 wished_at Alone asked client wish = granted client wish
 wished_at (InList form place) asked client wish = stays (refuses asked.stand (Some asked.name) Argument (codes "not allowed in a list"))
 
-abbrev pub wished : Asked → Client → Wish → Said
+abbrev pub wished : Asked → Client → Wish → ResponseData
 wished asked client wish = wished_at asked.stand asked client wish
 
 abbrev pub digit : Bool → ℕ
@@ -160,7 +160,7 @@ abbrev pub scan_line : Option ℕ → List ℕ
 scan_line None = []
 scan_line (Some number) = pair_line (codes "updating_db") (decimal number)
 
-abbrev pub status : Asked → Part → Library → Deed
+abbrev pub status : Asked → Part → Library → CommandResult
 status asked part library =
     shows asked (mode_lines part.volume part.player.modes ++ (queue_lines part.queue.version (length (queue_of part.queue)) part.player.playback
     ++ (current_lines part.queue part.player.current ++ (next_lines part.queue (peek part.player (queue_of part.queue))

@@ -1,24 +1,25 @@
-//! The commands of the connection, which need nothing of the player (MPD protocol reference, Connection settings; Reflection).
+//! The commands of the connection, which need nothing of the player (MPD protocol reference, Connection
+//! settings; Reflection).
 ghost use Rattle.std.specs.Prelude.{◌≡◌, ◌++◌, true, false, IfOk, OnOk, codes};
 ghost use Rattle.std.specs.List.{flat_map};
 ghost use Rattle.mpd_text.specs.Answers.Answer.{pair_line};
 ghost use Rattle.mpd_text.specs.Songs.Tags.{tag_names, tag_text};
-ghost use Rattle.command_plan.specs.Answers.{stays};
+ghost use Rattle.transitions.specs.Answers.{stays};
 ghost use Rattle.status_commands.specs.Connection.{command_line, command_lines, commands as commands_lem, not_commands as not_commands_lem, ping as ping_lem, tag_types as tag_types_lem};
 
-use command_plan::{Asked, Spoken, shows, succeeds};
 use mpd_command::{NAMES, Name};
 use mpd_text::{Answer, TAG_NAMES};
 use std::alloc::{AllocError, Global};
+use transitions::{Asked, Response, shows, succeeds};
 
-pub fn ping(alloc: Global, asked: Asked) -> Result<Spoken, AllocError>
-    ensures { IfOk result (λ spoken. spoken ≡ stays (ping_lem asked)) }
+pub fn ping(alloc: Global, asked: Asked) -> Result<Response, AllocError>
+    ensures { IfOk result (λ response. response ≡ stays (ping_lem asked)) }
 {
     succeeds(alloc, asked)
 }
 
-pub fn tag_types(alloc: Global, asked: Asked) -> Result<Spoken, AllocError>
-    ensures { IfOk result (λ spoken. spoken ≡ stays (tag_types_lem asked)) }
+pub fn tag_types(alloc: Global, asked: Asked) -> Result<Response, AllocError>
+    ensures { IfOk result (λ response. response ≡ stays (tag_types_lem asked)) }
 {
     let mut answer = Answer::new(alloc);
     push_types(&mut answer)?;
@@ -35,8 +36,8 @@ fn push_types(answer: &mut Answer) -> Result<(), AllocError>
 }
 
 /// The commands that may be run.
-pub fn commands(alloc: Global, asked: Asked, allow_kill: bool) -> Result<Spoken, AllocError>
-    ensures { IfOk result (λ spoken. spoken ≡ stays (commands_lem asked allow_kill)) }
+pub fn commands(alloc: Global, asked: Asked, allow_kill: bool) -> Result<Response, AllocError>
+    ensures { IfOk result (λ response. response ≡ stays (commands_lem asked allow_kill)) }
 {
     let mut answer = Answer::new(alloc);
     push_all_commands(&mut answer, allow_kill, false)?;
@@ -44,8 +45,8 @@ pub fn commands(alloc: Global, asked: Asked, allow_kill: bool) -> Result<Spoken,
 }
 
 /// The commands that may not be run.
-pub fn not_commands(alloc: Global, asked: Asked, allow_kill: bool) -> Result<Spoken, AllocError>
-    ensures { IfOk result (λ spoken. spoken ≡ stays (not_commands_lem asked allow_kill)) }
+pub fn not_commands(alloc: Global, asked: Asked, allow_kill: bool) -> Result<Response, AllocError>
+    ensures { IfOk result (λ response. response ≡ stays (not_commands_lem asked allow_kill)) }
 {
     let mut answer = Answer::new(alloc);
     push_all_commands(&mut answer, allow_kill, true)?;

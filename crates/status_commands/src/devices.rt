@@ -2,18 +2,18 @@
 ghost use Rattle.std.specs.Prelude.{◌≡◌, ◌++◌, IfOk, OnOk};
 ghost use Rattle.std.specs.List.{enumerate_from, flat_map};
 ghost use Rattle.status_commands.specs.Devices.{no_such_output as no_such_output_lem, enabled_line, output_lines, output_name_lines, outputs as outputs_lem, plugin_line, switch_output as switch_output_lem, toggle_output as toggle_output_lem};
-ghost use Rattle.command_plan.specs.Turns.{turn_by};
+ghost use Rattle.transitions.specs.Transitions.{transition_by};
 
 use crate::status::digit;
-use command_plan::{Asked, Plan};
 use mpd_text::{Answer, ErrorNumber};
-use player_state::{Effect, Outputs, Part};
+use player_state::{CommandEffect, Outputs, Part};
 use std::alloc::{AllocError, Global};
+use transitions::{Asked, Transition};
 
-pub fn outputs(alloc: Global, asked: Asked, part: &Part) -> Result<Plan, AllocError>
-    ensures { IfOk result (λ plan. plan ≡ turn_by (outputs_lem asked part.now)) }
+pub fn outputs(alloc: Global, asked: Asked, part: &Part) -> Result<Transition, AllocError>
+    ensures { IfOk result (λ transition. transition ≡ transition_by (outputs_lem asked part.now)) }
 {
-    Plan::shows(asked, lines_of(alloc, &part.outputs)?)
+    Transition::shows(asked, lines_of(alloc, &part.outputs)?)
 }
 
 fn lines_of(alloc: Global, outputs: &Outputs) -> Result<Answer, AllocError>
@@ -63,10 +63,10 @@ fn push_enabled(lines: &mut Answer, on: u8) -> Result<(), AllocError>
     lines.pair("outputenabled", on)
 }
 
-fn no_such_output(alloc: Global, asked: Asked) -> Result<Plan, AllocError>
-    ensures { IfOk result (λ plan. plan ≡ turn_by (no_such_output_lem asked)) }
+fn no_such_output(alloc: Global, asked: Asked) -> Result<Transition, AllocError>
+    ensures { IfOk result (λ transition. transition ≡ transition_by (no_such_output_lem asked)) }
 {
-    Plan::refuses(alloc, asked, ErrorNumber::NoExist, "no such output")
+    Transition::refuses(alloc, asked, ErrorNumber::NoExist, "no such output")
 }
 
 /// An output is turned on, unless it has failed, or off.
@@ -76,16 +76,16 @@ pub fn switch_output(
     part: &Part,
     output: usize,
     on: bool,
-) -> Result<Plan, AllocError>
-    ensures { IfOk result (λ plan. plan ≡ turn_by (switch_output_lem asked part.now output on)) }
+) -> Result<Transition, AllocError>
+    ensures { IfOk result (λ transition. transition ≡ transition_by (switch_output_lem asked part.now output on)) }
 {
     if !part.outputs.is_output(output) {
         return no_such_output(alloc, asked);
     }
     if on && part.outputs.has_failed(output) {
-        return Plan::refuses(alloc, asked, ErrorNumber::System, "output has failed");
+        return Transition::refuses(alloc, asked, ErrorNumber::System, "output has failed");
     }
-    Plan::does(alloc, asked, Effect::Switches(output, on))
+    Transition::does(alloc, asked, CommandEffect::Switches(output, on))
 }
 
 pub fn toggle_output(
@@ -93,8 +93,8 @@ pub fn toggle_output(
     asked: Asked,
     part: &Part,
     output: usize,
-) -> Result<Plan, AllocError>
-    ensures { IfOk result (λ plan. plan ≡ turn_by (toggle_output_lem asked part.now output)) }
+) -> Result<Transition, AllocError>
+    ensures { IfOk result (λ transition. transition ≡ transition_by (toggle_output_lem asked part.now output)) }
 {
     let on = !part.outputs.is_enabled(output);
     switch_output(alloc, asked, part, output, on)

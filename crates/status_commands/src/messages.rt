@@ -2,35 +2,35 @@
 ghost use Rattle.std.specs.Prelude.{◌≡◌, ◌++◌, IfOk, OnOk, map};
 ghost use Rattle.std.specs.List.{flat_map};
 ghost use Rattle.status_commands.specs.Messages.{channels as channels_lem, lines_of_channels, lines_of_messages, message_lines, read_messages as read_messages_lem, send_message as send_message_lem, subscribe as subscribe_lem, unsubscribe as unsubscribe_lem};
-ghost use Rattle.command_plan.specs.Turns.{turn_by};
-ghost use Rattle.player_state.specs.Plans.{Fits};
+ghost use Rattle.transitions.specs.Transitions.{transition_by};
+ghost use Rattle.player_state.specs.Fits.{Fits};
 
-use command_plan::{Asked, Plan};
 use idle_notes::{MAX_SUBSCRIPTIONS, Message, is_channel_name};
 use mpd_text::{Answer, ErrorNumber, Text};
-use player_state::{Effect, Part};
+use player_state::{CommandEffect, Part};
 use std::alloc::{AllocError, Global};
+use transitions::{Asked, Transition};
 
 pub fn subscribe(
     alloc: Global,
     asked: Asked,
     part: &Part,
     channel: &Text,
-) -> Result<Plan, AllocError>
-    ensures plan { IfOk result (λ plan. plan ≡ turn_by (subscribe_lem asked part.now channel.now)) }
-    ensures fits { IfOk result (λ plan. Fits part.now plan.doing) }
+) -> Result<Transition, AllocError>
+    ensures transition { IfOk result (λ transition. transition ≡ transition_by (subscribe_lem asked part.now channel.now)) }
+    ensures fits { IfOk result (λ transition. Fits part.now transition.effect) }
 {
     if !is_channel_name(channel.as_str()) {
-        return Plan::bad_name(alloc, asked, channel.as_str());
+        return Transition::bad_name(alloc, asked, channel.as_str());
     }
     if part.channels.listens(asked.client, channel.as_str()) {
-        return Plan::refuses(alloc, asked, ErrorNumber::Exist, "already subscribed");
+        return Transition::refuses(alloc, asked, ErrorNumber::Exist, "already subscribed");
     }
     if part.channels.count_of(asked.client) >= MAX_SUBSCRIPTIONS {
-        return Plan::refuses(alloc, asked, ErrorNumber::System, "too many subscriptions");
+        return Transition::refuses(alloc, asked, ErrorNumber::System, "too many subscriptions");
     }
     let name = Text::new(alloc, channel.as_str())?;
-    Plan::does(alloc, asked, Effect::Subscribes(asked.client, name))
+    Transition::does(alloc, asked, CommandEffect::Subscribes(asked.client, name))
 }
 
 pub fn unsubscribe(
@@ -38,27 +38,31 @@ pub fn unsubscribe(
     asked: Asked,
     part: &Part,
     channel: &Text,
-) -> Result<Plan, AllocError>
-    ensures plan { IfOk result (λ plan. plan ≡ turn_by (unsubscribe_lem asked part.now channel.now)) }
-    ensures fits { IfOk result (λ plan. Fits part.now plan.doing) }
+) -> Result<Transition, AllocError>
+    ensures transition { IfOk result (λ transition. transition ≡ transition_by (unsubscribe_lem asked part.now channel.now)) }
+    ensures fits { IfOk result (λ transition. Fits part.now transition.effect) }
 {
     if !is_channel_name(channel.as_str()) {
-        return Plan::bad_name(alloc, asked, channel.as_str());
+        return Transition::bad_name(alloc, asked, channel.as_str());
     }
     if !part.channels.listens(asked.client, channel.as_str()) {
-        return Plan::refuses(alloc, asked, ErrorNumber::NoExist, "not subscribed");
+        return Transition::refuses(alloc, asked, ErrorNumber::NoExist, "not subscribed");
     }
     let name = Text::new(alloc, channel.as_str())?;
-    Plan::does(alloc, asked, Effect::Unsubscribes(asked.client, name))
+    Transition::does(
+        alloc,
+        asked,
+        CommandEffect::Unsubscribes(asked.client, name),
+    )
 }
 
-pub fn channels(alloc: Global, asked: Asked, part: &Part) -> Result<Plan, AllocError>
-    ensures { IfOk result (λ plan. plan ≡ turn_by (channels_lem asked part.now)) }
+pub fn channels(alloc: Global, asked: Asked, part: &Part) -> Result<Transition, AllocError>
+    ensures { IfOk result (λ transition. transition ≡ transition_by (channels_lem asked part.now)) }
 {
     let names = part.channels.channels(alloc)?;
     let mut lines = Answer::new(alloc);
     push_channels(&mut lines, &names)?;
-    Plan::shows(asked, lines)
+    Transition::shows(asked, lines)
 }
 
 #[tactic(auto, unfolding(crate::specs::Messages::lines_of_channels))]
@@ -77,31 +81,31 @@ pub fn send_message(
     part: &Part,
     channel: &Text,
     text: &Text,
-) -> Result<Plan, AllocError>
-    ensures plan { IfOk result (λ plan. plan ≡ turn_by (send_message_lem asked part.now channel.now text.now)) }
-    ensures fits { IfOk result (λ plan. Fits part.now plan.doing) }
+) -> Result<Transition, AllocError>
+    ensures transition { IfOk result (λ transition. transition ≡ transition_by (send_message_lem asked part.now channel.now text.now)) }
+    ensures fits { IfOk result (λ transition. Fits part.now transition.effect) }
 {
     if !is_channel_name(channel.as_str()) {
-        return Plan::bad_name(alloc, asked, channel.as_str());
+        return Transition::bad_name(alloc, asked, channel.as_str());
     }
     if !part.channels.hears(channel.as_str()) {
-        return Plan::refuses(alloc, asked, ErrorNumber::NoExist, "nobody is subscribed");
+        return Transition::refuses(alloc, asked, ErrorNumber::NoExist, "nobody is subscribed");
     }
     if !part.channels.has_room(channel.as_str()) {
-        return Plan::refuses(alloc, asked, ErrorNumber::NoExist, "no subscriber has room");
+        return Transition::refuses(alloc, asked, ErrorNumber::NoExist, "no subscriber has room");
     }
     let name = Text::new(alloc, channel.as_str())?;
     let text = Text::new(alloc, text.as_str())?;
-    Plan::does(alloc, asked, Effect::Sends(name, text))
+    Transition::does(alloc, asked, CommandEffect::Sends(name, text))
 }
 
-pub fn read_messages(alloc: Global, asked: Asked, part: &Part) -> Result<Plan, AllocError>
-    ensures plan { IfOk result (λ plan. plan ≡ turn_by (read_messages_lem asked part.now)) }
-    ensures fits { IfOk result (λ plan. Fits part.now plan.doing) }
+pub fn read_messages(alloc: Global, asked: Asked, part: &Part) -> Result<Transition, AllocError>
+    ensures transition { IfOk result (λ transition. transition ≡ transition_by (read_messages_lem asked part.now)) }
+    ensures fits { IfOk result (λ transition. Fits part.now transition.effect) }
 {
     let mut lines = Answer::new(alloc);
     push_messages(&mut lines, part.channels.messages(asked.client))?;
-    Plan::does_and_shows(asked, Effect::ReadsMessages(asked.client), lines)
+    Transition::does_and_shows(asked, CommandEffect::ReadsMessages(asked.client), lines)
 }
 
 #[tactic(auto, unfolding(crate::specs::Messages::lines_of_messages))]

@@ -6,11 +6,10 @@ ghost use Rattle.song_queue.specs.State.{queue_of};
 ghost use Rattle.player_core.specs.Steps.{current_entry, peek};
 ghost use Rattle.status_commands.specs.Status.{ToWait, ToGoOn, audio_line, consume_text as consume_text_lem, current_lines, digit as digit_lem, duration_line, duration_of, elapsed_line, error_line, fade_line, idles, mode_lines, next_lines, next_place_lines, progress_lines, queue_lines, resumes, scan_line, single_text as single_text_lem, song_place_lines, state_text as state_text_lem, status as status_lem, wished};
 ghost use Rattle.mpd_text.specs.declared.answers.answer.ErrorNumber.TheVariants.{Argument};
-ghost use Rattle.command_plan.specs.Answers.{refuses as refuses_lem, stays};
-ghost use Rattle.command_plan.specs.Turns.{turn_by};
+ghost use Rattle.transitions.specs.Answers.{refuses as refuses_lem, stays};
+ghost use Rattle.transitions.specs.Transitions.{transition_by};
 ghost use Rattle.player_state.specs.Scans.{running};
 
-use command_plan::{Asked, Move, Next, Plan, Spoken, Stand, refuses, tells};
 use idle_notes::Subsystems;
 use mpd_text::{Answer, ErrorNumber, SharedText};
 use play_order::{Consume, Modes, Single};
@@ -19,14 +18,15 @@ use player_state::{Client, Library, Part};
 use queue_commands::playback::is_stopped;
 use song_db::{Rate, duration, length_of};
 use std::alloc::{AllocError, Global};
+use transitions::{Asked, Move, Next, Response, Stand, Transition, refuses, tells};
 
 pub fn status(
     alloc: Global,
     asked: Asked,
     part: &Part,
     library: &Library,
-) -> Result<Plan, AllocError>
-    ensures { IfOk result (λ plan. plan ≡ turn_by (status_lem asked part.now library.now)) }
+) -> Result<Transition, AllocError>
+    ensures { IfOk result (λ transition. transition ≡ transition_by (status_lem asked part.now library.now)) }
 {
     let mut lines = Answer::new(alloc);
     push_modes(&mut lines, part.volume.percent(), part.player.modes())?;
@@ -35,7 +35,7 @@ pub fn status(
     push_next(&mut lines, part)?;
     push_progress(alloc, &mut lines, part, library)?;
     push_last(&mut lines, part, library)?;
-    Plan::shows(asked, lines)
+    Transition::shows(asked, lines)
 }
 
 #[tactic(auto, unfolding(crate::specs::Status::mode_lines))]
@@ -131,7 +131,8 @@ fn push_next_place(lines: &mut Answer, place: usize, id: u32) -> Result<(), Allo
     lines.pair("nextsongid", id)
 }
 
-/// How far the current song is, how long it is, and what its frames are, where the player does not stand still.
+/// How far the current song is, how long it is, and what its frames are, where the player does not stand
+/// still.
 fn push_progress(
     alloc: Global,
     lines: &mut Answer,
@@ -250,8 +251,8 @@ pub fn idle(
     asked: Asked,
     client: Client,
     named: Subsystems,
-) -> Result<Spoken, AllocError>
-    ensures { IfOk result (λ spoken. spoken ≡ wished asked client (ToWait named)) }
+) -> Result<Response, AllocError>
+    ensures { IfOk result (λ response. response ≡ wished asked client (ToWait named)) }
 {
     match asked.stand {
         Stand::Alone => wait_for(alloc, client, named),
@@ -259,13 +260,13 @@ pub fn idle(
     }
 }
 
-fn wait_for(alloc: Global, client: Client, named: Subsystems) -> Result<Spoken, AllocError>
-    ensures { IfOk result (λ spoken. spoken ≡ idles named (notice_of (waits named client.pending))) }
+fn wait_for(alloc: Global, client: Client, named: Subsystems) -> Result<Response, AllocError>
+    ensures { IfOk result (λ response. response ≡ idles named (notice_of (waits named client.pending))) }
 {
     let mut pending = client.pending;
     let Some(names) = pending.wait(named) else {
         let nothing = SharedText::of(String::new(alloc))?;
-        return Spoken::of(nothing, Next::Waits, false, Move::Wait(named));
+        return Response::of(nothing, Next::Waits, false, Move::Wait(named));
     };
     let mut answer = Answer::new(alloc);
     names.push_lines(&mut answer)?;
@@ -273,8 +274,8 @@ fn wait_for(alloc: Global, client: Client, named: Subsystems) -> Result<Spoken, 
     tells(answer.into_string(), Move::Learn)
 }
 
-pub fn no_idle(alloc: Global, asked: Asked, client: Client) -> Result<Spoken, AllocError>
-    ensures { IfOk result (λ spoken. spoken ≡ wished asked client ToGoOn) }
+pub fn no_idle(alloc: Global, asked: Asked, client: Client) -> Result<Response, AllocError>
+    ensures { IfOk result (λ response. response ≡ wished asked client ToGoOn) }
 {
     match asked.stand {
         Stand::Alone => go_on(alloc, client),
@@ -282,8 +283,8 @@ pub fn no_idle(alloc: Global, asked: Asked, client: Client) -> Result<Spoken, Al
     }
 }
 
-fn go_on(alloc: Global, client: Client) -> Result<Spoken, AllocError>
-    ensures { IfOk result (λ spoken. spoken ≡ resumes client) }
+fn go_on(alloc: Global, client: Client) -> Result<Response, AllocError>
+    ensures { IfOk result (λ response. response ≡ resumes client) }
 {
     if !client.pending.is_waiting() {
         return tells(String::new(alloc), Move::Stay);
@@ -291,8 +292,8 @@ fn go_on(alloc: Global, client: Client) -> Result<Spoken, AllocError>
     tells(String::from_str(alloc, "OK\n")?, Move::Resume)
 }
 
-fn not_in_list(alloc: Global, asked: Asked) -> Result<Spoken, AllocError>
-    ensures { IfOk result (λ spoken. spoken ≡ stays (refuses_lem asked.stand (Some asked.name) Argument (codes "not allowed in a list"))) }
+fn not_in_list(alloc: Global, asked: Asked) -> Result<Response, AllocError>
+    ensures { IfOk result (λ response. response ≡ stays (refuses_lem asked.stand (Some asked.name) Argument (codes "not allowed in a list"))) }
 {
     refuses(alloc, asked, ErrorNumber::Argument, "not allowed in a list")
 }

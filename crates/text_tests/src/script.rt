@@ -212,7 +212,8 @@ fn turns(rt: HostRuntime) {
     wants(&rt, told, "25 lines agree");
 }
 
-/// Whether the song that a line tells of has this URI, and how many tags; nothing where the line tells of none.
+/// Whether the song that a line tells of has this URI, and how many tags; nothing where the line tells of
+/// none.
 fn song_told(alloc: Global, rest: &str, uri: &str) -> Result<Option<(bool, usize)>, AllocError> {
     match Step::of_line(alloc, rest)? {
         Some(Step::Song(song)) => Ok(Some((song.uri() == uri, song.tags().len()))),

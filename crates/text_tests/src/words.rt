@@ -89,7 +89,8 @@ fn ends_in(alloc: Global, line: &str, count: usize, last: &str) -> bool {
     }
 }
 
-/// How long a line of a command of 4 bytes, a space and an argument of 16,379 is, and whether the argument is read.
+/// How long a line of a command of 4 bytes, a space and an argument of 16,379 is, and whether the argument is
+/// read.
 fn long_argument(alloc: Global) -> Result<(usize, bool), AllocError> {
     let argument = repeated(alloc, "x", 16_379)?;
     let line = format!(in alloc; "find {argument}")?;
@@ -97,7 +98,8 @@ fn long_argument(alloc: Global) -> Result<(usize, bool), AllocError> {
     Ok((line.len(), is_read))
 }
 
-/// How long a line of one quoted word of 8,191 characters is, each after a backslash, and whether the word is read.
+/// How long a line of one quoted word of 8,191 characters is, each after a backslash, and whether the word is
+/// read.
 fn long_quoted_word(alloc: Global) -> Result<(usize, bool), AllocError> {
     let text = repeated(alloc, "\"", 8_191)?;
     let quoted = repeated(alloc, "\\\"", 8_191)?;

@@ -5,14 +5,16 @@ abbrev pub little_endian : List ℕ → ℕ
 little_endian [] = 0
 little_endian (byte ∷ bytes) = byte + 256 * little_endian bytes
 
--- a name of four bytes, the size that is written, and the content, which is shorter where the bytes end within it
+-- a name of four bytes, the size that is written, and the content, which is shorter where the bytes end
+-- within it
 pub record Chunk : Type 0 where
   pub name : List ℕ
   pub size : ℕ
   pub content : List ℕ
 
 -- These are the chunks that the bytes are made of: names, sizes and contents one after another, a pad byte
--- after a content of odd size, and at most seven bytes at the end. The last content and its pad may be cut off.
+-- after a content of odd size, and at most seven bytes at the end. The last content and its pad may be cut
+-- off.
 abbrev pub AreChunks : List ℕ → List Chunk → Type 0
 AreChunks bytes [] = length bytes < 8
 AreChunks bytes (chunk ∷ more) = (size rest : List ℕ) × (bytes ≡ chunk.name ++ (size ++ rest)) × (length chunk.name ≡ 4) × (length size ≡ 4)

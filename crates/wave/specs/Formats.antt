@@ -1,5 +1,6 @@
 -- What a format chunk says (Multimedia Programming Interface and Data Specifications 1.0, WAVE Format Chunk;
--- Multiple Channel Audio Data and WAVE Files, WAVEFORMATEXTENSIBLE). Which formats are played is this profile's.
+-- Multiple Channel Audio Data and WAVE Files, WAVEFORMATEXTENSIBLE). Which formats are played is this
+-- profile's.
 use Rattle.std.specs.Prelude.{ℕ, ◌+◌, ◌*◌, ◌/◌, List, [], ◌∷◌, length, map, Bool, ◌&&◌, ◌||◌, ◌==◌, nat_le, if◌then◌else◌, Option, Some, None, slice_range, slice_index, ℤ}
 use Rattle.std.specs.List.{range_with_len}
 use Rattle.std.specs.Str.{bytes_eq}

@@ -15,7 +15,8 @@ frames_in bytes head = frames_of head.layout (take (head.frames * block head.lay
 abbrev pub wave_in : List ℕ → Head → Wave
 wave_in bytes head = record { layout = head.layout; tags = head.tags.items; frames = frames_in bytes head }
 
--- The head, its tags and the frames that lie where it says are what the bytes mean; or they mean this refusal.
+-- The head, its tags and the frames that lie where it says are what the bytes mean; or they mean this
+-- refusal.
 abbrev pub MeansWave : List ℕ → Result Head WaveFault → Result Wave WaveFault → Type 0
 MeansWave bytes (Ok head) meaning = (meaning ≡ Ok (wave_in bytes head)) × (length (frames_in bytes head) ≡ head.frames)
 MeansWave bytes (Err fault) meaning = Refuses fault meaning

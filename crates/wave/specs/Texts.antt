@@ -1,5 +1,5 @@
--- The texts of a file (Multimedia Programming Interface and Data Specifications 1.0, INFO List Chunk). Which texts
--- are skipped is this profile's.
+-- The texts of a file (Multimedia Programming Interface and Data Specifications 1.0, INFO List Chunk). Which
+-- texts are skipped is this profile's.
 use Rattle.std.specs.Prelude.{ℕ, List, [], ◌∷◌, length, take, drop, Bool, ◌&&◌, ◌==◌, nat_le, if◌then◌else◌, Option, Some, None, codes}
 use Rattle.std.specs.List.{flat_map, filter_map, list_all, before_first}
 use Rattle.std.specs.Str.{is_utf8, bytes_eq}

@@ -1,5 +1,5 @@
--- What the bytes of a WAVE file mean (Multimedia Programming Interface and Data Specifications 1.0, Waveform Audio
--- File Format). What is refused, and in which order, is this profile's.
+-- What the bytes of a WAVE file mean (Multimedia Programming Interface and Data Specifications 1.0, Waveform
+-- Audio File Format). What is refused, and in which order, is this profile's.
 use Rattle.std.specs.Prelude.{ℕ, List, [], ◌∷◌, length, take, drop, Bool, ◌&&◌, nat_le, if◌then◌else◌, Option, Some, None, Result, Ok, Err, codes, slice_range, ℤ}
 use Rattle.std.specs.Str.{bytes_eq}
 use Rattle.mpd_text.specs.Songs.Song.{TagData}

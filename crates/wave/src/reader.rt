@@ -51,7 +51,8 @@ impl<R: Media> Reader<R> {
         ensures value { IfSome (R.all_bytes self.old.media) (λ bytes. IfOk result (λ frames. frames.items ≡ take n (drop from (frames_in bytes self.old.head)))) }
         ensures count { IfOk result (λ frames. length frames.items ≤ n) }
         ensures fault { IfErr result (λ fault. (fault ≡ WaveFault.ReadFault) ⊎ (fault ≡ WaveFault.NoMemory)) }
-        // A fault of the device comes only where it failed, or was called too often, or its count is at its greatest value.
+        // A fault of the device comes only where it failed, or was called too often, or its count is at its
+        // greatest value.
         ensures read_fault { IsErrOf result WaveFault.ReadFault → HasFailed (R.tally self.old.media) (R.tally self.new.media) ⊎ CalledTooOften (R.tally self.old.media) (R.tally self.new.media) }
         ensures few_calls { (R.tally self.new.media).calls ≤ (R.tally self.old.media).calls + 2 ^ 32 }
         ensures head { self.new.head ≡ self.old.head }

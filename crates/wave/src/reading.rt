@@ -18,12 +18,13 @@ use std::alloc::Global;
 
 /// Reads the head of a file that is to be played at this rate, in frames a second.
 ///
-/// The whole file is walked through, chunk by chunk, since tags may come after the data. The refusals are those
-/// of the bytes, in the order of [`WaveFault`]; `ReadFault` and `NoMemory` say nothing of them.
+/// The whole file is walked through, chunk by chunk, since tags may come after the data. The refusals are
+/// those of the bytes, in the order of [`WaveFault`]; `ReadFault` and `NoMemory` say nothing of them.
 pub fn read_head<M: Media>(alloc: Global, media: &mut M, rate: u32) -> Result<Head, WaveFault>
     // The head is what the whole bytes mean, and each refusal is the one that they mean.
     ensures value { IfSome (M.all_bytes media.old) (λ bytes. MeansWave bytes result (wave_of rate bytes)) }
-    // A fault of the device comes only where it failed, or was called too often, or its count is at its greatest value.
+    // A fault of the device comes only where it failed, or was called too often, or its count is at its
+    // greatest value.
     ensures read_fault { IsErrOf result WaveFault.ReadFault → HasFailed (M.tally media.old) (M.tally media.new) ⊎ CalledTooOften (M.tally media.old) (M.tally media.new) }
     ensures few_calls { (M.tally media.new).calls ≤ (M.tally media.old).calls + 2 ^ 32 }
     ensures stays { M.all_bytes media.new ≡ M.all_bytes media.old }

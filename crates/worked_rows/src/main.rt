@@ -1,9 +1,11 @@
-//! Runs worked script sessions, the files `*.row` of the folder that it runs in, and compares what they print.
+//! Runs worked script sessions, the files `*.row` of the folder that it runs in, and compares what they
+//! print.
 //!
-//! A row file has lines `# TEXT`, `since:` and `until:` (all passed over), `again: STAGE LINE` (the session is run once more with
-//! that line in front), input lines `> LINE`, and after each the lines that it prints: `< LINE` exactly, or `<~ LINE`, a line that the answer has among others, or `<! TEXT`,
-//! where no further line of the answer begins so. `>e` and `<e` are the
-//! same with escapes: `\r`, `\t`, `\\`, `\xHH`, and `\{TEXT*N}` for a text N times.
+//! A row file has lines `# TEXT`, `since:` and `until:` (all passed over), `again: STAGE LINE` (the session
+//! is run once more with that line in front), input lines `> LINE`, and after each the lines that it prints:
+//! `< LINE` exactly, or `<~ LINE`, a line that the answer has among others, or `<! TEXT`, where no further
+//! line of the answer begins so. `>e` and `<e` are the same with escapes: `\r`, `\t`, `\\`, `\xHH`, and
+//! `\{TEXT*N}` for a text N times.
 #![tactic(auto)]
 
 mod row;
@@ -48,7 +50,8 @@ struct Passed {
     runs: u64,
 }
 
-/// Runs a row as it is, and once more behind each line of its `again`. `None` where a run prints something else.
+/// Runs a row as it is, and once more behind each line of its `again`. `None` where a run prints something
+/// else.
 fn passes(rt: &HostRuntime, text: &str) -> io::Result<Option<Passed>> {
     let Some(row) = Row::read(rt.alloc(), text)? else {
         return Ok(None);
@@ -66,7 +69,8 @@ fn passes(rt: &HostRuntime, text: &str) -> io::Result<Option<Passed>> {
     Ok(Some(Passed { lines, runs }))
 }
 
-/// How many wanted lines a row has, if what the script prints for some first bytes and the row's input is what it wants.
+/// How many wanted lines a row has, if what the script prints for some first bytes and the row's input is
+/// what it wants.
 fn wanted_lines(rt: &HostRuntime, row: &Row, first: &[u8]) -> io::Result<Option<u64>> {
     let mut input = Vec::from_slice(rt.alloc(), first)?;
     input.extend_from_slice(row.input())?;

@@ -27,7 +27,8 @@ struct Wanted {
     text: Vec<u8>,
 }
 
-/// A session: its input, the lines that stand in front of it in further runs, and the output that is wanted of each run.
+/// A session: its input, the lines that stand in front of it in further runs, and the output that is wanted
+/// of each run.
 #[derive(Drop)]
 pub struct Row {
     input: Vec<u8>,

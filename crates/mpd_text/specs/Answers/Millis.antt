@@ -1,4 +1,5 @@
--- Times in arguments (MPD protocol reference, Playback control: `seek`; how many digits there may be is this profile's).
+-- Times in arguments (MPD protocol reference, Playback control: `seek`; how many digits there may be is this
+-- profile's).
 use Rattle.std.specs.Prelude.{ℕ, ◌+◌, ◌-◌, ◌*◌, List, [], ◌∷◌, length, Option, Some, None, nat_le, if◌then◌else◌}
 use Rattle.mpd_text.specs.Answers.Number.{is_digits, number_of}
 use Rattle.mpd_text.specs.Answers.Range.{has_byte, before, after}

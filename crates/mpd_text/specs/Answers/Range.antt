@@ -34,7 +34,8 @@ range_of text = if has_byte 58 text then from_to (number_of (before 58 text)) (a
 abbrev pub places : ℕ → ℕ → Places ℕ
 places start end = record { start = start; end = end }
 
--- the places of a range in a list of so many items, where it begins in the list or at its end and does not end before it begins
+-- the places of a range in a list of so many items, where it begins in the list or at its end and does not
+-- end before it begins
 abbrev pub within : Range → ℕ → Option (Places ℕ)
 within (Lone place) len = if nat_lt place len then Some (places place (place + 1)) else None
 within (Between start end) len = if nat_le start len && nat_le start end then Some (places start (min len end)) else None

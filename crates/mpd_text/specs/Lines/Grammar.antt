@@ -1,4 +1,5 @@
--- What the words of a line are, of whole texts (MPD protocol reference, Requests; what a word without quotes may hold is this profile's).
+-- What the words of a line are, of whole texts (MPD protocol reference, Requests; what a word without quotes
+-- may hold is this profile's).
 use Rattle.std.specs.Prelude.{◌≡◌, ◌≢◌, ℕ, ◌+◌, ◌<◌, List, [], ◌∷◌, ◌++◌, length, true, false, ◌⊎◌}
 use Rattle.mpd_text.specs.declared.lines.quoting.WordsFault.{WordsFault}
 use Rattle.mpd_text.specs.declared.lines.quoting.WordsFault.TheVariants.{BadUnquoted, NoClosingQuote, NoSpaceAfterQuote, TooMany, NoMemory}
@@ -12,7 +13,8 @@ abbrev pub AreBare : List ℕ → Type 0
 AreBare [] = Unit {0}
 AreBare (b ∷ bs) = (is_bare b ≡ true) × AreBare bs
 
--- between quotes is the word, each character by itself or after a backslash; a quote and a backslash are always after one
+-- between quotes is the word, each character by itself or after a backslash; a quote and a backslash are
+-- always after one
 abbrev pub IsInside : List ℕ → List ℕ → Type 0
 IsInside inside [] = inside ≡ []
 IsInside inside (c ∷ word) = (rest : List ℕ) × (((inside ≡ c ∷ rest) × (c ≢ 34) × (c ≢ 92)) ⊎ (inside ≡ 92 ∷ c ∷ rest)) × IsInside rest word

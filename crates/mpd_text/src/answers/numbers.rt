@@ -4,7 +4,8 @@ ghost use Rattle.std.specs.List.{list_all};
 ghost use Rattle.std.specs.Char.{is_ascii_digit};
 ghost use Rattle.mpd_text.specs.Answers.Number.{is_digits as is_digits_lem, number_of};
 
-/// A number: one or more decimal digits, with a value of at most 4,294,967,295. Leading zeros are allowed, signs are not.
+/// A number: one or more decimal digits, with a value of at most 4,294,967,295. Leading zeros are allowed,
+/// signs are not.
 pub fn number(text: &str) -> Option<u32>
     ensures { result ≡ number_of text.now }
 {

@@ -18,7 +18,8 @@ pub enum Range {
 }
 
 impl Range {
-    /// The range of a text: `POS`, `START:END` or `START:`; `None` where it is none of these, or the start is above the end.
+    /// The range of a text: `POS`, `START:END` or `START:`; `None` where it is none of these, or the start is
+    /// above the end.
     #[tactic(auto, unfolding(crate::specs::Answers::Range::range_of))]
     pub fn parse(text: &str) -> Option<Range>
         ensures { result ≡ range_of text.now }
@@ -38,8 +39,8 @@ impl Range {
         }
     }
 
-    /// Its places in a list of so many items, the end cut to the list's; `None` where it begins after the list's end, or is
-    /// one place that the list does not have.
+    /// Its places in a list of so many items, the end cut to the list's; `None` where it begins after the
+    /// list's end, or is one place that the list does not have.
     pub fn within(self, len: usize) -> Option<ops::Range<usize>>
         ensures places { result ≡ within_lem self len }
         ensures inside { IfSome result (λ places. (places.start ≤ places.end) × (places.end ≤ len)) }

@@ -52,7 +52,8 @@ impl Text {
     }
 }
 
-/// A text that has several owners in one buffer, as a reply that is handed out and kept. A clause sees its bytes.
+/// A text that has several owners in one buffer, as a reply that is handed out and kept. A clause sees its
+/// bytes.
 #[derive(Drop)]
 pub struct SharedText {
     string: ArcStr,

@@ -1,4 +1,5 @@
-//! Times in arguments (MPD protocol reference, Playback control: `seek`; how many digits there may be is this profile's).
+//! Times in arguments (MPD protocol reference, Playback control: `seek`; how many digits there may be is this
+//! profile's).
 ghost use Rattle.std.specs.Prelude.{◌≡◌, ◌-◌, ◌≤◌, true, Some, None};
 ghost use Rattle.std.specs.List.{list_all};
 ghost use Rattle.std.specs.Char.{is_ascii_digit};
@@ -13,8 +14,8 @@ use super::ranges::halves;
 pub struct Millis(pub u64);
 
 impl Millis {
-    /// The time of a text in seconds: at most nine digits, then perhaps a point and one or more digits, of which three
-    /// are kept.
+    /// The time of a text in seconds: at most nine digits, then perhaps a point and one or more digits, of
+    /// which three are kept.
     #[tactic(auto, unfolding(crate::specs::Answers::Millis::millis_of))]
     pub fn parse(text: &str) -> Option<Millis>
         ensures { result ≡ millis_of text.now }

@@ -35,8 +35,8 @@ fn push_escaped(quoted: &mut String, character: char) -> Result<(), AllocError>
     }
 }
 
-/// A law: a text in quotes is a word of a line. A line of texts in quotes, with one space between each two, is
-/// read as these texts, and is refused where there are more than 65. A caller has it by a call.
+/// A law: a text in quotes is a word of a line. A line of texts in quotes, with one space between each two,
+/// is read as these texts, and is refused where there are more than 65. A caller has it by a call.
 pub fn words_read_quotes()
     ensures word { (text : List ℕ) → IsQuotedWord (quoted_text text) text }
     ensures spelled { (texts : List (List ℕ)) → Spells (quoted_line texts) texts }

@@ -17,8 +17,9 @@ use std::alloc::{AllocError, Global};
 const BLOCK: u64 = 1024;
 
 impl Player {
-    /// Asks for a job at so many frames a second. `enabled` says whether an output is on, `owes` whether a feeder still
-    /// owes frames of an earlier job. After its last frame the current song ends, and only this may take memory.
+    /// Asks for a job at so many frames a second. `enabled` says whether an output is on, `owes` whether a
+    /// feeder still owes frames of an earlier job. After its last frame the current song ends, and only this
+    /// may take memory.
     pub fn want(
         &mut self,
         rate: u32,
@@ -95,8 +96,8 @@ impl Player {
         Ok(job)
     }
 
-    /// So many frames of a job are there. Gives the cut that they are fed with, or `None` where they are stale. It takes
-    /// memory only where the song ends.
+    /// So many frames of a job are there. Gives the cut that they are fed with, or `None` where they are
+    /// stale. It takes memory only where the song ends.
     pub fn have(
         &mut self,
         queue: &mut Queue,

@@ -17,8 +17,8 @@ use std::alloc::AllocError;
 use std::ops::Range;
 
 impl Player {
-    /// Puts songs into a queue that can take them, and each of the new entries draws a rank. Where memory is wanted,
-    /// nothing changes.
+    /// Puts songs into a queue that can take them, and each of the new entries draws a rank. Where memory is
+    /// wanted, nothing changes.
     pub fn insert(
         &mut self,
         queue: &mut Queue,
@@ -46,8 +46,8 @@ impl Player {
         self.round.shuffle(queue, range)
     }
 
-    /// Takes the entries of a range out of the queue. Where the current song is among them, what comes next starts, or the
-    /// player stops.
+    /// Takes the entries of a range out of the queue. Where the current song is among them, what comes next
+    /// starts, or the player stops.
     pub fn remove(&mut self, queue: &mut Queue, range: Range<usize>) -> Result<(), PlayerFault>
         requires order { range.start ≤ range.end }
         requires within { range.end ≤ length (queue_of queue.old) }

@@ -32,8 +32,8 @@ impl Player {
         Ok(())
     }
 
-    /// The current song, which has this id, ends by itself, and what follows starts at a place. So many frames of the
-    /// song were accepted.
+    /// The current song, which has this id, ends by itself, and what follows starts at a place. So many
+    /// frames of the song were accepted.
     pub(super) fn end(
         &mut self,
         queue: &mut Queue,

@@ -138,7 +138,8 @@ impl Player {
         Ok(())
     }
 
-    /// Whether there is an entry to begin with. An opening is what comes next with repeat when nothing is taken out.
+    /// Whether there is an entry to begin with. An opening is what comes next with repeat when nothing is
+    /// taken out.
     fn opens(&self, queue: &Queue) -> bool
         ensures { result ≡ is_some (opening_of self.now.modes self.now.round (queue_of queue.now)) }
     {

@@ -1,7 +1,7 @@
 use Rattle.std.proofs.Common.{◌+◌, ◌<◌, ◌≤◌, length, rules, subst, vec_capacity, vec_len}
 use Rattle.std.specs.Prelude.{IfOk}
 use Rattle.partition.specs.History.{Chronicle, with_room}
-use Rattle.counted_player.specs.Seats.{Place}
+use Rattle.counted_player.specs.Seats.{SeatCount}
 use Rattle.counted_player.specs.Counts.{AnswersSomewhere}
 use Rattle.held_player.proofs.Few.{has_room}
 use Rattle.held_player.proofs.happen.happen.Goals as goal
@@ -15,5 +15,5 @@ returns-clause-room g c =
 
 pub returns-clause-somewhere : goal.returns-clause-somewhere
 returns-clause-somewhere g c =
-    subst (λ (s : Place). IfOk c.apply.result (λ outcome. s.number < 4 → AnswersSomewhere g.S.Shelf.standing g.S.Shelf.failed c.args.shelf.now c.apply.new.shelf s.number s.made c.args.event outcome.answer))
+    subst (λ (s : SeatCount). IfOk c.apply.result (λ outcome. s.number < 4 → AnswersSomewhere g.S.Shelf.standing g.S.Shelf.failed c.args.shelf.now c.apply.new.shelf s.number s.made c.args.event outcome.answer))
     c.check.ensures.same.1 c.apply.ensures.somewhere

@@ -1,12 +1,12 @@
-use Rattle.command_plan.specs.declared.asked.Stand.TheVariants.{Alone}
+use Rattle.transitions.specs.declared.asked.Stand.TheVariants.{Alone}
 use Rattle.counted_player.proofs.Booked.{has_eight}
 use Rattle.counted_player.proofs.Frameless.{line_frameless}
-use Rattle.held_player.proofs.Heard.{books_stay, spared, unwritten}
+use Rattle.held_player.proofs.StoreReply.{books_stay, unchanged, unwritten}
 use Rattle.held_player.proofs.happen.hear_line.Goals as goal
 
-pub returns-clause-spared : goal.returns-clause-spared
-returns-clause-spared g c =
-    spared g.S.Shelf.standing g.S.Shelf.failed c.args.counted.now c.happen.new.counted c.args.shelf.now c.happen.new.shelf c.args.seat.now.number _ c.happen.result c.happen.ensures.refused
+pub returns-clause-unchanged : goal.returns-clause-unchanged
+returns-clause-unchanged g c =
+    unchanged g.S.Shelf.standing g.S.Shelf.failed c.args.counted.now c.happen.new.counted c.args.shelf.now c.happen.new.shelf c.args.seat.now.number _ c.happen.result c.happen.ensures.refused
 
 pub returns-clause-unwritten : goal.returns-clause-unwritten
 returns-clause-unwritten g c =

@@ -35,7 +35,7 @@ pub returns-clause-books : goal.returns-clause-books
 returns-clause-books g c =
     let i = c.args.counted.now.present in
     step_stays c.args.counted.now c.take_step.new.counted c.args.seat.now.number (event_of c.args.news) (has_eight c.args.counted.now c.take_step.ensures.legal)
-    (news_frameless i.shared.ended i.part i.shared.library i.clients c.args.news) c.take_step.result (returns-clause-player g c) c.take_step.ensures.spared
+    (news_frameless i.shared.ended i.part i.shared.library i.clients c.args.news) c.take_step.result (returns-clause-player g c) c.take_step.ensures.unchanged
 
 pub returns-clause-somewhere : goal.returns-clause-somewhere
 returns-clause-somewhere g c =

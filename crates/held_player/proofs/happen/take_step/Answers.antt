@@ -3,9 +3,9 @@ use Rattle.std.specs.Prelude.{IfErr, OnErr}
 use Rattle.partition.specs.History.{Chronicle}
 use Rattle.partition.specs.Step.{limit_of}
 use Rattle.partition.proofs.Lending.{may_want}
-use Rattle.counted_player.specs.Seats.{Place}
-use Rattle.held_player.specs.Views.{IsRefusedFor, IsSpared}
-use Rattle.held_player.proofs.Steps.{has_room_for, refused_for, step_spares}
+use Rattle.counted_player.specs.Seats.{SeatCount}
+use Rattle.held_player.specs.Views.{IsRefusedFor, IsUnchangedOrFolded}
+use Rattle.held_player.proofs.Steps.{has_room_for, refused_for, step_leaves_unchanged}
 use Rattle.held_player.proofs.happen.take_step.Goals as goal
 
 pub returns-then-is_err-clause-refused : goal.returns-then-is_err-clause-refused
@@ -14,13 +14,13 @@ returns-then-is_err-clause-refused g c = inr (may_want (limit_of c.args.seat.now
 pub returns-clause-refused : goal.returns-clause-refused
 returns-clause-refused g c =
     subst (λ (p : Chronicle). IfErr c.step.result (λ fault. IsRefusedFor p c.args.seat.now.number c.args.event fault)) c.check.ensures.same.0
-    (subst (λ (s : Place). IfErr c.step.result (λ fault. IsRefusedFor c.check.new.self s.number c.args.event fault)) c.check.ensures.same.1
+    (subst (λ (s : SeatCount). IfErr c.step.result (λ fault. IsRefusedFor c.check.new.self s.number c.args.event fault)) c.check.ensures.same.1
     (refused_for c.check.new.self c.step.new.self c.check.new.seat.number c.args.event c.step.result c.step.ensures.refused))
 
-pub returns-clause-spared : goal.returns-clause-spared
-returns-clause-spared g c =
-    subst (λ (p : Chronicle). OnErr c.step.result (IsSpared p c.step.new.self)) c.check.ensures.same.0
-    (step_spares c.check.new.self c.step.new.self c.check.new.seat.number c.args.event c.step.result c.step.ensures.refused)
+pub returns-clause-unchanged : goal.returns-clause-unchanged
+returns-clause-unchanged g c =
+    subst (λ (p : Chronicle). OnErr c.step.result (IsUnchangedOrFolded p c.step.new.self)) c.check.ensures.same.0
+    (step_leaves_unchanged c.check.new.self c.step.new.self c.check.new.seat.number c.args.event c.step.result c.step.ensures.refused)
 
 pub returns-clause-room : goal.returns-clause-room
 returns-clause-room g c =

@@ -3,7 +3,7 @@ use Rattle.partition.specs.History.{Chronicle}
 use Rattle.held_player.proofs.ListRooms.{here, room_run, room_stop, somewhere_here, somewhere_run}
 use Rattle.counted_player.proofs.Same.{all_runs_at, all_stops_at}
 use Rattle.held_player.specs.Lists.{unbegun}
-use Rattle.counted_player.specs.Seats.{Place}
+use Rattle.counted_player.specs.Seats.{SeatCount}
 use Rattle.held_player.proofs.listed.hear_list.Goals as goal
 
 pub returns-clause-room : goal.returns-clause-room
@@ -24,14 +24,14 @@ pub returns-clause-err : goal.returns-clause-err
 returns-clause-err g c =
     here g.S.Shelf.standing g.S.Shelf.failed c.args.counted.now c.run_list.new.self c.args.shelf.now c.run_list.new.shelf c.args.seat.now.number c.args.client c.args.form c.args.requests.items
     c.run_list.result (all_stops_at g.S.Shelf.standing g.S.Shelf.failed c.check.new.self c.args.counted.now c.args.shelf.now c.run_list.new.shelf c.check.new.seat.number c.args.seat.now.number
-    c.check.ensures.same.0 (ap (λ (s : Place). s.number) c.check.ensures.same.1) c.run_list.new.self c.args.client c.args.form c.args.requests.items c.run_list.result c.run_list.ensures.err)
+    c.check.ensures.same.0 (ap (λ (s : SeatCount). s.number) c.check.ensures.same.1) c.run_list.new.self c.args.client c.args.form c.args.requests.items c.run_list.result c.run_list.ensures.err)
 
 pub returns-clause-somewhere : goal.returns-clause-somewhere
 returns-clause-somewhere g c =
     somewhere_run g.S.Shelf.standing g.S.Shelf.failed c.args.counted.now c.run_list.new.self c.args.shelf.now c.run_list.new.shelf c.args.seat.now.number c.args.client c.args.form c.args.requests.items
     c.run_list.result c.args.seat.now.made c.check.ensures.legal c.check.ensures.found
     (all_runs_at g.S.Shelf.standing g.S.Shelf.failed c.check.new.self c.args.counted.now c.args.shelf.now c.run_list.new.shelf c.check.new.seat.number c.args.seat.now.number
-    c.check.ensures.same.0 (ap (λ (s : Place). s.number) c.check.ensures.same.1) c.run_list.new.self c.args.client c.args.form c.args.requests.items c.run_list.result c.run_list.ensures.ok)
+    c.check.ensures.same.0 (ap (λ (s : SeatCount). s.number) c.check.ensures.same.1) c.run_list.new.self c.args.client c.args.form c.args.requests.items c.run_list.result c.run_list.ensures.ok)
 
 pub returns-clause-stopped : goal.returns-clause-stopped
 returns-clause-stopped g c =

@@ -1,7 +1,7 @@
 use Rattle.std.proofs.Common.{◌≡◌, ◌≤◌, ◌+◌, ◌++◌, length, take, drop, count_by}
 use Rattle.std.specs.List.{flat_map}
 use Rattle.idle_clients.specs.Clients.{notice_for}
-use Rattle.idle_clients.specs.Signs.{raised_in}
+use Rattle.idle_clients.specs.Fingerprint.{raised_in}
 use Rattle.idle_clients.specs.Rooms.{is_waiting, listed, room_in}
 use Rattle.idle_clients.proofs.clients.list_notices.Given as goal
 

@@ -1,6 +1,6 @@
 use Rattle.std.proofs.Common.{◌≡◌, ◌++◌, map, take, drop}
 use Rattle.idle_clients.specs.Clients.{notified}
-use Rattle.idle_clients.specs.Signs.{raised_in}
+use Rattle.idle_clients.specs.Fingerprint.{raised_in}
 use Rattle.idle_clients.proofs.clients.notify_all.Given as goal
 
 abbrev pub invariant-loop-client : goal.invariant-loop-client

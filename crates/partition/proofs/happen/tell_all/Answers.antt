@@ -5,7 +5,7 @@ use Rattle.idle_clients.specs.Clients.{notice_for}
 use Rattle.idle_clients.specs.declared.notices.Notice.{Notice}
 use Rattle.idle_clients.specs.Rooms.{listed}
 use Rattle.idle_clients.specs.Settled.{nothing}
-use Rattle.idle_clients.specs.Signs.{raised_in}
+use Rattle.idle_clients.specs.Fingerprint.{raised_in}
 use Rattle.partition.proofs.Settled.{no_notices}
 use Rattle.partition.proofs.happen.tell_all.Goals as goal
 

@@ -2,9 +2,9 @@ use Rattle.std.proofs.Common.{◌≡◌, ◌∙◌, ℕ, false, ap}
 use Rattle.idle_notes.specs.declared.sets.Subsystems.{Subsystems}
 use Rattle.idle_clients.specs.Clients.{clients_after, notices_after}
 use Rattle.partition.specs.Image.{Image, image_of_state}
-use Rattle.command_plan.specs.Turns.{Turn}
+use Rattle.transitions.specs.Transitions.{TransitionData}
 use Rattle.idle_clients.specs.Rooms.{listed}
-use Rattle.idle_clients.specs.Signs.{raised_in, told_by_signs}
+use Rattle.idle_clients.specs.Fingerprint.{raised_in, told_by_fingerprint}
 use Rattle.partition.proofs.Written.{written_notices, written_step}
 use Rattle.partition.proofs.happen.tell_written.Goals as goal
 
@@ -12,28 +12,28 @@ pub returns-clause-image : goal.returns-clause-image
 returns-clause-image c =
     let i : Image = image_of_state c.args.state.now in
     let raised : ℕ → Subsystems = raised_in c.changed-raised.result in
-    let written_is : c.plan.inside.written ≡ c.args.plan.written = ap (λ (t : Turn). t.written) c.plan.view_is in
-    let shown : raised ≡ told_by_signs false false c.args.plan.written _ i.part i.shared.library =
-    c.changed-raised.ensures ∙ (λ j. told_by_signs false false (written_is j) (c.requires.before j) i.part i.shared.library) in
-    written_step i c.args.event.now c.args.plan c.requires.alone raised shown c.ended_after-state.result c.tell.new.clients.items c.ended_after-state.ensures (c.rest.ensures.same i.part.outputs)
-    (c.tell.ensures.clients ∙ (λ j. clients_after (c.mover.ensures j) raised (c.into_telling-telling.ensures.spoken j) i.clients))
+    let written_is : c.transition.inside.written ≡ c.args.transition.written = ap (λ (t : TransitionData). t.written) c.transition.view_is in
+    let shown : raised ≡ told_by_fingerprint false false c.args.transition.written _ i.part i.shared.library =
+    c.changed-raised.ensures ∙ (λ j. told_by_fingerprint false false (written_is j) (c.requires.before j) i.part i.shared.library) in
+    written_step i c.args.event.now c.args.transition c.requires.alone raised shown c.ended_after-state.result c.tell.new.clients.items c.ended_after-state.ensures (c.rest.ensures.same i.part.outputs)
+    (c.tell.ensures.clients ∙ (λ j. clients_after (c.mover.ensures j) raised (c.into_telling-telling.ensures.response j) i.clients))
 
 pub returns-clause-given : goal.returns-clause-given
 returns-clause-given c =
     let i : Image = image_of_state c.args.state.now in
     let raised : ℕ → Subsystems = raised_in c.changed-raised.result in
-    let written_is : c.plan.inside.written ≡ c.args.plan.written = ap (λ (t : Turn). t.written) c.plan.view_is in
-    let shown : raised ≡ told_by_signs false false c.args.plan.written _ i.part i.shared.library =
-    c.changed-raised.ensures ∙ (λ j. told_by_signs false false (written_is j) (c.requires.before j) i.part i.shared.library) in
-    written_notices i c.args.event.now c.args.plan c.requires.alone raised shown (listed c.tell.result.given)
-    (c.tell.ensures.given ∙ (λ j. notices_after (c.mover.ensures j) raised (c.into_telling-telling.ensures.spoken j) i.clients))
+    let written_is : c.transition.inside.written ≡ c.args.transition.written = ap (λ (t : TransitionData). t.written) c.transition.view_is in
+    let shown : raised ≡ told_by_fingerprint false false c.args.transition.written _ i.part i.shared.library =
+    c.changed-raised.ensures ∙ (λ j. told_by_fingerprint false false (written_is j) (c.requires.before j) i.part i.shared.library) in
+    written_notices i c.args.event.now c.args.transition c.requires.alone raised shown (listed c.tell.result.given)
+    (c.tell.ensures.given ∙ (λ j. notices_after (c.mover.ensures j) raised (c.into_telling-telling.ensures.response j) i.clients))
 
 pub returns-clause-kept : goal.returns-clause-kept
 returns-clause-kept c =
     let i : Image = image_of_state c.args.state.now in
     let raised : ℕ → Subsystems = raised_in c.changed-raised.result in
-    let written_is : c.plan.inside.written ≡ c.args.plan.written = ap (λ (t : Turn). t.written) c.plan.view_is in
-    let shown : raised ≡ told_by_signs false false c.args.plan.written _ i.part i.shared.library =
-    c.changed-raised.ensures ∙ (λ j. told_by_signs false false (written_is j) (c.requires.before j) i.part i.shared.library) in
-    written_notices i c.args.event.now c.args.plan c.requires.alone raised shown (listed c.tell.result.kept)
-    (c.tell.ensures.kept ∙ (λ j. notices_after (c.mover.ensures j) raised (c.into_telling-telling.ensures.spoken j) i.clients))
+    let written_is : c.transition.inside.written ≡ c.args.transition.written = ap (λ (t : TransitionData). t.written) c.transition.view_is in
+    let shown : raised ≡ told_by_fingerprint false false c.args.transition.written _ i.part i.shared.library =
+    c.changed-raised.ensures ∙ (λ j. told_by_fingerprint false false (written_is j) (c.requires.before j) i.part i.shared.library) in
+    written_notices i c.args.event.now c.args.transition c.requires.alone raised shown (listed c.tell.result.kept)
+    (c.tell.ensures.kept ∙ (λ j. notices_after (c.mover.ensures j) raised (c.into_telling-telling.ensures.response j) i.clients))

@@ -2,7 +2,7 @@ use Rattle.std.proofs.Common.{◌≡◌, ◌+◌, ◌<◌, ◌^◌, ◌∙◌, �
 use Rattle.std.specs.Prelude.{slice_index, slice_index_or}
 use Rattle.partition.specs.History.{Chronicle}
 use Rattle.counted_player.specs.Counts.{done_in}
-use Rattle.counted_player.specs.Seats.{Place}
+use Rattle.counted_player.specs.Seats.{SeatCount}
 use Rattle.counted_player.proofs.Booked.{has_eight}
 use Rattle.counted_player.proofs.ListEntries.{leaves_any}
 use Rattle.counted_player.proofs.Owns.{Grows, count_fits, counts_on, many_counts, own_few}
@@ -46,9 +46,9 @@ returns-clause-books g c =
 pub returns-clause-ok : goal.returns-clause-ok
 returns-clause-ok g c =
     all_runs_at g.S.Shelf.standing g.S.Shelf.failed c.self.inside.partition c.args.self.now c.args.shelf.now c.run_list-end.new.shelf c.number.result c.args.seat.now.number c.self.view_is
-    (c.number.ensures.number ∙ ap (λ (s : Place). s.number) c.audit.ensures.seat) c.run_list-end.new.self c.args.client c.args.form c.args.requests.items c.run_list-end.result c.run_list-end.ensures.ok
+    (c.number.ensures.number ∙ ap (λ (s : SeatCount). s.number) c.audit.ensures.seat) c.run_list-end.new.self c.args.client c.args.form c.args.requests.items c.run_list-end.result c.run_list-end.ensures.ok
 
 pub returns-clause-err : goal.returns-clause-err
 returns-clause-err g c =
     all_stops_at g.S.Shelf.standing g.S.Shelf.failed c.self.inside.partition c.args.self.now c.args.shelf.now c.run_list-end.new.shelf c.number.result c.args.seat.now.number c.self.view_is
-    (c.number.ensures.number ∙ ap (λ (s : Place). s.number) c.audit.ensures.seat) c.run_list-end.new.self c.args.client c.args.form c.args.requests.items c.run_list-end.result c.run_list-end.ensures.err
+    (c.number.ensures.number ∙ ap (λ (s : SeatCount). s.number) c.audit.ensures.seat) c.run_list-end.new.self c.args.client c.args.form c.args.requests.items c.run_list-end.result c.run_list-end.ensures.err

@@ -1,5 +1,5 @@
 use Rattle.std.proofs.Common.{length}
-use Rattle.player_events.specs.declared.event.Happened.{Happened}
+use Rattle.player_events.specs.declared.event.LogEntry.{LogEntry}
 use Rattle.daemon_script.proofs.Applied.{empty_shelf}
 use Rattle.daemon_script.proofs.player.Player.open.Goals as goal
 
@@ -8,6 +8,6 @@ returns c =
     λ i. record {
       player = (c.in_ok-open.ensures i).present;
       shelf = empty_shelf c.new.result c.new.ensures i;
-      window = length {A = Happened} (c.in_ok-open.ensures i).window;
+      window = length {A = LogEntry} (c.in_ok-open.ensures i).window;
       most = (c.in_ok-open.ensures i).limit;
     }

@@ -1,10 +1,10 @@
 use Rattle.std.proofs.Common.{◌≡◌, ◌<◌, length, inl, inr, true, nat_le, sym, subst, ◌∙◌, rules}
 use Rattle.std.specs.Prelude.{slice_index_or}
-use Rattle.player_events.specs.declared.event.Happened.{Happened}
+use Rattle.player_events.specs.declared.event.LogEntry.{LogEntry}
 use Rattle.partition.specs.History.{Chronicle}
 use Rattle.partition.specs.Image.{image_of_state}
-use Rattle.command_plan.specs.Shelves.{nothing_heard}
-use Rattle.player_events.specs.Events.{hearing}
+use Rattle.transitions.specs.Shelves.{no_store_reply}
+use Rattle.player_events.specs.Events.{with_store_reply}
 use Rattle.partition.proofs.Chronicles.{fits, goes_on, more_bytes}
 use Rattle.partition.proofs.Lending.{untouched}
 use Rattle.partition.proofs.Seats.{own_limit}
@@ -14,7 +14,7 @@ pub invariant_of-self-2 : goal.invariant_of-self-2
 invariant_of-self-2 g c =
     let p = c.self.inside in
     let did = c.in_ok-outcome.ensures.ok in
-    let h : Happened = record { seat = c.args.seat; event = hearing c.args.event did.heard; told = c.in_ok-outcome.outcome } in
+    let h : LogEntry = record { seat = c.args.seat; event = with_store_reply c.args.event did.heard; told = c.in_ok-outcome.outcome } in
     let on = goes_on (image_of_state p.base) (image_of_state p.state) (image_of_state c.record_event.new.state) p.history.items c.record_event.new.history.items h
     c.self.invariant.present c.self.invariant.told did.present did.told_is did.window in
     record {
@@ -32,8 +32,8 @@ pub returns-then-is_at_limit-clause-refused : goal.returns-then-is_at_limit-clau
 returns-then-is_at_limit-clause-refused g c =
     let full : nat_le 9223372036854775807 (slice_index_or c.args.self.now.present.shared.made c.args.seat 0) ≡ true = search rules in
     record {
-      heard = nothing_heard;
-      refused = own_limit c.args.seat c.args.self.now.present (hearing c.args.event nothing_heard) full;
+      heard = no_store_reply;
+      refused = own_limit c.args.seat c.args.self.now.present (with_store_reply c.args.event no_store_reply) full;
       cause = inr (inl full);
-      spared = untouched g.S.Shelf.standing g.S.Shelf.failed c.args.shelf.now;
+      unchanged = untouched g.S.Shelf.standing g.S.Shelf.failed c.args.shelf.now;
     }

@@ -2,7 +2,7 @@ use Rattle.std.proofs.Common.{◌++◌, sym, subst}
 use Rattle.partition.specs.Image.{Image, image_of_state, opening}
 use Rattle.partition.specs.Invariant.{Came}
 use Rattle.idle_clients.specs.Settled.{AllSettled}
-use Rattle.partition.specs.World.{life_after}
+use Rattle.partition.specs.World.{trace_after}
 use Rattle.partition.proofs.Chronicles.{leads_on}
 use Rattle.partition.proofs.Settled.{replay_settled}
 use Rattle.partition.proofs.Since.{since_stands}
@@ -18,7 +18,7 @@ returns-clause-legal c =
     let first : Image = opening was.setup was.library in
     let on = leads_on first base present was.earlier p.history.items was.leads was.told c.self.invariant.present c.self.invariant.told in
     let before = stands was.setup was.library was.earlier base was.above was.leads was.told in
-    let since = since_stands base present p.history.items (life_after first was.earlier).moments before.rising (λ i. (before.world i).shared.books) c.self.invariant.present in
+    let since = since_stands base present p.history.items (trace_after first was.earlier).world_transitions before.rising (λ i. (before.world i).shared.books) c.self.invariant.present in
     rw (← c.self.view_is)
     (record {
       setup = was.setup;

@@ -2,10 +2,10 @@ use Rattle.std.proofs.Common.{◌≡◌, ◌∷◌, [], length, ap, sym, subst, 
 use Rattle.std.proofs.lemmas.List.{length-append}
 use Rattle.std.specs.Vec.Iter.{into_iter_items}
 use Rattle.player_events.specs.declared.event.Event.TheVariants.{Line}
-use Rattle.command_plan.specs.declared.asked.Stand.TheVariants.{InList}
+use Rattle.transitions.specs.declared.asked.Stand.TheVariants.{InList}
 use Rattle.partition.specs.History.{with_room}
 use Rattle.partition.specs.Lent.{Records, Refuses}
-use Rattle.command_plan.specs.Shelves.{nothing_heard}
+use Rattle.transitions.specs.Shelves.{no_store_reply}
 use Rattle.partition.specs.Lists.{RunsList, StopsList}
 use Rattle.partition.proofs.ListRuns.{does_so, nothing_left, none_ran, ran_all, ran_last, ran_more, ran_stop}
 use Rattle.partition.proofs.partition.Partition.run_requests.Goals as goal
@@ -63,7 +63,7 @@ returns-in-Err-clause-err g c =
     (ran_stop g.S.Shelf.standing g.S.Shelf.failed c.args.seat c.args.client c.args.form c.args.self.now at.self c.apply.new.self c.args.shelf.now at.shelf c.apply.new.shelf _ _ _ c.in-Some.request at.outcomes.items c.name-command.result.now c.in-Err.cause
     at.invariant.ran c.in-Some.ensures.steps.0 c.name-command.ensures
     (subst (λ e. Refuses g.S.Shelf.standing g.S.Shelf.failed at.self c.apply.new.self at.shelf c.apply.new.shelf c.args.seat e c.in-Err.cause)
-    (c.line-event.ensures ∙ ap (λ n. Line c.args.client (InList c.args.form n) c.in-Some.request nothing_heard) (c.len-done.ensures ∙ at.outcomes.ok.0)) c.in-Err.ensures.refused)))
+    (c.line-event.ensures ∙ ap (λ n. Line c.args.client (InList c.args.form n) c.in-Some.request no_store_reply) (c.len-done.ensures ∙ at.outcomes.ok.0)) c.in-Err.ensures.refused)))
 
 pub returns-clause-ok : goal.returns-clause-ok
 returns-clause-ok g c =

@@ -1,5 +1,5 @@
 use Rattle.std.proofs.Common.{◌<◌, length, sym, subst, ◌∙◌, rules}
-use Rattle.player_events.specs.declared.event.Happened.{Happened}
+use Rattle.player_events.specs.declared.event.LogEntry.{LogEntry}
 use Rattle.partition.specs.History.{Chronicle}
 use Rattle.partition.specs.Image.{image_of_state}
 use Rattle.partition.specs.Steps.{entry}
@@ -11,7 +11,7 @@ pub invariant_of-self-2 : goal.invariant_of-self-2
 invariant_of-self-2 c =
     let p = c.self.inside in
     let did = c.in_ok-outcome.ensures in
-    let h : Happened = entry c.args.seat c.args.event c.in_ok-outcome.outcome in
+    let h : LogEntry = entry c.args.seat c.args.event c.in_ok-outcome.outcome in
     let on = goes_on (image_of_state p.base) (image_of_state p.state) (image_of_state c.record_step.new.state) p.history.items c.record_step.new.history.items h
     c.self.invariant.present c.self.invariant.told did.next did.told did.kept in
     record {

@@ -1,4 +1,0 @@
-pub mod Answers
-pub mod Deeds
-pub mod Shelves
-pub mod Turns

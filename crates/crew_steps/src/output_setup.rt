@@ -1,0 +1,13 @@
+//! What an output is started with.
+ghost use Rattle.output_ring.specs.Rings.{AreEnds};
+
+use output_ring::{Drainer, Feeder};
+
+/// The two ends of a ring, and what its output writes to.
+#[derive(Drop)]
+pub struct OutputSetup<O> {
+    pub feeder: Feeder,
+    pub drainer: Drainer,
+    pub writer: O,
+    ghost ends: { AreEnds feeder drainer },
+}

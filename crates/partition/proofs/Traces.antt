@@ -1,0 +1,69 @@
+-- What is true of each transition of a trace.
+use Rattle.std.proofs.Common.{◌≡◌, ◌<◌, ◌≤◌, List, [], ◌∷◌, ◌++◌, length, map, reverse, refl, ap, sym, subst, ◌∙◌, append_assoc, append-nil, arith}
+use Rattle.std.proofs.lemmas.List.{map-append, reverse-append}
+use Rattle.player_state.specs.declared.state.Library.{Library}
+use Rattle.player_events.specs.declared.event.Event.{Event}
+use Rattle.player_events.specs.declared.event.LogEntry.{LogEntry}
+use Rattle.partition.specs.declared.state.Setup.{Setup}
+use Rattle.player_events.specs.Outcomes.{OutcomeData}
+use Rattle.idle_clients.specs.Clients.{Rising}
+use Rattle.partition.specs.History.{AreTold}
+use Rattle.player_state.specs.Effects.{Change, change_of}
+use Rattle.partition.specs.Image.{Image, opening}
+use Rattle.partition.specs.Step.{transition, told, next_image}
+use Rattle.partition.specs.World.{WorldTransition, Trace, image_of, trace_after_event, trace_from, opening_trace, trace_after}
+use Rattle.partition.specs.Notices.{Raises, Tells, EachWorldTransition, AreHeard, store_reply_at, heard_then}
+use Rattle.partition.proofs.WorldTransitions.{world_transition_of, raises, tells}
+use Rattle.partition.proofs.Worlds.{some_past, image_of-step, rising-step, opens}
+
+abbrev change_in : Trace → List LogEntry → Event → Change
+change_in trace done event = let i : Image = image_of trace done in change_of i.shared.library.rate i.part (transition i event).effect
+
+-- what each step makes true of its transition is true of all transitions
+each_from : (P : WorldTransition → List WorldTransition → Type 0)
+    → ((trace : Trace) (done : List LogEntry) (event : Event) → 1 ≤ trace.world.limits.max_version → 0 < length trace.world.past → Rising (image_of trace done).clients
+    → P (world_transition_of trace done event) trace.world_transitions)
+    → (trace : Trace) (done hs : List LogEntry) → 1 ≤ trace.world.limits.max_version → 0 < length trace.world.past → Rising (image_of trace done).clients
+    → EachWorldTransition P trace.world_transitions → EachWorldTransition P (trace_from done trace hs).world_transitions
+each_from P holds trace done [] above some rising each = each
+each_from P holds trace done (h ∷ hs) above some rising each =
+    each_from P holds (trace_after_event done trace h.event) (done ++ h ∷ []) hs above (some_past trace.world.past (change_in trace done h.event) some)
+    (rising-step trace done h.event above some rising h) (holds trace done h.event above some rising, each)
+
+-- of every history
+pub all_raise : (setup : Setup) (library : Library) (history : List LogEntry) → 1 ≤ setup.limits.max_version
+    → EachWorldTransition (λ world_transition earlier. Raises world_transition) (trace_after (opening setup library) history).world_transitions
+all_raise setup library history above =
+    each_from (λ world_transition earlier. Raises world_transition) raises (opening_trace (opening setup library)) [] history above (omega arith) tt tt
+
+pub all_tell : (setup : Setup) (library : Library) (history : List LogEntry) → 1 ≤ setup.limits.max_version
+    → EachWorldTransition Tells (trace_after (opening setup library) history).world_transitions
+all_tell setup library history above = each_from Tells tells (opening_trace (opening setup library)) [] history above (omega arith) tt tt
+
+one_heard : (trace : Trace) (done : List LogEntry) (h : LogEntry) → h.told ≡ told (image_of trace done) h.event → store_reply_at (world_transition_of trace done h.event) ≡ heard_then h
+unfolding told
+one_heard trace done h e = ap (λ (t : OutcomeData). (h.event, t)) (sym e)
+
+heard_from : (trace : Trace) (done hs : List LogEntry) → 1 ≤ trace.world.limits.max_version → 0 < length trace.world.past → Rising (image_of trace done).clients
+    → AreTold (image_of trace done) hs
+    → map store_reply_at (reverse (trace_from done trace hs).world_transitions) ≡ map store_reply_at (reverse trace.world_transitions) ++ map heard_then hs
+heard_from trace done [] above some rising told = sym (append-nil (map store_reply_at (reverse trace.world_transitions)))
+heard_from trace done (h ∷ hs) above some rising told =
+    let m : WorldTransition = world_transition_of trace done h.event in
+    let was : List (Event × OutcomeData) = map store_reply_at (reverse trace.world_transitions) in
+    let rest : List (Event × OutcomeData) = map heard_then hs in
+    let next_is : next_image h.seat (image_of trace done) h.event ≡ image_of (trace_after_event done trace h.event) (done ++ h ∷ []) =
+    sym (image_of-step trace done h.event above some rising h refl) in
+    let more =
+    heard_from (trace_after_event done trace h.event) (done ++ h ∷ []) hs above (some_past trace.world.past (change_in trace done h.event) some)
+    (rising-step trace done h.event above some rising h) (subst (λ (i : Image). AreTold i hs) next_is told.1) in
+    let last : map store_reply_at (reverse (m ∷ trace.world_transitions)) ≡ was ++ store_reply_at m ∷ [] =
+    ap (map store_reply_at) (reverse-append (m ∷ []) trace.world_transitions) ∙ map-append store_reply_at (reverse trace.world_transitions) (m ∷ []) in
+    more ∙ ap (λ (l : List (Event × OutcomeData)). l ++ rest) last ∙ append_assoc was (store_reply_at m ∷ []) rest
+    ∙ ap (λ (x : Event × OutcomeData). was ++ x ∷ rest) (one_heard trace done h told.0)
+
+-- what was told at the events of a history is what their transitions tell
+pub all_heard : (setup : Setup) (library : Library) (history : List LogEntry) → 1 ≤ setup.limits.max_version → AreTold (opening setup library) history
+    → AreHeard (trace_after (opening setup library) history).world_transitions history
+all_heard setup library history above told =
+    heard_from (opening_trace (opening setup library)) [] history above (omega arith) tt (subst (λ (i : Image). AreTold i history) (opens setup library above) told)

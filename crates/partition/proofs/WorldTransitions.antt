@@ -1,0 +1,407 @@
+-- What the transitions of a trace raise, and whom they tell.
+use Rattle.std.proofs.Common.{◌≡◌, ◌≢◌, ◌↔◌, ◌⊎◌, inl, inr, ℕ, ◌<◌, ◌≤◌, ◌==◌, Bool, true, false, not, ◌&&◌, ◌||◌, List, [], ◌∷◌, ◌++◌, length, map, Option, Some, None, refl, ap, sym, subst, ◌∙◌, codes}
+use Rattle.std.specs.List.{list_any}
+use Rattle.std.proofs.lemmas.Bool.{eq-eqb, eqb-true}
+use Rattle.idle_notes.specs.declared.sets.Subsystems.{Subsystems}
+use Rattle.idle_notes.specs.declared.subsystem.Subsystem.{Subsystem}
+use Rattle.idle_notes.specs.declared.subsystem.Subsystem.TheVariants.{Database, Update, StoredPlaylist, Playlist, Player, Mixer, Output, Options, Sticker, Subscription, Message}
+use Rattle.idle_notes.specs.Names.{changed_lines}
+use Rattle.idle_notes.specs.Notes.{waits, notice_of}
+use Rattle.idle_notes.specs.Sets.{union, meet, has, is_nonempty}
+use Rattle.idle_notes.specs.Channels.{messages_of, pairs}
+use Rattle.transitions.specs.Shelves.{changes_lists, changes_stickers}
+use Rattle.song_queue.specs.Past.{present}
+use Rattle.mpd_command.specs.declared.command.Command.{Command}
+use Rattle.mpd_command.specs.declared.command.Command.TheVariants.{Idle}
+use Rattle.mpd_command.specs.declared.request.Request.TheVariants.{Run}
+use Rattle.player_events.specs.declared.event.Event.TheVariants.{Line}
+use Rattle.transitions.specs.declared.asked.Stand.TheVariants.{Alone}
+use Rattle.player_events.specs.declared.event.Event.{Event}
+use Rattle.player_events.specs.declared.event.LogEntry.{LogEntry}
+use Rattle.transitions.specs.declared.reply.Move.{Move}
+use Rattle.transitions.specs.declared.reply.Move.TheVariants.{Wait, Learn}
+use Rattle.transitions.specs.declared.reply.Next.TheVariants.{Goes, Waits}
+use Rattle.idle_clients.specs.declared.notices.Notice.{Notice}
+use Rattle.player_state.specs.declared.state.Client.{Client}
+use Rattle.transitions.specs.Answers.{ResponseData}
+use Rattle.idle_clients.specs.Clients.{notified, move_of, closes, options, playing, Rising}
+use Rattle.status_commands.specs.Status.{idles}
+use Rattle.player_state.specs.Effects.{Change, change_of, channels_after, outputs_after, player_after, volume_after}
+use Rattle.partition.specs.Image.{Image}
+use Rattle.transitions.specs.Transitions.{TransitionData}
+use Rattle.idle_clients.specs.Clients.{client_of}
+use Rattle.player_state.specs.Libraries.{library_after}
+use Rattle.partition.specs.Step.{transition, transition_of, transition_line, written_transition, speaker, mover, raised_by, after_transition, told_by}
+use Rattle.transitions.specs.Transitions.{report_of}
+use Rattle.partition.specs.World.{Listener, WorldTransition, Trace, Differs, IsPending, parts_in, raised_at, is_there, is_learning, is_told, begins_anew, pending_for, client_in, listener_of, image_of, past_after, world_after_transition}
+use Rattle.partition.specs.Notices.{Raises, IsIn, WaitsFor, HasChanged, Meets, HasNews, IsSent, IsClear, Asks, IsToldNews, Tells}
+use Rattle.partition.proofs.Asking.{wish_is, transition_idle, Quiet, quiet_unheard, quiet_unwaiting, IsAsking, kind_of, is_found, of_any, notified_some, does_some, of_moved}
+use Rattle.partition.proofs.Members.{in_map, of_map, any_in, same_sets, has_meet, has_some, is_some}
+use Rattle.partition.proofs.Parts.{raised_differ, agree}
+use Rattle.partition.proofs.Pending.{has_union, has_none, pending_more, reads_pending}
+use Rattle.idle_clients.proofs.Rises.{rising_staying}
+use Rattle.partition.proofs.Sends.{found, news, waiter_moves, notices_rise, does, does_keeps, does_other, does_none, does_wait, notified_none, told_none, untold_waits, is_other_speaker, of_sent, is_sent, kept, kept_was, others_kept, open_kept, lands, there_kept}
+use Rattle.player_state.proofs.Frames.{keeps}
+use Rattle.partition.proofs.Worlds.{same_raised}
+
+both : (a b : Bool) → a ≡ true → b ≡ true → (a && b) ≡ true
+both true b e f = f
+both false b e f = e
+
+parts : (a b : Bool) → (a && b) ≡ true → (a ≡ true) × (b ≡ true)
+parts true b e = (refl, e)
+parts false b e = cc
+
+either : (a b : Bool) → (a || b) ≡ true → (a ≡ true) ⊎ (b ≡ true)
+either true b e = inl refl
+either false b e = inr e
+
+one_of : (a b : Bool) → (a ≡ true) ⊎ (b ≡ true) → (a || b) ≡ true
+one_of true b e = refl
+one_of false b (inl e) = cc
+one_of false b (inr e) = e
+
+-- a client whose set began anew has nothing pending
+nothing_pending : (number : ℕ) (m : WorldTransition) (ms : List WorldTransition) → begins_anew number m ≡ true → (x : Subsystem) → IsPending number x (m ∷ ms) → ⊥
+nothing_pending number m ms e x p =
+    let has_it : has (pending_for number (m ∷ ms)) x ≡ true = (reads_pending number x (m ∷ ms)).1 p in
+    let clash : false ≡ true = sym (has_none x) ∙ sym (ap (λ s. has s x) (pending_more number m ms true e)) ∙ has_it in
+    cc
+
+anew : (there : Bool) (a b : Bool) → (a ≡ true) ⊎ (b ≡ true) → (not there || (a || b)) ≡ true
+anew false a b e = refl
+anew true a b e = one_of a b e
+
+-- the transition of an event in a trace
+abbrev pub world_transition_of : Trace → List LogEntry → Event → WorldTransition
+world_transition_of trace done event =
+    let i : Image = image_of trace done in
+    let t : TransitionData = transition i event in
+    record { before = trace.world; event = event; transition = t; notices = (told_by i event t).notices; report = report_of i.part i.shared.library t; after = world_after_transition trace.world i event t }
+
+module _ (trace : Trace) (done : List LogEntry) (event : Event) (above : 1 ≤ trace.world.limits.max_version) (some : 0 < length trace.world.past)
+    (rising : Rising (image_of trace done).clients) where
+  abbrev i : Image
+  i = image_of trace done
+
+  abbrev t : TransitionData
+  t = transition i event
+
+  abbrev r : ℕ → Subsystems
+  r = raised_by i.part i.shared.library t
+
+  abbrev ms : List WorldTransition
+  ms = trace.world_transitions
+
+  abbrev n : ℕ
+  n = mover event
+
+  abbrev m : WorldTransition
+  m = world_transition_of trace done event
+
+  abbrev change : Change
+  change = change_of i.shared.library.rate i.part t.effect
+
+  is_raised : (λ (n : ℕ). raised_at n m) ≡ r
+  is_raised = same_raised t.written trace.world.limits trace.world.past change (parts_in m.before) (parts_in m.after) above some (keeps i.shared.library.rate i.part t.effect)
+
+  pub raises : Raises m
+  raises = record { each = λ number x. raised_differ number m x; all = λ none. agree trace.world i event t m.notices m.report refl none }
+
+  differs : (number : ℕ) (x : Subsystem) → (has (r number) x ≡ true) ↔ Differs number x m
+  differs number x = subst (λ (s : ℕ → Subsystems). (has (s number) x ≡ true) ↔ Differs number x m) is_raised (raised_differ number m x)
+
+  -- what of a named set changed, by the flags
+  abbrev news_of : ℕ → Subsystems → Subsystems
+  news_of number named = meet (union (pending_for number ms) (r number)) named
+
+  changes : (number : ℕ) (named : Subsystems) (x : Subsystem) → (has (news_of number named) x ≡ true) ↔ ((has named x ≡ true) × HasChanged number x m ms)
+  changes number named x =
+      let pending : Subsystems = pending_for number ms in
+      let meets : has (news_of number named) x ≡ (has (union pending (r number)) x && has named x) = has_meet (union pending (r number)) named x in
+      let joins : has (union pending (r number)) x ≡ (has pending x || has (r number) x) = has_union pending (r number) x in (
+        λ e. (let p = parts _ _ (sym meets ∙ e) in (
+          p.1,
+          elim (either _ _ (sym joins ∙ p.0)) [ inl q ↦ inl ((reads_pending number x ms).0 q) | inr q ↦ inr ((differs number x).0 q) ],
+        )),
+        λ p. meets ∙ both _ _ (joins ∙ one_of _ _ (elim p.1 as (λ _. (has pending x ≡ true) ⊎ (has (r number) x ≡ true))
+            [ inl q ↦ inl ((reads_pending number x ms).1 q) | inr q ↦ inr ((differs number x).1 q) ])) p.0,
+      )
+
+  meets_of : (number : ℕ) (named : Subsystems) → is_nonempty (news_of number named) ≡ true → Meets number named (news_of number named) m ms
+  meets_of number named e = record { each = changes number named; some = has_some (news_of number named) e }
+
+  meets_is : (number : ℕ) (named names : Subsystems) → Meets number named names m ms → (names ≡ news_of number named) × (is_nonempty (news_of number named) ≡ true)
+  meets_is number named names meets =
+      let same : names ≡ news_of number named =
+      same_sets names (news_of number named)
+      (λ x. (λ e. (changes number named x).1 ((meets.each x).0 e), λ e. (meets.each x).1 ((changes number named x).0 e))) in (
+        same,
+        ap is_nonempty (sym same) ∙ is_some names meets.some.0 meets.some.1,
+      )
+
+  -- a client of the world, and of its image
+  abbrev client : ℕ → Option Subsystems → Client
+  client number waiting = client_in ms (record { number = number; waiting = waiting })
+
+  listed : (number : ℕ) (waiting : Option Subsystems) → IsIn (record { number = number; waiting = waiting }) trace.world.clients → IsIn (client number waiting) i.clients
+  listed number waiting e = in_map (client_in ms) (record { number = number; waiting = waiting }) trace.world.clients e
+
+  -- where a client is after the event
+  after_of : (k : Client) (number : ℕ) (waiting : Option Subsystems) → IsIn k (kept n r t.response i.clients) → k.number ≡ number
+      → (does n r (move_of t.response) (notified r k)).pending.waiting ≡ waiting → IsIn (record { number = number; waiting = waiting }) m.after.clients
+  after_of k number waiting e same w =
+      let after : Client = does n r (move_of t.response) (notified r k) in
+      let is : listener_of after ≡ record { number = number; waiting = waiting } =
+      λ j. record { number = (does_keeps n r (move_of t.response) (notified r k) ∙ same) j; waiting = w j } in
+      subst (λ (l : Listener). IsIn l m.after.clients) is (in_map listener_of after (after_transition i event t).clients (lands n r t.response i.clients k e))
+
+  -- what is sent is news
+  from_listener : (number : ℕ) (waiting : Option Subsystems) → IsIn (record { number = number; waiting = waiting }) trace.world.clients
+      → IsIn (client number waiting) (kept n r t.response i.clients) → is_nonempty (news n r (client number waiting)) ≡ true
+      → HasNews number (news n r (client number waiting)) m ms
+  from_listener number None e k full = (let clash : false ≡ true = full in cc)
+  from_listener number (Some named) e k full =
+      record {
+        named = named;
+        waited = e;
+        stays = ((does n r (move_of t.response) (notified r (client number (Some named)))).pending.waiting, after_of (client number (Some named)) number _ k refl refl);
+        meets = meets_of number named full;
+      }
+
+  sent_news : (number : ℕ) (names : Subsystems) → IsSent number names m → HasNews number names m ms
+  sent_news number names e =
+      let s = of_sent n r t.response i.clients number names e in
+      let was = of_map (client_in ms) s.0 trace.world.clients (kept_was n r t.response i.clients s.0 s.1) in
+      let l : Listener = was.0 in
+      let back : s.0 ≡ client_in ms l = sym was.2 in
+      let has_news : HasNews l.number (news n r (client_in ms l)) m ms =
+      from_listener l.number l.waiting was.1 (rw back at s.1) (rw back at s.2) in
+      let number_is : l.number ≡ number = ap (λ (c : Client). c.number) was.2 ∙ s.3 in
+      let names_are : news n r (client_in ms l) ≡ names = ap (news n r) was.2 ∙ s.4 in
+      subst (λ (s : Subsystems). HasNews number s m ms) names_are (subst (λ (x : ℕ). HasNews x (news n r (client_in ms l)) m ms) number_is has_news)
+
+  news_sent : (number : ℕ) (names : Subsystems) → HasNews number names m ms → IsSent number names m
+  news_sent number names told =
+      let k : Client = client number (Some told.named) in
+      let was : IsIn k i.clients = listed number (Some told.named) told.waited in
+      let after = of_map listener_of (record { number = number; waiting = told.stays.0 }) (after_transition i event t).clients told.stays.1 in
+      let stays : IsIn k (kept n r t.response i.clients) =
+      there_kept n r t.response i.clients k after.0 was after.1 (ap (λ (l : Listener). l.number) after.2) in
+      let is = meets_is number told.named names told.meets in
+      subst (λ (s : Subsystems). IsSent number s m) (sym is.0) (is_sent n r t.response i.clients k stays is.1)
+
+  sent_clear : (number : ℕ) (names : Subsystems) → IsSent number names m → IsClear number m ms
+  sent_clear number names e =
+      let s = of_sent n r t.response i.clients number names e in
+      let k : Client = s.0 in
+      let told : HasNews number names m ms = sent_news number names e in
+      let was : IsIn (client number (Some told.named)) i.clients = listed number (Some told.named) told.waited in
+      let waited : client_of number i.clients ≡ Some (client number (Some told.named)) = found (client number (Some told.named)) i.clients rising was in
+      let free : (more : Subsystems) → move_of t.response ≡ Wait more → k.number ≡ n → ⊥ =
+      λ more moves same.
+      waiter_moves i.shared.ended i.part i.shared.library i.clients event (client number (Some told.named)) told.named more
+      (ap (λ (x : ℕ). client_of x i.clients) (sym same ∙ s.3) ∙ waited) refl moves in
+      record {
+        waits = after_of k number None s.1 s.3 (does_none n r (move_of t.response) (notified r k) (told_none n r k s.2) free);
+        pending = nothing_pending number m ms
+            (anew (is_there number trace.world) (list_any (λ (x : Notice). x.client == number) m.notices) ((number == n) && is_learning (move_of t.response))
+            (inl (any_in (λ (x : Notice). x.client == number) (record { client = number; names = names }) m.notices e (eq-eqb number number refl))));
+      }
+
+  -- a client that waits, stays and makes no move waits on, if it is sent nothing
+  still : (number : ℕ) (named : Subsystems) → ((names : Subsystems) → IsSent number names m → ⊥) → IsIn (client number (Some named)) (kept n r t.response i.clients)
+      → does n r (move_of t.response) (notified r (client number (Some named))) ≡ notified r (client number (Some named)) → WaitsFor number named m.after
+  still number named unsent stays unmoved =
+      let k : Client = client number (Some named) in
+      let cases : (b : Bool) → is_nonempty (news n r k) ≡ b → WaitsFor number named m.after =
+      λ b. elim b as (λ b. is_nonempty (news n r k) ≡ b → WaitsFor number named m.after) [
+        | true ↦ λ e. absurd (unsent (news n r k) (is_sent n r t.response i.clients k stays e))
+        | false ↦ λ e.
+            after_of k number (Some named) stays refl
+            (ap (λ (c : Client). c.pending.waiting) unmoved ∙ untold_waits n r k e)
+      ] in
+      cases (is_nonempty (news n r k)) refl
+
+  on : (number : ℕ) (named : Subsystems) → speaker m.event ≢ Some number → WaitsFor number named m.before → ((names : Subsystems) → IsSent number names m → ⊥)
+      → WaitsFor number named m.after
+  on number named other waited unsent =
+      let k : Client = client number (Some named) in
+      elim (is_other_speaker i.shared.ended i.part i.shared.library i.clients event number other) [
+        | inl apart ↦ still number named unsent (others_kept n r t.response i.clients k (listed number (Some named) waited) apart)
+            (does_other n r (move_of t.response) (notified r k) apart)
+        | inr unsaid ↦ still number named unsent (open_kept n r t.response i.clients k (listed number (Some named) waited) (ap (λ (s : ResponseData). closes s.answer.next) unsaid))
+            (ap (λ (s : ResponseData). does n r (move_of s) (notified r k)) unsaid)
+      ]
+
+  -- what a client that asks is told
+  module _ (number : ℕ) (named : Subsystems) (asks : Asks number named m) where
+    abbrev k : Client
+    k = client number None
+
+    abbrev d : Subsystems
+    d = meet (pending_for number ms) named
+
+    transition_is : t ≡ transition_idle k named
+    transition_is =
+        ap (transition_of i.shared.ended i.part i.shared.library i.clients) asks.event
+        ∙ ap (λ (o : Option Client). written_transition Alone (Run asks.name (Idle named)) asks.heard.refused (transition_line i.part i.shared.library o Alone (Run asks.name (Idle named)) asks.heard.read)) (found k i.clients rising (listed number None asks.free))
+
+    pub speaks : n ≡ number
+    speaks = ap mover asks.event
+
+    same_parts : (x : Subsystem) → Differs number x m → ⊥
+    same_parts Database e = e (ap (λ (u : TransitionData). (library_after trace.world.library u.scan).songs) (sym transition_is))
+    same_parts Update e = e (ap (λ (u : TransitionData). (library_after trace.world.library u.scan).scan.runs) (sym transition_is))
+    same_parts StoredPlaylist e = (let clash : true ≡ false = sym e ∙ ap (λ (u : TransitionData). changes_lists u.written) transition_is in cc)
+    same_parts Playlist e = e (ap (λ (u : TransitionData). present (past_after trace.world.past (change_of i.shared.library.rate i.part u.effect))) (sym transition_is))
+    same_parts Player e = e (ap (λ (u : TransitionData). playing (player_after i.shared.library.rate i.part u.effect)) (sym transition_is))
+    same_parts Mixer e = e (ap (λ (u : TransitionData). volume_after trace.world.volume u.effect) (sym transition_is))
+    same_parts Output e = e (ap (λ (u : TransitionData). (outputs_after trace.world.outputs u.effect).enabled) (sym transition_is))
+    same_parts Options e = e (ap (λ (u : TransitionData). options (player_after i.shared.library.rate i.part u.effect)) (sym transition_is))
+    same_parts Sticker e = (let clash : true ≡ false = sym e ∙ ap (λ (u : TransitionData). changes_stickers u.written) transition_is in cc)
+    same_parts Subscription e = e (ap (λ (u : TransitionData). pairs (channels_after trace.world.channels u.effect)) (sym transition_is))
+    same_parts Message e = e.1 (ap (λ (u : TransitionData). messages_of number (channels_after trace.world.channels u.effect)) transition_is ∙ e.0)
+
+    asked : (x : Subsystem) → (has d x ≡ true) ↔ ((has named x ≡ true) × HasChanged number x m ms)
+    asked x =
+        let pending : Subsystems = pending_for number ms in
+        let meets : has d x ≡ (has pending x && has named x) = has_meet pending named x in (
+          λ e. (let p = parts _ _ (sym meets ∙ e) in (p.1, inl ((reads_pending number x ms).0 p.0))),
+          λ p. meets ∙ both _ _ (elim p.1 as (λ _. has pending x ≡ true) [ inl q ↦ (reads_pending number x ms).1 q | inr q ↦ absurd (same_parts x q) ]) p.0,
+        )
+
+    said_is : (o : Option Subsystems) → notice_of (waits named k.pending) ≡ o → t.response ≡ idles named o
+    said_is o e = ap (λ (u : TransitionData). u.response) transition_is ∙ ap (idles named) e
+
+    stays : closes t.response.answer.next ≡ false → IsIn k (kept n r t.response i.clients)
+    stays e = open_kept n r t.response i.clients k (listed number None asks.free) e
+
+    heard_none : (notified r k).pending.waiting ≡ None
+    heard_none = notified_none n r k refl
+
+    pub at_once : (names : Subsystems) → Meets number named names m ms
+        → (t.response.answer ≡ record { text = changed_lines names ++ codes "OK\n"; next = Goes; refused = false }) × IsClear number m ms
+    at_once names meets =
+        let same : names ≡ d =
+        same_sets names d (λ x. (λ e. (asked x).1 ((meets.each x).0 e), λ e. (meets.each x).1 ((asked x).0 e))) in
+        let full : is_nonempty d ≡ true = ap is_nonempty (sym same) ∙ is_some names meets.some.0 meets.some.1 in
+        let response : t.response ≡ idles named (Some d) = said_is (Some d) (rw full refl) in
+        let moves : move_of t.response ≡ Learn = ap move_of response in
+        let goes : closes t.response.answer.next ≡ false = ap (λ (s : ResponseData). closes s.answer.next) response in
+        let free : (more : Subsystems) → move_of t.response ≡ Wait more → (notified r k).number ≡ n → ⊥ =
+        λ more waits_more same_number. (let clash : Learn ≡ Wait more = sym moves ∙ waits_more in cc) in (
+          ap (λ (s : ResponseData). s.answer) response ∙ ap (λ (s : Subsystems). record { text = changed_lines s ++ codes "OK\n"; next = Goes; refused = false }) (sym same),
+          record {
+            waits = after_of k number None (stays goes) refl (does_none n r (move_of t.response) (notified r k) heard_none free);
+            pending = nothing_pending number m ms
+                (anew (is_there number trace.world) (list_any (λ (x : Notice). x.client == number) m.notices) ((number == n) && is_learning (move_of t.response))
+                (inr (both _ _ (eq-eqb number n (sym speaks)) (ap is_learning moves))));
+          },
+        )
+
+    pub waits_for : ((x : Subsystem) → has named x ≡ true → HasChanged number x m ms → ⊥)
+        → (t.response.answer ≡ record { text = []; next = Waits; refused = false }) × WaitsFor number named m.after
+    waits_for nothing =
+        let cases : (b : Bool) → is_nonempty d ≡ b → is_nonempty d ≡ false =
+        λ b. elim b as (λ b. is_nonempty d ≡ b → is_nonempty d ≡ false) [
+          | true ↦ λ e. (let one = has_some d e in let p = (asked one.0).0 one.1 in absurd (nothing one.0 p.0 p.1))
+          | false ↦ λ e. e
+        ] in
+        let empty : is_nonempty d ≡ false = cases (is_nonempty d) refl in
+        let response : t.response ≡ idles named None = said_is None (rw empty refl) in
+        let moves : move_of t.response ≡ Wait named = ap move_of response in
+        let goes : closes t.response.answer.next ≡ false = ap (λ (s : ResponseData). closes s.answer.next) response in (
+          ap (λ (s : ResponseData). s.answer) response,
+          after_of k number (Some named) (stays goes) refl
+              (ap (λ (v : Move). (does n r v (notified r k)).pending.waiting) moves ∙ does_wait n r named (notified r k) (sym speaks)),
+        )
+
+    pub is_full : (move_of t.response ≡ Wait named → ⊥) → Meets number named d m ms
+    is_full not_waiting =
+        let cases : (b : Bool) → is_nonempty d ≡ b → Meets number named d m ms =
+        λ b. elim b as (λ b. is_nonempty d ≡ b → Meets number named d m ms) [
+          | true ↦ λ e. record { each = asked; some = has_some d e }
+          | false ↦ λ e. absurd (not_waiting (ap move_of (said_is None (rw e refl))))
+        ] in
+        cases (is_nonempty d) refl
+
+    pub wait_names : (more : Subsystems) → move_of t.response ≡ Wait more → named ≡ more
+    wait_names more w =
+        let cases : (b : Bool) → is_nonempty d ≡ b → named ≡ more =
+        λ b. elim b as (λ b. is_nonempty d ≡ b → named ≡ more) [
+          | true ↦ λ e. (let clash : Learn ≡ Wait more = sym (ap move_of (said_is (Some d) (rw e refl))) ∙ w in cc)
+          | false ↦ λ e. (let same : Wait named ≡ Wait more = sym (ap move_of (said_is None (rw e refl))) ∙ w in cc)
+        ] in
+        cases (is_nonempty d) refl
+
+  kind : Quiet (move_of t.response) ⊎ IsAsking i.clients event
+  kind = kind_of i.shared.ended i.part i.shared.library i.clients event
+
+  asks_of : (a : IsAsking i.clients event) → Asks a.number a.named m
+  asks_of a =
+      let is = is_found a.number a.client i.clients a.found in
+      let was = of_map (client_in ms) a.client trace.world.clients is.0 in
+      let number : was.0.number ≡ a.number = ap (λ (c : Client). c.number) was.2 ∙ is.1 in
+      let free : was.0.waiting ≡ None = ap (λ (c : Client). c.pending.waiting) was.2 ∙ a.free in
+      let same : was.0 ≡ record { number = a.number; waiting = None } = λ j. record { number = number j; waiting = free j } in
+      record { name = a.name; heard = a.heard; event = a.is ∙ ap (λ (c : Command). Line a.number Alone (Run a.name c) a.heard) (wish_is a.command a.named a.wish); free = subst (λ (l : Listener). IsIn l trace.world.clients) same was.1 }
+
+  told_news : (number : ℕ) → is_told number m ≡ true → IsToldNews number m ms
+  told_news number e =
+      elim (either (list_any (λ (x : Notice). x.client == number) m.notices) ((number == n) && is_learning (move_of t.response)) e) [
+        | inl sent ↦
+            (let x = of_any (λ (x : Notice). x.client == number) m.notices sent in
+            let same : x.0 ≡ record { client = number; names = x.0.names } = λ j. record { client = eqb-true x.0.client number x.2 j; names = x.0.names } in
+            inl (x.0.names, subst (λ (y : Notice). IsIn y m.notices) same x.1))
+        | inr own ↦
+            (let p = parts (number == n) (is_learning (move_of t.response)) own in
+            elim kind [
+              | inl quiet ↦ absurd (quiet_unheard (move_of t.response) quiet p.1)
+              | inr a ↦
+                  (let asks : Asks a.number a.named m = asks_of a in
+                  let same : a.number ≡ number = sym (speaks a.number a.named asks) ∙ sym (eqb-true number n p.0) in
+                  let not_waiting : move_of t.response ≡ Wait a.named → ⊥ = λ w. (let clash : true ≡ false = sym p.1 ∙ ap is_learning w in cc) in
+                  subst (λ (x : ℕ). IsToldNews x m ms) same
+                  (inr (a.named, meet (pending_for a.number ms) a.named, asks, is_full a.number a.named asks not_waiting)))
+            ])
+      ]
+
+  begins : (number : ℕ) (named : Subsystems) → WaitsFor number named m.after → WaitsFor number named m.before ⊎ Asks number named m
+  begins number named e =
+      let from = of_map listener_of (record { number = number; waiting = Some named }) (after_transition i event t).clients e in
+      let waits_after : from.0.pending.waiting ≡ Some named = ap (λ (l : Listener). l.waiting) from.2 in
+      let c = of_moved n r (move_of t.response) from.0 (map (notified r) (kept n r t.response i.clients)) named from.1 waits_after in
+      let k = of_map (notified r) c.0 (kept n r t.response i.clients) c.1 in
+      let l = of_map (client_in ms) k.0 trace.world.clients (kept_was n r t.response i.clients k.0 k.1) in
+      let c_number : c.0.number ≡ number =
+      sym (does_keeps n r (move_of t.response) c.0) ∙ ap (λ (x : Client). x.number) c.2 ∙ ap (λ (x : Listener). x.number) from.2 in
+      let l_number : l.0.number ≡ number = ap (λ (x : Client). x.number) l.2 ∙ ap (λ (x : Client). x.number) k.2 ∙ c_number in
+      elim (does_some n r (move_of t.response) c.0 named (ap (λ (x : Client). x.pending.waiting) c.2 ∙ waits_after)) [
+        | inl w ↦
+            (let waited : l.0.waiting ≡ Some named =
+            ap (λ (x : Client). x.pending.waiting) l.2 ∙ notified_some n r k.0 named (ap (λ (x : Client). x.pending.waiting) k.2 ∙ w) in
+            let same : l.0 ≡ record { number = number; waiting = Some named } = λ j. record { number = l_number j; waiting = waited j } in
+            inl (subst (λ (x : Listener). IsIn x trace.world.clients) same l.1))
+        | inr w ↦ elim kind [
+          | inl quiet ↦ absurd (quiet_unwaiting (move_of t.response) named quiet w.0)
+          | inr a ↦
+              (let asks : Asks a.number a.named m = asks_of a in
+              let names : a.named ≡ named = wait_names a.number a.named asks named w.0 in
+              let same : a.number ≡ number = sym (speaks a.number a.named asks) ∙ sym w.1 ∙ c_number in
+              inr (subst (λ (x : ℕ). Asks x named m) same (subst (λ (s : Subsystems). Asks a.number s m) names asks)))
+        ]
+      ]
+
+  pub tells : Tells m ms
+  tells =
+      record {
+        sent = λ number names. (sent_news number names, news_sent number names);
+        clear = sent_clear;
+        rising = notices_rise n r (kept n r t.response i.clients) (rising_staying n t.response i.clients rising);
+        waits_on = on;
+        answered = λ number named names asks meets. at_once number named asks names meets;
+        waits = λ number named asks nothing. waits_for number named asks nothing;
+        begins = begins;
+        told = told_news;
+      }

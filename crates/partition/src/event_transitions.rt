@@ -1,0 +1,342 @@
+//! What each event is to do, and what it answers.
+ghost use Rattle.player_state.specs.declared.effect.Effect.TheVariants.{ByCommand};
+ghost use Rattle.player_state.specs.declared.effect.CommandEffect.TheVariants.{Rests};
+ghost use Rattle.std.specs.Prelude.{◌≡◌, true, Some, None, IfOk, if◌then◌else◌};
+ghost use Rattle.std.specs.Option.{option_copied};
+ghost use Rattle.player_state.specs.Fits.{Fits};
+ghost use Rattle.shelf.specs.Maps.{Trusted, Turns};
+ghost use Rattle.transitions.specs.Shelves.{IsRead, is_ok_read, is_written};
+ghost use Rattle.partition.specs.Step.{absent, result_of, ends_waiting as ends_waiting_lem, question_of, response_to_new, transition_command, transition_line, transition_of, transition_request};
+ghost use Rattle.player_events.specs.Events.{store_reply_at};
+ghost use Rattle.transitions.specs.Transitions.{acts, quiet, no_response};
+ghost use Rattle.transitions.specs.Transitions.{transition_by};
+ghost use Rattle.player_state.specs.Outputs.{is_output};
+
+use crate::state::MAX_CLIENTS;
+use filters::Case;
+use idle_clients::find_client;
+use library_commands::asking::ask;
+use library_commands::library::{count, find, find_add, list, list_all, list_info, update};
+use library_commands::stored::{
+    list_playlist, list_playlist_info, list_playlists, load, playlist_add, playlist_clear,
+    playlist_delete, playlist_move, remove, rename, save, sticker,
+};
+use mpd_command::{Command, Request};
+use player_core::Live;
+use player_events::Event;
+use player_state::{AudioStep, Client, Library, Part, Report, ScanMove};
+use queue_commands::playback::{
+    clear_error, current_song, next, pause, play, play_id, previous, seek, seek_cur, seek_id, stop,
+};
+use queue_commands::queue_edits::{
+    add, add_id, clear, delete, delete_id, move_id, move_range, prio, prio_id, shuffle, swap,
+    swap_id,
+};
+use queue_commands::queue_songs::{changed_places, changes, playlist_id, playlist_info};
+use shelf::Shelf;
+use song_db::SharedDb;
+use status_commands::connection::{commands, not_commands, ping, tag_types};
+use status_commands::devices::{outputs, switch_output, toggle_output};
+use status_commands::messages::{channels, read_messages, send_message, subscribe, unsubscribe};
+use status_commands::options::{
+    consume, crossfade, get_volume, random, repeat, set_volume, single,
+};
+use status_commands::status::{idle, no_idle, status};
+use std::alloc::{AllocError, Global};
+use transitions::{Asked, Move, Read, Response, Stand, Transition, refuses_line, shut, tells};
+
+/// What an event asks of a part.
+pub(crate) fn transition_of_event(
+    alloc: Global,
+    part: &Part,
+    library: &Library,
+    clients: &[Client],
+    ended: bool,
+    event: &Event,
+) -> Result<Transition, AllocError>
+    requires { (store_reply_at event.now).refused ≡ None }
+    ensures transition { IfOk result (λ transition. transition ≡ transition_of ended part.now library.now clients.now event.now) }
+    ensures alone { IfOk result (λ transition. is_written transition.written ≡ true → transition ≡ record (quiet transition.response) { written = transition.written }) }
+    ensures fits { IfOk result (λ transition. Fits part.now transition.effect) }
+{
+    match event {
+        Event::Connect(number) => Ok(Transition::only(connect(alloc, clients, *number)?)),
+        Event::Disconnect(number) => Transition::departs(alloc, *number),
+        Event::Line(number, stand, request, heard) => {
+            let client = find_client(clients, *number);
+            let transition = answer_line(
+                alloc,
+                part,
+                library,
+                client,
+                *stand,
+                request,
+                &heard.read,
+            )?;
+            Ok(transition.once_written())
+        }
+        Event::ScanQuestion => {
+            let report = if ended {
+                Report::Ended
+            } else {
+                Report::ToScan(library.scan.running())
+            };
+            Transition::reports(alloc, ScanMove::Stay, report)
+        }
+        Event::ScanResult(songs) => end_scan(alloc, library, songs.as_ref()),
+        Event::Want(owes) => {
+            Transition::acts_unless(alloc, ended, Report::Ended, AudioStep::Wants(*owes))
+        }
+        Event::Have(number, frames) => {
+            let step = AudioStep::Accepts(*number, *frames);
+            Transition::acts_unless(alloc, ended, Report::ToFeed(None), step)
+        }
+        Event::Failed(number, partner) => Transition::acts(
+            alloc,
+            AudioStep::Fails(*number, *partner),
+        ),
+        Event::OutputTurn(output, written, discarded, failed) => {
+            let turn = AudioStep::Settles(*output, *written, *discarded, *failed);
+            Ok(settle(alloc, part, *output, turn)?.or_ended(ended))
+        }
+        Event::End => Transition::reports(alloc, ScanMove::Stay, Report::Nothing),
+    }
+}
+
+/// Ends the scan that runs, with the library that it found.
+fn end_scan(
+    alloc: Global,
+    library: &Library,
+    songs: Option<&SharedDb>,
+) -> Result<Transition, AllocError>
+    ensures transition { IfOk result (λ transition. transition ≡ record (quiet no_response) { scan = ScanMove.End (option_copied songs.entry); report = Report.ScanEnded library.now.scan.runs }) }
+    ensures rests { IfOk result (λ transition. transition.effect ≡ ByCommand Rests) }
+{
+    let found = match songs {
+        Some(songs) => Some(songs.clone()?),
+        None => None,
+    };
+    let ended = library.scan.running().is_some();
+    Transition::reports(alloc, ScanMove::End(found), Report::ScanEnded(ended))
+}
+
+/// An output has its turn; one that is not there has nothing to play.
+fn settle(
+    alloc: Global,
+    part: &Part,
+    output: usize,
+    turn: AudioStep,
+) -> Result<Transition, AllocError>
+    ensures transition { IfOk result (λ transition. transition ≡ (if is_output part.now.outputs output then acts turn else absent)) }
+{
+    if part.outputs.is_output(output) {
+        return Transition::acts(alloc, turn);
+    }
+    let live = Live {
+        cut: 0,
+        enabled: false,
+        paused: false,
+    };
+    Transition::reports(alloc, ScanMove::Stay, Report::ToPlay(live))
+}
+
+fn connect(alloc: Global, clients: &[Client], number: u32) -> Result<Response, AllocError>
+    ensures { IfOk result (λ response. response ≡ response_to_new clients.now number) }
+{
+    if find_client(clients, number).is_some() {
+        return tells(String::new(alloc), Move::Stay);
+    }
+    if clients.len() >= MAX_CLIENTS {
+        return shut(alloc);
+    }
+    tells(String::from_str(alloc, "OK MPD 0.23.0\n")?, Move::Join)
+}
+
+/// Answers a line of a client, if it is there. While it waits, any other line than `noidle` closes it.
+fn answer_line(
+    alloc: Global,
+    part: &Part,
+    library: &Library,
+    client: Option<Client>,
+    stand: Stand,
+    request: &Request,
+    read: &Read,
+) -> Result<Transition, AllocError>
+    ensures transition { IfOk result (λ transition. transition ≡ transition_line part.now library.now client stand request.now read.now) }
+    ensures fits { IfOk result (λ transition. Fits part.now transition.effect) }
+{
+    let Some(client) = client else {
+        return Ok(Transition::only(shut(alloc)?));
+    };
+    if client.pending.is_waiting() && !ends_waiting(stand, request) {
+        return Transition::departs(alloc, client.number);
+    }
+    answer_request(alloc, part, library, client, stand, request, read)
+}
+
+/// What an event asks the shelf, and its answer.
+pub(crate) fn ask_shelf<S: Shelf>(
+    library: &Library,
+    clients: &[Client],
+    shelf: &mut S,
+    event: &Event,
+) -> Result<Read, AllocError>
+    ensures turns { Turns (S.standing shelf.old) (S.standing shelf.new) (is_ok_read result) (S.standing shelf.old).maps }
+    ensures read { Trusted (S.standing shelf.old) (S.standing shelf.new) → IfOk result (λ read. IsRead (S.failed shelf.old shelf.new) (S.standing shelf.old).maps (question_of library.now clients.now event.now) read) }
+{
+    let Event::Line(number, stand, request, _) = event else {
+        return Ok(Read::Nothing);
+    };
+    let Some(client) = find_client(clients, *number) else {
+        return Ok(Read::Nothing);
+    };
+    if client.pending.is_waiting() && !ends_waiting(*stand, request) {
+        return Ok(Read::Nothing);
+    }
+    match request {
+        Request::Run(_, command) => ask(library, shelf, command),
+        Request::Refused(_) => Ok(Read::Nothing),
+    }
+}
+
+fn ends_waiting(stand: Stand, request: &Request) -> bool
+    ensures { result ≡ ends_waiting_lem stand request.now }
+{
+    match (stand, request) {
+        (Stand::Alone, Request::Run(_, Command::NoIdle)) => true,
+        _ => false,
+    }
+}
+
+/// Answers what a client asks for that may.
+fn answer_request(
+    alloc: Global,
+    part: &Part,
+    library: &Library,
+    client: Client,
+    stand: Stand,
+    request: &Request,
+    read: &Read,
+) -> Result<Transition, AllocError>
+    ensures transition { IfOk result (λ transition. transition ≡ transition_request part.now library.now client stand request.now read.now) }
+    ensures fits { IfOk result (λ transition. Fits part.now transition.effect) }
+{
+    match request {
+        Request::Run(name, command) => {
+            let asked = Asked {
+                client: client.number,
+                name: *name,
+                stand,
+            };
+            answer_command(alloc, asked, part, library, read, client, command)
+        }
+        Request::Refused(ack) => {
+            let response = refuses_line(alloc, stand, ack.command, ack.number, ack.text.as_str())?;
+            Ok(Transition::only(response))
+        }
+    }
+}
+
+/// A client's wish leaves the player as it is; another command has its result.
+fn answer_command(
+    alloc: Global,
+    asked: Asked,
+    part: &Part,
+    library: &Library,
+    read: &Read,
+    client: Client,
+    command: &Command,
+) -> Result<Transition, AllocError>
+    ensures transition { IfOk result (λ transition. transition ≡ transition_command asked part.now library.now read.now client command.now) }
+    ensures fits { IfOk result (λ transition. Fits part.now transition.effect) }
+{
+    match command {
+        Command::Idle(named) => Ok(Transition::only(idle(alloc, asked, client, *named)?)),
+        Command::NoIdle => Ok(Transition::only(no_idle(alloc, asked, client)?)),
+        _ => run(alloc, asked, part, library, read, command),
+    }
+}
+
+/// The table of results: what each command asks of the player, and what it reads of it.
+#[rattlefmt::skip]
+fn run(alloc: Global, asked: Asked, part: &Part, library: &Library, read: &Read, command: &Command) -> Result<Transition, AllocError>
+    ensures transition { IfOk result (λ transition. transition ≡ transition_by (result_of asked part.now library.now read.now command.now)) }
+    ensures fits { IfOk result (λ transition. Fits part.now transition.effect) }
+{
+    match command {
+        Command::Add(uri) => add(alloc, asked, part, library, uri),
+        Command::AddId(uri, place) => add_id(alloc, asked, part, library, uri, *place),
+        Command::Channels => channels(alloc, asked, part),
+        Command::Clear => clear(alloc, asked, part),
+        Command::ClearError => clear_error(alloc, asked),
+        Command::Close => Transition::closes_client(alloc, asked),
+        Command::Commands(allow_kill) => Ok(Transition::only(commands(alloc, asked, *allow_kill)?)),
+        Command::Consume(on) => consume(alloc, asked, *on),
+        Command::Count(wanted) => count(alloc, asked, library, wanted),
+        Command::Crossfade(seconds) => crossfade(alloc, asked, seconds),
+        Command::CurrentSong => current_song(alloc, asked, part, library),
+        Command::Delete(range) => delete(alloc, asked, part, *range),
+        Command::DeleteId(id) => delete_id(alloc, asked, part, *id),
+        Command::DisableOutput(output) => switch_output(alloc, asked, part, *output as usize, false),
+        Command::EnableOutput(output) => switch_output(alloc, asked, part, *output as usize, true),
+        Command::Find(wanted, window) => find(alloc, asked, library, Case::Heeded, wanted, *window),
+        Command::FindAdd(wanted) => find_add(alloc, asked, part, library, Case::Heeded, wanted),
+        Command::GetVol => get_volume(alloc, asked, part),
+        Command::Idle(_) => Ok(Transition::only(shut(alloc)?)),
+        Command::Kill => Transition::closes_client(alloc, asked),
+        Command::List(name, wanted) => list(alloc, asked, library, *name, wanted.as_ref()),
+        Command::ListAll(uri) => list_all(alloc, asked, library, uri.as_ref()),
+        Command::ListPlaylist(name) => list_playlist(alloc, asked, read, name),
+        Command::ListPlaylistInfo(name) => list_playlist_info(alloc, asked, library, read, name),
+        Command::ListPlaylists => list_playlists(alloc, asked, read),
+        Command::Load(name, range) => load(alloc, asked, part, library, read, name, *range),
+        Command::LsInfo(uri) => list_info(alloc, asked, library, uri.as_ref()),
+        Command::Move(range, to) => move_range(alloc, asked, part, *range, *to),
+        Command::MoveId(id, to) => move_id(alloc, asked, part, *id, *to),
+        Command::Next => next(alloc, asked, part),
+        Command::NoIdle => Ok(Transition::only(shut(alloc)?)),
+        Command::NotCommands(allow_kill) => Ok(Transition::only(not_commands(alloc, asked, *allow_kill)?)),
+        Command::Outputs => outputs(alloc, asked, part),
+        Command::Pause(on) => pause(alloc, asked, *on),
+        Command::Ping => Ok(Transition::only(ping(alloc, asked)?)),
+        Command::PlChanges(version, range) => changes(alloc, asked, part, library, *version, *range),
+        Command::PlChangesPosId(version, range) => changed_places(alloc, asked, part, library, *version, *range),
+        Command::Play(place) => play(alloc, asked, part, *place),
+        Command::PlayId(id) => play_id(alloc, asked, part, *id),
+        Command::PlaylistAdd(name, uri) => playlist_add(alloc, asked, library, read, name, uri),
+        Command::PlaylistClear(name) => playlist_clear(alloc, asked, read, name),
+        Command::PlaylistDelete(name, place) => playlist_delete(alloc, asked, read, name, *place),
+        Command::PlaylistId(id) => playlist_id(alloc, asked, part, library, *id),
+        Command::PlaylistInfo(range) => playlist_info(alloc, asked, part, library, *range),
+        Command::PlaylistMove(name, from, to) => playlist_move(alloc, asked, read, name, *from, *to),
+        Command::Previous => previous(alloc, asked, part),
+        Command::Prio(priority, ranges) => prio(alloc, asked, part, *priority, ranges.items()),
+        Command::PrioId(priority, ids) => prio_id(alloc, asked, part, *priority, ids.items()),
+        Command::Random(on) => random(alloc, asked, *on),
+        Command::ReadMessages => read_messages(alloc, asked, part),
+        Command::Rename(name, new) => rename(alloc, asked, name, new),
+        Command::Repeat(on) => repeat(alloc, asked, *on),
+        Command::Rescan(_) => update(alloc, asked, library),
+        Command::Rm(name) => remove(alloc, asked, name),
+        Command::Save(name) => save(alloc, asked, part, name),
+        Command::Search(wanted, window) => find(alloc, asked, library, Case::Ignored, wanted, *window),
+        Command::SearchAdd(wanted) => find_add(alloc, asked, part, library, Case::Ignored, wanted),
+        Command::Seek(place, time) => seek(alloc, asked, part, library, *place, *time),
+        Command::SeekCur(seeking) => seek_cur(alloc, asked, part, library, *seeking),
+        Command::SeekId(id, time) => seek_id(alloc, asked, part, library, *id, *time),
+        Command::SendMessage(channel, text) => send_message(alloc, asked, part, channel, text),
+        Command::SetVol(volume) => set_volume(alloc, asked, volume),
+        Command::Shuffle(range) => shuffle(alloc, asked, part, *range),
+        Command::Single(mode) => single(alloc, asked, *mode),
+        Command::Status => status(alloc, asked, part, library),
+        Command::Sticker(command) => sticker(alloc, asked, library, read, command),
+        Command::Stop => stop(alloc, asked),
+        Command::Subscribe(channel) => subscribe(alloc, asked, part, channel),
+        Command::Swap(first, second) => swap(alloc, asked, part, *first, *second),
+        Command::SwapId(first, second) => swap_id(alloc, asked, part, *first, *second),
+        Command::TagTypes => Ok(Transition::only(tag_types(alloc, asked)?)),
+        Command::ToggleOutput(output) => toggle_output(alloc, asked, part, *output as usize),
+        Command::Unsubscribe(channel) => unsubscribe(alloc, asked, part, channel),
+        Command::Update(_) => update(alloc, asked, library),
+    }
+}

@@ -1,0 +1,310 @@
+//! What an event does to what one player owns.
+ghost use Rattle.std.specs.Prelude.{◌≡◌, ℕ, true, false, None, IfErr, IfOk, OnOk, OnErr, IsErrOf, slice_get};
+ghost use Rattle.idle_notes.specs.Channels.{sent, send_refusal, subscribed, subscribe_refusal, unsubscribed, unsubscribe_refusal};
+ghost use Rattle.song_queue.specs.Laws.{Takes, state_after_edit};
+ghost use Rattle.player_core.specs.Player as player;
+ghost use Rattle.player_core.specs.Decoding as decoding;
+ghost use Rattle.player_state.specs.Outputs.{is_enabled, turned};
+ghost use Rattle.player_state.specs.Fits.{Fits};
+ghost use Rattle.player_state.specs.Effects.{entries, feed_of as feed_of_lem, had, part_after, player_after, player_edited, played_entry, report_after, sought_entry, told_or as told_or_lem, wanted};
+
+use crate::report::{Feed, Report};
+use crate::state::Part;
+use mpd_command::Volume;
+use mpd_text::Text;
+use play_order::{Consume, Single};
+use player_core::PlayerFault;
+use song_db::Rate;
+use song_queue::Edit;
+
+/// What a command does to what one player owns, or a client that goes. It brings no frames.
+#[derive(Drop)]
+pub enum CommandEffect {
+    /// All stays as it is.
+    Rests,
+    Edits(Edit),
+    /// The entries of the queue from a start up to an end are shuffled.
+    Shuffles(usize, usize),
+    SetsVolume(Volume),
+    SetsRepeat(bool),
+    SetsRandom(bool),
+    SetsSingle(Single),
+    SetsConsume(Consume),
+    /// The seconds of fades that are fixed from now on.
+    SetsCrossfade(u32),
+    ClearsError,
+    /// What is paused plays, and what is stopped begins.
+    Plays,
+    /// The entry at a place starts.
+    PlaysPlace(usize),
+    Pauses(bool),
+    TogglesPause,
+    Stops,
+    /// The current song ends, and the order goes on.
+    GoesOn,
+    /// The song before starts.
+    GoesBack,
+    /// The entry at a place is played from a frame on.
+    Seeks(usize, u64),
+    /// An output is turned on or off.
+    Switches(usize, bool),
+    /// A client listens to a channel from now on.
+    Subscribes(u32, Text),
+    /// A client listens to a channel no more.
+    Unsubscribes(u32, Text),
+    /// A message, the second text, goes to a channel.
+    Sends(Text, Text),
+    /// The messages that wait for a client are read.
+    ReadsMessages(u32),
+    /// A client goes, with its channels and its messages.
+    Leaves(u32),
+}
+
+/// What the decoder or an output asks for, or tells of.
+#[derive(Clone, Copy)]
+pub enum AudioStep {
+    /// The decoder asks for a job; whether a feeder still owes frames.
+    Wants(bool),
+    /// So many frames of a job are there.
+    Accepts(u64, u64),
+    /// The song of a job could not be read, or that of its partner.
+    Fails(u64, bool),
+    /// An output wrote and discarded so many frames, and whether it failed.
+    Settles(usize, u64, u64, bool),
+}
+
+/// What an event does to what one player owns.
+#[derive(Drop)]
+pub enum Effect {
+    /// By a command, or by a client that goes.
+    ByCommand(CommandEffect),
+    /// By the decoder or an output.
+    ByAudio(AudioStep),
+}
+
+impl Effect {
+    pub fn rests(&self) -> bool
+        ensures { result ≡ true → self.now ≡ Effect.ByCommand CommandEffect.Rests }
+    {
+        matches!(self, Effect::ByCommand(CommandEffect::Rests))
+    }
+}
+
+/// Does to a part what an event asks for, and gives what is answered to a part of the daemon that is no
+/// client. Where it is refused, nothing changes.
+#[rattlefmt::skip]
+pub fn carry_out(part: &mut Part, rate: &Rate, effect: Effect, report: Report) -> Result<Report, PlayerFault>
+    requires { Fits part.old effect }
+    ensures part { OnOk result (part.new ≡ part_after rate.now part.old effect) }
+    ensures report { IfOk result (λ given. given ≡ report_after rate.now part.old effect report) }
+    ensures within { OnOk result (player.is_within (player_after rate.now part.old effect) ≡ true) }
+    ensures limit { IsErrOf result PlayerFault.CutsAtLimit → player.is_within (player_after rate.now part.old effect) ≡ false }
+    ensures err { OnErr result (part.new ≡ part.old) }
+{
+    match effect {
+        Effect::ByCommand(effect) => take_effect(part, effect, report),
+        Effect::ByAudio(step) => take_step(part, rate, step, report),
+    }
+}
+
+/// The table of effects. The rate of songs is of no matter to them.
+#[rattlefmt::skip]
+fn take_effect(part: &mut Part, effect: CommandEffect, report: Report) -> Result<Report, PlayerFault>
+    requires { Fits part.old (Effect.ByCommand effect) }
+    ensures part { OnOk result ((rate : ℕ) → part.new ≡ part_after rate part.old (Effect.ByCommand effect)) }
+    ensures report { IfOk result (λ given. (rate : ℕ) → given ≡ report_after rate part.old (Effect.ByCommand effect) report) }
+    ensures within { OnOk result ((rate : ℕ) → player.is_within (player_after rate part.old (Effect.ByCommand effect)) ≡ true) }
+    ensures limit { IsErrOf result PlayerFault.CutsAtLimit → (rate : ℕ) → player.is_within (player_after rate part.old (Effect.ByCommand effect)) ≡ false }
+    ensures err { OnErr result (part.new ≡ part.old) }
+{
+    match effect {
+        CommandEffect::Rests => { let _ = done(part); Ok(report) }
+        CommandEffect::Edits(edit) => edit_queue(part, edit),
+        CommandEffect::Shuffles(start, end) => { part.player.shuffle(&mut part.queue, start..end)?; Ok(done(part)) }
+        CommandEffect::SetsVolume(volume) => { part.volume = volume; Ok(done(part)) }
+        CommandEffect::SetsRepeat(on) => { part.player.set_repeat(on); Ok(done(part)) }
+        CommandEffect::SetsRandom(on) => { part.player.set_random(&part.queue, on)?; Ok(done(part)) }
+        CommandEffect::SetsSingle(single) => { part.player.set_single(single); Ok(done(part)) }
+        CommandEffect::SetsConsume(consume) => { part.player.set_consume(consume); Ok(done(part)) }
+        CommandEffect::SetsCrossfade(seconds) => { part.player.set_crossfade(seconds); Ok(done(part)) }
+        CommandEffect::ClearsError => { part.player.clear_error(); Ok(done(part)) }
+        CommandEffect::Plays => { part.player.play(&part.queue)?; Ok(done(part)) }
+        CommandEffect::PlaysPlace(place) => play_place(part, place),
+        CommandEffect::Pauses(on) => { part.player.pause(on); Ok(done(part)) }
+        CommandEffect::TogglesPause => { part.player.toggle_pause(); Ok(done(part)) }
+        CommandEffect::Stops => { part.player.stop()?; Ok(done(part)) }
+        CommandEffect::GoesOn => { part.player.next(&mut part.queue)?; Ok(done(part)) }
+        CommandEffect::GoesBack => { part.player.previous(&part.queue)?; Ok(done(part)) }
+        CommandEffect::Seeks(place, frame) => seek_place(part, place, frame),
+        CommandEffect::Switches(output, on) => { part.outputs.switch(output, on); Ok(done(part)) }
+        CommandEffect::Subscribes(client, channel) => { subscribe(part, client, channel.as_str())?; Ok(done(part)) }
+        CommandEffect::Unsubscribes(client, channel) => { unsubscribe(part, client, channel.as_str()); Ok(done(part)) }
+        CommandEffect::Sends(channel, text) => { send(part, channel.as_str(), text.as_str())?; Ok(done(part)) }
+        CommandEffect::ReadsMessages(client) => { let _ = part.channels.read(client); Ok(done(part)) }
+        CommandEffect::Leaves(client) => { part.channels.leave(client); Ok(done(part)) }
+    }
+}
+
+/// The table of steps of the decoder and of outputs.
+#[rattlefmt::skip]
+fn take_step(part: &mut Part, rate: &Rate, step: AudioStep, report: Report) -> Result<Report, PlayerFault>
+    ensures part { OnOk result (part.new ≡ part_after rate.now part.old (Effect.ByAudio step)) }
+    ensures report { IfOk result (λ given. given ≡ report_after rate.now part.old (Effect.ByAudio step) report) }
+    ensures within { OnOk result (player.is_within (player_after rate.now part.old (Effect.ByAudio step)) ≡ true) }
+    ensures limit { IsErrOf result PlayerFault.CutsAtLimit → player.is_within (player_after rate.now part.old (Effect.ByAudio step)) ≡ false }
+    ensures err { OnErr result (part.new ≡ part.old) }
+{
+    match step {
+        AudioStep::Wants(owes) => want(part, rate, owes),
+        AudioStep::Accepts(number, frames) => accept(part, number, frames),
+        AudioStep::Fails(number, partner) => { part.player.failed(&part.queue, number, partner)?; Ok(done(part)) }
+        AudioStep::Settles(output, _, _, failed) => Ok(told_or(report, settle(part, output, failed))),
+    }
+}
+
+fn subscribe(part: &mut Part, client: u32, channel: &str) -> Result<(), PlayerFault>
+    requires { subscribe_refusal client channel.now part.old.channels ≡ None }
+    ensures part { OnOk result (part.new ≡ record part.old { channels = subscribed client channel.now part.old.channels }) }
+    ensures memory { IfErr result (λ fault. fault ≡ PlayerFault.NoMemory) }
+    ensures err { OnErr result (part.new ≡ part.old) }
+{
+    part.channels
+        .subscribe(client, channel)
+        .map_err(|_| PlayerFault::NoMemory)
+}
+
+fn unsubscribe(part: &mut Part, client: u32, channel: &str)
+    requires { unsubscribe_refusal client channel.now part.old.channels ≡ None }
+    ensures { part.new ≡ record part.old { channels = unsubscribed client channel.now part.old.channels } }
+{
+    match part.channels.unsubscribe(client, channel) {
+        Ok(()) => {}
+        Err(_) => unreachable!(),
+    }
+}
+
+fn send(part: &mut Part, channel: &str, text: &str) -> Result<(), PlayerFault>
+    requires { send_refusal channel.now part.old.channels ≡ None }
+    ensures part { OnOk result (part.new ≡ record part.old { channels = sent channel.now text.now part.old.channels }) }
+    ensures memory { IfErr result (λ fault. fault ≡ PlayerFault.NoMemory) }
+    ensures err { OnErr result (part.new ≡ part.old) }
+{
+    part.channels
+        .send(channel, text)
+        .map_err(|_| PlayerFault::NoMemory)
+}
+
+fn settle(part: &mut Part, output: usize, failed: bool) -> Report
+    ensures part { part.new ≡ record part.old { outputs = turned part.old.outputs output failed } }
+    ensures report { result ≡ Report.ToPlay (decoding.turn part.old.player (is_enabled (turned part.old.outputs output failed) output)) }
+    ensures within { player.is_within part.old.player ≡ true }
+{
+    part.outputs.settle(output, failed);
+    let _ = done(part);
+    Report::ToPlay(part.player.turn(part.outputs.is_enabled(output)))
+}
+
+/// What is told, or where that is nothing the step's own.
+fn told_or(report: Report, own: Report) -> Report
+    ensures { result ≡ told_or_lem report own }
+{
+    match report {
+        Report::Nothing => own,
+        told => told,
+    }
+}
+
+/// What is answered to a step that nobody has to be told of. Numbers are within their limit.
+pub fn done(part: &Part) -> Report
+    ensures report { result ≡ Report.Nothing }
+    ensures within { player.is_within part.now.player ≡ true }
+{
+    let _cuts = part.player.cuts();
+    Report::Nothing
+}
+
+fn edit_queue(part: &mut Part, edit: Edit) -> Result<Report, PlayerFault>
+    requires { Takes part.old.queue edit }
+    ensures part { OnOk result (part.new ≡ record part.old { queue = state_after_edit part.old.queue edit; player = player_edited part.old.player part.old.queue edit }) }
+    ensures report { IfOk result (λ given. given ≡ Report.Nothing) }
+    ensures within { OnOk result (player.is_within (player_edited part.old.player part.old.queue edit) ≡ true) }
+    ensures limit { IsErrOf result PlayerFault.CutsAtLimit → player.is_within (player_edited part.old.player part.old.queue edit) ≡ false }
+    ensures err { OnErr result (part.new ≡ part.old) }
+{
+    match edit {
+        Edit::Insert(at, songs) => {
+            part.player.insert(&mut part.queue, at, songs)?;
+            Ok(done(part))
+        }
+        Edit::Remove(start, end) => {
+            part.player.remove(&mut part.queue, start..end)?;
+            Ok(done(part))
+        }
+        edit => {
+            part.queue.edit(edit)?;
+            Ok(done(part))
+        }
+    }
+}
+
+fn play_place(part: &mut Part, place: usize) -> Result<Report, PlayerFault>
+    ensures part { OnOk result (part.new ≡ record part.old { player = played_entry part.old.player (slice_get (entries part.old) place) }) }
+    ensures report { IfOk result (λ given. given ≡ Report.Nothing) }
+    ensures within { OnOk result (player.is_within (played_entry part.old.player (slice_get (entries part.old) place)) ≡ true) }
+    ensures limit { IsErrOf result PlayerFault.CutsAtLimit → player.is_within (played_entry part.old.player (slice_get (entries part.old) place)) ≡ false }
+    ensures err { OnErr result (part.new ≡ part.old) }
+{
+    if let Some(entry) = part.queue.get(place) {
+        part.player.play_entry(entry)?;
+    }
+    Ok(done(part))
+}
+
+fn seek_place(part: &mut Part, place: usize, frame: u64) -> Result<Report, PlayerFault>
+    ensures part { OnOk result (part.new ≡ record part.old { player = sought_entry part.old.player (slice_get (entries part.old) place) frame }) }
+    ensures report { IfOk result (λ given. given ≡ Report.Nothing) }
+    ensures within { OnOk result (player.is_within (sought_entry part.old.player (slice_get (entries part.old) place) frame) ≡ true) }
+    ensures limit { IsErrOf result PlayerFault.CutsAtLimit → player.is_within (sought_entry part.old.player (slice_get (entries part.old) place) frame) ≡ false }
+    ensures err { OnErr result (part.new ≡ part.old) }
+{
+    if let Some(entry) = part.queue.get(place) {
+        part.player.seek(entry, frame)?;
+    }
+    Ok(done(part))
+}
+
+fn want(part: &mut Part, rate: &Rate, owes: bool) -> Result<Report, PlayerFault>
+    ensures part { OnOk result (part.new ≡ record part.old { queue = player.queue_after part.old.queue (wanted rate.now part.old owes).stepped.edit; player = (wanted rate.now part.old owes).stepped.player }) }
+    ensures report { IfOk result (λ given. given ≡ Report.ToDecode (wanted rate.now part.old owes).job) }
+    ensures within { OnOk result (player.is_within (wanted rate.now part.old owes).stepped.player ≡ true) }
+    ensures limit { IsErrOf result PlayerFault.CutsAtLimit → player.is_within (wanted rate.now part.old owes).stepped.player ≡ false }
+    ensures err { OnErr result (part.new ≡ part.old) }
+{
+    let enabled = part.outputs.any_enabled();
+    let job = part
+        .player
+        .want(rate.frames(), &mut part.queue, enabled, owes)?;
+    let _ = done(part);
+    Ok(Report::ToDecode(job))
+}
+
+fn accept(part: &mut Part, number: u64, frames: u64) -> Result<Report, PlayerFault>
+    ensures part { OnOk result (part.new ≡ record part.old { queue = player.queue_after part.old.queue (had part.old number frames).stepped.edit; player = (had part.old number frames).stepped.player }) }
+    ensures report { IfOk result (λ given. given ≡ Report.ToFeed (feed_of_lem part.old.volume (had part.old number frames).feed)) }
+    ensures within { OnOk result (player.is_within (had part.old number frames).stepped.player ≡ true) }
+    ensures limit { IsErrOf result PlayerFault.CutsAtLimit → player.is_within (had part.old number frames).stepped.player ≡ false }
+    ensures err { OnErr result (part.new ≡ part.old) }
+{
+    let cut = part.player.have(&mut part.queue, number, frames)?;
+    let _ = done(part);
+    Ok(Report::ToFeed(feed_of(cut, &part.volume)))
+}
+
+fn feed_of(cut: Option<u64>, volume: &Volume) -> Option<Feed>
+    ensures { result ≡ feed_of_lem volume.now cut }
+{
+    cut.map(|cut| Feed {
+        cut,
+        volume: volume.percent(),
+    })
+}

@@ -1,0 +1,69 @@
+-- What clients hear (MPD protocol reference, Responses and Command lists; notices: Querying MPD's status,
+-- `idle`).
+use Rattle.std.specs.Prelude.{ℕ, Bool, false, true, List, ◌++◌, codes, Option}
+use Rattle.command_lists.specs.declared.word.ListForm.TheVariants.{Plain, ListOk}
+use Rattle.mpd_text.specs.Answers.Answer.{ack_line, number_of}
+use Rattle.mpd_text.specs.declared.answers.answer.ErrorNumber.{ErrorNumber}
+use Rattle.mpd_text.specs.declared.answers.answer.ErrorNumber.TheVariants.{Exist, NoExist, System}
+use Rattle.mpd_command.specs.declared.name.Name.{Name}
+use Rattle.mpd_command.specs.Requests.{text_of_name}
+use Rattle.transitions.specs.declared.reply.Move.{Move}
+use Rattle.transitions.specs.declared.reply.Move.TheVariants.{Stay}
+use Rattle.transitions.specs.declared.reply.Next.{Next}
+use Rattle.transitions.specs.declared.reply.Next.TheVariants.{Goes, Closes}
+use Rattle.transitions.specs.declared.asked.Stand.{Stand}
+use Rattle.transitions.specs.declared.asked.Stand.TheVariants.{Alone, InList}
+use Rattle.shelf.specs.declared.faults.ShelfFault.{ShelfFault}
+use Rattle.shelf.specs.declared.faults.ShelfFault.TheVariants.{NoSuchList, Exists, BadName, NoSticker, StoreFault, NoMemory}
+
+-- what one client is told, what becomes of it, and whether it was a refusal
+pub record Answer : Type 0 where
+  pub text : List ℕ
+  pub next : Next
+  pub refused : Bool
+
+-- an answer, and what the client that it is for does
+pub record ResponseData : Type 0 where
+  pub answer : Answer
+  pub move : Move
+
+-- what follows the lines of a success: `OK`; in a list nothing, or `list_OK` where its form wants it
+abbrev pub ending : Stand → List ℕ
+ending Alone = codes "OK\n"
+ending (InList Plain place) = codes ""
+ending (InList ListOk place) = codes "list_OK\n"
+
+-- the place in its list that a refusal names
+abbrev pub place_of : Stand → ℕ
+place_of Alone = 0
+place_of (InList form place) = place
+
+-- the client is told this, and its next line may come
+abbrev pub tells : List ℕ → Answer
+tells text = record { text = text; next = Goes; refused = false }
+
+-- a success with these lines
+abbrev pub succeeds : Stand → List ℕ → Answer
+succeeds stand lines = tells (lines ++ ending stand)
+
+-- a refusal of a command, or of a line that names none
+abbrev pub refuses : Stand → Option Name → ErrorNumber → List ℕ → Answer
+refuses stand name number text = record { text = ack_line (number_of number) (place_of stand) (text_of_name name) text; next = Goes; refused = true }
+
+-- what a client is told where the shelf refuses what its command asks for. A command looks at names before it
+-- asks, so that a shelf which refuses a name is not a shelf as it should be
+abbrev pub refused_by_shelf : Stand → Option Name → ShelfFault → Answer
+refused_by_shelf stand name NoSuchList = refuses stand name NoExist (codes "no such playlist")
+refused_by_shelf stand name Exists = refuses stand name Exist (codes "playlist exists")
+refused_by_shelf stand name BadName = refuses stand name System (codes "store fault")
+refused_by_shelf stand name NoSticker = refuses stand name NoExist (codes "no such sticker")
+refused_by_shelf stand name StoreFault = refuses stand name System (codes "store fault")
+refused_by_shelf stand name NoMemory = refuses stand name System (codes "store fault")
+
+-- closed, without bytes
+abbrev pub shut : Answer
+shut = record { text = codes ""; next = Closes; refused = false }
+
+-- an answer to a client that makes no move
+abbrev pub stays : Answer → ResponseData
+stays answer = record { answer = answer; move = Stay }

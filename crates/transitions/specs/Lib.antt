@@ -1,0 +1,4 @@
+pub mod Answers
+pub mod CommandResults
+pub mod Shelves
+pub mod Transitions

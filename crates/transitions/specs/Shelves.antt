@@ -1,0 +1,154 @@
+-- What an event asks of the lent shelf, and what it makes of the shelf's two maps (MPD protocol reference,
+-- Stored playlists, Stickers).
+use Rattle.std.specs.Prelude.{◌≡◌, ⊤, ℕ, Bool, true, false, List, Option, Some, None, Result, Ok, Err}
+use Rattle.shelf.specs.declared.faults.ShelfFault.{ShelfFault}
+use Rattle.shelf.specs.declared.faults.ShelfFault.TheVariants.{NoMemory, StoreFault}
+use Rattle.shelf.specs.Calls as calls
+use Rattle.shelf.specs.Calls.{Call}
+use Rattle.shelf.specs.Maps.{Maps, Standing, Trusted, Turns, Answers, AnswersAll, AreKeys, AreEntries, with_list, with_renamed, with_sticker, with_stickers, no_stickers, no_refusal, refusal_of_list, refusal_of_put, refusal_of_create, refusal_of_rename, refusal_of_set, refusal_of_sticker}
+use Rattle.transitions.specs.declared.shelf_calls.StoreReply.{StoreReply}
+use Rattle.transitions.specs.declared.shelf_calls.Read.{Read}
+use Rattle.transitions.specs.declared.shelf_calls.Read.TheVariants as read_variant
+use Rattle.transitions.specs.declared.shelf_calls.ShelfWrite.{ShelfWrite}
+use Rattle.transitions.specs.declared.shelf_calls.ShelfWrite.TheVariants.{Nothing, Put, Create, Rename, Remove, SetSticker, DeleteSticker, DeleteStickers}
+
+-- what the shelf is asked before an event is decided: nothing; the names of all lists; a list; the sticker of
+-- a URI with a name; all stickers of a URI; all stickers with a name
+pub data Question : Type 0 where
+  NoQuestion : Question
+  AskNames : Question
+  AskList : List ℕ → Question
+  AskSticker : List ℕ → List ℕ → Question
+  AskStickers : List ℕ → Question
+  AskFound : List ℕ → Question
+
+abbrev pub no_store_reply : StoreReply
+no_store_reply = record { read = read_variant.Nothing; refused = None }
+
+abbrev pub is_written : ShelfWrite → Bool
+is_written Nothing = false
+is_written (Put name uris changes) = true
+is_written (Create name uris) = true
+is_written (Rename name new) = true
+is_written (Remove name) = true
+is_written (SetSticker uri name value changes) = true
+is_written (DeleteSticker uri name) = true
+is_written (DeleteStickers uri) = true
+
+-- whether what is written makes the stored playlists others
+abbrev pub changes_lists : ShelfWrite → Bool
+changes_lists Nothing = false
+changes_lists (Put name uris changes) = changes
+changes_lists (Create name uris) = true
+changes_lists (Rename name new) = true
+changes_lists (Remove name) = true
+changes_lists (SetSticker uri name value changes) = false
+changes_lists (DeleteSticker uri name) = false
+changes_lists (DeleteStickers uri) = false
+
+-- whether it makes the stickers others
+abbrev pub changes_stickers : ShelfWrite → Bool
+changes_stickers Nothing = false
+changes_stickers (Put name uris changes) = false
+changes_stickers (Create name uris) = false
+changes_stickers (Rename name new) = false
+changes_stickers (Remove name) = false
+changes_stickers (SetSticker uri name value changes) = changes
+changes_stickers (DeleteSticker uri name) = true
+changes_stickers (DeleteStickers uri) = true
+
+-- the maps once it is written
+abbrev pub maps_after : ShelfWrite → Maps → Maps
+maps_after Nothing m = m
+maps_after (Put name uris changes) m = with_list m name (Some uris)
+maps_after (Create name uris) m = with_list m name (Some uris)
+maps_after (Rename name new) m = with_renamed m name new
+maps_after (Remove name) m = with_list m name None
+maps_after (SetSticker uri name value changes) m = with_sticker m uri name (Some value)
+maps_after (DeleteSticker uri name) m = with_sticker m uri name None
+maps_after (DeleteStickers uri) m = with_stickers m uri no_stickers
+
+-- A call that asks is refused for its cause in the maps, or for the store. Want of memory is no answer: it
+-- refuses the event itself.
+abbrev pub IsCause : Type 0 → Option ShelfFault → ShelfFault → Type 0
+IsCause failed refusal NoMemory = ⊥
+IsCause failed refusal StoreFault = failed
+IsCause failed refusal fault = refusal ≡ Some fault
+
+-- The answer to a question is the maps', or a refusal of the call.
+abbrev pub IsRead : (Call → Type 0) → Maps → Question → Read → Type 0
+IsRead failed m NoQuestion read = read ≡ read_variant.Nothing
+IsRead failed m AskNames (read_variant.Names names) = AreKeys m.lists names
+IsRead failed m AskNames (read_variant.Refused fault) = IsCause (failed calls.Lists) no_refusal fault
+IsRead failed m AskNames _ = ⊥
+IsRead failed m (AskList name) (read_variant.List uris) = m.lists name ≡ Some uris
+IsRead failed m (AskList name) (read_variant.Refused fault) = IsCause (failed (calls.ListOf name)) (refusal_of_list m name) fault
+IsRead failed m (AskList name) _ = ⊥
+IsRead failed m (AskSticker uri name) (read_variant.Value value) = m.stickers uri name ≡ Some value
+IsRead failed m (AskSticker uri name) (read_variant.Refused fault) = IsCause (failed (calls.StickerOf uri name)) (refusal_of_sticker m uri name) fault
+IsRead failed m (AskSticker uri name) _ = ⊥
+IsRead failed m (AskStickers uri) (read_variant.Entries entries) = AreEntries (m.stickers uri) entries
+IsRead failed m (AskStickers uri) (read_variant.Refused fault) = IsCause (failed (calls.StickersOf uri)) no_refusal fault
+IsRead failed m (AskStickers uri) _ = ⊥
+IsRead failed m (AskFound name) (read_variant.Entries entries) = AreEntries (λ uri. m.stickers uri name) entries
+IsRead failed m (AskFound name) (read_variant.Refused fault) = IsCause (failed (calls.FindStickers name)) no_refusal fault
+IsRead failed m (AskFound name) _ = ⊥
+
+abbrev pub is_read : Read → Bool
+is_read read_variant.Nothing = false
+is_read (read_variant.Names names) = true
+is_read (read_variant.List uris) = true
+is_read (read_variant.Value value) = true
+is_read (read_variant.Entries entries) = true
+is_read (read_variant.Refused fault) = false
+
+-- whether a question was answered, where memory was not wanting
+abbrev pub is_ok_read : {E : Type 0} → Result Read E → Bool
+is_ok_read (Ok read) = is_read read
+is_ok_read (Err e) = false
+
+-- what a call that writes answers, by why it was refused
+abbrev pub answered : Option ShelfFault → Result ⊤ ShelfFault
+answered None = Ok tt
+answered (Some fault) = Err fault
+
+-- What is written is done, or refused for its cause in the maps, or for the store.
+abbrev pub IsAnswered : (Call → Type 0) → Maps → ShelfWrite → Result ⊤ ShelfFault → Type 0
+IsAnswered failed m Nothing result = result ≡ Ok tt
+IsAnswered failed m (Put name uris changes) result = Answers (failed (calls.Put name uris)) (refusal_of_put name) result
+IsAnswered failed m (Create name uris) result = Answers (failed (calls.Create name uris)) (refusal_of_create m name) result
+IsAnswered failed m (Rename name new) result = Answers (failed (calls.Rename name new)) (refusal_of_rename m name new) result
+IsAnswered failed m (Remove name) result = Answers (failed (calls.Remove name)) (refusal_of_list m name) result
+IsAnswered failed m (SetSticker uri name value changes) result = Answers (failed (calls.SetSticker uri name value)) (refusal_of_set name) result
+IsAnswered failed m (DeleteSticker uri name) result = Answers (failed (calls.DeleteSticker uri name)) (refusal_of_sticker m uri name) result
+IsAnswered failed m (DeleteStickers uri) result = AnswersAll (failed (calls.DeleteStickers uri)) (m.stickers uri) result
+
+-- whether something is to be written and was not refused
+abbrev pub is_ok_write : ShelfWrite → Result ⊤ ShelfFault → Bool
+is_ok_write write (Ok x) = is_written write
+is_ok_write write (Err fault) = false
+
+-- whether a refusal is for want of memory
+abbrev pub is_wanting : Option ShelfFault → Bool
+is_wanting (Some NoMemory) = true
+is_wanting _ = false
+
+module _ {S : Type 0} (standing : S → Standing) (failed : S → S → Call → Type 0) where
+  -- What a lent shelf does for an event: it is asked at most one question, and then at most one thing is
+  -- written. Between the two stands a shelf with the maps from before. An event that the shelf had no memory
+  -- for is none.
+  pub record Serves (old new : S) (question : Question) (write : ShelfWrite) (heard : StoreReply) : Type 0 where
+    pub between : S
+    pub asked : Turns (standing old) (standing between) (is_read heard.read) (standing old).maps
+    pub read : Trusted (standing old) (standing between) → IsRead (failed old between) (standing old).maps question heard.read
+    pub written : Turns (standing between) (standing new) (is_ok_write write (answered heard.refused)) (maps_after write (standing between).maps)
+    pub answers : Trusted (standing between) (standing new) → IsAnswered (failed between new) (standing between).maps write (answered heard.refused)
+    pub ample : is_wanting heard.refused ≡ false
+
+  -- What is left of a lent shelf where an event was refused: it was asked, and nothing was written.
+  pub record LeavesUnchanged (old new : S) : Type 0 where
+    pub between : S
+    pub was_read : Bool
+    pub asked : Turns (standing old) (standing between) was_read (standing old).maps
+    pub after : Maps
+    pub written : Turns (standing between) (standing new) false after

@@ -1,0 +1,34 @@
+//! What an answer is made for, and how its line comes.
+ghost use Rattle.std.specs.Prelude.{◌≡◌};
+ghost use Rattle.transitions.specs.Answers.{place_of};
+
+use command_lists::ListForm;
+use mpd_command::Name;
+
+/// How a line comes.
+#[derive(Clone, Copy, Debug, PartialEq, Eq)]
+pub enum Stand {
+    Alone,
+    /// In a list of this form, at this place from 0.
+    InList(ListForm, usize),
+}
+
+impl Stand {
+    /// The place that a refusal names.
+    pub fn place(self) -> usize
+        ensures { result ≡ place_of self }
+    {
+        match self {
+            Stand::Alone => 0,
+            Stand::InList(_, place) => place,
+        }
+    }
+}
+
+/// What an answer is made for: a command of a client, and how its line comes.
+#[derive(Clone, Copy)]
+pub struct Asked {
+    pub client: u32,
+    pub name: Name,
+    pub stand: Stand,
+}

@@ -1,0 +1,17 @@
+//! What an event is to do and to answer, found out before anything changes; what a shelf is asked and
+//! answers.
+#![tactic(auto)]
+
+mod asked;
+mod refusals;
+mod reply;
+mod response;
+mod shelf_calls;
+mod transition;
+
+pub use asked::{Asked, Stand};
+pub use refusals::{Refusals, shelf_refuses};
+pub use reply::{Move, Next, Reply};
+pub use response::{Response, refuses, refuses_line, shows, shut, succeeds, tells};
+pub use shelf_calls::{Entries, Names, Read, ShelfWrite, StoreReply};
+pub use transition::{Telling, Transition, carry_out, discard};

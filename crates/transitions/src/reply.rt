@@ -1,0 +1,68 @@
+//! What a client is told, and what becomes of it.
+ghost use Rattle.std.specs.Prelude.{◌≡◌};
+
+use idle_notes::Subsystems;
+use mpd_text::SharedText;
+use std::marker::Model;
+
+/// What becomes of a client after a reply.
+#[derive(Clone, Copy, Debug, PartialEq, Eq)]
+pub enum Next {
+    /// Its next line may come.
+    Goes,
+    /// It waits for a notice.
+    Waits,
+    /// It is gone.
+    Closes,
+}
+
+/// What an event does to what is pending for the client that it comes from.
+#[derive(Clone, Copy, Debug, PartialEq, Eq)]
+pub enum Move {
+    Stay,
+    /// It waits for changes of these.
+    Wait(Subsystems),
+    /// It is told what changed, by the answer itself.
+    Learn,
+    /// It waits no more.
+    Resume,
+    /// It comes.
+    Join,
+}
+
+/// The bytes for the client that spoke, what becomes of it, and whether it was refused something.
+#[derive(Drop)]
+pub struct Reply {
+    pub(crate) text: SharedText,
+    pub(crate) next: Next,
+    pub(crate) refused: bool,
+}
+
+impl Model for Reply {
+    ghost use Rattle.transitions.specs.Answers.{Answer};
+
+    ghost Value = { Answer };
+
+    ghost view = { λ r. record { text = r.text; next = r.next; refused = r.refused } };
+}
+
+impl Reply {
+    pub fn text(&self) -> &str
+        ensures { result.now ≡ self.now.text }
+    {
+        self.text.as_str()
+    }
+
+    pub fn next(&self) -> Next
+        ensures { result ≡ self.now.next }
+    {
+        self.next
+    }
+
+    /// Whether the text is an `ACK` line.
+    pub fn is_refusal(&self) -> bool
+        ensures { result ≡ self.now.refused }
+    {
+        self.refused
+    }
+}

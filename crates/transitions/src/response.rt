@@ -1,0 +1,168 @@
+//! What an event answers, made before anything changes, since it can fail for memory.
+ghost use Rattle.std.specs.Prelude.{◌≡◌, Option, Some, None, IfOk, OnOk, ◌++◌, codes};
+ghost use Rattle.std.specs.String.{string_bytes};
+ghost use Rattle.mpd_command.specs.Requests.{text_of_name};
+ghost use Rattle.transitions.specs.Answers.{ResponseData, ending, refuses as refuses_lem, shut as shut_lem, stays, succeeds as succeeds_lem, tells as tells_lem};
+
+use crate::asked::{Asked, Stand};
+use crate::reply::{Move, Next, Reply};
+use command_lists::ListForm;
+use mpd_command::Name;
+use mpd_text::{Answer, ErrorNumber, SharedText};
+use std::alloc::{AllocError, Global};
+use std::marker::Model;
+
+/// What an event answers, and what its client does. The reply is there twice, over one text: a second owner
+/// of the text has to be made before anything changes, since to make it can fail.
+#[derive(Drop)]
+pub struct Response {
+    given: Reply,
+    kept: Reply,
+    moves: Move,
+}
+
+impl Model for Response {
+    ghost use Rattle.std.specs.Prelude.{◌≡◌};
+    ghost use Rattle.transitions.specs.Answers.{ResponseData};
+
+    ghost Value = { ResponseData };
+
+    ghost view = { λ t. record { answer = t.given; move = t.moves } };
+
+    ghost invariant = { λ t. t.kept ≡ t.given };
+}
+
+impl Response {
+    pub fn of(
+        text: SharedText,
+        next: Next,
+        refused: bool,
+        moves: Move,
+    ) -> Result<Response, AllocError>
+        ensures { IfOk result (λ response. response ≡ record { answer = record { text = text; next = next; refused = refused }; move = moves }) }
+    {
+        let kept = text.clone()?;
+        Ok(Response {
+            given: Reply {
+                text,
+                next,
+                refused,
+            },
+            kept: Reply {
+                text: kept,
+                next,
+                refused,
+            },
+            moves,
+        })
+    }
+
+    pub fn next(&self) -> Next
+        ensures { result ≡ self.now.answer.next }
+    {
+        self.given.next
+    }
+
+    pub fn moves(&self) -> Move
+        ensures { result ≡ self.now.move }
+    {
+        self.moves
+    }
+
+    /// The reply to hand out, and the one to keep.
+    pub fn into_replies(self) -> (Reply, Reply)
+        ensures given { result.0 ≡ self.answer }
+        ensures kept { result.1 ≡ self.answer }
+    {
+        let Response { given, kept, .. } = self;
+        (given, kept)
+    }
+}
+
+/// These lines, after which the client's next line may come.
+pub fn tells(text: String, moves: Move) -> Result<Response, AllocError>
+    ensures { IfOk result (λ response. response ≡ record { answer = tells_lem (string_bytes text); move = moves }) }
+{
+    Response::of(SharedText::of(text)?, Next::Goes, false, moves)
+}
+
+/// A success that shows no lines.
+pub fn succeeds(alloc: Global, asked: Asked) -> Result<Response, AllocError>
+    ensures { IfOk result (λ response. response ≡ stays (succeeds_lem asked.stand (codes ""))) }
+{
+    shows(asked, Answer::new(alloc))
+}
+
+/// A success that shows these lines.
+pub fn shows(asked: Asked, lines: Answer) -> Result<Response, AllocError>
+    ensures { IfOk result (λ response. response ≡ stays (succeeds_lem asked.stand lines)) }
+{
+    let mut lines = lines;
+    end(&mut lines, asked.stand)?;
+    tells(lines.into_string(), Move::Stay)
+}
+
+/// Ends the lines of a success.
+fn end(lines: &mut Answer, stand: Stand) -> Result<(), AllocError>
+    ensures { OnOk result (lines.new ≡ lines.old ++ ending stand) }
+{
+    match stand {
+        Stand::Alone => lines.ok(),
+        Stand::InList(ListForm::Plain, _) => Ok(()),
+        Stand::InList(ListForm::ListOk, _) => lines.list_ok(),
+    }
+}
+
+/// A refusal of a command.
+pub fn refuses(
+    alloc: Global,
+    asked: Asked,
+    number: ErrorNumber,
+    text: &str,
+) -> Result<Response, AllocError>
+    ensures { IfOk result (λ response. response ≡ stays (refuses_lem asked.stand (Some asked.name) number text.now)) }
+{
+    refuses_line(alloc, asked.stand, Some(asked.name), number, text)
+}
+
+/// A refusal of a line, which may name no command.
+pub fn refuses_line(
+    alloc: Global,
+    stand: Stand,
+    name: Option<Name>,
+    number: ErrorNumber,
+    text: &str,
+) -> Result<Response, AllocError>
+    ensures { IfOk result (λ response. response ≡ stays (refuses_lem stand name number text.now)) }
+{
+    let mut answer = Answer::new(alloc);
+    let place = stand.place();
+    answer.ack(number, place, name_text(name), text)?;
+    Response::of(
+        SharedText::of(answer.into_string())?,
+        Next::Goes,
+        true,
+        Move::Stay,
+    )
+}
+
+fn name_text(name: Option<Name>) -> &'static str
+    ensures { result.now ≡ text_of_name name }
+{
+    match name {
+        Some(name) => name.text(),
+        None => "",
+    }
+}
+
+/// Closed, without bytes.
+pub fn shut(alloc: Global) -> Result<Response, AllocError>
+    ensures { IfOk result (λ response. response ≡ stays shut_lem) }
+{
+    Response::of(
+        SharedText::of(String::new(alloc))?,
+        Next::Closes,
+        false,
+        Move::Stay,
+    )
+}

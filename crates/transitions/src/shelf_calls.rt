@@ -1,0 +1,155 @@
+//! What a lent shelf is asked and answers, and what is written to it.
+ghost use Rattle.std.specs.Prelude.{◌≡◌, Some, None, map, string_bytes};
+ghost use Rattle.shelf.specs.Entries.{entry_texts};
+ghost use Rattle.transitions.specs.declared.shelf_calls.Read.{Read};
+ghost use Rattle.transitions.specs.declared.shelf_calls.ShelfWrite.{ShelfWrite};
+ghost use Rattle.transitions.specs.Shelves.{changes_lists as changes_lists_lem, changes_stickers as changes_stickers_lem, is_written as is_written_lem};
+
+use mpd_text::Text;
+use shelf::{Entry, ShelfFault, UriList};
+use std::marker::Model;
+
+/// The names of stored playlists, as a shelf gave them.
+#[derive(Drop)]
+pub struct Names {
+    names: Vec<String>,
+}
+
+impl Model for Names {
+    ghost use Rattle.std.specs.Prelude.{List, ℕ, map, string_bytes};
+
+    ghost Value = { List (List ℕ) };
+
+    ghost view = { λ n. map string_bytes n.names.items };
+}
+
+impl Names {
+    pub fn of(names: Vec<String>) -> Names
+        ensures { result ≡ map string_bytes names.items }
+    {
+        Names { names }
+    }
+
+    pub fn as_slice(&self) -> &[String]
+        ensures { map string_bytes result.now ≡ self.now }
+    {
+        &self.names
+    }
+}
+
+/// Stickers, as a shelf gave them: the names of a song's with their values, or the songs that have one of a
+/// name with its value.
+#[derive(Drop)]
+pub struct Entries {
+    entries: Vec<Entry>,
+}
+
+impl Model for Entries {
+    ghost use Rattle.std.specs.Prelude.{List, ℕ, map};
+    ghost use Rattle.shelf.specs.Entries.{entry_texts};
+
+    ghost Value = { List (List ℕ × List ℕ) };
+
+    ghost view = { λ e. map entry_texts e.entries.items };
+}
+
+impl Entries {
+    pub fn of(entries: Vec<Entry>) -> Entries
+        ensures { result ≡ map entry_texts entries.items }
+    {
+        Entries { entries }
+    }
+
+    pub fn as_slice(&self) -> &[Entry]
+        ensures { map entry_texts result.now ≡ self.now }
+    {
+        &self.entries
+    }
+}
+
+/// What a shelf answered to the question of a line.
+#[derive(Drop)]
+pub enum Read {
+    /// It was not asked.
+    Nothing,
+    /// The names of all stored playlists.
+    Names(Names),
+    /// The URIs of a stored playlist.
+    List(UriList),
+    /// The value of a sticker.
+    Value(Text),
+    /// Stickers with their values.
+    Entries(Entries),
+    /// It refused.
+    Refused(ShelfFault),
+}
+
+/// What a shelf answered to a line: to its question, and why it refused what was to be written, if it did.
+#[derive(Drop)]
+pub struct StoreReply {
+    pub read: Read,
+    pub refused: Option<ShelfFault>,
+}
+
+impl StoreReply {
+    /// Nothing was asked, and nothing written.
+    pub fn nothing() -> StoreReply
+        ensures { result ≡ record { read = Read.Nothing; refused = None } }
+    {
+        StoreReply {
+            read: Read::Nothing,
+            refused: None,
+        }
+    }
+}
+
+/// What a line writes to the shelf.
+#[derive(Drop)]
+pub enum ShelfWrite {
+    Nothing,
+    /// A stored playlist has these URIs, and whether it had others or was not there.
+    Put(Text, UriList, bool),
+    /// A new stored playlist has these URIs.
+    Create(Text, UriList),
+    /// A stored playlist gets another name, the second.
+    Rename(Text, Text),
+    /// A stored playlist goes.
+    Remove(Text),
+    /// The sticker of a URI, with the name that comes second, has the value that comes third, and whether it
+    /// had another or none.
+    SetSticker(Text, Text, Text, bool),
+    /// The sticker of a URI with a name goes.
+    DeleteSticker(Text, Text),
+    /// All stickers of a URI go.
+    DeleteStickers(Text),
+}
+
+impl ShelfWrite {
+    pub fn is_written(&self) -> bool
+        ensures { result ≡ is_written_lem self.now }
+    {
+        !matches!(self, ShelfWrite::Nothing)
+    }
+
+    /// Whether the stored playlists are others once it is written.
+    pub fn changes_lists(&self) -> bool
+        ensures { result ≡ changes_lists_lem self.now }
+    {
+        match self {
+            ShelfWrite::Put(_, _, changes) => *changes,
+            ShelfWrite::Create(_, _) | ShelfWrite::Rename(_, _) | ShelfWrite::Remove(_) => true,
+            _ => false,
+        }
+    }
+
+    /// Whether the stickers are others once it is written.
+    pub fn changes_stickers(&self) -> bool
+        ensures { result ≡ changes_stickers_lem self.now }
+    {
+        match self {
+            ShelfWrite::SetSticker(_, _, _, changes) => *changes,
+            ShelfWrite::DeleteSticker(_, _) | ShelfWrite::DeleteStickers(_) => true,
+            _ => false,
+        }
+    }
+}

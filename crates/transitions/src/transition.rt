@@ -1,0 +1,359 @@
+//! What an event is to do, found out before anything changes.
+ghost use Rattle.std.specs.Prelude.{◌≡◌, if◌then◌else◌, true, false, IfOk, IsErrOf, OnOk, OnErr};
+ghost use Rattle.transitions.specs.CommandResults.{begins_scan as begins_scan_lem, bad_index as bad_index_lem, bad_name as bad_name_lem, closes_client as closes_client_lem, does as does_lem, edits, no_such_song as no_such_song_lem, not_playing as not_playing_lem, refusal, shows as shows_lem, writes as writes_lem};
+ghost use Rattle.player_state.specs.Effects.{keeps_numbers, part_after};
+ghost use Rattle.player_state.specs.Libraries.{library_after};
+ghost use Rattle.transitions.specs.Transitions.{transition_by};
+ghost use Rattle.player_state.specs.Fits.{Fits};
+ghost use Rattle.transitions.specs.Shelves.{is_written};
+ghost use Rattle.player_state.specs.declared.report.Report.{Report};
+ghost use Rattle.transitions.specs.Transitions.{acts as acts_lem, acts_unless as acts_unless_lem, departs as departs_lem, or_ended as or_ended_lem, quiet, report_of, no_response};
+
+use crate::asked::Asked;
+use crate::reply::Move;
+use crate::response::{Response, refuses, shows, shut, succeeds, tells};
+use crate::shelf_calls::ShelfWrite;
+use mpd_text::{Answer, ErrorNumber};
+use player_core::PlayerFault;
+use player_state::{
+    AudioStep, CommandEffect, Effect, Library, Part, Report, ScanMove,
+    carry_out as carry_out_effect,
+};
+use song_queue::Edit;
+use std::alloc::{AllocError, Global};
+use std::marker::Model;
+
+/// What an event asks of a part, and what is answered. It is made without changing anything.
+#[derive(Drop)]
+pub struct Transition {
+    pub effect: Effect,
+    pub scan: ScanMove,
+    pub written: ShelfWrite,
+    pub response: Response,
+    pub report: Report,
+}
+
+/// Drops what is to be done. It is a function of its own, as [`discard`] is.
+fn discard_effect(_effect: Effect, _scan: ScanMove) {}
+
+/// Drops what is to be written. It is a function of its own, as [`discard`] is.
+fn discard_write(_written: ShelfWrite) {}
+
+/// Drops a transition. It is a function of its own so that the proofs of what holds one do not go through
+/// every kind of effect.
+pub fn discard(_transition: Transition) {}
+
+impl Model for Transition {
+    ghost use Rattle.transitions.specs.Transitions.{TransitionData};
+
+    ghost Value = { TransitionData };
+
+    ghost view = { λ p. record { effect = p.effect; scan = p.scan; written = p.written; response = p.response; report = p.report } };
+}
+
+impl Transition {
+    /// The part stays as it is.
+    pub fn only(response: Response) -> Transition
+        ensures { result ≡ quiet response }
+    {
+        Transition {
+            effect: Effect::ByCommand(CommandEffect::Rests),
+            scan: ScanMove::Stay,
+            written: ShelfWrite::Nothing,
+            response,
+            report: Report::Nothing,
+        }
+    }
+
+    /// A step of the decoder or of an output.
+    pub fn acts(alloc: Global, step: AudioStep) -> Result<Transition, AllocError>
+        ensures { IfOk result (λ transition. transition ≡ acts_lem step) }
+    {
+        Ok(Transition {
+            effect: Effect::ByAudio(step),
+            scan: ScanMove::Stay,
+            written: ShelfWrite::Nothing,
+            response: tells(String::new(alloc), Move::Stay)?,
+            report: Report::Nothing,
+        })
+    }
+
+    /// A step of the decoder; after the end it does nothing, and is told so.
+    pub fn acts_unless(
+        alloc: Global,
+        ended: bool,
+        report: Report,
+        step: AudioStep,
+    ) -> Result<Transition, AllocError>
+        ensures { IfOk result (λ transition. transition ≡ acts_unless_lem ended report step) }
+    {
+        if ended {
+            return Transition::reports(alloc, ScanMove::Stay, report);
+        }
+        Transition::acts(alloc, step)
+    }
+
+    /// The queue is edited, and these lines are shown.
+    pub fn edits(asked: Asked, edit: Edit, lines: Answer) -> Result<Transition, AllocError>
+        ensures { IfOk result (λ transition. transition ≡ transition_by (edits asked edit lines)) }
+    {
+        Ok(Transition {
+            effect: Effect::ByCommand(CommandEffect::Edits(edit)),
+            scan: ScanMove::Stay,
+            written: ShelfWrite::Nothing,
+            response: shows(asked, lines)?,
+            report: Report::Nothing,
+        })
+    }
+
+    /// The player does this, and no lines are shown.
+    pub fn does(
+        alloc: Global,
+        asked: Asked,
+        effect: CommandEffect,
+    ) -> Result<Transition, AllocError>
+        ensures { IfOk result (λ transition. transition ≡ transition_by (does_lem asked effect)) }
+    {
+        Ok(Transition {
+            effect: Effect::ByCommand(effect),
+            scan: ScanMove::Stay,
+            written: ShelfWrite::Nothing,
+            response: succeeds(alloc, asked)?,
+            report: Report::Nothing,
+        })
+    }
+
+    /// This is written to the shelf, and no lines are shown.
+    pub fn writes(
+        alloc: Global,
+        asked: Asked,
+        written: ShelfWrite,
+    ) -> Result<Transition, AllocError>
+        ensures { IfOk result (λ transition. transition ≡ transition_by (writes_lem asked written)) }
+    {
+        Ok(Transition {
+            effect: Effect::ByCommand(CommandEffect::Rests),
+            scan: ScanMove::Stay,
+            written,
+            response: succeeds(alloc, asked)?,
+            report: Report::Nothing,
+        })
+    }
+
+    /// The player does this, and these lines are shown.
+    pub fn does_and_shows(
+        asked: Asked,
+        effect: CommandEffect,
+        lines: Answer,
+    ) -> Result<Transition, AllocError>
+        ensures { IfOk result (λ transition. transition ≡ transition_by (record (shows_lem asked lines) { effect = effect })) }
+    {
+        Ok(Transition {
+            effect: Effect::ByCommand(effect),
+            scan: ScanMove::Stay,
+            written: ShelfWrite::Nothing,
+            response: shows(asked, lines)?,
+            report: Report::Nothing,
+        })
+    }
+
+    /// The client is gone, without an answer.
+    pub fn departs(alloc: Global, client: u32) -> Result<Transition, AllocError>
+        ensures { IfOk result (λ transition. transition ≡ departs_lem client) }
+    {
+        Ok(Transition {
+            effect: Effect::ByCommand(CommandEffect::Leaves(client)),
+            ..Transition::only(shut(alloc)?)
+        })
+    }
+
+    /// The client that asks is gone, without an answer.
+    pub fn closes_client(alloc: Global, asked: Asked) -> Result<Transition, AllocError>
+        ensures { IfOk result (λ transition. transition ≡ transition_by (closes_client_lem asked)) }
+    {
+        Transition::departs(alloc, asked.client)
+    }
+
+    /// What writes to the shelf does nothing else.
+    pub fn once_written(self) -> Transition
+        ensures transition { result ≡ (if is_written self.written then record (quiet self.response) { written = self.written } else self) }
+        ensures alone { is_written result.written ≡ true → result ≡ record (quiet result.response) { written = result.written } }
+    {
+        if !self.written.is_written() {
+            return self;
+        }
+        let Transition {
+            effect,
+            scan,
+            written,
+            response,
+            report: _,
+        } = self;
+        discard_effect(effect, scan);
+        Transition {
+            written,
+            ..Transition::only(response)
+        }
+    }
+
+    /// A scan begins, and these lines are shown.
+    pub fn begins_scan(asked: Asked, lines: Answer) -> Result<Transition, AllocError>
+        ensures { IfOk result (λ transition. transition ≡ transition_by (begins_scan_lem asked lines)) }
+    {
+        Ok(Transition {
+            effect: Effect::ByCommand(CommandEffect::Rests),
+            scan: ScanMove::Begin,
+            written: ShelfWrite::Nothing,
+            response: shows(asked, lines)?,
+            report: Report::Nothing,
+        })
+    }
+
+    /// The part stays as it is, and this is told to a part of the daemon that is no client.
+    pub fn reports(alloc: Global, scan: ScanMove, report: Report) -> Result<Transition, AllocError>
+        ensures { IfOk result (λ transition. transition ≡ record (quiet no_response) { scan = scan; report = report }) }
+    {
+        Ok(Transition {
+            effect: Effect::ByCommand(CommandEffect::Rests),
+            scan,
+            written: ShelfWrite::Nothing,
+            response: tells(String::new(alloc), Move::Stay)?,
+            report,
+        })
+    }
+
+    /// The end, whatever else is told.
+    pub fn or_ended(self, ended: bool) -> Transition
+        ensures { result ≡ or_ended_lem ended self }
+    {
+        if ended {
+            return Transition {
+                report: Report::Ended,
+                ..self
+            };
+        }
+        self
+    }
+
+    /// The part stays as it is, and these lines are shown.
+    pub fn shows(asked: Asked, lines: Answer) -> Result<Transition, AllocError>
+        ensures { IfOk result (λ transition. transition ≡ transition_by (shows_lem asked lines)) }
+    {
+        Ok(Transition::only(shows(asked, lines)?))
+    }
+
+    pub fn refuses(
+        alloc: Global,
+        asked: Asked,
+        number: ErrorNumber,
+        text: &str,
+    ) -> Result<Transition, AllocError>
+        ensures { IfOk result (λ transition. transition ≡ transition_by (refusal asked number text.now)) }
+    {
+        Ok(Transition::only(refuses(alloc, asked, number, text)?))
+    }
+
+    pub fn bad_index(alloc: Global, asked: Asked) -> Result<Transition, AllocError>
+        ensures { IfOk result (λ transition. transition ≡ transition_by (bad_index_lem asked)) }
+    {
+        Transition::refuses(alloc, asked, ErrorNumber::Argument, "bad song index")
+    }
+
+    pub fn bad_name(alloc: Global, asked: Asked, name: &str) -> Result<Transition, AllocError>
+        ensures { IfOk result (λ transition. transition ≡ transition_by (bad_name_lem asked name.now)) }
+    {
+        let mut text = String::from_str(alloc, "bad name \"")?;
+        text.push_str(name)?;
+        text.push('"')?;
+        Transition::refuses(alloc, asked, ErrorNumber::Argument, text.as_str())
+    }
+
+    pub fn no_such_song(alloc: Global, asked: Asked) -> Result<Transition, AllocError>
+        ensures { IfOk result (λ transition. transition ≡ transition_by (no_such_song_lem asked)) }
+    {
+        Transition::refuses(alloc, asked, ErrorNumber::NoExist, "no such song")
+    }
+
+    pub fn not_playing(alloc: Global, asked: Asked) -> Result<Transition, AllocError>
+        ensures { IfOk result (λ transition. transition ≡ transition_by (not_playing_lem asked)) }
+    {
+        Transition::refuses(alloc, asked, ErrorNumber::PlayerSync, "not playing")
+    }
+
+    /// What is told once it is written to the shelf, which is all that it does.
+    pub fn into_telling(self) -> Telling
+        ensures response { result.response ≡ self.response }
+        ensures report { result.report ≡ Report.Nothing }
+    {
+        let Transition {
+            effect,
+            scan,
+            written,
+            response,
+            report: _,
+        } = self;
+        discard_effect(effect, scan);
+        discard_write(written);
+        Telling {
+            response,
+            report: Report::Nothing,
+        }
+    }
+}
+
+/// What is told at an event.
+#[derive(Drop)]
+pub struct Telling {
+    pub response: Response,
+    pub report: Report,
+}
+
+/// Changes a part and a library as a transition asks, and gives what is told. Where it is refused, nothing
+/// changes.
+pub fn carry_out(
+    part: &mut Part,
+    library: &mut Library,
+    transition: Transition,
+) -> Result<Telling, PlayerFault>
+    requires { Fits part.old transition.effect }
+    ensures part { OnOk result (part.new ≡ part_after library.old.rate part.old transition.effect) }
+    ensures library { OnOk result (library.new ≡ library_after library.old transition.scan) }
+    ensures response { IfOk result (λ telling. telling.response ≡ transition.response) }
+    ensures report { IfOk result (λ telling. telling.report ≡ report_of part.old library.old transition) }
+    ensures within { OnOk result (keeps_numbers library.old.rate part.old library.old.scan transition.effect transition.scan ≡ true) }
+    ensures limit { IsErrOf result PlayerFault.CutsAtLimit → keeps_numbers library.old.rate part.old library.old.scan transition.effect transition.scan ≡ false }
+    ensures err { OnErr result (part.new ≡ part.old) }
+    ensures err_library { OnErr result (library.new ≡ library.old) }
+{
+    if library
+        .scan
+        .begins_beyond(part.player.max_cut(), &transition.scan)
+    {
+        discard(transition);
+        return Err(PlayerFault::CutsAtLimit);
+    }
+    let Transition {
+        effect,
+        scan,
+        written,
+        response,
+        report,
+    } = transition;
+    discard_write(written);
+    let report = carry_out_effect(part, &library.rate, effect, report)?;
+    move_scan(library, scan);
+    Ok(Telling { response, report })
+}
+
+/// Begins or ends a scan; what one that ran found takes the place of the songs.
+fn move_scan(library: &mut Library, scan: ScanMove)
+    ensures { library.new ≡ library_after library.old scan }
+{
+    let scans = library.scan.after(&scan);
+    if let ScanMove::End(Some(songs)) = scan {
+        if library.scan.running().is_some() {
+            library.songs = songs;
+        }
+    }
+    library.scan = scans;
+}
