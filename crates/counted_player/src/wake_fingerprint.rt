@@ -1,4 +1,5 @@
 //! What a thread at rest is woken for.
+use crate::frames::enabled_in;
 use partition::Partition;
 use player_core::Playback;
 
@@ -17,21 +18,11 @@ pub struct WakeFingerprint {
 impl WakeFingerprint {
     pub(crate) fn of(partition: &Partition) -> WakeFingerprint {
         let player = partition.player();
-        let outputs = partition.outputs();
         WakeFingerprint {
             playback: player.playback(),
             cuts: player.cuts(),
             starts: player.starts(),
-            outputs: [
-                outputs.is_enabled(0),
-                outputs.is_enabled(1),
-                outputs.is_enabled(2),
-                outputs.is_enabled(3),
-                outputs.is_enabled(4),
-                outputs.is_enabled(5),
-                outputs.is_enabled(6),
-                outputs.is_enabled(7),
-            ],
+            outputs: enabled_in(partition.outputs()),
             scan: partition.library().scan.running(),
             ended: partition.has_ended(),
         }

@@ -4,15 +4,13 @@ use counted_player::{Ledgers, Seat};
 use house::House;
 use mio::net::{TcpListener, TcpStream};
 use mio::{Events, Interest, Poll, Token, Waker};
+use partition::MAX_CLIENTS;
 use shelf::Shelf;
 use std::alloc::{AllocError, Global};
 use std::io::ErrorKind;
 use std::net::{Net, SocketAddr};
 use std::sync::Wait;
 use std::time::{Clock, Duration};
-
-/// The most clients that may be connected.
-const MAX_CLIENTS: u32 = 64;
 
 /// The most clients that are let in between two rounds.
 const MAX_LET_IN: u32 = 64;
@@ -257,7 +255,7 @@ impl Server {
 /// The slots of all clients, which are numbered from 1.
 fn free_slots(alloc: Global) -> Result<Vec<Slot>, AllocError> {
     let mut slots = Vec::new(alloc);
-    for client in 1..=MAX_CLIENTS {
+    for client in 1..=MAX_CLIENTS as u32 {
         slots.push(Slot::new(client))?;
     }
     Ok(slots)

@@ -37,6 +37,15 @@ sent_as old new u left owed (inl e) other = inl (e, λ is. absurd (other is))
 sent_as old new u left owed (inr (e, inl f)) other = inr (e, inl f)
 sent_as old new u left owed (inr (e, inr (f, many))) other = inr (e, inr (f, longer left owed many))
 
+-- a line that was not taken still waits
+pub untaken : (h h' : ListState) (ls ls' : List LineData) (next : Option (List ℕ)) (piece : List ℕ) → h' ≡ h → ls' ≡ ls → coming (pend h ls next piece) ≡ coming (pend h' ls' next piece)
+untaken h h' ls ls' next piece same lines =
+    ap (λ (x : ListState). coming (pend x ls next piece)) (sym same) ∙ ap (λ (x : List LineData). coming (pend h' x next piece)) (sym lines)
+
+-- a client that is told nothing
+pub tells_nothing : (unsent : List ℕ) → TellsOf unsent unsent
+tells_nothing unsent = ([], no_notices, sym (append-nil unsent))
+
 pub views_some : (ls : List Line) → ls ≢ [] → views ls ≢ []
 views_some [] some e = some refl
 views_some (l ∷ ls) some e = absurd cc

@@ -296,7 +296,6 @@ impl Conversation {
         ensures piece { self.new.piece ≡ self.old.piece }
         ensures blameless { BlamesNone self.new.ended }
     {
-        self.tell(rt, house)?;
         let Some(asked) = self.gatherer.take(self.alloc, &mut self.lines)? else {
             self.ended = end_in_list(self.gatherer.is_over());
             return Ok(());

@@ -33,18 +33,9 @@ impl Library {
     {
         Ok(Library {
             songs: self.songs.clone()?,
-            rate: same_rate(&self.rate),
+            rate: self.rate.copied(),
             scan: self.scan.copied(),
         })
-    }
-}
-
-fn same_rate(rate: &Rate) -> Rate
-    ensures { result ≡ rate.now }
-{
-    match Rate::new(rate.frames()) {
-        Some(same) => same,
-        None => unreachable!(),
     }
 }
 

@@ -3,7 +3,6 @@ ghost use Rattle.std.specs.Prelude.{◌≤◌, length, vec_len};
 
 use crate::folder::FolderScanner;
 use crate::output_file::{OutputFile, output_files};
-use crate::player::same_rate;
 use counted_devices::Counting;
 use crew_steps::Folder;
 use settings::Settings;
@@ -36,6 +35,6 @@ pub(crate) fn gear_of(host: HostRuntime, settings: &Settings) -> Result<FileGear
     Ok(Gear {
         writers,
         source: Folder::new(host, played),
-        scanner: FolderScanner::new(host, scanned, same_rate(&settings.rate)),
+        scanner: FolderScanner::new(host, scanned, settings.rate.copied()),
     })
 }

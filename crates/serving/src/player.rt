@@ -7,7 +7,7 @@ use mpd_text::SharedText;
 use partition::{Limits, Partition, Setup};
 use player_state::{Library, Outputs, Scan};
 use settings::{OutputSettings, Settings};
-use song_db::{Rate, SharedDb};
+use song_db::SharedDb;
 use std::alloc::{AllocError, Global};
 
 /// The limits of a daemon's player (this profile's), which keeps so many events one by one.
@@ -54,18 +54,8 @@ pub(crate) fn player_of(
     };
     let library = Library {
         songs,
-        rate: same_rate(&settings.rate),
+        rate: settings.rate.copied(),
         scan: Scan::never(),
     };
     Ok(Partition::open(alloc, setup, library)?)
-}
-
-/// A rate of as many frames a second.
-pub(crate) fn same_rate(rate: &Rate) -> Rate
-    ensures { result ≡ rate.now }
-{
-    match Rate::new(rate.frames()) {
-        Some(same) => same,
-        None => unreachable!(),
-    }
 }

@@ -31,6 +31,15 @@ impl Rate {
         Some(Rate { frames })
     }
 
+    /// The same rate.
+    pub fn copied(&self) -> Rate
+        ensures { result ≡ self.now }
+    {
+        Rate {
+            frames: self.frames,
+        }
+    }
+
     /// The lowest rate, which scripts have.
     pub fn lowest() -> Rate
         ensures { result ≡ 8000 }
