@@ -212,6 +212,33 @@ fn sixteen_folders_down(rt: HostRuntime) {
     check_sixteen_folders_down(&rt);
 }
 
+fn put_songs<R: Files + AllocGlobal + Abort>(rt: &R, folder: u32) {
+    let folder = format!(in rt.alloc(); "many/d{folder}").expect(rt, "no memory");
+    make(rt, folder.as_str());
+    for song in ["a", "b", "c"] {
+        let path = format!(in rt.alloc(); "{folder}/{song}.wav").expect(rt, "no memory");
+        put(rt, path.as_str(), &WAVE);
+    }
+}
+
+/// Folders that lie side by side, each with three songs.
+fn check_many_folders<R: Files + AllocGlobal + Abort + Clone + Drop>(rt: &R)
+where
+    R::File: ReadSeek,
+{
+    for folder in 0..300u32 {
+        put_songs(rt, folder);
+    }
+    let count = song_count(rt, "many");
+    remove(rt, "many");
+    holds(rt, count == 900, "300 folders of three songs");
+}
+
+#[test]
+fn three_hundred_folders(rt: HostRuntime) {
+    check_many_folders(&rt);
+}
+
 /// A file whose URI has so many bytes: four folders of 200, and a name of so many.
 fn put_long<R: Files + AllocGlobal + Abort>(rt: &R, len: usize) {
     let folder = repeated(rt, rt.alloc(), "f", 200);

@@ -13,7 +13,7 @@ use shelf::MemShelf;
 use std::alloc::Global;
 use std::io::{Read, Write};
 use std::marker::Brand;
-use std::net::{Net, SocketAddr, TcpListener, TcpStream};
+use std::net::{Net, Shutdown, SocketAddr, TcpListener, TcpStream};
 use std::sync::{Arc, Wait};
 use std::test::Fail;
 use std::thread::Threads;
@@ -39,6 +39,10 @@ enum Party {
     Leaves,
     /// One waits for the end of a scan, which no client's line makes.
     Scan,
+    /// One asks, and sends no more from then on, but reads.
+    HalfClosed,
+    /// One of as many as there are places for is closed at a limit, and its place is another's.
+    Replaced,
 }
 
 /// A house is served until a client ends the daemon, by a loop that another thread wakes, and a third makes
@@ -241,6 +245,40 @@ fn one_leaves<R: Net<Listener = TcpListener, Stream = TcpStream>>(
     says(alloc, first, b"plchangesposid 0\n", b"OK\n")
 }
 
+/// What was asked before the client closed its writing half is answered.
+fn one_sends_no_more<R: Net<Listener = TcpListener, Stream = TcpStream>>(
+    rt: &R,
+    alloc: Global,
+    address: SocketAddr,
+    first: &mut TcpStream,
+) -> io::Result<()> {
+    let mut half = comes(rt, alloc, address)?;
+    half.write_all(b"add a.wav\nplchangesposid 0\nping\n")?;
+    half.shutdown(Shutdown::Write)?;
+    hears(alloc, &mut half, b"OK\ncpos: 0\nId: 1\nOK\nOK\n")?;
+    says(alloc, first, b"ping\n", b"OK\n")?;
+    if hears_the_end(&mut half) {
+        Ok(())
+    } else {
+        Err(io::Error::from(io::ErrorKind::InvalidData))
+    }
+}
+
+fn one_is_replaced<R: Net<Listener = TcpListener, Stream = TcpStream>>(
+    rt: &R,
+    alloc: Global,
+    address: SocketAddr,
+    first: &mut TcpStream,
+) -> io::Result<()> {
+    let mut others = Vec::new(alloc);
+    for _client in 2..64u32 {
+        others.push(comes(rt, alloc, address)?)?;
+    }
+    one_line_is_long(rt, alloc, address, first)?;
+    let mut next = comes(rt, alloc, address)?;
+    says(alloc, &mut next, b"ping\n", b"OK\n")
+}
+
 /// The client asks for a scan and waits for its end, of which no client tells the loop.
 fn one_waits_for_a_scan(alloc: Global, first: &mut TcpStream) -> io::Result<()> {
     says(alloc, first, b"update\n", b"updating_db: 1\nOK\n")?;
@@ -262,6 +300,8 @@ fn acts<R: Net<Listener = TcpListener, Stream = TcpStream>>(
         Party::LongLine => one_line_is_long(rt, alloc, address, first),
         Party::Leaves => one_leaves(rt, alloc, address, first),
         Party::Scan => one_waits_for_a_scan(alloc, first),
+        Party::HalfClosed => one_sends_no_more(rt, alloc, address, first),
+        Party::Replaced => one_is_replaced(rt, alloc, address, first),
     }
 }
 
@@ -333,6 +373,18 @@ fn a_line_without_end(rt: HostRuntime) -> Result<(), Fail> {
 #[test]
 fn clients_that_leave(rt: HostRuntime) -> Result<(), Fail> {
     assert!(rt; goes_well(rt, rt.alloc(), Party::Leaves)?);
+    Ok(())
+}
+
+#[test]
+fn a_peer_that_sends_no_more(rt: HostRuntime) -> Result<(), Fail> {
+    assert!(rt; goes_well(rt, rt.alloc(), Party::HalfClosed)?);
+    Ok(())
+}
+
+#[test]
+fn a_place_after_a_long_line(rt: HostRuntime) -> Result<(), Fail> {
+    assert!(rt; goes_well(rt, rt.alloc(), Party::Replaced)?);
     Ok(())
 }
 
