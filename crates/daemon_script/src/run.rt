@@ -68,14 +68,8 @@ pub fn run_script<R: Source, W: Sink>(
     runs_are_traced();
     let mut splitter = Splitter::new(alloc);
     let mut script = Script::new(alloc);
-    let ran = run_pieces(alloc, reader, writer, &mut splitter, &mut script);
-    discard(script);
-    ran
+    run_pieces(alloc, reader, writer, &mut splitter, &mut script)
 }
-
-/// Drops a script. It is a function of its own, and the run is lent the script, so that the proof of each way
-/// out does not go through all that a player owns.
-fn discard(_script: Script) {}
 
 /// Reads a script to its end, piece by piece. What is written is told by what commands read of the player.
 fn run_pieces<R: Source, W: Sink>(

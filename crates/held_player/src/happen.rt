@@ -23,10 +23,6 @@ use player_events::{Event, Outcome};
 use shelf::Shelf;
 use transitions::{Read, Stand, StoreReply};
 
-/// Drops an event. It is a function of its own so that the proofs of what holds one do not go through every
-/// kind of event.
-fn discard(_event: Event) {}
-
 /// One event of a seat. There is room for its notices after those that wait.
 pub(crate) fn happen<L: Ledgers, S: Shelf>(
     counted: &mut Counted<L>,
@@ -49,7 +45,6 @@ pub(crate) fn happen<L: Ledgers, S: Shelf>(
 {
     counted.check(seat);
     if waiting.reserve(counted.clients().len()).is_err() {
-        discard(event);
         return Err(PartitionFault::NoMemory);
     }
     counted.apply(seat, shelf, event)
@@ -78,7 +73,6 @@ fn take_step<L: Ledgers>(
     counted.check(seat);
     let clients = counted.clients().len();
     if waiting.reserve(clients).is_err() {
-        discard(event);
         return Err(PartitionFault::NoMemory);
     }
     counted.step(seat, event)

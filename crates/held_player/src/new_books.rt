@@ -6,7 +6,6 @@ ghost use Rattle.player_state.specs.Outputs.{empty_books};
 use crate::held::{Blanks, CrewShares};
 use counted_player::{Decoded, Discarded, Ledgers, Seat, SeatBooks, Written};
 use frame_ledger::Books;
-use partition::Partition;
 use player_state::MAX_OUTPUTS;
 use std::alloc::{AllocError, Global};
 
@@ -54,7 +53,3 @@ pub(crate) fn new_books<L: Ledgers>(
         shares: CrewShares { decoded, outputs },
     })
 }
-
-/// Drops a player. It is a function of its own so that the proof of what holds one does not go through all
-/// that it has.
-pub(crate) fn let_go(_partition: Partition) {}

@@ -15,7 +15,6 @@ use std::marker::Model;
 use transitions::ShelfWrite;
 
 /// What tells whether a part of the player changed: readings of it before an event.
-#[derive(Drop)]
 pub struct Fingerprint {
     scans: bool,
     parity: bool,
@@ -25,6 +24,21 @@ pub struct Fingerprint {
     options: Options,
     /// The clients for which messages wait.
     having: Vec<u32>,
+}
+
+// Written out, so that a proof goes through one call where it lets one go (docs/DECISIONS.md).
+impl Drop for Fingerprint {
+    fn drop(self) {
+        let Fingerprint {
+            scans: _,
+            parity: _,
+            playing: _,
+            volume: _,
+            enabled: _,
+            options: _,
+            having: _,
+        } = self;
+    }
 }
 
 impl Model for Fingerprint {

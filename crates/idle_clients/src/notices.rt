@@ -14,9 +14,15 @@ pub struct Notice {
 }
 
 /// Notices, by rising client, in room that was taken before.
-#[derive(Drop)]
 pub struct Notices {
     list: Option<Box<Vec<Notice>>>,
+}
+
+// Written out, so that a proof goes through one call where it lets one go (docs/DECISIONS.md).
+impl Drop for Notices {
+    fn drop(self) {
+        let Notices { list: _ } = self;
+    }
 }
 
 impl Notices {

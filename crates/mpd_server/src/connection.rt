@@ -14,7 +14,6 @@ use std::time::{Clock, Duration, Instant};
 const LAST_READ: u64 = 10;
 
 /// A client's socket, its session, and what there is to do for it.
-#[derive(Drop)]
 pub(crate) struct Connection {
     stream: TcpStream,
     session: Session,
@@ -28,6 +27,21 @@ pub(crate) struct Connection {
     is_gone: bool,
     /// Until when a client that is closed may read its last answers.
     leaves_by: Option<Instant>,
+}
+
+// Written out, so that a proof goes through one call where it lets one go (docs/DECISIONS.md).
+impl Drop for Connection {
+    fn drop(self) {
+        let Connection {
+            stream: _,
+            session: _,
+            is_ready: _,
+            is_ending: _,
+            is_starved: _,
+            is_gone: _,
+            leaves_by: _,
+        } = self;
+    }
 }
 
 /// What becomes of a connection.

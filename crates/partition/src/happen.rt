@@ -27,14 +27,11 @@ use idle_clients::{
     Notices, Raised, changes_songs, changes_subscriptions, leave, list_notices, make_move,
     notify_all,
 };
-use player_events::{Event, LogEntry, Outcome, discard};
+use player_events::{Event, LogEntry, Outcome};
 use player_state::{Client, Library, Part, done};
 use shelf::{Shelf, ShelfFault};
 use std::alloc::{AllocError, Global};
-use transitions::{
-    Next, Refusals, Response, ShelfWrite, StoreReply, Telling, Transition, carry_out,
-    discard as discard_transition,
-};
+use transitions::{Next, Refusals, Response, ShelfWrite, StoreReply, Telling, Transition};
 
 /// What an event made clients hear; the notices twice, to hand out and to keep.
 #[derive(Drop)]
@@ -93,15 +90,11 @@ pub(crate) fn record_event<S: Shelf>(
 {
     let mut event = event;
     if reserve(history, &mut state.clients).is_err() {
-        discard(event);
         return Err(PartitionFault::NoMemory);
     }
     match apply_event(alloc, state, shelf, &mut event) {
         Ok(applied) => Ok(keep(state, history, seat, event, applied)),
-        Err(fault) => {
-            discard(event);
-            Err(fault)
-        }
+        Err(fault) => Err(fault),
     }
 }
 
@@ -126,15 +119,11 @@ pub(crate) fn record_step(
     ensures unkept { OnErr result (history.new.items ≡ history.old.items) }
 {
     if reserve(history, &mut state.clients).is_err() {
-        discard(event);
         return Err(PartitionFault::NoMemory);
     }
     match apply_step(alloc, state, &event) {
         Ok(applied) => Ok(keep(state, history, seat, event, applied)),
-        Err(fault) => {
-            discard(event);
-            Err(fault)
-        }
+        Err(fault) => Err(fault),
     }
 }
 
@@ -269,7 +258,6 @@ fn apply_transition(
     ) {
         Ok(made) => made,
         Err(fault) => {
-            discard_transition(transition);
             return Err(fault);
         }
     };
@@ -280,7 +268,7 @@ fn apply_transition(
     } = prepared;
     let database = changes_songs(&transition, &state.library);
     let subscription = changes_subscriptions(&state.part.channels, &transition.effect);
-    let telling = carry_out(&mut state.part, &mut state.library, transition)?;
+    let telling = transition.carry_out(&mut state.part, &mut state.library)?;
     state.books = books;
     state.ended = ended_after(state.ended, event);
     let unwritten = ShelfWrite::Nothing;
@@ -337,7 +325,6 @@ fn write_transition<S: Shelf>(
         &state.clients,
         event,
     ) else {
-        discard_transition(transition);
         return Err(PartitionFault::NoMemory);
     };
     let transition = write_out(
@@ -429,12 +416,8 @@ fn write_out<S: Shelf>(
 {
     match write(shelf, &transition.written) {
         Ok(()) => Ok(transition),
-        Err(ShelfFault::NoMemory) => {
-            discard_transition(transition);
-            Err(AllocError)
-        }
+        Err(ShelfFault::NoMemory) => Err(AllocError),
         Err(fault) => {
-            discard_transition(transition);
             event.refuse(fault);
             Ok(Transition::only(refusals.into_response(fault)))
         }

@@ -25,7 +25,7 @@ use command_lists::ListForm;
 use idle_clients::find_client;
 use mpd_command::{Request, Volume};
 use player_core::{Player, PlayerFault};
-use player_events::{Event, LogEntry, Outcome, discard, event_bytes};
+use player_events::{Event, LogEntry, Outcome, event_bytes};
 use player_state::{Books, Client, Library, Outputs};
 use shelf::Shelf;
 use song_queue::Queue;
@@ -88,7 +88,6 @@ impl PartitionFault {
 
 /// A player of one thread: a base, a window of the events that happened since, and the present state. A
 /// window that is full is folded before the next event: the present state becomes the base.
-#[derive(Drop)]
 pub struct Partition {
     alloc: Global,
     /// The most events of the window.
@@ -98,6 +97,20 @@ pub struct Partition {
     history: Vec<LogEntry>,
     /// The bytes of the window's texts.
     bytes: u64,
+}
+
+// Written out, so that a proof goes through one call where it lets one go (docs/DECISIONS.md).
+impl Drop for Partition {
+    fn drop(self) {
+        let Partition {
+            alloc: _,
+            limit: _,
+            base: _,
+            state: _,
+            history: _,
+            bytes: _,
+        } = self;
+    }
 }
 
 impl Model for Partition {
@@ -172,10 +185,7 @@ impl Partition {
             return self.step(seat, event);
         }
         self.legal();
-        if let Err(fault) = self.make_room() {
-            discard(event);
-            return Err(fault);
-        }
+        self.make_room()?;
         self.apply_in_room(seat, shelf, event)
     }
 
@@ -197,7 +207,6 @@ impl Partition {
     {
         self.legal();
         if self.is_at_limit(seat) {
-            discard(event);
             return Err(PartitionFault::AtLimit);
         }
         let history = &mut self.history;
@@ -227,13 +236,8 @@ impl Partition {
         ensures legal { IsPast self.old }
     {
         self.legal();
-        match self.make_room() {
-            Ok(()) => self.step_in_room(seat, event),
-            Err(fault) => {
-                discard(event);
-                Err(fault)
-            }
-        }
+        self.make_room()?;
+        self.step_in_room(seat, event)
     }
 
     /// Applies an event that is no line where the window has room for it.
@@ -253,7 +257,6 @@ impl Partition {
     {
         self.legal();
         if self.is_at_limit(seat) {
-            discard(event);
             return Err(PartitionFault::AtLimit);
         }
         let history = &mut self.history;

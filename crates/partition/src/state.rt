@@ -40,7 +40,6 @@ pub struct Setup {
 }
 
 /// The present state.
-#[derive(Drop)]
 pub(crate) struct State {
     pub(crate) part: Part,
     pub(crate) library: Library,
@@ -50,6 +49,20 @@ pub(crate) struct State {
     pub(crate) ended: bool,
     /// By rising number.
     pub(crate) clients: Vec<Client>,
+}
+
+// Written out, so that a proof goes through one call where it lets one go (docs/DECISIONS.md).
+impl Drop for State {
+    fn drop(self) {
+        let State {
+            part: _,
+            library: _,
+            made: _,
+            books: _,
+            ended: _,
+            clients: _,
+        } = self;
+    }
 }
 
 impl State {

@@ -4,5 +4,5 @@
 mod event;
 mod sizes;
 
-pub use event::{Event, LogEntry, Outcome, discard};
+pub use event::{Event, LogEntry, Outcome};
 pub use sizes::event_bytes;

@@ -18,7 +18,6 @@ use song_db::Rate;
 use song_queue::Edit;
 
 /// What a command does to what one player owns, or a client that goes. It brings no frames.
-#[derive(Drop)]
 pub enum CommandEffect {
     /// All stays as it is.
     Rests,
@@ -58,6 +57,78 @@ pub enum CommandEffect {
     ReadsMessages(u32),
     /// A client goes, with its channels and its messages.
     Leaves(u32),
+}
+
+// Written out, so that a proof goes through one call where it lets one go (docs/DECISIONS.md).
+impl Drop for CommandEffect {
+    fn drop(self) {
+        match self {
+            CommandEffect::Rests
+            | CommandEffect::Edits(_)
+            | CommandEffect::Shuffles(_, _)
+            | CommandEffect::SetsVolume(_)
+            | CommandEffect::SetsRepeat(_)
+            | CommandEffect::SetsRandom(_)
+            | CommandEffect::SetsSingle(_)
+            | CommandEffect::SetsConsume(_)
+            | CommandEffect::SetsCrossfade(_)
+            | CommandEffect::ClearsError
+            | CommandEffect::Plays
+            | CommandEffect::PlaysPlace(_)
+            | CommandEffect::Pauses(_)
+            | CommandEffect::TogglesPause
+            | CommandEffect::Stops
+            | CommandEffect::GoesOn
+            | CommandEffect::GoesBack
+            | CommandEffect::Seeks(_, _)
+            | CommandEffect::Switches(_, _)
+            | CommandEffect::Subscribes(_, _)
+            | CommandEffect::Unsubscribes(_, _)
+            | CommandEffect::Sends(_, _)
+            | CommandEffect::ReadsMessages(_)
+            | CommandEffect::Leaves(_) => {}
+        }
+    }
+}
+
+impl CommandEffect {
+    /// The table of effects. The rate of songs is of no matter to them.
+    #[rattlefmt::skip]
+    fn carry_out(self, part: &mut Part, report: Report) -> Result<Report, PlayerFault>
+        requires { Fits part.old (Effect.ByCommand self) }
+        ensures part { OnOk result ((rate : ℕ) → part.new ≡ part_after rate part.old (Effect.ByCommand self)) }
+        ensures report { IfOk result (λ given. (rate : ℕ) → given ≡ report_after rate part.old (Effect.ByCommand self) report) }
+        ensures within { OnOk result ((rate : ℕ) → player.is_within (player_after rate part.old (Effect.ByCommand self)) ≡ true) }
+        ensures limit { IsErrOf result PlayerFault.CutsAtLimit → (rate : ℕ) → player.is_within (player_after rate part.old (Effect.ByCommand self)) ≡ false }
+        ensures err { OnErr result (part.new ≡ part.old) }
+    {
+        match self {
+            CommandEffect::Rests => { let _ = done(part); Ok(report) }
+            CommandEffect::Edits(edit) => edit_queue(part, edit),
+            CommandEffect::Shuffles(start, end) => { part.player.shuffle(&mut part.queue, start..end)?; Ok(done(part)) }
+            CommandEffect::SetsVolume(volume) => { part.volume = volume; Ok(done(part)) }
+            CommandEffect::SetsRepeat(on) => { part.player.set_repeat(on); Ok(done(part)) }
+            CommandEffect::SetsRandom(on) => { part.player.set_random(&part.queue, on)?; Ok(done(part)) }
+            CommandEffect::SetsSingle(single) => { part.player.set_single(single); Ok(done(part)) }
+            CommandEffect::SetsConsume(consume) => { part.player.set_consume(consume); Ok(done(part)) }
+            CommandEffect::SetsCrossfade(seconds) => { part.player.set_crossfade(seconds); Ok(done(part)) }
+            CommandEffect::ClearsError => { part.player.clear_error(); Ok(done(part)) }
+            CommandEffect::Plays => { part.player.play(&part.queue)?; Ok(done(part)) }
+            CommandEffect::PlaysPlace(place) => play_place(part, place),
+            CommandEffect::Pauses(on) => { part.player.pause(on); Ok(done(part)) }
+            CommandEffect::TogglesPause => { part.player.toggle_pause(); Ok(done(part)) }
+            CommandEffect::Stops => { part.player.stop()?; Ok(done(part)) }
+            CommandEffect::GoesOn => { part.player.next(&mut part.queue)?; Ok(done(part)) }
+            CommandEffect::GoesBack => { part.player.previous(&part.queue)?; Ok(done(part)) }
+            CommandEffect::Seeks(place, frame) => seek_place(part, place, frame),
+            CommandEffect::Switches(output, on) => { part.outputs.switch(output, on); Ok(done(part)) }
+            CommandEffect::Subscribes(client, channel) => { subscribe(part, client, channel.as_str())?; Ok(done(part)) }
+            CommandEffect::Unsubscribes(client, channel) => { unsubscribe(part, client, channel.as_str()); Ok(done(part)) }
+            CommandEffect::Sends(channel, text) => { send(part, channel.as_str(), text.as_str())?; Ok(done(part)) }
+            CommandEffect::ReadsMessages(client) => { let _ = part.channels.read(client); Ok(done(part)) }
+            CommandEffect::Leaves(client) => { part.channels.leave(client); Ok(done(part)) }
+        }
+    }
 }
 
 /// What the decoder or an output asks for, or tells of.
@@ -102,46 +173,8 @@ pub fn carry_out(part: &mut Part, rate: &Rate, effect: Effect, report: Report) -
     ensures err { OnErr result (part.new ≡ part.old) }
 {
     match effect {
-        Effect::ByCommand(effect) => take_effect(part, effect, report),
+        Effect::ByCommand(effect) => effect.carry_out(part, report),
         Effect::ByAudio(step) => take_step(part, rate, step, report),
-    }
-}
-
-/// The table of effects. The rate of songs is of no matter to them.
-#[rattlefmt::skip]
-fn take_effect(part: &mut Part, effect: CommandEffect, report: Report) -> Result<Report, PlayerFault>
-    requires { Fits part.old (Effect.ByCommand effect) }
-    ensures part { OnOk result ((rate : ℕ) → part.new ≡ part_after rate part.old (Effect.ByCommand effect)) }
-    ensures report { IfOk result (λ given. (rate : ℕ) → given ≡ report_after rate part.old (Effect.ByCommand effect) report) }
-    ensures within { OnOk result ((rate : ℕ) → player.is_within (player_after rate part.old (Effect.ByCommand effect)) ≡ true) }
-    ensures limit { IsErrOf result PlayerFault.CutsAtLimit → (rate : ℕ) → player.is_within (player_after rate part.old (Effect.ByCommand effect)) ≡ false }
-    ensures err { OnErr result (part.new ≡ part.old) }
-{
-    match effect {
-        CommandEffect::Rests => { let _ = done(part); Ok(report) }
-        CommandEffect::Edits(edit) => edit_queue(part, edit),
-        CommandEffect::Shuffles(start, end) => { part.player.shuffle(&mut part.queue, start..end)?; Ok(done(part)) }
-        CommandEffect::SetsVolume(volume) => { part.volume = volume; Ok(done(part)) }
-        CommandEffect::SetsRepeat(on) => { part.player.set_repeat(on); Ok(done(part)) }
-        CommandEffect::SetsRandom(on) => { part.player.set_random(&part.queue, on)?; Ok(done(part)) }
-        CommandEffect::SetsSingle(single) => { part.player.set_single(single); Ok(done(part)) }
-        CommandEffect::SetsConsume(consume) => { part.player.set_consume(consume); Ok(done(part)) }
-        CommandEffect::SetsCrossfade(seconds) => { part.player.set_crossfade(seconds); Ok(done(part)) }
-        CommandEffect::ClearsError => { part.player.clear_error(); Ok(done(part)) }
-        CommandEffect::Plays => { part.player.play(&part.queue)?; Ok(done(part)) }
-        CommandEffect::PlaysPlace(place) => play_place(part, place),
-        CommandEffect::Pauses(on) => { part.player.pause(on); Ok(done(part)) }
-        CommandEffect::TogglesPause => { part.player.toggle_pause(); Ok(done(part)) }
-        CommandEffect::Stops => { part.player.stop()?; Ok(done(part)) }
-        CommandEffect::GoesOn => { part.player.next(&mut part.queue)?; Ok(done(part)) }
-        CommandEffect::GoesBack => { part.player.previous(&part.queue)?; Ok(done(part)) }
-        CommandEffect::Seeks(place, frame) => seek_place(part, place, frame),
-        CommandEffect::Switches(output, on) => { part.outputs.switch(output, on); Ok(done(part)) }
-        CommandEffect::Subscribes(client, channel) => { subscribe(part, client, channel.as_str())?; Ok(done(part)) }
-        CommandEffect::Unsubscribes(client, channel) => { unsubscribe(part, client, channel.as_str()); Ok(done(part)) }
-        CommandEffect::Sends(channel, text) => { send(part, channel.as_str(), text.as_str())?; Ok(done(part)) }
-        CommandEffect::ReadsMessages(client) => { let _ = part.channels.read(client); Ok(done(part)) }
-        CommandEffect::Leaves(client) => { part.channels.leave(client); Ok(done(part)) }
     }
 }
 

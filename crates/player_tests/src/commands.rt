@@ -54,8 +54,8 @@ fn told(alloc: Global, command: &Command) -> Result<String, AllocError> {
 }
 
 fn read(alloc: Global, line: &str) -> Result<String, AllocError> {
-    match Request::of_line(alloc, line, false)? {
-        Request::Run(_, command) => told(alloc, &command),
+    match &Request::of_line(alloc, line, false)? {
+        Request::Run(_, command) => told(alloc, command),
         Request::Refused(ack) => String::from_str(alloc, ack.text.as_str()),
     }
 }

@@ -14,4 +14,4 @@ pub use refusals::{Refusals, shelf_refuses};
 pub use reply::{Move, Next, Reply};
 pub use response::{Response, refuses, refuses_line, shows, shut, succeeds, tells};
 pub use shelf_calls::{Entries, Names, Read, ShelfWrite, StoreReply};
-pub use transition::{Telling, Transition, carry_out, discard};
+pub use transition::{Telling, Transition};

@@ -68,7 +68,6 @@ impl Entries {
 }
 
 /// What a shelf answered to the question of a line.
-#[derive(Drop)]
 pub enum Read {
     /// It was not asked.
     Nothing,
@@ -82,6 +81,20 @@ pub enum Read {
     Entries(Entries),
     /// It refused.
     Refused(ShelfFault),
+}
+
+// Written out, so that a proof goes through one call where it lets one go (docs/DECISIONS.md).
+impl Drop for Read {
+    fn drop(self) {
+        match self {
+            Read::Nothing
+            | Read::Names(_)
+            | Read::List(_)
+            | Read::Value(_)
+            | Read::Entries(_)
+            | Read::Refused(_) => {}
+        }
+    }
 }
 
 /// What a shelf answered to a line: to its question, and why it refused what was to be written, if it did.
@@ -104,7 +117,6 @@ impl StoreReply {
 }
 
 /// What a line writes to the shelf.
-#[derive(Drop)]
 pub enum ShelfWrite {
     Nothing,
     /// A stored playlist has these URIs, and whether it had others or was not there.
@@ -122,6 +134,22 @@ pub enum ShelfWrite {
     DeleteSticker(Text, Text),
     /// All stickers of a URI go.
     DeleteStickers(Text),
+}
+
+// Written out, so that a proof goes through one call where it lets one go (docs/DECISIONS.md).
+impl Drop for ShelfWrite {
+    fn drop(self) {
+        match self {
+            ShelfWrite::Nothing
+            | ShelfWrite::Put(_, _, _)
+            | ShelfWrite::Create(_, _)
+            | ShelfWrite::Rename(_, _)
+            | ShelfWrite::Remove(_)
+            | ShelfWrite::SetSticker(_, _, _, _)
+            | ShelfWrite::DeleteSticker(_, _)
+            | ShelfWrite::DeleteStickers(_) => {}
+        }
+    }
 }
 
 impl ShelfWrite {

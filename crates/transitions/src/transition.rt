@@ -24,7 +24,6 @@ use std::alloc::{AllocError, Global};
 use std::marker::Model;
 
 /// What an event asks of a part, and what is answered. It is made without changing anything.
-#[derive(Drop)]
 pub struct Transition {
     pub effect: Effect,
     pub scan: ScanMove,
@@ -33,15 +32,18 @@ pub struct Transition {
     pub report: Report,
 }
 
-/// Drops what is to be done. It is a function of its own, as [`discard`] is.
-fn discard_effect(_effect: Effect, _scan: ScanMove) {}
-
-/// Drops what is to be written. It is a function of its own, as [`discard`] is.
-fn discard_write(_written: ShelfWrite) {}
-
-/// Drops a transition. It is a function of its own so that the proofs of what holds one do not go through
-/// every kind of effect.
-pub fn discard(_transition: Transition) {}
+// Written out, so that a proof goes through one call where it lets one go (docs/DECISIONS.md).
+impl Drop for Transition {
+    fn drop(self) {
+        let Transition {
+            effect: _,
+            scan: _,
+            written: _,
+            response: _,
+            report: _,
+        } = self;
+    }
+}
 
 impl Model for Transition {
     ghost use Rattle.transitions.specs.Transitions.{TransitionData};
@@ -163,7 +165,10 @@ impl Transition {
     {
         Ok(Transition {
             effect: Effect::ByCommand(CommandEffect::Leaves(client)),
-            ..Transition::only(shut(alloc)?)
+            scan: ScanMove::Stay,
+            written: ShelfWrite::Nothing,
+            response: shut(alloc)?,
+            report: Report::Nothing,
         })
     }
 
@@ -183,16 +188,18 @@ impl Transition {
             return self;
         }
         let Transition {
-            effect,
-            scan,
+            effect: _,
+            scan: _,
             written,
             response,
             report: _,
         } = self;
-        discard_effect(effect, scan);
         Transition {
+            effect: Effect::ByCommand(CommandEffect::Rests),
+            scan: ScanMove::Stay,
             written,
-            ..Transition::only(response)
+            response,
+            report: Report::Nothing,
         }
     }
 
@@ -226,13 +233,11 @@ impl Transition {
     pub fn or_ended(self, ended: bool) -> Transition
         ensures { result ≡ or_ended_lem ended self }
     {
+        let mut transition = self;
         if ended {
-            return Transition {
-                report: Report::Ended,
-                ..self
-            };
+            transition.report = Report::Ended;
         }
-        self
+        transition
     }
 
     /// The part stays as it is, and these lines are shown.
@@ -286,18 +291,47 @@ impl Transition {
         ensures report { result.report ≡ Report.Nothing }
     {
         let Transition {
-            effect,
-            scan,
-            written,
+            effect: _,
+            scan: _,
+            written: _,
             response,
             report: _,
         } = self;
-        discard_effect(effect, scan);
-        discard_write(written);
         Telling {
             response,
             report: Report::Nothing,
         }
+    }
+
+    /// Changes a part and a library as it asks, and gives what is told. Where it is refused, nothing
+    /// changes.
+    pub fn carry_out(self, part: &mut Part, library: &mut Library) -> Result<Telling, PlayerFault>
+        requires { Fits part.old self.effect }
+        ensures part { OnOk result (part.new ≡ part_after library.old.rate part.old self.effect) }
+        ensures library { OnOk result (library.new ≡ library_after library.old self.scan) }
+        ensures response { IfOk result (λ telling. telling.response ≡ self.response) }
+        ensures report { IfOk result (λ telling. telling.report ≡ report_of part.old library.old self) }
+        ensures within { OnOk result (keeps_numbers library.old.rate part.old library.old.scan self.effect self.scan ≡ true) }
+        ensures limit { IsErrOf result PlayerFault.CutsAtLimit → keeps_numbers library.old.rate part.old library.old.scan self.effect self.scan ≡ false }
+        ensures err { OnErr result (part.new ≡ part.old) }
+        ensures err_library { OnErr result (library.new ≡ library.old) }
+    {
+        if library
+            .scan
+            .begins_beyond(part.player.max_cut(), &self.scan)
+        {
+            return Err(PlayerFault::CutsAtLimit);
+        }
+        let Transition {
+            effect,
+            scan,
+            written: _,
+            response,
+            report,
+        } = self;
+        let report = carry_out_effect(part, &library.rate, effect, report)?;
+        move_scan(library, scan);
+        Ok(Telling { response, report })
     }
 }
 
@@ -306,43 +340,6 @@ impl Transition {
 pub struct Telling {
     pub response: Response,
     pub report: Report,
-}
-
-/// Changes a part and a library as a transition asks, and gives what is told. Where it is refused, nothing
-/// changes.
-pub fn carry_out(
-    part: &mut Part,
-    library: &mut Library,
-    transition: Transition,
-) -> Result<Telling, PlayerFault>
-    requires { Fits part.old transition.effect }
-    ensures part { OnOk result (part.new ≡ part_after library.old.rate part.old transition.effect) }
-    ensures library { OnOk result (library.new ≡ library_after library.old transition.scan) }
-    ensures response { IfOk result (λ telling. telling.response ≡ transition.response) }
-    ensures report { IfOk result (λ telling. telling.report ≡ report_of part.old library.old transition) }
-    ensures within { OnOk result (keeps_numbers library.old.rate part.old library.old.scan transition.effect transition.scan ≡ true) }
-    ensures limit { IsErrOf result PlayerFault.CutsAtLimit → keeps_numbers library.old.rate part.old library.old.scan transition.effect transition.scan ≡ false }
-    ensures err { OnErr result (part.new ≡ part.old) }
-    ensures err_library { OnErr result (library.new ≡ library.old) }
-{
-    if library
-        .scan
-        .begins_beyond(part.player.max_cut(), &transition.scan)
-    {
-        discard(transition);
-        return Err(PlayerFault::CutsAtLimit);
-    }
-    let Transition {
-        effect,
-        scan,
-        written,
-        response,
-        report,
-    } = transition;
-    discard_write(written);
-    let report = carry_out_effect(part, &library.rate, effect, report)?;
-    move_scan(library, scan);
-    Ok(Telling { response, report })
 }
 
 /// Begins or ends a scan; what one that ran found takes the place of the songs.

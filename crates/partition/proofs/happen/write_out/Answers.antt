@@ -14,8 +14,8 @@ use Rattle.transitions.specs.Transitions.{quiet}
 use Rattle.partition.proofs.Writing.{hears, refused_transition}
 use Rattle.partition.proofs.happen.write_out.Goals as goal
 
-pub returns-in-Err : goal.returns-in-Err
-returns-in-Err g c =
+pub returns : goal.returns
+returns g c =
     let writes : is_written (transition_of c.args.ended c.args.part.now c.args.library.now c.args.clients.now c.args.event.now).written ≡ true =
     ap (λ (t : TransitionData). is_written t.written) (sym c.requires.transition) ∙ c.requires.written in
     let heard : StoreReply = record { read = (store_reply_at c.args.event.now).read; refused = Some c.in-Err.fault } in

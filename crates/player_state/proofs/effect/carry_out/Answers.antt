@@ -15,15 +15,15 @@ of_ok P (Err e) rate all = tt
 
 pub returns-in-ByCommand-clause-part : goal.returns-in-ByCommand-clause-part
 returns-in-ByCommand-clause-part c =
-    rw c.in-ByCommand.is (at_ok (λ n. c.take_effect.new.part ≡ part_after n c.args.part.now (ByCommand c.in-ByCommand.effect)) c.take_effect.result c.args.rate.now c.take_effect.ensures.part)
+    rw c.in-ByCommand.is (at_ok (λ n. c.carry_out.new.part ≡ part_after n c.args.part.now (ByCommand c.in-ByCommand.effect)) c.carry_out.result c.args.rate.now c.carry_out.ensures.part)
 
 pub returns-in-ByCommand-clause-report : goal.returns-in-ByCommand-clause-report
 returns-in-ByCommand-clause-report c =
-    rw c.in-ByCommand.is (of_ok (λ n given. given ≡ report_after n c.args.part.now (ByCommand c.in-ByCommand.effect) c.args.report) c.take_effect.result c.args.rate.now c.take_effect.ensures.report)
+    rw c.in-ByCommand.is (of_ok (λ n given. given ≡ report_after n c.args.part.now (ByCommand c.in-ByCommand.effect) c.args.report) c.carry_out.result c.args.rate.now c.carry_out.ensures.report)
 
 pub returns-in-ByCommand-clause-within : goal.returns-in-ByCommand-clause-within
 returns-in-ByCommand-clause-within c =
-    rw c.in-ByCommand.is (at_ok (λ n. player.is_within (player_after n c.args.part.now (ByCommand c.in-ByCommand.effect)) ≡ true) c.take_effect.result c.args.rate.now c.take_effect.ensures.within)
+    rw c.in-ByCommand.is (at_ok (λ n. player.is_within (player_after n c.args.part.now (ByCommand c.in-ByCommand.effect)) ≡ true) c.carry_out.result c.args.rate.now c.carry_out.ensures.within)
 
 pub returns-in-ByCommand-clause-limit : goal.returns-in-ByCommand-clause-limit
-returns-in-ByCommand-clause-limit c = rw c.in-ByCommand.is (λ e. c.take_effect.ensures.limit e c.args.rate.now)
+returns-in-ByCommand-clause-limit c = rw c.in-ByCommand.is (λ e. c.carry_out.ensures.limit e c.args.rate.now)
