@@ -1,6 +1,10 @@
 -- What a scan keeps of a file, by what its bytes mean.
-use Rattle.std.specs.Prelude.{◌≡◌, ◌<◌, ⊤, ℕ, List, length, codes, Result, Ok, Err}
-use Rattle.wave.specs.Waves.{Wave}
+use Rattle.std.specs.Prelude.{◌≡◌, ◌<◌, ◌⊎◌, ⊤, ℕ, List, length, codes, Option, Result, Ok, Err, IfSome, IfOk}
+use Rattle.std.specs.declared.alloc.AllocError.{AllocError}
+use Rattle.counted_devices.specs.Tally.{HasFailed}
+use Rattle.counted_devices.specs.declared.tally.Tally.{Tally}
+use Rattle.wave.specs.Devices.{CalledTooOften}
+use Rattle.wave.specs.Waves.{Wave, wave_of}
 use Rattle.wave.specs.declared.fault.WaveFault.{WaveFault}
 use Rattle.wave.specs.declared.fault.WaveFault.TheVariants.{NotRiff, NoFormat, Unsupported, NoData}
 use Rattle.library_scan.specs.declared.content.Content.{Content}
@@ -21,6 +25,15 @@ abbrev pub Keeps : Content → Result Wave WaveFault → Type 0
 Keeps (Song tags frames) meaning = (wave : Wave) × (meaning ≡ Ok wave) × (tags.items ≡ wave.tags) × (frames ≡ length wave.frames) × (0 < frames)
 Keeps Empty meaning = (wave : Wave) × (meaning ≡ Ok wave) × (length wave.frames ≡ 0)
 Keeps (Refused r) meaning = Refuses r meaning
+
+-- what is kept of a file is what its bytes mean, where they are known
+abbrev pub KeepsBytes : ℕ → Option (List ℕ) → Result Content AllocError → Type 0
+KeepsBytes rate known result = IfSome known (λ bytes. IfOk result (λ content. Keeps content (wave_of rate bytes)))
+
+-- a file is unread only where its device failed in the call, or was called too often, or its count is at its
+-- greatest value
+abbrev pub UnreadOnFailure : Tally → Tally → Result Content AllocError → Type 0
+UnreadOnFailure old new result = result ≡ Ok (Refused refusal.ReadFault) → HasFailed old new ⊎ CalledTooOften old new
 
 -- the name that a refusal is shown by
 abbrev pub name_of : Refusal → List ℕ

@@ -2,3 +2,5 @@ pub mod Steps
 pub mod Contents
 pub mod Scans
 pub mod Windows
+pub mod Trees
+pub mod Seeing

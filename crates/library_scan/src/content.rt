@@ -1,7 +1,7 @@
 //! What a scan keeps of a file.
-ghost use Rattle.std.specs.Prelude.{◌≡◌, IfSome, IfOk};
+ghost use Rattle.std.specs.Prelude.{◌≡◌, Ok, IfSome, IfOk, IfErr};
 ghost use Rattle.wave.specs.Waves.{wave_of};
-ghost use Rattle.library_scan.specs.Contents.{Keeps, name_of};
+ghost use Rattle.library_scan.specs.Contents.{Keeps, KeepsBytes, UnreadOnFailure, name_of};
 ghost use Rattle.library_scan.specs.Windows.{whole};
 
 use crate::window::Windowed;
@@ -9,6 +9,7 @@ use counted_devices::{Counting, Media, ReadSeek};
 use mpd_text::Tag;
 use song_db::Rate;
 use std::alloc::{AllocError, Global};
+use std::io;
 use wave::{WaveFault, read_head};
 
 /// Why a file is no song.
@@ -60,6 +61,8 @@ pub fn content_of<M: Media>(
 ) -> Result<Content, AllocError>
     // It is what the whole bytes mean.
     ensures value { IfSome (M.all_bytes media.old) (λ bytes. IfOk result (λ content. Keeps content (wave_of rate.now bytes))) }
+    // It is unread only where the device failed, or was called too often.
+    ensures read_fault { UnreadOnFailure (M.tally media.old) (M.tally media.new) result }
 {
     match read_head(alloc, media, rate.frames()) {
         Ok(head) if head.frames() == 0 => Ok(Content::Empty),
@@ -86,6 +89,22 @@ pub fn content_in<F: ReadSeek + Drop>(
     // It is what the whole bytes mean, where there are as many.
     ensures value { IfSome (whole (F.known_bytes file) len) (λ bytes. IfOk result (λ content. Keeps content (wave_of rate.now bytes))) }
 {
-    let mut media = Counting::new(Windowed::new(file, len));
+    let mut media = Windowed::new(Counting::new(file), len);
     content_of(alloc, &mut media, rate)
+}
+
+/// The same of a file that was to be opened.
+pub(crate) fn content_if_open<F: ReadSeek + Drop>(
+    alloc: Global,
+    opened: io::Result<F>,
+    len: u64,
+    rate: &Rate,
+) -> Result<Content, AllocError>
+    ensures open { IfOk opened (λ file. KeepsBytes rate.now (whole (F.known_bytes file) len) result) }
+    ensures shut { IfErr opened (λ _. result ≡ Ok (Content.Refused Refusal.ReadFault)) }
+{
+    match opened {
+        Ok(file) => content_in(alloc, file, len, rate),
+        Err(_) => Ok(Content::Refused(Refusal::ReadFault)),
+    }
 }

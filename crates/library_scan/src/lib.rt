@@ -2,17 +2,21 @@
 #![tactic(auto)]
 
 mod content;
+mod disk;
 mod fault;
 mod found;
 mod order;
+mod path;
 mod scanned;
 mod step;
+mod system_disk;
 mod walk;
 mod window;
 
 pub use content::{Content, Refusal, content_in, content_of};
+pub use disk::{Disk, Entry, Seen};
 pub use fault::ScanFault;
 pub use found::MAX_NAMES;
 pub use scanned::{Refused, Scanned};
 pub use step::{Kind, MAX_DEPTH, MAX_URI, Step, step_of};
-pub use walk::{Unwatched, Watcher, scan};
+pub use walk::{Unwatched, Watcher, scan, scan_disk};

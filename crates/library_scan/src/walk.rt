@@ -1,22 +1,24 @@
 //! The scan of a folder.
-ghost use Rattle.std.specs.Prelude.{◌≡◌, ◌≤◌, length, All, IfOk, IsTrue};
+ghost use Rattle.std.specs.Prelude.{◌≡◌, ◌≤◌, length, All, IfOk, IfErr, OnOk, IsTrue};
 ghost use Rattle.song_db.specs.Library.{InByteOrder};
 ghost use Rattle.library_scan.specs.Scans.{IsFound, RefusedInOrder};
-ghost use Rattle.library_scan.specs.Steps.{is_song_uri, path_of};
+ghost use Rattle.library_scan.specs.Steps.{is_song_uri};
+ghost use Rattle.library_scan.specs.Trees.{AddsFolder, AddsTold, Explains, IsLimit, IsScanOf, Keeps, KeepsName, ListsAll, NoRoom, OnTooMany, OnTree, OnceEach, OverByFolder, OverByName, OverByTold, RestIsTooLarge, is_whole, kept_of_file, never_breaks, reading_of};
 
-use crate::content::{Content, Refusal, content_in};
+use crate::content::{Content, Refusal};
+use crate::disk::{Disk, Entry};
 use crate::fault::ScanFault;
-use crate::found::{Found, MAX_NAMES};
+use crate::found::Found;
 use crate::order::{sort_refused, sort_songs};
+use crate::path::joined;
 use crate::scanned::Scanned;
-use crate::step::{Kind, Step, step_of};
+use crate::step::{Step, step_of};
+use crate::system_disk::SystemDisk;
 use counted_devices::ReadSeek;
 use mpd_text::Text;
 use song_db::Rate;
-use std::alloc::{AllocError, Global};
-use std::io::ErrorKind;
+use std::alloc::Global;
 use std::rt::Files;
-use std::{fs, io};
 
 /// Whom a scan tells how far it is.
 pub trait Watcher {
@@ -53,17 +55,30 @@ where
     ensures few { IfOk result (λ scanned. length scanned.songs.items ≤ 100000) }
     ensures refused_order { IfOk result (λ scanned. RefusedInOrder scanned.refused.items) }
 {
-    let mut found = Found::new(alloc);
-    if !list(rt, alloc, folder, "", rate, &mut found, watcher)? {
+    scan_disk(alloc, &mut SystemDisk::new(rt, folder), rate, watcher)
+}
+
+/// Scans a disk, as [`scan`] does a folder of the system.
+pub fn scan_disk<D: Disk, W: Watcher>(
+    alloc: Global,
+    disk: &mut D,
+    rate: &Rate,
+    watcher: &mut W,
+) -> Result<Scanned, ScanFault>
+    ensures order { IfOk result (λ scanned. InByteOrder scanned.songs.items) }
+    ensures found { IfOk result (λ scanned. All IsFound scanned.songs.items) }
+    ensures few { IfOk result (λ scanned. length scanned.songs.items ≤ 100000) }
+    ensures refused_order { IfOk result (λ scanned. RefusedInOrder scanned.refused.items) }
+    // It is what all folders hold that can be found.
+    ensures scan { OnTree (D.known_tree disk.old) (λ tree. IfOk result (IsScanOf tree rate.now)) }
+    // A fault names what the disk has: no whole listing of its own folder, or more than the limits.
+    ensures cause { OnTree (D.known_tree disk.old) (λ tree. IfErr result (Explains tree rate.now)) }
+{
+    let mut found = Found::new(alloc)?;
+    if !list(alloc, disk, "", rate, &mut found, watcher)? {
         return Err(ScanFault::NoFolder);
     }
-    // Each folder below was a name.
-    for _ in 0..MAX_NAMES {
-        let Some(uri) = found.next_folder() else {
-            break;
-        };
-        let _is_listed = list(rt, alloc, folder, uri.as_str(), rate, &mut found, watcher)?;
-    }
+    list_below(alloc, disk, rate, &mut found, watcher)?;
     Ok(in_order(found))
 }
 
@@ -72,6 +87,8 @@ fn in_order(found: Found) -> Scanned
     ensures found { All IsFound result.songs.items }
     ensures few { length result.songs.items ≤ 100000 }
     ensures refused_order { RefusedInOrder result.refused.items }
+    ensures songs { OnceEach (λ song. song.uri) found.songs.items result.songs.items }
+    ensures refused { OnceEach (λ file. file.uri) found.refused.items result.refused.items }
 {
     let Found {
         mut songs,
@@ -83,115 +100,110 @@ fn in_order(found: Found) -> Scanned
     Scanned { songs, refused }
 }
 
-/// Looks at each name of a folder; false where it cannot be listed.
-fn list<R: Files + AllocGlobal + Clone + Drop, W: Watcher>(
-    rt: &R,
+/// Lists each folder that was found, and those that are found there, where the scanned one was listed.
+fn list_below<D: Disk, W: Watcher>(
     alloc: Global,
-    root: &str,
+    disk: &mut D,
+    rate: &Rate,
+    found: &mut Found,
+    watcher: &mut W,
+) -> Result<(), ScanFault>
+    ensures all { OnTree (D.known_tree disk.old) (λ tree. OnOk result (ListsAll tree rate.now found.old found.new)) }
+    ensures over { OnTree (D.known_tree disk.old) (λ tree. OnTooMany result (RestIsTooLarge tree rate.now found.old)) }
+    ensures cause { IfErr result (IsLimit found.new) }
+{
+    let mut at = 1;
+    loop {
+        let Some(uri) = found.folder(alloc, at)? else {
+            return Ok(());
+        };
+        let _is_listed = list(alloc, disk, uri.as_str(), rate, found, watcher)?;
+        at += 1;
+    }
+}
+
+/// Looks at each name of a folder; false where it cannot be listed whole.
+fn list<D: Disk, W: Watcher>(
+    alloc: Global,
+    disk: &mut D,
     uri: &str,
     rate: &Rate,
     found: &mut Found,
     watcher: &mut W,
 ) -> Result<bool, ScanFault>
-where
-    R::File: ReadSeek,
+    ensures stays { D.known_tree disk.new ≡ D.known_tree disk.old }
+    ensures adds { AddsFolder (D.known_tree disk.old) rate.now uri.now found.old found.new result }
+    ensures whole { OnTree (D.known_tree disk.old) (λ tree. IfOk result (λ all. all ≡ is_whole (tree.told uri.now))) }
+    ensures over { OverByFolder (D.known_tree disk.old) rate.now uri.now found.old result }
+    ensures cause { IfErr result (IsLimit found.new) }
 {
-    let path = joined(alloc, root, uri)?;
-    let entries = match fs::read_dir(rt, path.as_str()) {
-        Ok(entries) => entries,
-        Err(fault) => return unless_memory(&fault),
-    };
-    for entry in entries {
+    if !disk.open_folder(alloc, uri)? {
+        return Ok(false);
+    }
+    list_open(alloc, disk, uri, rate, found, watcher)
+}
+
+/// Looks at each name of the folder that was opened last; false where its listing breaks off.
+fn list_open<D: Disk, W: Watcher>(
+    alloc: Global,
+    disk: &mut D,
+    uri: &str,
+    rate: &Rate,
+    found: &mut Found,
+    watcher: &mut W,
+) -> Result<bool, ScanFault>
+    ensures stays { D.known_tree disk.new ≡ D.known_tree disk.old }
+    ensures adds { AddsTold (D.known_tree disk.old) rate.now uri.now (D.left disk.old) found.old found.new result }
+    ensures whole { OnTree (D.known_tree disk.old) (λ tree. IfOk result (λ all. all ≡ never_breaks (D.left disk.old))) }
+    ensures over { OverByTold (D.known_tree disk.old) rate.now uri.now (D.left disk.old) found.old result }
+    ensures cause { IfErr result (IsLimit found.new) }
+{
+    loop {
+        let Some(entry) = disk.next_entry(alloc)? else {
+            return Ok(true);
+        };
         watcher.saw(found.count_name()?);
         match entry {
-            Ok(entry) => look_at(rt, alloc, root, uri, entry.file_name(), rate, found)?,
-            Err(fault) if fault.kind() == ErrorKind::InvalidFilename => {}
-            Err(fault) => return unless_memory(&fault),
+            Entry::Name(name) => look_at(alloc, disk, uri, name.as_str(), rate, found)?,
+            Entry::NotText => {}
+            Entry::Broken => return Ok(false),
         }
     }
-    Ok(true)
-}
-
-/// False, or the want of memory that an error tells of.
-fn unless_memory(fault: &io::Error) -> Result<bool, ScanFault> {
-    if fault.kind() == ErrorKind::OutOfMemory {
-        return Err(ScanFault::NoMemory);
-    }
-    Ok(false)
-}
-
-/// A path, a slash, and a name or a path behind it; where one is empty, the other alone.
-fn joined(alloc: Global, front: &str, name: &str) -> Result<Text, AllocError>
-    ensures { IfOk result (λ path. path ≡ path_of front.now name.now) }
-{
-    if front.is_empty() {
-        return Text::new(alloc, name);
-    }
-    if name.is_empty() {
-        return Text::new(alloc, front);
-    }
-    Ok(Text::of(format!(in alloc; "{front}/{name}")?))
 }
 
 /// Does with a name of a folder what is to be done with it.
-fn look_at<R: Files>(
-    rt: &R,
+fn look_at<D: Disk>(
     alloc: Global,
-    root: &str,
+    disk: &D,
     folder: &str,
     name: &str,
     rate: &Rate,
     found: &mut Found,
 ) -> Result<(), ScanFault>
-where
-    R::File: ReadSeek,
+    ensures keeps { KeepsName (D.known_tree disk.now) rate.now folder.now name.now found.old found.new result }
+    ensures over { OverByName (D.known_tree disk.now) rate.now folder.now name.now found.old result }
+    ensures names { found.new.names ≡ found.old.names }
+    ensures cause { IfErr result (IsLimit found.new) }
 {
     let uri = joined(alloc, folder, name)?;
-    let path = joined(alloc, root, uri.as_str())?;
-    let (kind, len) = seen(rt, path.as_str());
-    match step_of(uri.as_str(), kind) {
+    let seen = disk.look(alloc, uri.as_str())?;
+    match step_of(uri.as_str(), seen.kind) {
         Step::Skip => Ok(()),
         Step::Descend => found.descend(uri),
         Step::Refuse => found.refuse(uri, Refusal::ReadFault),
-        Step::Read => read(rt, alloc, path.as_str(), len, uri, rate, found),
-    }
-}
-
-/// What the system says of a path, where links are followed, and how long the file is.
-fn seen<R: Files>(rt: &R, path: &str) -> (Kind, u64) {
-    match fs::metadata(rt, path) {
-        Ok(metadata) if metadata.is_dir() => (Kind::Folder, 0),
-        Ok(metadata) if metadata.is_file() => (Kind::File, metadata.len()),
-        Ok(_) => (Kind::Other, 0),
-        Err(_) => (Kind::Unseen, 0),
-    }
-}
-
-/// Reads a file of this length, and keeps what it is.
-fn read<R: Files>(
-    rt: &R,
-    alloc: Global,
-    path: &str,
-    len: u64,
-    uri: Text,
-    rate: &Rate,
-    found: &mut Found,
-) -> Result<(), ScanFault>
-where
-    R::File: ReadSeek,
-    requires { IsTrue (is_song_uri uri) }
-{
-    match fs::open(rt, path) {
-        Ok(file) => {
-            let content = content_in(alloc, file, len, rate)?;
+        Step::Read => {
+            let content = disk.read(alloc, uri.as_str(), seen.len, rate)?;
             keep(uri, content, found)
         }
-        Err(_) => found.refuse(uri, Refusal::ReadFault),
     }
 }
 
 fn keep(uri: Text, content: Content, found: &mut Found) -> Result<(), ScanFault>
     requires { IsTrue (is_song_uri uri) }
+    ensures keeps { OnOk result (Keeps (kept_of_file uri (reading_of content)) found.old found.new) }
+    ensures over { OnTooMany result (NoRoom found.old (kept_of_file uri (reading_of content))) }
+    ensures names { found.new.names ≡ found.old.names }
+    ensures cause { IfErr result (IsLimit found.new) }
 {
     match content {
         Content::Song(_, 0) | Content::Empty => Ok(()),

@@ -1,40 +1,46 @@
 //! A file that is read some kilobytes at a time.
-ghost use Rattle.std.specs.Prelude.{None, Some, List, ℕ, [], ◌≡◌, ◌≤◌, ◌<◌, ◌++◌, length, take, drop, min, ◌+◌, ◌-◌, ◌^◌, OnOk};
+ghost use Rattle.std.specs.Prelude.{None, Some, List, ℕ, [], ◌≡◌, ◌≤◌, ◌<◌, ◌++◌, length, take, drop, min, ◌+◌, ◌-◌, ◌^◌, OnOk, OnErr};
 ghost use Rattle.std.specs.Io.{ReadsAtMost};
 ghost use Rattle.std.specs.Io.KnownBytes.{ReadConsumes};
-ghost use Rattle.library_scan.specs.Windows.{whole, from_place, left, StandAt, IsEnd};
+ghost use Rattle.counted_devices.specs.Tally.{NoFewer, HasFailed, CountsCall, one_call, count_up};
+ghost use Rattle.library_scan.specs.Windows.{whole, from_place, left, StandAt, IsEnd, FailsAs, with_calls};
 
-use counted_devices::ReadSeek;
+use counted_devices::{Failing, Media, Source};
 use std::io;
-use std::io::{Read, Seek, SeekFrom};
+use std::io::Read;
 
 /// How many bytes are read at a time.
 const WIDTH: usize = 4_096;
 
 /// A file whose bytes are read some kilobytes at a time, wherever they lie: the head of most files takes one
-/// read. Its length is the one that it had when it was looked at.
+/// read. Its length is the one that it had when it was looked at. Its calls are counted apart from those of
+/// the file, and fail where one of these failed.
 #[derive(Drop)]
-pub struct Windowed<F: ReadSeek> {
-    file: F,
+pub struct Windowed<M: Media> {
+    file: M,
     len: u64,
+    calls: u64,
     place: u64,
     start: u64,
     filled: usize,
     bytes: [u8; 4_096],
     ghost fits: { filled ≤ 4096 },
     ghost short: { len < 2 ^ 64 },
-    ghost stands: { StandAt (F.known_bytes file) start (take filled bytes) },
+    ghost counted: { calls < 2 ^ 64 },
+    ghost stands: { StandAt (M.all_bytes file) start (take filled bytes) },
 }
 
-impl<F: ReadSeek> Windowed<F> {
+impl<M: Media> Windowed<M> {
     /// A file of this length, of which nothing was read yet.
-    pub fn new(file: F, len: u64) -> Windowed<F>
+    pub fn new(file: M, len: u64) -> Windowed<M>
         ensures file { result.file ≡ file }
         ensures len { result.len ≡ len }
+        ensures calls { result.calls ≡ 0 }
     {
         Windowed {
             file,
             len,
+            calls: 0,
             place: 0,
             start: 0,
             filled: 0,
@@ -42,9 +48,26 @@ impl<F: ReadSeek> Windowed<F> {
         }
     }
 
+    /// The file inside.
+    pub fn into_file(self) -> M
+        ensures { result ≡ self.file }
+    {
+        self.file
+    }
+
+    /// Counts a call.
+    fn count_call(&mut self)
+        ensures file { self.new.file ≡ self.old.file }
+        ensures len { self.new.len ≡ self.old.len }
+        ensures place { self.new.place ≡ self.old.place }
+        ensures calls { self.new.calls ≡ count_up self.old.calls }
+    {
+        self.calls = self.calls.saturating_add(1);
+    }
+
     /// The bytes from the place on that were read already.
     fn ahead(&self) -> &[u8]
-        ensures stand { StandAt (F.known_bytes self.now.file) self.now.place result.now }
+        ensures stand { StandAt (M.all_bytes self.now.file) self.now.place result.now }
         ensures len { length result.now ≡ left self.now.place self.now.start self.now.filled }
     {
         match self.place.checked_sub(self.start) {
@@ -55,15 +78,19 @@ impl<F: ReadSeek> Windowed<F> {
 
     /// Reads the bytes from the place on, as many as one read gives.
     fn refill(&mut self) -> io::Result<()>
-        ensures file { F.known_bytes self.new.file ≡ F.known_bytes self.old.file }
+        ensures file { M.all_bytes self.new.file ≡ M.all_bytes self.old.file }
         ensures len { self.new.len ≡ self.old.len }
         ensures place { self.new.place ≡ self.old.place }
+        ensures calls { self.new.calls ≡ self.old.calls }
         ensures read { OnOk result (self.new.start ≡ self.old.place) }
-        ensures ends { OnOk result (self.new.filled ≡ 0 → (all : List ℕ) → F.known_bytes self.old.file ≡ Some all → drop self.old.place all ≡ []) }
+        ensures ends { OnOk result (self.new.filled ≡ 0 → (all : List ℕ) → M.all_bytes self.old.file ≡ Some all → drop self.old.place all ≡ []) }
+        ensures fails { FailsAs (M.tally self.old.file) (M.tally self.new.file) result }
+        ensures failed { OnErr result (HasFailed (M.tally self.old.file) (M.tally self.new.file)) }
+        ensures calm { NoFewer (M.tally self.old.file) (M.tally self.new.file) }
     {
         self.filled = 0;
-        self.file.move_to(self.place)?;
-        let n = self.file.read_on(&mut self.bytes)?;
+        self.file.seek_to(self.place)?;
+        let n = self.file.read_here(&mut self.bytes)?;
         self.start = self.place;
         self.filled = n;
         Ok(())
@@ -71,10 +98,14 @@ impl<F: ReadSeek> Windowed<F> {
 
     /// Reads bytes from the place on, where none were read yet and some are left.
     fn make_ready(&mut self) -> io::Result<()>
-        ensures file { F.known_bytes self.new.file ≡ F.known_bytes self.old.file }
+        ensures file { M.all_bytes self.new.file ≡ M.all_bytes self.old.file }
         ensures len { self.new.len ≡ self.old.len }
         ensures place { self.new.place ≡ self.old.place }
-        ensures ends { OnOk result (left self.new.place self.new.start self.new.filled ≡ 0 → IsEnd (F.known_bytes self.old.file) self.old.len self.old.place) }
+        ensures calls { self.new.calls ≡ self.old.calls }
+        ensures ends { OnOk result (left self.new.place self.new.start self.new.filled ≡ 0 → IsEnd (M.all_bytes self.old.file) self.old.len self.old.place) }
+        ensures fails { FailsAs (M.tally self.old.file) (M.tally self.new.file) result }
+        ensures failed { OnErr result (HasFailed (M.tally self.old.file) (M.tally self.new.file)) }
+        ensures calm { NoFewer (M.tally self.old.file) (M.tally self.new.file) }
     {
         if !self.ahead().is_empty() {
             return Ok(());
@@ -88,9 +119,10 @@ impl<F: ReadSeek> Windowed<F> {
     /// Gives bytes from the place on that were read already, as many as there is room for.
     fn give(&mut self, buf: &mut [u8]) -> usize
         ensures count { result ≡ min (left self.old.place self.old.start self.old.filled) (length buf.old) }
-        ensures stand { StandAt (F.known_bytes self.old.file) self.old.place (take result buf.new) }
-        ensures file { F.known_bytes self.new.file ≡ F.known_bytes self.old.file }
+        ensures stand { StandAt (M.all_bytes self.old.file) self.old.place (take result buf.new) }
+        ensures file { self.new.file ≡ self.old.file }
         ensures len { self.new.len ≡ self.old.len }
+        ensures calls { self.new.calls ≡ self.old.calls }
         ensures place { self.new.place ≡ min (self.old.place + result) (2 ^ 64 - 1) }
         ensures later { self.old.place ≤ self.new.place }
     {
@@ -102,51 +134,64 @@ impl<F: ReadSeek> Windowed<F> {
     }
 }
 
-impl<F: ReadSeek> Read for Windowed<F> {
-    ghost remaining = { λ w. from_place w.place (whole (F.known_bytes w.file) w.len) };
+// What failed is what failed of the file.
+impl<M: Media> Failing for Windowed<M> {
+    ghost tally = { λ w. with_calls w.calls (M.tally w.file) };
+
+    fn failures(&self) -> u64 {
+        self.file.failures()
+    }
+
+    fn blocked(&self) -> u64 {
+        self.file.blocked()
+    }
+
+    fn calls(&self) -> u64 {
+        self.calls
+    }
+}
+
+impl<M: Media> Read for Windowed<M> {
+    ghost remaining = { λ w. from_place w.place (whole (M.all_bytes w.file) w.len) };
 
     fn read(&mut self, buf: &mut [u8]) -> io::Result<usize>
         ensures bound { ReadsAtMost result buf.new }
-        ensures bytes { ReadConsumes (from_place self.old.place (whole (F.known_bytes self.old.file) self.old.len)) (from_place self.new.place (whole (F.known_bytes self.new.file) self.new.len)) result buf.new }
-        ensures stays { whole (F.known_bytes self.new.file) self.new.len ≡ whole (F.known_bytes self.old.file) self.old.len }
+        ensures bytes { ReadConsumes (from_place self.old.place (whole (M.all_bytes self.old.file) self.old.len)) (from_place self.new.place (whole (M.all_bytes self.new.file) self.new.len)) result buf.new }
+        ensures stays { whole (M.all_bytes self.new.file) self.new.len ≡ whole (M.all_bytes self.old.file) self.old.len }
+        ensures calls { self.new.calls ≡ count_up self.old.calls }
+        ensures fails { FailsAs (M.tally self.old.file) (M.tally self.new.file) result }
+        ensures failed { OnErr result (HasFailed (M.tally self.old.file) (M.tally self.new.file)) }
+        ensures calm { NoFewer (M.tally self.old.file) (M.tally self.new.file) }
     {
+        self.count_call();
         self.make_ready()?;
         Ok(self.give(buf))
     }
 }
 
-impl<F: ReadSeek> Seek for Windowed<F> {
-    fn seek(&mut self, to: SeekFrom) -> io::Result<u64> {
-        let place = match to {
-            SeekFrom::Start(place) => Some(place),
-            SeekFrom::End(offset) => self.len.checked_add_signed(offset),
-            SeekFrom::Current(offset) => self.place.checked_add_signed(offset),
-        };
-        match place {
-            Some(place) => {
-                self.place = place;
-                Ok(place)
-            }
-            None => Err(io::Error::from(io::ErrorKind::InvalidInput)),
-        }
+impl<M: Media> Source for Windowed<M> {
+    fn read_some(&mut self, buf: &mut [u8]) -> io::Result<usize> {
+        self.read(buf)
     }
 }
 
 // The bytes are those of the file inside, where it knows them and has as many as were told.
-impl<F: ReadSeek> ReadSeek for Windowed<F> {
-    ghost known_bytes = { λ w. whole (F.known_bytes w.file) w.len };
+impl<M: Media> Media for Windowed<M> {
+    ghost all_bytes = { λ w. whole (M.all_bytes w.file) w.len };
 
-    fn move_to(&mut self, place: u64) -> io::Result<()> {
+    fn seek_to(&mut self, place: u64) -> io::Result<()> {
+        self.count_call();
         self.place = place;
         Ok(())
     }
 
-    fn move_to_end(&mut self) -> io::Result<u64> {
+    fn seek_to_end(&mut self) -> io::Result<u64> {
+        self.count_call();
         self.place = self.len;
         Ok(self.len)
     }
 
-    fn read_on(&mut self, buf: &mut [u8]) -> io::Result<usize> {
+    fn read_here(&mut self, buf: &mut [u8]) -> io::Result<usize> {
         self.read(buf)
     }
 }

@@ -10,14 +10,14 @@ use std::process::Abort;
 use std::rt::Files;
 
 /// 24 bits, one channel, a title, and a data size past the file's end: two frames at 8,000 a second.
-const WAVE: [u8; 75] =
+pub const WAVE: [u8; 75] =
     *b"RIFF\0\0\0\0WAVEfmt \x10\0\0\0\x01\0\x01\0\x40\x1f\0\0\xc0\x5d\0\0\x03\0\x18\0LIST\x10\0\0\0INFOINAM\x03\0\0\0Hi\0\0data\x64\0\0\0\0\x01\0\xff\xff\xff\x7f";
 
-fn put<R: Files + Abort>(rt: &R, path: &str, bytes: &[u8]) {
+pub fn put<R: Files + Abort>(rt: &R, path: &str, bytes: &[u8]) {
     fs::write(rt, path, bytes).expect(rt, "no file");
 }
 
-fn make<R: Files + Abort>(rt: &R, path: &str) {
+pub fn make<R: Files + Abort>(rt: &R, path: &str) {
     fs::create_dir_all(rt, path).expect(rt, "no folder");
 }
 
@@ -25,7 +25,7 @@ fn link<R: Files + Abort>(rt: &R, to: &str, path: &str) {
     symlink(rt, to, path).expect(rt, "no link");
 }
 
-fn remove<R: Files + AllocGlobal + Abort>(rt: &R, path: &str) {
+pub fn remove<R: Files + AllocGlobal + Abort>(rt: &R, path: &str) {
     fs::remove_dir_all(rt, path).expect(rt, "the folder stays");
 }
 
@@ -52,7 +52,7 @@ where
     }
 }
 
-fn shown<R: Abort>(rt: &R, alloc: Global, scanned: &Scanned) -> String {
+pub fn shown<R: Abort>(rt: &R, alloc: Global, scanned: &Scanned) -> String {
     let mut all = String::new(alloc);
     for song in &scanned.songs {
         let frames = song.frames();

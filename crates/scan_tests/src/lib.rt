@@ -8,4 +8,8 @@ mod disk;
 #[cfg(test)]
 mod helpers;
 #[cfg(test)]
+mod limits;
+#[cfg(test)]
+mod odd;
+#[cfg(test)]
 mod questions;

@@ -1,0 +1,13 @@
+use Rattle.std.proofs.Common.{◌≡◌, ◌-◌, ◌^◌, take, Some}
+use Rattle.library_scan.specs.Trees.{Tree, RootListed, Holds}
+use Rattle.library_scan.proofs.walk.list_below.Given as goal
+
+abbrev pub invariant-loop-uri : goal.invariant-loop-uri
+invariant-loop-uri g l = record {
+  stays : g.D.Disk.known_tree l.disk ≡ g.D.Disk.known_tree l.initial.disk;
+  holds : (tree : Tree) → g.D.Disk.known_tree l.initial.disk ≡ Some tree → RootListed tree l.rate l.initial.found → Holds tree l.rate (take l.at l.found.folders.items) l.found;
+}
+
+-- how many places there are still
+abbrev pub decreases-loop-uri : goal.decreases-loop-uri
+decreases-loop-uri g l = 2 ^ 64 - l.at
