@@ -8,7 +8,7 @@ use Rattle.command_lists.specs.declared.list.CommandList.{CommandList}
 use Rattle.held_player.specs.Lists.{HandedList, StopsListSomewhere, TellsListSomewhere}
 use Rattle.counted_player.specs.Seats.{after_events}
 use Rattle.counted_player.specs.Counts.{AnswersSomewhere}
-use Rattle.held_player.specs.Views.{Handed, IsUnwritten}
+use Rattle.held_player.specs.Views.{Handed, IsUnwritten, StopsSomewhere}
 use Rattle.mpd_command.specs.Requests.{name_in}
 use Rattle.mpd_command.specs.declared.request.Request.{Request}
 use Rattle.mpd_text.specs.Answers.Answer.{ack_line}
@@ -51,7 +51,7 @@ take_more f (x ∷ xs) (suc i) d h =
 module _ {S : Type 0} (standing : S → Standing) (failed : S → S → Call → Type 0) (asker : Asker) where
   -- there was no memory to read a line
   pub line_unread : (before : Caller S) (line : LineData) (owed : List ℕ) → owed ≡ ack_line 52 0 [] (fault_text NoMemory) → IsOwed (Answers standing failed asker) before (Single line) owed Stays before
-  line_unread before line owed is = ([], owed, refl, ([], refl), inr ([], NoMemory, is, refl, refl, inl refl, inr (refl, refl)))
+  line_unread before line owed is = ([], owed, refl, ([], refl), inr ([], NoMemory, is, refl, refl, inl refl, inl (refl, refl)))
 
   -- a line was run
   pub line_ran : (before after : Caller S) (line : LineData) (request : Request) (answered : Handed) (owed : List ℕ) (next : Sequel) → request ≡ read_line asker.may_kill line
@@ -74,9 +74,14 @@ module _ {S : Type 0} (standing : S → Standing) (failed : S → S → Call →
 
   -- the house did not run a line
   pub line_refused : (before after : Caller S) (line : LineData) (request : Request) (name owed : List ℕ) (fault : PartitionFault) → request ≡ read_line asker.may_kill line → name ≡ name_in request
-      → owed ≡ ack_line 52 0 name (fault_text fault) → after.seat ≡ before.seat → IsUnwritten standing failed before.shelf after.shelf → IsOwed (Answers standing failed asker) before (Single line) owed Stays after
-  line_refused before after line request name owed fault read named is made unwritten =
-      ([], owed, refl, ([], refl), inr (name, fault, is, refl, made, unwritten, inl (named ∙ ap name_in read)))
+      → owed ≡ ack_line 52 0 name (fault_text fault) → after.seat ≡ before.seat → IsUnwritten standing failed before.shelf after.shelf
+      → (before.seat.number < 4 → StopsSomewhere standing failed before.shelf after.shelf before.seat.number before.seat.made (Line asker.client Alone request no_store_reply) fault)
+      → IsOwed (Answers standing failed asker) before (Single line) owed Stays after
+  line_refused before after line request name owed fault read named is made unwritten somewhere =
+      let stops : before.seat.number < 4
+      → StopsSomewhere standing failed before.shelf after.shelf before.seat.number before.seat.made (Line asker.client Alone (read_line asker.may_kill line) no_store_reply) fault =
+      λ few. subst (λ (r : Request). StopsSomewhere standing failed before.shelf after.shelf before.seat.number before.seat.made (Line asker.client Alone r no_store_reply) fault) read (somewhere few) in
+      ([], owed, refl, ([], refl), inr (name, fault, is, refl, made, unwritten, inr (named ∙ ap name_in read, stops)))
 
   -- a list without lines
   pub empty_list : (before : Caller S) (list : CommandList) (owed : List ℕ) → list.lines ≡ [] → owed ≡ list_end None → IsOwed (Answers standing failed asker) before (Whole list) owed Stays before

@@ -9,7 +9,7 @@ use Rattle.command_lists.specs.declared.list.ListLine.TheVariants.{Text, NotText
 use Rattle.held_player.specs.Lists.{StopsListSomewhere, TellsListSomewhere}
 use Rattle.counted_player.specs.Seats.{SeatCount, after_events}
 use Rattle.counted_player.specs.Counts.{AnswersSomewhere}
-use Rattle.held_player.specs.Views.{IsUnwritten}
+use Rattle.held_player.specs.Views.{IsUnwritten, StopsSomewhere}
 use Rattle.mpd_command.specs.Requests.{name_in, request_of}
 use Rattle.mpd_command.specs.declared.command.Command.{Command}
 use Rattle.mpd_command.specs.declared.command.Command.TheVariants.{Kill}
@@ -97,12 +97,20 @@ module _ {S : Type 0} (standing : S → Standing) (failed : S → S → Call →
       (answer : Answer) × (text ≡ answer.text) × (next ≡ sequel (closes answer.next) (is_kill (read_line asker.may_kill line))) × (after.seat ≡ after_events before.seat 1)
       × (before.seat.number < 4 → AnswersSomewhere standing failed before.shelf after.shelf before.seat.number before.seat.made (Line asker.client Alone (read_line asker.may_kill line) no_store_reply) answer)
 
-  -- Why the house did not run the line. There may have been no memory to read what command it names.
+  -- The line's event is refused after some past in which the seat made so many events: for the limit that it
+  -- would pass, for a window that cannot be folded, or for want of memory.
+  abbrev pub StopsLine : Caller S → LineData → PartitionFault → Caller S → Type 0
+  StopsLine before line fault after =
+      before.seat.number < 4
+      → StopsSomewhere standing failed before.shelf after.shelf before.seat.number before.seat.made (Line asker.client Alone (read_line asker.may_kill line) no_store_reply) fault
+
+  -- Why the house did not run the line. There may have been no memory to read what command it names; else the
+  -- player refuses its event so, after some past in which the seat made so many events.
   abbrev pub RefusesLine : Caller S → LineData → List ℕ → Sequel → Caller S → Type 0
   RefusesLine before line text next after =
       (name : List ℕ) × (fault : PartitionFault) × (text ≡ ack_line 52 0 name (fault_text fault)) × (next ≡ Stays) × (after.seat ≡ before.seat)
       × IsUnwritten standing failed before.shelf after.shelf
-      × ((name ≡ name_in (read_line asker.may_kill line)) ⊎ ((name ≡ []) × (fault ≡ NoMemory)))
+      × (((name ≡ []) × (fault ≡ NoMemory)) ⊎ ((name ≡ name_in (read_line asker.may_kill line)) × StopsLine before line fault after))
 
   -- The answers to the lines of a list, or to those in front of one that there was no memory to read, up to
   -- the first that ends the list.

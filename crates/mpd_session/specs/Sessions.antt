@@ -1,5 +1,5 @@
 -- What a session holds, and what a turn does.
-use Rattle.std.specs.Prelude.{◌≡◌, ◌⊎◌, ◌<◌, ◌≤◌, ◌-◌, ◌^◌, ℕ, List, [], ◌∷◌, ◌++◌, length, map, Option, Some, None, Bool, false, true}
+use Rattle.std.specs.Prelude.{◌≡◌, ◌≢◌, ◌⊎◌, ◌<◌, ◌≤◌, ◌-◌, ◌^◌, ℕ, List, [], ◌∷◌, ◌++◌, length, map, Option, Some, None, Bool, false, true}
 use Rattle.std.specs.Io.KnownBytes.{Appends, Consumes}
 use Rattle.mpd_text.specs.Lines.Cut.{Split, split_from}
 use Rattle.mpd_text.specs.Lines.Split.{line_of, views}
@@ -14,7 +14,7 @@ use Rattle.mpd_session.specs.declared.end.End.TheVariants.{Left, Killed, LongLin
 use Rattle.mpd_answers.specs.Notices.{AreNotices}
 use Rattle.mpd_answers.specs.Output.{IsOutput, IsLastOutput, greeting}
 use Rattle.mpd_answers.specs.Owing.{owed_bytes}
-use Rattle.mpd_answers.specs.Requests.{Asking, ListState, Within, Over, gather}
+use Rattle.mpd_answers.specs.Requests.{Asking, ListState, Within, Over, gather, is_over}
 
 -- what came of the stream and is not answered: what has come of a list, lines, the start of a line, and a
 -- piece that was not split
@@ -138,6 +138,11 @@ module _ {P : Type 0} (Answers : P → Asking → List ℕ → Sequel → P → 
 -- A turn of a closed session: nothing is read, run or said.
 abbrev pub StaysClosed : Held → Option (List ℕ) → Held → Option (List ℕ) → Type 0
 StaysClosed old written new written' = (new.pending ≡ old.pending) × (new.ended ≡ old.ended) × Grows written old.unsent written' new.unsent []
+
+-- An open session that passed no limit: no line came that is too long, no list that is too large, and no more
+-- than 16 MiB are not written.
+abbrev pub IsWithinLimits : Held → Type 0
+IsWithinLimits held = (held.pending.next ≢ None) × (is_over held.pending.list ≡ false) × (length held.unsent ≤ 16777216)
 
 -- a session that greets its client, of which nothing came
 abbrev pub opening : Held

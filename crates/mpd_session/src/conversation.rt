@@ -1,5 +1,5 @@
 //! What a session does, over its parts.
-ghost use Rattle.std.specs.Prelude.{◌≡◌, ◌≢◌, ◌++◌, ◌<◌, ◌≤◌, ◌+◌, ◌⊎◌, [], List, ℕ, length, take, drop, map, Some, None, Ok, Err, true, false, OnOk, OnErr, IfOk, IsErr};
+ghost use Rattle.std.specs.Prelude.{◌≡◌, ◌≢◌, ◌++◌, ◌<◌, ◌≤◌, ◌+◌, ◌⊎◌, [], List, ℕ, length, take, drop, map, Some, None, Ok, Err, true, false, OnOk, OnErr, IfOk, IsErr, is_ok};
 ghost use Rattle.std.specs.Io.KnownBytes.{Appends, Consumes};
 ghost use Rattle.mpd_text.specs.Lines.Split.{views, line_of};
 ghost use Rattle.mpd_text.specs.Lines.Cut.{split_from};
@@ -7,8 +7,9 @@ ghost use Rattle.counted_devices.specs.Tally.{NoFewer};
 ghost use Rattle.mpd_answers.specs.Answers.{Answers, caller};
 ghost use Rattle.mpd_answers.specs.Output.{greeting};
 ghost use Rattle.mpd_answers.specs.Owing.{owed_bytes};
+ghost use Rattle.mpd_answers.specs.Requests.{is_over};
 ghost use Rattle.mpd_session.specs.declared.end.End.{End};
-ghost use Rattle.mpd_session.specs.Sessions.{Blames, BlamesNone, BlamesReader, BlamesWriter, HasFailedSince, ReadsAs, ReadsOn, Runs, Says, Sends, StaysClosed, TellsOf, Turns, coming, end_by as end_by_lem, end_in_list as end_in_list_lem, held_of, opening, pending_of};
+ghost use Rattle.mpd_session.specs.Sessions.{Blames, BlamesNone, BlamesReader, BlamesWriter, HasFailedSince, IsWithinLimits, ReadsAs, ReadsOn, Runs, Says, Sends, StaysClosed, TellsOf, Turns, coming, end_by as end_by_lem, end_in_list as end_in_list_lem, held_of, opening, pending_of};
 
 use crate::end::{End, Goes, SessionFault};
 use crate::unsent::Unsent;
@@ -116,10 +117,13 @@ impl Conversation {
         seat: &mut Seat<L>,
         shelf: &mut S,
     ) -> Result<Goes, SessionFault>
+        requires open { self.old.ended ≡ None → is_over self.old.gatherer ≡ false }
         ensures asker { self.new.asker ≡ self.old.asker }
         ensures turns { self.old.ended ≡ None → Turns (Answers S.standing S.failed self.old.asker) (held_of self.old) (caller seat.old shelf.old) (I.remaining reader.old) (O.contents writer.old) (held_of self.new) (caller seat.new shelf.new) (I.remaining reader.new) (O.contents writer.new) }
         ensures closed { self.old.ended ≢ None → StaysClosed (held_of self.old) (O.contents writer.old) (held_of self.new) (O.contents writer.new) }
+        ensures open { self.new.ended ≡ None → is_over self.new.gatherer ≡ false }
         ensures goes { result ≡ Ok Goes.On → (self.new.ended ≡ None) × (self.new.lines.items ≡ []) × (self.new.piece.items ≡ []) }
+        ensures within { result ≡ Ok Goes.On → IsWithinLimits (held_of self.new) }
         ensures ends { (end : End) → result ≡ Ok (Goes.Closed end) → self.new.ended ≡ Some end }
         ensures read_fault { result ≡ Err SessionFault.ReadFault → self.new.ended ≡ Some End.ReadFault }
         ensures write_fault { result ≡ Err SessionFault.WriteFault → self.new.ended ≡ Some End.WriteFault }
@@ -146,8 +150,12 @@ impl Conversation {
         seat: &mut Seat<L>,
         shelf: &mut S,
     ) -> Result<(), AllocError>
-        requires { self.old.ended ≡ None }
+        requires goes { self.old.ended ≡ None }
+        requires open { is_over self.old.gatherer ≡ false }
         ensures asker { self.new.asker ≡ self.old.asker }
+        ensures open { self.new.ended ≡ None → is_over self.new.gatherer ≡ false }
+        ensures nothing { is_ok result ≡ true → owed_bytes self.new.owed ≡ [] }
+        ensures long { is_ok result ≡ true → self.new.ended ≡ None → self.new.piece.items ≡ [] → self.new.splitter ≢ None }
         ensures turns { Turns (Answers S.standing S.failed self.old.asker) (held_of self.old) (caller seat.old shelf.old) (I.remaining reader.old) (O.contents writer.old) (held_of self.new) (caller seat.new shelf.new) (I.remaining reader.new) (O.contents writer.new) }
         ensures all { OnOk result (self.new.ended ≡ None → self.new.lines.items ≡ []) }
         ensures calm { (O.tally writer.old).failures ≤ (O.tally writer.new).failures }
@@ -259,8 +267,12 @@ impl Conversation {
         shelf: &mut S,
     ) -> Result<(), AllocError>
         requires goes { self.old.ended ≡ None }
+        requires open { is_over self.old.gatherer ≡ false }
         requires nothing { owed_bytes self.old.owed ≡ [] }
         ensures asker { self.new.asker ≡ self.old.asker }
+        ensures open { self.new.ended ≡ None → is_over self.new.gatherer ≡ false }
+        ensures nothing { OnOk result (owed_bytes self.new.owed ≡ []) }
+        ensures long { OnOk result (self.new.ended ≡ None → self.new.piece.items ≡ [] → self.new.splitter ≢ None) }
         ensures runs { Runs (Answers S.standing S.failed self.old.asker) (held_of self.old) (caller seat.old shelf.old) (O.contents writer.old) (held_of self.new) (caller seat.new shelf.new) (O.contents writer.new) }
         ensures all { OnOk result (self.new.ended ≡ None → self.new.lines.items ≡ []) }
         ensures calm { (O.tally writer.old).failures ≤ (O.tally writer.new).failures }
@@ -288,6 +300,7 @@ impl Conversation {
     fn end_lines(&mut self)
         requires { self.old.ended ≡ None → self.old.lines.items ≡ [] }
         ensures frame { self.new ≡ record self.old { ended = self.new.ended } }
+        ensures long { self.new.ended ≡ None → self.new.piece.items ≡ [] → self.new.splitter ≢ None }
         ensures ends { (self.new.ended ≡ self.old.ended) ⊎ ((self.old.ended ≡ None) × (self.new.ended ≡ Some End.LongLine) × (self.old.lines.items ≡ []) × (self.old.piece.items ≡ []) × (self.old.splitter ≡ None)) }
     {
         if self.ended.is_none() && self.piece.is_empty() && self.splitter.is_closed() {
@@ -304,9 +317,11 @@ impl Conversation {
         shelf: &mut S,
     ) -> Result<(), AllocError>
         requires goes { self.old.ended ≡ None }
+        requires open { is_over self.old.gatherer ≡ false }
         requires nothing { owed_bytes self.old.owed ≡ [] }
         requires some { self.old.lines.items ≢ [] }
         ensures asker { self.new.asker ≡ self.old.asker }
+        ensures open { self.new.ended ≡ None → is_over self.new.gatherer ≡ false }
         ensures says { Says (Answers S.standing S.failed self.old.asker) (held_of self.old) (caller seat.old shelf.old) (held_of self.new) (caller seat.new shelf.new) }
         ensures nothing { OnOk result (owed_bytes self.new.owed ≡ []) }
         ensures shorter { OnOk result (length self.new.lines.items + 1 ≡ length self.old.lines.items) }
@@ -327,6 +342,8 @@ impl Conversation {
     /// Writes until the writer would block, but not where that was given up.
     fn send<O: Sink>(&mut self, writer: &mut O)
         ensures frame { self.new ≡ record self.old { unsent = self.new.unsent; ended = self.new.ended } }
+        ensures stays { self.new.ended ≡ None → self.old.ended ≡ None }
+        ensures few { self.new.ended ≡ None → length self.new.unsent ≤ 16777216 }
         ensures sends { Sends (held_of self.old) (O.contents writer.old) (held_of self.new) (O.contents writer.new) }
         ensures failed { self.new.ended ≡ Some End.WriteFault → (self.old.ended ≡ Some End.WriteFault) ⊎ HasFailedSince (O.tally writer.old) (O.tally writer.new) }
         ensures calm { (O.tally writer.old).failures ≤ (O.tally writer.new).failures }
@@ -400,7 +417,8 @@ fn split_piece(splitter: &mut Splitter, piece: &[u8]) -> Result<Vec<Line>, Alloc
 
 /// Whether nothing more is written to a session's client.
 fn is_given_up(ended: Option<End>) -> bool
-    ensures { result ≡ false → ended ≢ Some End.Unsent }
+    ensures writes { result ≡ false → ended ≢ Some End.Unsent }
+    ensures closed { result ≡ true → ended ≢ None }
 {
     matches!(ended, Some(End::Unsent | End::WriteFault))
 }
@@ -448,6 +466,8 @@ fn end_in_list(is_over: bool) -> Option<End>
 
 /// The end of a session after a write that leaves these bytes.
 fn end_after(ended: Option<End>, failed: bool, left: &[u8]) -> Option<End>
+    ensures stays { result ≡ None → ended ≡ None }
+    ensures few { result ≡ None → length left.now ≤ 16777216 }
     ensures end { (result ≡ ended) ⊎ ((ended ≡ None) × ((result ≡ Some End.WriteFault) ⊎ ((result ≡ Some End.Unsent) × (16777216 < length left.now)))) }
     ensures failed { result ≡ Some End.WriteFault → (ended ≡ Some End.WriteFault) ⊎ (failed ≡ true) }
 {

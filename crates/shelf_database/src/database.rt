@@ -19,15 +19,25 @@ use sqlite::{Alter, Connection, Error, ErrorCode, params};
 use std::alloc::Global;
 
 /// A shelf that keeps its maps in the tables of a database.
-#[derive(Drop)]
 pub struct SqlShelf<S: Alter + Drop> {
     alloc: Global,
     connection: Connection<S>,
 }
 
+// Written out, so that a proof goes through one call where it lets one go (docs/DECISIONS.md).
+impl<S: Alter + Drop> Drop for SqlShelf<S> {
+    fn drop(self) {
+        let SqlShelf {
+            alloc: _,
+            connection: _,
+        } = self;
+    }
+}
+
 pub(crate) fn fault(error: Error) -> ShelfFault
     ensures named { (result ≡ ShelfFault.NoMemory) ⊎ (result ≡ ShelfFault.StoreFault) }
     ensures memory { error ≡ Error.SqliteFailure ErrorCode.OutOfMemory → result ≡ ShelfFault.NoMemory }
+    ensures wanting { result ≡ ShelfFault.NoMemory → error ≡ Error.SqliteFailure ErrorCode.OutOfMemory }
 {
     match error {
         Error::SqliteFailure(ErrorCode::OutOfMemory) => ShelfFault::NoMemory,

@@ -16,4 +16,4 @@ returns-in-Ok-command g c =
 pub returns-in-Err : goal.returns-in-Err
 returns-in-Err g c =
     line_refused g.S.Shelf.standing g.S.Shelf.failed c.args.asker (caller c.args.seat.now c.args.shelf.now) (caller c.command.new.seat c.command.new.shelf) (option_copied c.args.line) c.in-Ok.request c.name-name.result.now _ c.in-Err.fault
-    c.in-Ok.ensures c.name-name.ensures refl c.in-Err.ensures.fault.0 c.in-Err.ensures.fault.1
+    c.in-Ok.ensures c.name-name.ensures refl c.in-Err.ensures.fault.0 c.in-Err.ensures.fault.1 c.in-Err.ensures.refused

@@ -7,26 +7,26 @@ use Rattle.mpd_session.proofs.conversation.Conversation.hear.Goals as goal
 
 pub returns-in_err-settle-clause-turns : goal.returns-in_err-settle-clause-turns
 returns-in_err-settle-clause-turns g c =
-    turns_none (Answers g.S.Shelf.standing g.S.Shelf.failed c.args.self.now.asker) (held_of c.args.self.now) (held_of c.settle.new.self) _ _ _ c.requires c.settle.ensures.held
+    turns_none (Answers g.S.Shelf.standing g.S.Shelf.failed c.args.self.now.asker) (held_of c.args.self.now) (held_of c.settle.new.self) _ _ _ c.requires.goes c.settle.ensures.held
 
 pub returns-in_err-tell-clause-turns : goal.returns-in_err-tell-clause-turns
 returns-in_err-tell-clause-turns g c =
     let pending : pending_of c.tell.new.self ≡ pending_of c.args.self.now = ap pending_of c.tell.ensures.frame ∙ ap (λ (h : Held). h.pending) c.settle.ensures.held in
-    let ended : c.tell.new.self.ended ≡ None = ap (λ s. (held_of s).ended) c.tell.ensures.frame ∙ ap (λ (h : Held). h.ended) c.settle.ensures.held ∙ c.requires in
+    let ended : c.tell.new.self.ended ≡ None = ap (λ s. (held_of s).ended) c.tell.ensures.frame ∙ ap (λ (h : Held). h.ended) c.settle.ensures.held ∙ c.requires.goes in
     let told : TellsOf (held_of c.args.self.now).unsent (held_of c.tell.new.self).unsent = subst (λ (h : Held). TellsOf h.unsent (held_of c.tell.new.self).unsent) c.settle.ensures.held c.tell.ensures.told in
-    turns_told (Answers g.S.Shelf.standing g.S.Shelf.failed c.args.self.now.asker) (held_of c.args.self.now) (held_of c.tell.new.self) _ _ _ c.requires pending ended told
+    turns_told (Answers g.S.Shelf.standing g.S.Shelf.failed c.args.self.now.asker) (held_of c.args.self.now) (held_of c.tell.new.self) _ _ _ c.requires.goes pending ended told
 
 pub returns-in_err-take_in-clause-turns : goal.returns-in_err-take_in-clause-turns
 returns-in_err-take_in-clause-turns g c =
     let pending : pending_of c.tell.new.self ≡ pending_of c.args.self.now = ap pending_of c.tell.ensures.frame ∙ ap (λ (h : Held). h.pending) c.settle.ensures.held in
     let told : TellsOf (held_of c.args.self.now).unsent (held_of c.tell.new.self).unsent = subst (λ (h : Held). TellsOf h.unsent (held_of c.tell.new.self).unsent) c.settle.ensures.held c.tell.ensures.told in
-    turns_read (Answers g.S.Shelf.standing g.S.Shelf.failed c.args.self.now.asker) (held_of c.args.self.now) (held_of c.tell.new.self) (held_of c.take_in.new.self) _ _ _ _ c.requires pending told c.take_in.ensures.reads
+    turns_read (Answers g.S.Shelf.standing g.S.Shelf.failed c.args.self.now.asker) (held_of c.args.self.now) (held_of c.tell.new.self) (held_of c.take_in.new.self) _ _ _ _ c.requires.goes pending told c.take_in.ensures.reads
 
 pub returns-then-is_some-clause-turns : goal.returns-then-is_some-clause-turns
 returns-then-is_some-clause-turns g c =
     let pending : pending_of c.tell.new.self ≡ pending_of c.args.self.now = ap pending_of c.tell.ensures.frame ∙ ap (λ (h : Held). h.pending) c.settle.ensures.held in
     let told : TellsOf (held_of c.args.self.now).unsent (held_of c.tell.new.self).unsent = subst (λ (h : Held). TellsOf h.unsent (held_of c.tell.new.self).unsent) c.settle.ensures.held c.tell.ensures.told in
-    turns_read (Answers g.S.Shelf.standing g.S.Shelf.failed c.args.self.now.asker) (held_of c.args.self.now) (held_of c.tell.new.self) (held_of c.take_in.new.self) _ _ _ _ c.requires pending told c.take_in.ensures.reads
+    turns_read (Answers g.S.Shelf.standing g.S.Shelf.failed c.args.self.now.asker) (held_of c.args.self.now) (held_of c.tell.new.self) (held_of c.take_in.new.self) _ _ _ _ c.requires.goes pending told c.take_in.ensures.reads
 
 pub returns-clause-turns : goal.returns-clause-turns
 returns-clause-turns g c =
@@ -35,14 +35,14 @@ returns-clause-turns g c =
     let ended : c.take_in.new.self.ended ≡ None = search rules in
     let asker : c.take_in.new.self.asker ≡ c.args.self.now.asker = ap (λ s. s.asker) c.take_in.ensures.frame ∙ ap (λ s. s.asker) c.tell.ensures.frame ∙ ap (λ s. s.asker) c.settle.ensures.frame in
     turns_run_as (Answers g.S.Shelf.standing g.S.Shelf.failed) c.args.self.now.asker c.take_in.new.self.asker asker (held_of c.args.self.now) (held_of c.take_in.new.self) (held_of c.run.new.self) _ _ _ _ _ _ _ _ ended
-    (turns_read (Answers g.S.Shelf.standing g.S.Shelf.failed c.args.self.now.asker) (held_of c.args.self.now) (held_of c.tell.new.self) (held_of c.take_in.new.self) _ _ _ _ c.requires pending told c.take_in.ensures.reads)
+    (turns_read (Answers g.S.Shelf.standing g.S.Shelf.failed c.args.self.now.asker) (held_of c.args.self.now) (held_of c.tell.new.self) (held_of c.take_in.new.self) _ _ _ _ c.requires.goes pending told c.take_in.ensures.reads)
     c.run.ensures.runs
 
 pub returns-in_err-settle-clause-blamed : goal.returns-in_err-settle-clause-blamed
-returns-in_err-settle-clause-blamed g c = open_blames_none _ (g.I.Failing.tally c.args.reader.now) (g.I.Failing.tally c.args.reader.now) (g.O.Failing.tally c.args.writer.now) (g.O.Failing.tally c.args.writer.now) (ap (λ (h : Held). h.ended) c.settle.ensures.held ∙ c.requires)
+returns-in_err-settle-clause-blamed g c = open_blames_none _ (g.I.Failing.tally c.args.reader.now) (g.I.Failing.tally c.args.reader.now) (g.O.Failing.tally c.args.writer.now) (g.O.Failing.tally c.args.writer.now) (ap (λ (h : Held). h.ended) c.settle.ensures.held ∙ c.requires.goes)
 
 pub returns-in_err-tell-clause-blamed : goal.returns-in_err-tell-clause-blamed
-returns-in_err-tell-clause-blamed g c = open_blames_none _ (g.I.Failing.tally c.args.reader.now) (g.I.Failing.tally c.args.reader.now) (g.O.Failing.tally c.args.writer.now) (g.O.Failing.tally c.args.writer.now) (ap (λ s. (held_of s).ended) c.tell.ensures.frame ∙ ap (λ (h : Held). h.ended) c.settle.ensures.held ∙ c.requires)
+returns-in_err-tell-clause-blamed g c = open_blames_none _ (g.I.Failing.tally c.args.reader.now) (g.I.Failing.tally c.args.reader.now) (g.O.Failing.tally c.args.writer.now) (g.O.Failing.tally c.args.writer.now) (ap (λ s. (held_of s).ended) c.tell.ensures.frame ∙ ap (λ (h : Held). h.ended) c.settle.ensures.held ∙ c.requires.goes)
 
 pub returns-in_err-take_in-clause-blamed : goal.returns-in_err-take_in-clause-blamed
 returns-in_err-take_in-clause-blamed g c = reader_blames _ (g.I.Failing.tally c.args.reader.now) (g.I.Failing.tally c.take_in.new.reader) (g.O.Failing.tally c.args.writer.now) (g.O.Failing.tally c.args.writer.now) c.take_in.ensures.blamed

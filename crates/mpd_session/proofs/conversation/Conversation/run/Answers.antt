@@ -1,6 +1,7 @@
 use Rattle.std.proofs.Common.{◌≡◌, ◌⊎◌, ◌∙◌, ◌≤◌, ℕ, arith, [], None, Some, inl, inr, ap, refl, rules, subst}
 use Rattle.mpd_text.specs.Lines.Split.{views}
 use Rattle.mpd_answers.specs.Answers.{Answers, caller}
+use Rattle.mpd_answers.specs.Requests.{is_over}
 use Rattle.mpd_answers.specs.declared.asker.Asker.{Asker}
 use Rattle.mpd_session.specs.declared.end.End.TheVariants.{LongLine}
 use Rattle.mpd_session.specs.Sessions.{held_of, pending_of, Says}
@@ -12,7 +13,7 @@ grows : {a b c : ℕ} → a ≤ b → b ≤ c → a ≤ c
 grows h i = omega (arith, h, i)
 
 pub loop-self-init : goal.loop-self-init
-loop-self-init g c = (runs_none (Answers g.S.Shelf.standing g.S.Shelf.failed c.args.self.now.asker) (held_of c.args.self.now) _ _ c.requires.goes, c.requires.nothing, refl, omega arith, open_blames _ _ _ c.requires.goes)
+loop-self-init g c = (runs_none (Answers g.S.Shelf.standing g.S.Shelf.failed c.args.self.now.asker) (held_of c.args.self.now) _ _ c.requires.goes, c.requires.nothing, refl, omega arith, open_blames _ _ _ c.requires.goes, λ _. c.requires.open)
 
 pub returns-in_err-step-clause-runs : goal.returns-in_err-step-clause-runs
 returns-in_err-step-clause-runs g c =
@@ -33,6 +34,7 @@ loop-self-preserved-then-as_slice-gt-MAX_UNSENT g c =
       ap (λ s. s.asker) c.send.ensures.frame ∙ c.step.ensures.asker ∙ c.loop-self.invariant.2,
       grows c.loop-self.invariant.3 c.send.ensures.calm,
       sent_blames _ _ (held_of c.step.new.self).unsent (held_of c.send.new.self).unsent (g.O.Failing.tally c.args.writer.now) (g.O.Failing.tally c.loop-self.writer) (g.O.Failing.tally c.send.new.writer) c.step.ensures.blameless c.send.ensures.sends.2 c.send.ensures.failed c.loop-self.invariant.3,
+      λ none. ap (λ s. is_over s.gatherer) c.send.ensures.frame ∙ c.step.ensures.open (c.send.ensures.stays none),
     )
 
 pub loop-self-preserved : goal.loop-self-preserved
@@ -45,6 +47,7 @@ loop-self-preserved g c =
       c.step.ensures.asker ∙ c.loop-self.invariant.2,
       c.loop-self.invariant.3,
       none_blames _ _ _ c.step.ensures.blameless,
+      c.step.ensures.open,
     )
 
 pub returns-clause-runs : goal.returns-clause-runs

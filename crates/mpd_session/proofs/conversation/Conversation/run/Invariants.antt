@@ -1,6 +1,7 @@
-use Rattle.std.proofs.Common.{◌≡◌, ◌≤◌, [], length}
+use Rattle.std.proofs.Common.{◌≡◌, ◌≤◌, [], length, None, false}
 use Rattle.mpd_answers.specs.Answers.{Answers, caller}
 use Rattle.mpd_answers.specs.Owing.{owed_bytes}
+use Rattle.mpd_answers.specs.Requests.{is_over}
 use Rattle.mpd_session.specs.Sessions.{BlamesWriter, held_of, Runs}
 use Rattle.mpd_session.proofs.conversation.Conversation.run.Given as goal
 
@@ -11,6 +12,7 @@ invariant-loop-self g l =
     × (l.self.asker ≡ l.initial.self.asker)
     × ((g.O.Failing.tally l.initial.writer).failures ≤ (g.O.Failing.tally l.writer).failures)
     × BlamesWriter l.self.ended (g.O.Failing.tally l.initial.writer) (g.O.Failing.tally l.writer)
+    × (l.self.ended ≡ None → is_over l.self.gatherer ≡ false)
 
 abbrev pub decreases-loop-self : goal.decreases-loop-self
 decreases-loop-self g l = length l.self.lines.items

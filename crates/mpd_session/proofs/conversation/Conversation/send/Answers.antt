@@ -9,6 +9,6 @@ use Rattle.mpd_session.proofs.conversation.Conversation.send.Goals as goal
 pub returns-clause-sends : goal.returns-clause-sends
 returns-clause-sends g c =
     let written : Appends (g.O.Write.contents c.args.writer.now) (g.O.Write.contents c.send_some-count.new.writer) (take c.send_some-count.result.count c.args.self.now.unsent) = search rules in
-    let other : c.args.self.now.ended ≢ Some Unsent = c.is_given_up.ensures c.if-is_given_up.false in
+    let other : c.args.self.now.ended ≢ Some Unsent = c.is_given_up.ensures.writes c.if-is_given_up.false in
     let ends : (c.end_after-self.result ≡ c.args.self.now.ended) ⊎ ((c.args.self.now.ended ≡ None) × ((c.end_after-self.result ≡ Some WriteFault) ⊎ ((c.end_after-self.result ≡ Some Unsent) × (16777216 < length c.drop_front.new.self)))) = subst (λ (x : List ℕ). (c.end_after-self.result ≡ c.args.self.now.ended) ⊎ ((c.args.self.now.ended ≡ None) × ((c.end_after-self.result ≡ Some WriteFault) ⊎ ((c.end_after-self.result ≡ Some Unsent) × (16777216 < length x))))) c.as_slice-2.ensures c.end_after-self.ensures.end in
     (refl, only_sent _ _ c.args.self.now.unsent c.drop_front.new.self _ _ c.drop_front.ensures written, sent_as _ _ _ c.drop_front.new.self (owed_bytes c.args.self.now.owed) ends other)

@@ -1,8 +1,13 @@
+use Rattle.std.proofs.Common.{◌≡◌, ◌≢◌, ◌≤◌, ◌++◌, ◌∙◌, [], List, ℕ, true, is_ok, None, length, ap, sym, subst, append-nil, arith, rules}
+use Rattle.std.proofs.lemmas.Grind.{common_steps}
 use Rattle.mpd_answers.specs.Answers.{Answers}
+use Rattle.mpd_answers.specs.Owing.{owed_bytes}
+use Rattle.mpd_answers.specs.Requests.{is_over}
 use Rattle.mpd_session.specs.Sessions.{held_of}
 use Rattle.mpd_session.proofs.Runs.{turns_sent}
 use Rattle.mpd_session.proofs.Blame.{turn_blames}
 use Rattle.mpd_session.proofs.conversation.Conversation.turn.Goals as goal
+use Rattle.mpd_session.proofs.conversation.Conversation.turn.Goals.{then-is_ok, else-is_ok}
 
 pub returns-clause-turns : goal.returns-clause-turns
 returns-clause-turns g c =
@@ -11,3 +16,21 @@ returns-clause-turns g c =
 pub returns-clause-blamed : goal.returns-clause-blamed
 returns-clause-blamed g c = λ e.
     turn_blames _ _ (held_of c.hear-heard.new.self).unsent (held_of c.send-2.new.self).unsent (g.I.Failing.tally c.args.reader.now) (g.I.Failing.tally c.hear-heard.new.reader) (g.O.Failing.tally c.args.writer.now) (g.O.Failing.tally c.hear-heard.new.writer) (g.O.Failing.tally c.send-2.new.writer) c.hear-heard.ensures.blamed c.send-2.ensures.sends.2 c.send-2.ensures.failed c.hear-heard.ensures.calm c.send-2.ensures.calm
+
+pub returns-clause-within : goal.returns-clause-within
+returns-clause-within g c = λ on.
+    let ended : c.send-2.new.self.ended ≡ None = (c.answer_of.ensures.goes on).0 in
+    let was : c.hear-heard.new.self.ended ≡ None = c.send-2.ensures.stays ended in
+    let all : c.if-is_ok.all ≡ true = (c.answer_of.ensures.goes on).1 in
+    let whole : (is_ok c.hear-heard.result ≡ true) × (c.send-2.new.self.piece.items ≡ []) =
+    elim c.if-is_ok.branch [ then-is_ok w ↦ (search rules, grind (arith, common_steps)) | else-is_ok w ↦ search rules ] in
+    let piece : c.hear-heard.new.self.piece.items ≡ [] = sym (ap (λ s. s.piece.items) c.send-2.ensures.frame) ∙ whole.1 in
+    let heard : (owed_bytes c.hear-heard.new.self.owed ≡ []) × (c.hear-heard.new.self.splitter ≢ None) =
+    (c.hear-heard.ensures.nothing whole.0, c.hear-heard.ensures.long whole.0 was piece) in
+    let owed : owed_bytes c.send-2.new.self.owed ≡ [] = ap (λ s. owed_bytes s.owed) c.send-2.ensures.frame ∙ heard.0 in
+    let few : length (c.send-2.new.self.unsent ++ []) ≤ 16777216 =
+    subst (λ (bytes : List ℕ). length bytes ≤ 16777216) (sym (append-nil c.send-2.new.self.unsent)) (c.send-2.ensures.few ended) in (
+      λ none. heard.1 (sym (ap (λ s. s.splitter) c.send-2.ensures.frame) ∙ none),
+      ap (λ s. is_over s.gatherer) c.send-2.ensures.frame ∙ c.hear-heard.ensures.open was,
+      subst (λ (bytes : List ℕ). length (c.send-2.new.self.unsent ++ bytes) ≤ 16777216) (sym owed) few,
+    )
