@@ -2,7 +2,7 @@
 import re
 
 from program import MOST_FAILURES, show_failures
-from rows import input_of, output_of, sessions
+from rows import input_of, output_of, sessions, worked
 
 CLIENTS = [b'%d%c' % (number, end) for number in range(1, 10) for end in b' \n']
 RIGHT, LINE, STEP, FOLD, ENDED, FAILED = 'right', 'line refused', 'step refused', 'fold refused', 'run ended', 'FAILED'
@@ -65,14 +65,30 @@ def refusals(program, steps, place):
     return right
 
 
+def begin_of(steps, client, place):
+    """Where the list begins that is open at a place; the place itself where none is."""
+    begin = place
+    for at, (line, _) in enumerate(steps[:place]):
+        if is_list_word(line, client, b'end'):
+            begin = place
+        elif begin == place and (is_list_word(line, client, b'begin') or is_list_word(line, client, b'ok_begin')):
+            begin = at
+    return begin
+
+
+def is_list_word(line, client, word):
+    """Whether the line is this list word alone; spaces round it do not matter."""
+    return line.startswith(client) and line[len(client):].strip() == b'command_list_' + word
+
+
 def list_refusals(program, steps, place):
     """The right outputs where a command of the list that this step ends found no memory: those before it are run and stand."""
     end, most = steps[place][0], most_of(steps)
     client = end[:2]
-    if end != client + b'command_list_end\n':
+    if not is_list_word(end, client, b'end'):
         return {}
-    begin = max((at for at in range(place) if steps[at][0].startswith(client + b'command_list_')), default=place)
-    inside = [at for at in range(begin + 1, place) if steps[at][0].startswith(client)]
+    begin = begin_of(steps, client, place)
+    inside = [at for at in range(begin + 1, place) if steps[at][0].startswith((client, client[:1] + b'\n'))]
     right = {}
     for count, first in enumerate(inside):
         cut = set(inside[count:])
@@ -96,8 +112,8 @@ def sort_of(run, full, refused):
     return FAILED
 
 
-def check_session(program, steps):
-    """How many runs were of each sort, and what failed."""
+def check_session(program, steps, folds):
+    """How many runs were of each sort, and what failed; whether some run must find no memory for a fold."""
     data, full = input_of(steps), output_of(steps)
     refused = {}
     for place in range(len(steps)):
@@ -115,7 +131,7 @@ def check_session(program, steps):
         sorts[sort] += 1
         if sort == FAILED:
             failures.append('allocation %d refused: %s' % (number, run.told(full)))
-    if most_of(steps) and not sorts[FOLD]:
+    if folds and not sorts[FOLD]:
         failures.append('no run found a fold without memory')
     return sorts, failures
 
@@ -135,10 +151,15 @@ def check_fold(program):
 def check(program):
     """Prints a table; the number of failures."""
     print('Refused memory: one allocation of the run is refused (the last run of each session refuses none)')
-    print('  %-32s %6s %6s %13s %13s %13s %10s %7s' % ('session', 'runs', *SORTS))
+    print('  %-48s %6s %6s %13s %13s %13s %10s %7s' % ('session', 'runs', *SORTS))
     failed = check_fold(program)
     for name, steps in sessions():
-        sorts, failures = check_session(program, steps)
-        print('  %-32s %6d %6d %13d %13d %13d %10d %7d' % (name, sum(sorts.values()), *sorts.values()))
-        failed += show_failures(failures)
+        failed += show(name, *check_session(program, steps, bool(most_of(steps))))
+    for name, steps in worked(program):
+        failed += show(name, *check_session(program, steps, False))
     return failed
+
+
+def show(name, sorts, failures):
+    print('  %-48s %6d %6d %13d %13d %13d %10d %7d' % (name, sum(sorts.values()), *sorts.values()))
+    return show_failures(failures)

@@ -1,7 +1,10 @@
 """Input for the checks, with the output that is wanted: (line, what it prints) for each input line."""
 import os
+import re
 
-FOLDER = os.path.join(os.path.dirname(os.path.abspath(__file__)), 'rows')
+HERE = os.path.dirname(os.path.abspath(__file__))
+FOLDER = os.path.join(HERE, 'rows')
+WORKED = os.path.join(os.path.dirname(HERE), 'crates', 'worked_rows', 'data')
 # A line of a client of its own, which never waits: whatever stands in a row, this line is answered alike.
 LONG_LINE = (b'8 add ' + b'x' * 16000 + b'\n', b'8 ACK [50@0] {add} no such song\n')
 GREETED = (LONG_LINE[0], b'8 OK MPD 0.23.0\n' + LONG_LINE[1])
@@ -47,3 +50,32 @@ def input_of(steps):
 
 def output_of(steps):
     return b''.join(printed for _, printed in steps)
+
+
+def unescaped(line):
+    """A line of a row's `>e`: with \\r, \\t, \\\\ and \\xHH, and \\{TEXT*N} for TEXT repeated N times."""
+    line = re.sub(rb'\\\{(.*?)\*(\d+)\}', lambda it: it[1] * int(it[2]), line)
+    one = {b'r': b'\r', b't': b'\t', b'\\': b'\\'}
+    return re.sub(rb'\\(?:x([0-9a-f]{2})|(.))', lambda it: bytes.fromhex(it[1].decode()) if it[1] else one[it[2]], line)
+
+
+def worked(program):
+    """Each worked row, and once more with each line that its head says. The gate holds what the program prints of a row to the
+    row; here what each line prints is read off a run without faults."""
+    for name in sorted(os.listdir(WORKED)):
+        lines, fronts = [], [b'']
+        with open(os.path.join(WORKED, name), 'rb') as row:
+            for line in row:
+                if line.startswith(b'> '):
+                    lines.append(line[2:])
+                elif line.startswith(b'>e '):
+                    lines.append(unescaped(line[3:]))
+                elif line.startswith(b'again: '):
+                    fronts.append(line.split(b' ', 2)[2])
+        for front in fronts:
+            steps, printed = [], b''
+            for line in [front, *lines] if front else lines:
+                output = program.run(input_of(steps) + line).output
+                steps.append((line, output[len(printed):]))
+                printed = output
+            yield name[:-len('.row')] + (' again' if front else ''), steps
