@@ -6,3 +6,4 @@ pub mod Scanning
 pub mod Drawing
 pub mod Going
 pub mod Inserting
+pub mod Choices

@@ -3,3 +3,4 @@ pub mod Order
 pub mod Ends
 pub mod Scans
 pub mod Rows
+pub mod Choices

@@ -2,6 +2,7 @@
 #![tactic(auto)]
 
 mod ending;
+mod laws;
 mod modes;
 mod played;
 mod ranks;
@@ -9,5 +10,9 @@ mod round;
 mod scan;
 
 pub use ending::Ending;
+pub use laws::{
+    chooses_unplayed, consumes_one, follows_places, one_follows, precedes_is_order,
+    rounds_forget_gone, rounds_go_on,
+};
 pub use modes::{Consume, Modes, Rank, Single};
 pub use round::Round;

@@ -5,3 +5,5 @@ pub mod Steps
 pub mod Decoding
 pub mod Laws
 pub mod Rows
+pub mod Choices
+pub mod Rounds

@@ -7,6 +7,10 @@ mod player;
 mod state;
 
 pub use fault::PlayerFault;
-pub use laws::{feeds_as_asked, feeds_once, numbers_rise};
+pub use laws::{
+    deletions_go_on, ends_stop_for_a_cause, feeds_as_asked, feeds_once, next_goes_on, numbers_rise,
+    peek_foretells, play_begins, played_stay_queued, previous_consumes_nothing,
+    rounds_play_each_once,
+};
 pub use player::Player;
 pub use state::{Fade, FadePart, Job, Live, Playback};
