@@ -1,16 +1,32 @@
 #!/usr/bin/env python3
-"""Whether README lists each command of the program once, and no other.
+"""README's list of commands, made from the tables of `mpd_command`.
 
-    checks/commands.py
+    checks/commands.py              says whether README has the list as the tables make it
+    checks/commands.py --write      writes it there
 
-The program's are those of the table `Name::text` of `mpd_command`. README's are the first words of what stands between
-backquotes in its list. Prints what differs; the exit status is 1 where something does.
+A command's form is what stands in backquotes at the front of its variant's doc, in the file of its group. Each name of the list
+`NAMES` has a variant, and no other. The exit status is 1 where something differs.
 """
 import os
 import re
 import sys
 
 TOP = os.path.dirname(os.path.dirname(os.path.abspath(__file__)))
+SOURCES = 'crates/mpd_command/src/%s.rt'
+# what README says of each group, and the files of its commands
+GROUPS = [
+    ('the library', ['database']),
+    ('the queue', ['queue']),
+    ('playback', ['playback']),
+    ('the player', ['status', 'options']),
+    ('stored playlists', ['playlists']),
+    ('stickers, which are texts that clients keep with a song, such as a rating', ['sticker']),
+    ('messages between clients', ['messages']),
+    ('the outputs', ['outputs']),
+    ('the connection', ['connection']),
+]
+# what README says beside a form
+NOTES = {'kill': 'where the settings allow it; a script may not'}
 
 
 def read(path):
@@ -18,17 +34,36 @@ def read(path):
         return file.read()
 
 
+def forms_of(group):
+    """The forms of a group's commands, in the order of their variants."""
+    enum = re.search(r'^pub enum \w+Command \{\n(.*?)^\}', read(SOURCES % group), re.M | re.S).group(1)
+    return re.findall(r'(?:\A|,\n)    /// `([^`]+)`', enum)
+
+
+def list_of():
+    """README's list, and the names of the commands in it."""
+    lines, names = [], []
+    for title, files in GROUPS:
+        forms = [form for file in files for form in forms_of(file)]
+        names += dict.fromkeys(form.split()[0] for form in forms)
+        shown = ', '.join('`%s`%s' % (form, ' (%s)' % NOTES[form] if form in NOTES else '') for form in forms)
+        lines.append('- %s: %s' % (title, shown))
+    return 'The %d commands:\n\n%s.\n' % (len(names), ';\n'.join(lines)), names
+
+
 def main():
-    known = re.findall(r'Name::\w+ => "(\w+)"', read('crates/mpd_command/src/name.rt'))
-    head, listed = re.search(r'^The (\d+) commands:\n\n((?:- .*\n)+)', read('README.md'), re.M).groups()
-    shown = re.findall(r'`(\w+)[^`]*`', listed)
-    wrong = ['%s is not in README' % name for name in known if name not in shown]
-    wrong += ['%s is no command' % name for name in dict.fromkeys(shown) if name not in known]
-    # the forms of one command stand side by side
-    runs = [name for name, before in zip(shown, ['', *shown]) if name != before]
-    wrong += ['%s stands twice in README' % name for name in sorted(set(runs)) if runs.count(name) > 1]
-    if int(head) != len(known):
-        wrong.append('README says %s commands, and there are %d' % (head, len(known)))
+    made, names = list_of()
+    table, = re.findall(r'^const NAMES: .* = &\[\n(.*?)^\];', read(SOURCES % 'name'), re.M | re.S)
+    known = re.findall(r'"(\w+)"', table)
+    wrong = ['%s has no variant with its form' % name for name in known if name not in names]
+    wrong += ['%s is no command' % name for name in names if name not in known]
+    readme = read('README.md')
+    found = re.search(r'^The \d+ commands:\n\n(?:- .*\n)+', readme, re.M)
+    if '--write' in sys.argv[1:]:
+        with open(os.path.join(TOP, 'README.md'), 'w', encoding='utf-8') as file:
+            file.write(readme[:found.start()] + made + readme[found.end():])
+    elif found.group() != made:
+        wrong.append('README does not list them so:\n' + made)
     print('\n'.join(wrong) or 'README lists the %d commands' % len(known))
     return bool(wrong)
 

@@ -4,7 +4,7 @@ use Rattle.std.specs.Prelude.{IsTrue}
 use Rattle.std.specs.Str.{bytes_eq}
 use Rattle.std.proofs.lemmas.Slice.Eq.{bytes_eq-Decides}
 use Rattle.song_queue.proofs.Same.{pointwise-refl, pointwise-true}
-use Rattle.library_commands.specs.Shelf.{same_uris}
+use Rattle.library_commands.specs.Playlists.{same_uris}
 
 same_uris-true : (a b : List (List ℕ)) → same_uris a b ≡ true → a ≡ b
 unfolding same_uris

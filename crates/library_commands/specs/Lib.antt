@@ -1,2 +1,4 @@
-pub mod Library
-pub mod Shelf
+pub mod Database
+pub mod Playlists
+pub mod Stickers
+pub mod Asking

@@ -2,5 +2,6 @@
 #![tactic(auto)]
 
 pub mod asking;
-pub mod library;
-pub mod stored;
+pub mod database;
+pub mod playlists;
+pub mod stickers;

@@ -12,7 +12,8 @@ use Rattle.counted_player.specs.Counts.{AnswersSomewhere}
 use Rattle.held_player.specs.Views.{IsUnwritten, StopsSomewhere}
 use Rattle.mpd_command.specs.Requests.{name_in, request_of}
 use Rattle.mpd_command.specs.declared.command.Command.{Command}
-use Rattle.mpd_command.specs.declared.command.Command.TheVariants.{Kill}
+use Rattle.mpd_command.specs.declared.command.Command.TheVariants as command
+use Rattle.mpd_command.specs.declared.connection.ConnectionCommand.TheVariants as connection
 use Rattle.mpd_command.specs.declared.request.Request.{Request}
 use Rattle.mpd_command.specs.declared.request.Request.TheVariants.{Run, Refused}
 use Rattle.mpd_text.specs.Answers.Answer.{ack_line}
@@ -59,7 +60,7 @@ read_lines may_kill lines = map (λ line. read_line may_kill (line_of_list line)
 
 -- whether a command ends the daemon, where its client is closed by it
 abbrev pub is_kill_command : Command → Bool
-is_kill_command Kill = true
+is_kill_command (command.Connection connection.Kill) = true
 is_kill_command _ = false
 
 abbrev pub is_kill : Request → Bool

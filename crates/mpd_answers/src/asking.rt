@@ -17,7 +17,7 @@ use command_lists::{CommandList, ListLine};
 use counted_player::{Ledgers, Seat};
 use held_player::{Answered, AnsweredList};
 use house::House;
-use mpd_command::{Ack, Command, Request};
+use mpd_command::{Ack, Command, ConnectionCommand, Request};
 use mpd_text::{ErrorNumber, Text};
 use partition::PartitionFault;
 use shelf::Shelf;
@@ -139,7 +139,10 @@ fn push_request(
 fn is_kill(request: &Request) -> bool
     ensures { result ≡ is_kill_in request.now }
 {
-    matches!(request, Request::Run(_, Command::Kill))
+    matches!(
+        request,
+        Request::Run(_, Command::Connection(ConnectionCommand::Kill))
+    )
 }
 
 /// The place of the first request that would end the daemon; their number where there is none.

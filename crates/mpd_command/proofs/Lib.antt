@@ -1,3 +1,4 @@
 pub mod Slashes
 pub mod Signs
 pub mod Manys
+pub mod Places

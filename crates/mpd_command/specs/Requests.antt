@@ -29,15 +29,16 @@ ack_of name WrongNumber = record { number = Argument; command = Some name; text 
 ack_of name (Bad argument) = record { number = Argument; command = Some name; text = quoted (codes "bad argument \"") argument }
 ack_of name NoMemoryToRead = record { number = Argument; command = Some name; text = [] }
 
-abbrev pub read_as : Name → Result Command Misread → Result (Name × Command) Ack
-read_as name (Ok command) = Ok (name, command)
-read_as name (Err misread) = Err (ack_of name misread)
+abbrev pub read_as : Name → List ℕ → Result (Option Command) Misread → Result (Name × Command) Ack
+read_as name word (Ok (Some command)) = Ok (name, command)
+read_as name word (Ok None) = Err (unknown word)
+read_as name word (Err misread) = Err (ack_of name misread)
 
 abbrev pub of_name : Option Name → List ℕ → List (List ℕ) → Bool → Result (Name × Command) Ack
 of_name None word words allow_kill = Err (unknown word)
 of_name (Some name) word words allow_kill =
-    if is_forbidden name allow_kill then Err (record { number = Permission; command = Some name; text = codes "no permission for \"kill\"" })
-    else read_as name (command_of allow_kill name words)
+    if is_forbidden word allow_kill then Err (record { number = Permission; command = Some name; text = codes "no permission for \"kill\"" })
+    else read_as name word (command_of allow_kill word words)
 
 -- the command of words, under its name, or the first refusal: unknown, not allowed, wrong number, first
 -- argument of a wrong form

@@ -5,6 +5,7 @@ use Rattle.std.specs.Prelude.{ℕ, nat_le, ◌&&◌, List, [], ◌∷◌, length
 use Rattle.std.specs.Str.{bytes_eq}
 use Rattle.mpd_command.specs.Forms.{uri_of}
 use Rattle.mpd_command.specs.Readers.{map_ok, argument_of, both}
+use Rattle.mpd_command.specs.Tables.{Row}
 use Rattle.mpd_command.specs.declared.forms.Uri.{Uri}
 use Rattle.mpd_command.specs.declared.readers.Misread.{Misread}
 use Rattle.mpd_command.specs.declared.readers.Misread.TheVariants.{WrongNumber, Bad}
@@ -69,3 +70,7 @@ sticker_of (verb ∷ words) =
     else (if bytes_eq verb (codes "delete") then delete_of words
     else (if bytes_eq verb (codes "list") then list_of words
     else (if bytes_eq verb (codes "find") then find_of words else other_of verb words))))
+
+-- the table of commands of stickers
+unfoldable pub rows : List (Row StickerCommand)
+rows = (codes "sticker", sticker_of) ∷ []

@@ -2,20 +2,38 @@
 #![tactic(auto)]
 
 mod command;
+mod connection;
+mod database;
 mod fade;
 mod forms;
+mod messages;
 mod name;
+mod options;
+mod outputs;
+mod playback;
+mod playlists;
+mod queue;
 mod readers;
 mod request;
+mod status;
 mod sticker;
 mod volume;
 mod wanted;
 
 pub use command::Command;
+pub use connection::ConnectionCommand;
+pub use database::DatabaseCommand;
 pub use fade::FadeSeconds;
 pub use forms::{Place, Seeking, SingleMode, Uri, Window};
-pub use name::{NAMES, Name};
+pub use messages::MessageCommand;
+pub use name::{Name, is_forbidden, names};
+pub use options::OptionCommand;
+pub use outputs::OutputCommand;
+pub use playback::PlaybackCommand;
+pub use playlists::PlaylistCommand;
+pub use queue::QueueCommand;
 pub use request::{Ack, CommandFault, Request};
+pub use status::StatusCommand;
 pub use sticker::{Comparison, Operator, StickerCommand};
 pub use volume::Volume;
 pub use wanted::{FilterHandle, Wanted};

@@ -1,262 +1,72 @@
 //! The names of commands.
-ghost use Rattle.std.specs.Prelude.{◌≡◌, ℕ, List, Some, None};
-ghost use Rattle.mpd_command.specs.Names.{text_of, name_of, is_forbidden as is_forbidden_lem};
+ghost use Rattle.std.specs.Prelude.{◌≡◌, Option, map, position};
+ghost use Rattle.std.specs.Str.{bytes_eq};
+ghost use Rattle.mpd_command.specs.Names.{all_names, is_forbidden as is_forbidden_lem, name_of, text_of};
 
-/// The commands that are known, in the byte order of their names (MPD protocol reference, Command reference).
-#[derive(Clone, Copy, Debug, PartialEq, Eq)]
-pub enum Name {
-    Add,
-    AddId,
-    Channels,
-    Clear,
-    ClearError,
-    Close,
-    Commands,
-    Consume,
-    Count,
-    Crossfade,
-    CurrentSong,
-    Delete,
-    DeleteId,
-    DisableOutput,
-    EnableOutput,
-    Find,
-    FindAdd,
-    GetVol,
-    Idle,
-    Kill,
-    List,
-    ListAll,
-    ListPlaylist,
-    ListPlaylistInfo,
-    ListPlaylists,
-    Load,
-    LsInfo,
-    Move,
-    MoveId,
-    Next,
-    NoIdle,
-    NotCommands,
-    Outputs,
-    Pause,
-    Ping,
-    Play,
-    PlayId,
-    PlaylistAdd,
-    PlaylistClear,
-    PlaylistDelete,
-    PlaylistId,
-    PlaylistInfo,
-    PlaylistMove,
-    PlChanges,
-    PlChangesPosId,
-    Previous,
-    Prio,
-    PrioId,
-    Random,
-    ReadMessages,
-    Rename,
-    Repeat,
-    Rescan,
-    Rm,
-    Save,
-    Search,
-    SearchAdd,
-    Seek,
-    SeekCur,
-    SeekId,
-    SendMessage,
-    SetVol,
-    Shuffle,
-    Single,
-    Status,
-    Sticker,
-    Stop,
-    Subscribe,
-    Swap,
-    SwapId,
-    TagTypes,
-    ToggleOutput,
-    Unsubscribe,
-    Update,
-}
-
-/// All commands.
-pub const NAMES: [Name; 74] = [
-    Name::Add,
-    Name::AddId,
-    Name::Channels,
-    Name::Clear,
-    Name::ClearError,
-    Name::Close,
-    Name::Commands,
-    Name::Consume,
-    Name::Count,
-    Name::Crossfade,
-    Name::CurrentSong,
-    Name::Delete,
-    Name::DeleteId,
-    Name::DisableOutput,
-    Name::EnableOutput,
-    Name::Find,
-    Name::FindAdd,
-    Name::GetVol,
-    Name::Idle,
-    Name::Kill,
-    Name::List,
-    Name::ListAll,
-    Name::ListPlaylist,
-    Name::ListPlaylistInfo,
-    Name::ListPlaylists,
-    Name::Load,
-    Name::LsInfo,
-    Name::Move,
-    Name::MoveId,
-    Name::Next,
-    Name::NoIdle,
-    Name::NotCommands,
-    Name::Outputs,
-    Name::Pause,
-    Name::Ping,
-    Name::Play,
-    Name::PlayId,
-    Name::PlaylistAdd,
-    Name::PlaylistClear,
-    Name::PlaylistDelete,
-    Name::PlaylistId,
-    Name::PlaylistInfo,
-    Name::PlaylistMove,
-    Name::PlChanges,
-    Name::PlChangesPosId,
-    Name::Previous,
-    Name::Prio,
-    Name::PrioId,
-    Name::Random,
-    Name::ReadMessages,
-    Name::Rename,
-    Name::Repeat,
-    Name::Rescan,
-    Name::Rm,
-    Name::Save,
-    Name::Search,
-    Name::SearchAdd,
-    Name::Seek,
-    Name::SeekCur,
-    Name::SeekId,
-    Name::SendMessage,
-    Name::SetVol,
-    Name::Shuffle,
-    Name::Single,
-    Name::Status,
-    Name::Sticker,
-    Name::Stop,
-    Name::Subscribe,
-    Name::Swap,
-    Name::SwapId,
-    Name::TagTypes,
-    Name::ToggleOutput,
-    Name::Unsubscribe,
-    Name::Update,
+/// The names of all commands, in their byte order.
+#[rattlefmt::skip]
+const NAMES: &[&'static str] = &[
+    "add", "addid", "channels", "clear", "clearerror", "close", "commands", "consume", "count",
+    "crossfade", "currentsong", "delete", "deleteid", "disableoutput", "enableoutput", "find",
+    "findadd", "getvol", "idle", "kill", "list", "listall", "listplaylist", "listplaylistinfo",
+    "listplaylists", "load", "lsinfo", "move", "moveid", "next", "noidle", "notcommands",
+    "outputs", "pause", "ping", "play", "playid", "playlistadd", "playlistclear",
+    "playlistdelete", "playlistid", "playlistinfo", "playlistmove", "plchanges", "plchangesposid",
+    "previous", "prio", "prioid", "random", "readmessages", "rename", "repeat", "rescan", "rm",
+    "save", "search", "searchadd", "seek", "seekcur", "seekid", "sendmessage", "setvol",
+    "shuffle", "single", "status", "sticker", "stop", "subscribe", "swap", "swapid", "tagtypes",
+    "toggleoutput", "unsubscribe", "update",
 ];
 
+/// The names of all commands, in their byte order (MPD protocol reference, Command reference).
+#[tactic(auto, unfolding(crate::specs::Names::all_names, crate::specs::Connection::rows, crate::specs::Database::rows, crate::specs::Messages::rows, crate::specs::Options::rows, crate::specs::Outputs::rows, crate::specs::Playback::rows, crate::specs::Playlists::rows, crate::specs::Queue::rows, crate::specs::Status::rows, crate::specs::Stickers::rows,))]
+pub fn names() -> &'static [&'static str]
+    ensures { map (λ name. name.now) result.now ≡ all_names }
+{
+    NAMES
+}
+
+/// The name of a command: its place among all names.
+#[derive(Clone, Copy, Debug, PartialEq, Eq)]
+pub struct Name {
+    place: usize,
+}
+
 impl Name {
-    /// The command of a word, if it is one. Upper and lower case are two things.
-    #[tactic(auto, unfolding(crate::specs::Names::name_of))]
+    ghost use Rattle.std.specs.Prelude.{◌≡◌, Option};
+    ghost use Rattle.mpd_command.specs.Names.{name_of, text_of};
+
+    /// The name that a word is, if it is one. Upper and lower case are two things.
     pub fn of_word(word: &str) -> Option<Name>
         ensures { result ≡ name_of word.now }
     {
-        NAMES.iter().copied().find(|name| name.text() == word)
+        match place_of(names(), word) {
+            Some(place) => Some(Name { place }),
+            None => None,
+        }
     }
 
     /// The word of the command.
     pub fn text(self) -> &'static str
         ensures { result.now ≡ text_of self }
     {
-        match self {
-            Name::Add => "add",
-            Name::AddId => "addid",
-            Name::Channels => "channels",
-            Name::Clear => "clear",
-            Name::ClearError => "clearerror",
-            Name::Close => "close",
-            Name::Commands => "commands",
-            Name::Consume => "consume",
-            Name::Count => "count",
-            Name::Crossfade => "crossfade",
-            Name::CurrentSong => "currentsong",
-            Name::Delete => "delete",
-            Name::DeleteId => "deleteid",
-            Name::DisableOutput => "disableoutput",
-            Name::EnableOutput => "enableoutput",
-            Name::Find => "find",
-            Name::FindAdd => "findadd",
-            Name::GetVol => "getvol",
-            Name::Idle => "idle",
-            Name::Kill => "kill",
-            Name::List => "list",
-            Name::ListAll => "listall",
-            Name::ListPlaylist => "listplaylist",
-            Name::ListPlaylistInfo => "listplaylistinfo",
-            Name::ListPlaylists => "listplaylists",
-            Name::Load => "load",
-            Name::LsInfo => "lsinfo",
-            Name::Move => "move",
-            Name::MoveId => "moveid",
-            Name::Next => "next",
-            Name::NoIdle => "noidle",
-            Name::NotCommands => "notcommands",
-            Name::Outputs => "outputs",
-            Name::Pause => "pause",
-            Name::Ping => "ping",
-            Name::Play => "play",
-            Name::PlayId => "playid",
-            Name::PlaylistAdd => "playlistadd",
-            Name::PlaylistClear => "playlistclear",
-            Name::PlaylistDelete => "playlistdelete",
-            Name::PlaylistId => "playlistid",
-            Name::PlaylistInfo => "playlistinfo",
-            Name::PlaylistMove => "playlistmove",
-            Name::PlChanges => "plchanges",
-            Name::PlChangesPosId => "plchangesposid",
-            Name::Previous => "previous",
-            Name::Prio => "prio",
-            Name::PrioId => "prioid",
-            Name::Random => "random",
-            Name::ReadMessages => "readmessages",
-            Name::Rename => "rename",
-            Name::Repeat => "repeat",
-            Name::Rescan => "rescan",
-            Name::Rm => "rm",
-            Name::Save => "save",
-            Name::Search => "search",
-            Name::SearchAdd => "searchadd",
-            Name::Seek => "seek",
-            Name::SeekCur => "seekcur",
-            Name::SeekId => "seekid",
-            Name::SendMessage => "sendmessage",
-            Name::SetVol => "setvol",
-            Name::Shuffle => "shuffle",
-            Name::Single => "single",
-            Name::Status => "status",
-            Name::Sticker => "sticker",
-            Name::Stop => "stop",
-            Name::Subscribe => "subscribe",
-            Name::Swap => "swap",
-            Name::SwapId => "swapid",
-            Name::TagTypes => "tagtypes",
-            Name::ToggleOutput => "toggleoutput",
-            Name::Unsubscribe => "unsubscribe",
-            Name::Update => "update",
+        match names().get(self.place) {
+            Some(name) => *name,
+            None => "",
         }
     }
+}
 
-    /// Whether the command may not be run: the settings have to allow `kill`.
-    pub fn is_forbidden(self, allow_kill: bool) -> bool
-        ensures { result ≡ is_forbidden_lem self allow_kill }
-    {
-        match self {
-            Name::Kill => !allow_kill,
-            _ => false,
-        }
-    }
+/// The place of a word among some texts.
+fn place_of(texts: &[&'static str], word: &str) -> Option<usize>
+    ensures { result ≡ position (λ text. bytes_eq text.now word.now) texts.now }
+{
+    texts.iter().position(|text| *text == word)
+}
+
+/// Whether the command of this name may not be run: the settings have to allow `kill`.
+pub fn is_forbidden(name: &str, allow_kill: bool) -> bool
+    ensures { result ≡ is_forbidden_lem name.now allow_kill }
+{
+    name == "kill" && !allow_kill
 }

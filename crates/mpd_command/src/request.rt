@@ -5,7 +5,7 @@ ghost use Rattle.mpd_command.specs.Commands.{command_of};
 ghost use Rattle.mpd_command.specs.declared.readers.Misread.TheVariants.{WrongNumber, Bad};
 
 use crate::command::{Command, read};
-use crate::name::Name;
+use crate::name::{Name, is_forbidden};
 use crate::readers::Misread;
 use mpd_text::{ErrorNumber, Text, WordsFault, words};
 use std::alloc::{AllocError, Global};
@@ -79,24 +79,26 @@ fn named(alloc: Global, words: &[String], allow_kill: bool) -> Result<(Name, Com
     let Some(name) = Name::of_word(word.as_str()) else {
         return Err(unknown_command(alloc, word.as_str())?);
     };
-    if name.is_forbidden(allow_kill) {
+    if is_forbidden(word.as_str(), allow_kill) {
         let text = "no permission for \"kill\"";
         return Err(refused(alloc, ErrorNumber::Permission, Some(name), text)?);
     }
-    with_arguments(alloc, allow_kill, name, arguments)
+    with_arguments(alloc, allow_kill, name, word.as_str(), arguments)
 }
 
-/// A command, by the words after its name.
+/// A command, by its name, the word that the name is, and the words after it.
 fn with_arguments(
     alloc: Global,
     allow_kill: bool,
     name: Name,
+    word: &str,
     arguments: &[String],
 ) -> Result<(Name, Command), CommandFault>
-    ensures { AnswersAs result (read_as name (command_of allow_kill name (map string_bytes arguments.now))) }
+    ensures { AnswersAs result (read_as name word.now (command_of allow_kill word.now (map string_bytes arguments.now))) }
 {
-    match read(alloc, allow_kill, name, arguments) {
-        Ok(command) => Ok((name, command)),
+    match read(alloc, allow_kill, word, arguments) {
+        Ok(Some(command)) => Ok((name, command)),
+        Ok(None) => Err(unknown_command(alloc, word)?),
         Err(Misread::WrongNumber) => Err(wrong_number(alloc, name)?),
         Err(Misread::Bad(argument)) => Err(bad_argument(alloc, name, argument.as_str())?),
         Err(Misread::NoMemory) => Err(CommandFault::NoMemory),

@@ -1,7 +1,8 @@
 //! What is asked of stickers: the words after `sticker`.
 ghost use Rattle.std.specs.Prelude.{string_bytes, map};
-ghost use Rattle.mpd_command.specs.Stickers.{sticker_of, other_of, get_of, set_of, delete_of, list_of, find_of, song_of, operator_of, comparison_of};
+ghost use Rattle.mpd_command.specs.Stickers.{rows, sticker_of, other_of, get_of, set_of, delete_of, list_of, find_of, song_of, operator_of, comparison_of};
 ghost use Rattle.mpd_command.specs.Readers.{Gives};
+ghost use Rattle.mpd_command.specs.Tables.{found};
 
 use crate::forms::{Form, Uri};
 use crate::readers::{Misread, read_word};
@@ -11,15 +12,17 @@ use std::alloc::{AllocError, Global};
 /// What is asked of the stickers of songs (MPD protocol reference, Stickers).
 #[derive(Drop)]
 pub enum StickerCommand {
-    /// The value of the sticker of a song that has a name.
+    /// `sticker get song URI NAME`: the value of the sticker of a song that has a name.
     Get(Uri, Text),
-    /// Gives the sticker of a song that has a name, the second, a value, the third.
+    /// `sticker set song URI NAME VALUE`: gives the sticker of a song that has a name, the second, a value,
+    /// the third.
     Set(Uri, Text, Text),
-    /// Takes the sticker with a name from a song, or all of its stickers.
+    /// `sticker delete song URI [NAME]`: takes the sticker with a name from a song, or all of its stickers.
     Delete(Uri, Option<Text>),
-    /// The stickers of a song.
+    /// `sticker list song URI`: the stickers of a song.
     List(Uri),
-    /// The songs under a folder that have a sticker with a name, of any value or of one that compares so.
+    /// `sticker find song URI NAME [=|<|> VALUE]`: the songs under a folder that have a sticker with a
+    /// name, of any value or of one that compares so.
     Find(Uri, Text, Option<Comparison>),
 }
 
@@ -52,8 +55,23 @@ impl Form for Operator {
     }
 }
 
+/// The row: what the words after `sticker` are read as.
+#[tactic(auto, unfolding(crate::specs::Stickers::rows))]
+pub(crate) fn read(
+    alloc: Global,
+    word: &str,
+    words: &[String],
+) -> Result<Option<StickerCommand>, Misread>
+    ensures { Gives result (found rows word.now (map string_bytes words.now)) }
+{
+    Ok(Some(match word {
+        "sticker" => sticker(alloc, words)?,
+        _ => return Ok(None),
+    }))
+}
+
 /// The words after `sticker`. The first says how many there have to be.
-pub(crate) fn sticker(alloc: Global, words: &[String]) -> Result<StickerCommand, Misread>
+fn sticker(alloc: Global, words: &[String]) -> Result<StickerCommand, Misread>
     ensures { Gives result (sticker_of (map string_bytes words.now)) }
 {
     let Some((verb, rest)) = words.split_first() else {

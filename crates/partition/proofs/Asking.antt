@@ -8,7 +8,8 @@ use Rattle.idle_notes.specs.Notes.{fresh, waits, cancelled, noted, due}
 use Rattle.idle_notes.specs.Sets.{is_nonempty}
 use Rattle.player_state.specs.declared.state.Library.{Library}
 use Rattle.mpd_command.specs.declared.command.Command.{Command}
-use Rattle.mpd_command.specs.declared.command.Command.TheVariants.{Idle}
+use Rattle.mpd_command.specs.declared.command.Command.TheVariants as command_group
+use Rattle.mpd_command.specs.declared.status.StatusCommand.TheVariants as status_command
 use Rattle.mpd_command.specs.declared.name.Name.{Name}
 use Rattle.mpd_command.specs.declared.request.Request.{Request}
 use Rattle.mpd_command.specs.declared.request.Request.TheVariants.{Run, Refused}
@@ -100,8 +101,8 @@ pub record IsAsking (clients : List Client) (event : Event) : Type 0 where
   pub free : client.pending.waiting ≡ None
 
 -- of all commands `idle` alone is a wish to wait
-pub wish_is : (command : Command) (named : Subsystems) → wish_of command ≡ Some (ToWait named) → command ≡ Idle named
-wish_is (Idle more) named e = cc
+pub wish_is : (command : Command) (named : Subsystems) → wish_of command ≡ Some (ToWait named) → command ≡ command_group.Status (status_command.Idle named)
+wish_is (command_group.Status (status_command.Idle more)) named e = cc
 wish_is _ named e = cc
 
 -- what a client that does not wait is answered when it asks

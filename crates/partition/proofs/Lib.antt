@@ -14,7 +14,6 @@ pub mod Parts
 pub mod Pending
 pub mod Raised
 pub mod Recorded
-pub mod Rests
 pub mod Seats
 pub mod Sends
 pub mod Serving

@@ -1,10 +1,7 @@
 -- What an event raises is what differs between the worlds.
-use Rattle.std.proofs.lemmas.Bool.Decides.{nat_tests}
 use Rattle.std.proofs.Common.{arith, ◌≡◌, ◌≢◌, ◌↔◌, ◌+◌, ◌==◌, if◌then◌else◌, ◌&&◌, ◌||◌, ℕ, Bool, true, false, not, nat_eq, List, [], ◌∷◌, length, Option, Some, None, refl, ap, sym, ◌∙◌}
 use Rattle.std.specs.Prelude.{slice_get}
-use Rattle.std.specs.Str.{bytes_eq}
-use Rattle.std.proofs.lemmas.Bool.{and_parts, and_from, eq-eqb, eqb-true}
-use Rattle.std.proofs.lemmas.Slice.Eq.{bytes_eq-Decides}
+use Rattle.std.proofs.lemmas.Bool.{eq-eqb, eqb-true}
 use Rattle.idle_notes.specs.declared.subsystem.Subsystem.{Subsystem}
 use Rattle.idle_notes.specs.declared.subsystem.Subsystem.TheVariants.{Database, Update, StoredPlaylist, Playlist, Player, Mixer, Output, Options, Sticker, Subscription, Message}
 use Rattle.idle_notes.specs.Sets.{has}
@@ -19,7 +16,7 @@ use Rattle.player_core.specs.Laws.{Next, Previous, Play, PlayEntry, Seek, Stop, 
 use Rattle.player_core.specs.Player.{PlayerState}
 use Rattle.player_core.proofs.Rising.{numbers_rise}
 use Rattle.song_queue.proofs.Ids.{present-after_event}
-use Rattle.song_queue.proofs.Same.{pointwise-refl, pointwise-true, same_queue-refl, same_queue-true}
+use Rattle.song_queue.proofs.Same.{same_queue-refl, same_queue-true}
 use Rattle.idle_notes.specs.Channels.{messages_of, pairs}
 use Rattle.idle_notes.specs.declared.channels.Message.{Message as Waiting}
 use Rattle.player_state.specs.declared.scan.ScanMove.{ScanMove}
@@ -41,7 +38,7 @@ use Rattle.player_state.specs.Libraries.{library_after}
 use Rattle.player_state.specs.Scans.{is_last}
 use Rattle.idle_clients.proofs.Songs.{same_songs-refl, same_songs-true}
 use Rattle.idle_clients.proofs.Alike.{more_than_none, same_pairs-refl, same_pairs-true, same_enabled-refl, same_enabled-true, same_options-refl, same_options-true, same_playing-refl, same_playing-true}
-use Rattle.idle_clients.specs.Clients.{options, playing, same_enabled, same_pair, same_pairs, same_options, same_playing, same_songs}
+use Rattle.idle_clients.specs.Clients.{options, playing, same_enabled, same_pairs, same_options, same_playing, same_songs}
 use Rattle.partition.specs.World.{World, WorldTransition, Differs, past_after, raised_at, world_after_transition}
 use Rattle.partition.specs.Notices.{AgreeButForUnwatched}
 

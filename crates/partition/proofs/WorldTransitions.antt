@@ -12,7 +12,8 @@ use Rattle.idle_notes.specs.Channels.{messages_of, pairs}
 use Rattle.transitions.specs.Shelves.{changes_lists, changes_stickers}
 use Rattle.song_queue.specs.Past.{present}
 use Rattle.mpd_command.specs.declared.command.Command.{Command}
-use Rattle.mpd_command.specs.declared.command.Command.TheVariants.{Idle}
+use Rattle.mpd_command.specs.declared.command.Command.TheVariants as command_group
+use Rattle.mpd_command.specs.declared.status.StatusCommand.TheVariants as status_command
 use Rattle.mpd_command.specs.declared.request.Request.TheVariants.{Run}
 use Rattle.player_events.specs.declared.event.Event.TheVariants.{Line}
 use Rattle.transitions.specs.declared.asked.Stand.TheVariants.{Alone}
@@ -245,7 +246,7 @@ module _ (trace : Trace) (done : List LogEntry) (event : Event) (above : 1 ≤ t
     transition_is : t ≡ transition_idle k named
     transition_is =
         ap (transition_of i.shared.ended i.part i.shared.library i.clients) asks.event
-        ∙ ap (λ (o : Option Client). written_transition Alone (Run asks.name (Idle named)) asks.heard.refused (transition_line i.part i.shared.library o Alone (Run asks.name (Idle named)) asks.heard.read)) (found k i.clients rising (listed number None asks.free))
+        ∙ ap (λ (o : Option Client). written_transition Alone (Run asks.name (command_group.Status (status_command.Idle named))) asks.heard.refused (transition_line i.part i.shared.library o Alone (Run asks.name (command_group.Status (status_command.Idle named))) asks.heard.read)) (found k i.clients rising (listed number None asks.free))
 
     pub speaks : n ≡ number
     speaks = ap mover asks.event

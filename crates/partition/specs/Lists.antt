@@ -1,6 +1,6 @@
 -- Command lists (MPD protocol reference, Command lists; that each command is an event of its own is this
 -- profile's).
-use Rattle.std.specs.Prelude.{◌≡◌, ℕ, ◌+◌, ◌<◌, Bool, true, false, ◌||◌, List, [], ◌∷◌, ◌++◌, length, map, take, codes, slice_get, slice_index_or, None, if◌then◌else◌}
+use Rattle.std.specs.Prelude.{◌≡◌, ℕ, ◌+◌, ◌<◌, true, false, List, [], ◌∷◌, ◌++◌, length, map, take, codes, slice_get, slice_index_or, None, if◌then◌else◌}
 use Rattle.std.specs.List.{flat_map, list_any}
 use Rattle.std.specs.Option.{ForSome}
 use Rattle.command_lists.specs.declared.word.ListForm.{ListForm}
@@ -16,7 +16,6 @@ use Rattle.partition.specs.declared.partition.PartitionFault.TheVariants.{Histor
 use Rattle.player_core.specs.declared.fault.PlayerFault.{PlayerFault}
 use Rattle.player_core.specs.declared.fault.PlayerFault.TheVariants as player_fault
 use Rattle.player_events.specs.Outcomes.{OutcomeData}
-use Rattle.idle_clients.specs.Clients.{closes}
 use Rattle.partition.specs.Lent.{Refuses, ServesAll}
 use Rattle.transitions.specs.declared.shelf_calls.StoreReply.{StoreReply}
 use Rattle.shelf.specs.Calls.{Call}

@@ -7,7 +7,8 @@ use Rattle.idle_notes.specs.declared.subsystem.Subsystem.{Subsystem}
 use Rattle.idle_notes.specs.Channels.{pairs}
 use Rattle.idle_notes.specs.Names.{changed_lines}
 use Rattle.idle_notes.specs.Sets.{has}
-use Rattle.mpd_command.specs.declared.command.Command.TheVariants.{Idle}
+use Rattle.mpd_command.specs.declared.command.Command.TheVariants as command_group
+use Rattle.mpd_command.specs.declared.status.StatusCommand.TheVariants as status_command
 use Rattle.mpd_command.specs.declared.name.Name.{Name}
 use Rattle.mpd_command.specs.declared.request.Request.TheVariants.{Run}
 use Rattle.player_events.specs.declared.event.Event.{Event}
@@ -95,7 +96,7 @@ NoticesRise (notice ∷ notices) = AllBeyond notice.client notices × NoticesRis
 pub record Asks (number : ℕ) (named : Subsystems) (world_transition : WorldTransition) : Type 0 where
   pub name : Name
   pub heard : StoreReply
-  pub event : world_transition.event ≡ Line number Alone (Run name (Idle named)) heard
+  pub event : world_transition.event ≡ Line number Alone (Run name (command_group.Status (status_command.Idle named))) heard
   pub free : WaitsNot number world_transition.before
 
 -- a client was told what changed: by a notice, or as the answer to its `idle`

@@ -1,10 +1,8 @@
 -- What an event does to a player, and what it makes clients hear.
 use Rattle.std.specs.Prelude.{ℕ, Bool, true, false, not, ◌&&◌, ◌||◌, List, Option, Some, None, is_some, unwrap_or, length, nat_le, slice_index_or, codes, if◌then◌else◌}
-use Rattle.filters.specs.declared.matching.Case.TheVariants.{Heeded, Ignored}
 use Rattle.idle_notes.specs.declared.sets.Subsystems.{Subsystems}
 use Rattle.mpd_command.specs.declared.command.Command.{Command}
 use Rattle.mpd_command.specs.declared.command.Command.TheVariants as command
-use Rattle.mpd_command.specs.declared.name.Name.{Name}
 use Rattle.mpd_command.specs.declared.request.Request.{Request}
 use Rattle.mpd_command.specs.declared.request.Request.TheVariants.{Run, Refused}
 use Rattle.transitions.specs.declared.asked.Asked.{Asked}
@@ -13,38 +11,34 @@ use Rattle.player_events.specs.declared.event.Event.TheVariants.{Connect, Discon
 use Rattle.transitions.specs.declared.reply.Move.TheVariants.{Join}
 use Rattle.transitions.specs.declared.asked.Stand.{Stand}
 use Rattle.transitions.specs.declared.asked.Stand.TheVariants.{Alone, InList}
-use Rattle.player_state.specs.declared.effect.Effect.{Effect}
-use Rattle.player_state.specs.declared.effect.CommandEffect.TheVariants.{Rests, Leaves}
 use Rattle.player_state.specs.declared.effect.AudioStep.TheVariants.{Wants, Accepts, Fails, Settles}
 use Rattle.partition.specs.declared.partition.PartitionFault.{PartitionFault}
 use Rattle.partition.specs.declared.partition.PartitionFault.TheVariants.{CutsAtLimit, AtLimit}
-use Rattle.player_state.specs.declared.report.Report.{Report}
-use Rattle.player_state.specs.declared.report.Report.TheVariants.{Nothing, ToScan, ScanEnded, ToFeed, ToPlay, Ended}
-use Rattle.player_state.specs.declared.scan.ScanMove.TheVariants.{Stay, End as EndsScan}
+use Rattle.player_state.specs.declared.report.Report.TheVariants.{ToScan, ScanEnded, ToFeed, ToPlay, Ended}
+use Rattle.player_state.specs.declared.scan.ScanMove.TheVariants.{End as EndsScan}
 use Rattle.player_state.specs.declared.state.Client.{Client}
 use Rattle.player_state.specs.declared.state.Library.{Library}
 use Rattle.player_state.specs.declared.state.Part.{Part}
 use Rattle.player_events.specs.Outcomes.{OutcomeData}
 use Rattle.transitions.specs.Answers.{ResponseData, refused_by_shelf, refuses, shut, stays, tells}
 use Rattle.idle_clients.specs.Clients.{parts_of, raised, clients_after, notices_after}
-use Rattle.status_commands.specs.Connection.{commands, not_commands, ping, tag_types}
-use Rattle.transitions.specs.CommandResults.{closes_client, only}
-use Rattle.library_commands.specs.Library.{count_songs, find, find_add, list, list_all, list_info, update}
-use Rattle.status_commands.specs.Options.{consume, crossfade, get_volume, random, repeat, set_volume, single}
-use Rattle.queue_commands.specs.Playback.{clear_error, current_song, next, pause, play, play_id, previous, seek, seek_cur, seek_id, stop}
-use Rattle.status_commands.specs.Devices.{outputs, switch_output, toggle_output}
-use Rattle.queue_commands.specs.Queue.{add, add_id, clear, delete, delete_id, move, move_id, swap, swap_id, prio, prio_id, playlist_info, playlist_id, changes, changed_places, shuffle}
-use Rattle.status_commands.specs.Messages.{channels, read_messages, send_message, subscribe, unsubscribe}
-use Rattle.library_commands.specs.Shelf.{list_playlist, list_playlist_info, list_playlists, load, playlist_add, playlist_clear, playlist_delete, playlist_move, question_by, remove, rename, save, sticker}
-use Rattle.status_commands.specs.Status.{Wish, ToGoOn, wish_of, wished, status}
+use Rattle.status_commands.specs.Connection.{result_of as connection_result}
+use Rattle.library_commands.specs.Database.{result_of as database_result}
+use Rattle.status_commands.specs.Options.{result_of as options_result}
+use Rattle.queue_commands.specs.Playback.{result_of as playback_result}
+use Rattle.status_commands.specs.Outputs.{result_of as outputs_result}
+use Rattle.queue_commands.specs.Queue.{result_of as queue_result}
+use Rattle.status_commands.specs.Messages.{result_of as messages_result}
+use Rattle.library_commands.specs.Asking.{question_by}
+use Rattle.library_commands.specs.Playlists.{result_of as playlists_result}
+use Rattle.library_commands.specs.Stickers.{result_of as stickers_result}
+use Rattle.status_commands.specs.Status.{Wish, ToGoOn, wish_of, wished, result_of as status_result}
 use Rattle.player_state.specs.Scans.{running}
-use Rattle.transitions.specs.Shelves.{Question, NoQuestion, is_written, no_store_reply}
-use Rattle.transitions.specs.declared.shelf_calls.StoreReply.{StoreReply}
+use Rattle.transitions.specs.Shelves.{Question, NoQuestion, is_written}
 use Rattle.transitions.specs.declared.shelf_calls.Read.{Read}
-use Rattle.transitions.specs.declared.shelf_calls.ShelfWrite.TheVariants.{Nothing as Unwritten}
 use Rattle.shelf.specs.declared.faults.ShelfFault.{ShelfFault}
 use Rattle.player_state.specs.Outputs.{books_after, can_count_all, is_output}
-use Rattle.player_state.specs.Effects.{keeps_numbers, part_after, report_after}
+use Rattle.player_state.specs.Effects.{keeps_numbers, part_after}
 use Rattle.partition.specs.Image.{Image, counted}
 use Rattle.transitions.specs.Transitions.{TransitionData, CommandResult, acts, acts_unless, departs, or_ended, quiet, report_of, transition_by, no_response}
 use Rattle.player_state.specs.Libraries.{library_after}
@@ -53,80 +47,16 @@ use Rattle.player_events.specs.Events.{name_of}
 
 -- what a command makes of the player; the commands by which a client waits are wishes and make nothing of it
 abbrev pub result_of : Asked → Part → Library → Read → Command → CommandResult
-result_of asked part library read (command.Add uri) = add asked part library uri.0
-result_of asked part library read (command.AddId uri place) = add_id asked part library uri.0 place
-result_of asked part library read command.Channels = channels asked part
-result_of asked part library read command.Clear = clear asked part
-result_of asked part library read command.ClearError = clear_error asked
-result_of asked part library read command.Close = closes_client asked
-result_of asked part library read (command.Commands allow_kill) = only (commands asked allow_kill)
-result_of asked part library read (command.Consume on) = consume asked on
-result_of asked part library read (command.Count wanted) = count_songs asked library wanted
-result_of asked part library read (command.Crossfade seconds) = crossfade asked seconds
-result_of asked part library read command.CurrentSong = current_song asked part library
-result_of asked part library read (command.Delete range) = delete asked part range
-result_of asked part library read (command.DeleteId id) = delete_id asked part id
-result_of asked part library read (command.DisableOutput output) = switch_output asked part output false
-result_of asked part library read (command.EnableOutput output) = switch_output asked part output true
-result_of asked part library read (command.Find wanted window) = find asked library Heeded wanted window
-result_of asked part library read (command.FindAdd wanted) = find_add asked part library Heeded wanted
-result_of asked part library read command.GetVol = get_volume asked part
-result_of asked part library read (command.Idle named) = only shut
-result_of asked part library read command.Kill = closes_client asked
-result_of asked part library read (command.List name wanted) = list asked library name wanted
-result_of asked part library read (command.ListAll uri) = list_all asked library uri
-result_of asked part library read (command.ListPlaylist name) = list_playlist asked read name
-result_of asked part library read (command.ListPlaylistInfo name) = list_playlist_info asked library read name
-result_of asked part library read command.ListPlaylists = list_playlists asked read
-result_of asked part library read (command.Load name range) = load asked part library read name range
-result_of asked part library read (command.LsInfo uri) = list_info asked library uri
-result_of asked part library read (command.Move range to) = move asked part range to
-result_of asked part library read (command.MoveId id to) = move_id asked part id to
-result_of asked part library read command.Next = next asked part
-result_of asked part library read command.NoIdle = only shut
-result_of asked part library read (command.NotCommands allow_kill) = only (not_commands asked allow_kill)
-result_of asked part library read command.Outputs = outputs asked part
-result_of asked part library read (command.Pause on) = pause asked on
-result_of asked part library read command.Ping = only (ping asked)
-result_of asked part library read (command.PlChanges version range) = changes asked part library version range
-result_of asked part library read (command.PlChangesPosId version range) = changed_places asked part version range
-result_of asked part library read (command.Play place) = play asked part place
-result_of asked part library read (command.PlayId id) = play_id asked part id
-result_of asked part library read (command.PlaylistAdd name uri) = playlist_add asked library read name uri.0
-result_of asked part library read (command.PlaylistClear name) = playlist_clear asked read name
-result_of asked part library read (command.PlaylistDelete name place) = playlist_delete asked read name place
-result_of asked part library read (command.PlaylistId id) = playlist_id asked part library id
-result_of asked part library read (command.PlaylistInfo range) = playlist_info asked part library range
-result_of asked part library read (command.PlaylistMove name from to) = playlist_move asked read name from to
-result_of asked part library read command.Previous = previous asked part
-result_of asked part library read (command.Prio priority ranges) = prio asked part priority ranges
-result_of asked part library read (command.PrioId priority ids) = prio_id asked part priority ids
-result_of asked part library read (command.Random on) = random asked on
-result_of asked part library read command.ReadMessages = read_messages asked part
-result_of asked part library read (command.Rename name new) = rename asked name new
-result_of asked part library read (command.Repeat on) = repeat asked on
-result_of asked part library read (command.Rescan uri) = update asked library
-result_of asked part library read (command.Rm name) = remove asked name
-result_of asked part library read (command.Save name) = save asked part name
-result_of asked part library read (command.Search wanted window) = find asked library Ignored wanted window
-result_of asked part library read (command.SearchAdd wanted) = find_add asked part library Ignored wanted
-result_of asked part library read (command.Seek place time) = seek asked part library place time.0
-result_of asked part library read (command.SeekCur seeking) = seek_cur asked part library seeking
-result_of asked part library read (command.SeekId id time) = seek_id asked part library id time.0
-result_of asked part library read (command.SendMessage channel text) = send_message asked part channel text
-result_of asked part library read (command.SetVol volume) = set_volume asked volume
-result_of asked part library read (command.Shuffle range) = shuffle asked part range
-result_of asked part library read (command.Single mode) = single asked mode
-result_of asked part library read command.Status = status asked part library
-result_of asked part library read (command.Sticker command) = sticker asked library read command
-result_of asked part library read command.Stop = stop asked
-result_of asked part library read (command.Subscribe channel) = subscribe asked part channel
-result_of asked part library read (command.Swap first second) = swap asked part first second
-result_of asked part library read (command.SwapId first second) = swap_id asked part first second
-result_of asked part library read command.TagTypes = only (tag_types asked)
-result_of asked part library read (command.ToggleOutput output) = toggle_output asked part output
-result_of asked part library read (command.Unsubscribe channel) = unsubscribe asked part channel
-result_of asked part library read (command.Update uri) = update asked library
+result_of asked part library read (command.Status command) = status_result asked part library command
+result_of asked part library read (command.Options command) = options_result asked part command
+result_of asked part library read (command.Playback command) = playback_result asked part library command
+result_of asked part library read (command.Queue command) = queue_result asked part library command
+result_of asked part library read (command.Playlists command) = playlists_result asked part library read command
+result_of asked part library read (command.Database command) = database_result asked part library command
+result_of asked part library read (command.Stickers command) = stickers_result asked library read command
+result_of asked part library read (command.Connection command) = connection_result asked command
+result_of asked part library read (command.Outputs command) = outputs_result asked part command
+result_of asked part library read (command.Messages command) = messages_result asked part command
 
 -- a client's wish leaves the player as it is; another command has its result
 abbrev pub transition_wished : Asked → Client → CommandResult → Option Wish → TransitionData

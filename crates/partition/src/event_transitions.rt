@@ -13,35 +13,18 @@ ghost use Rattle.transitions.specs.Transitions.{transition_by};
 ghost use Rattle.player_state.specs.Outputs.{is_output};
 
 use crate::state::MAX_CLIENTS;
-use filters::Case;
 use idle_clients::find_client;
 use library_commands::asking::ask;
-use library_commands::library::{count, find, find_add, list, list_all, list_info, update};
-use library_commands::stored::{
-    list_playlist, list_playlist_info, list_playlists, load, playlist_add, playlist_clear,
-    playlist_delete, playlist_move, remove, rename, save, sticker,
-};
-use mpd_command::{Command, Request};
+use library_commands::{database, playlists, stickers};
+use mpd_command::{Command, Request, StatusCommand};
 use player_core::Live;
 use player_events::Event;
 use player_state::{AudioStep, Client, Library, Part, Report, ScanMove};
-use queue_commands::playback::{
-    clear_error, current_song, next, pause, play, play_id, previous, seek, seek_cur, seek_id, stop,
-};
-use queue_commands::queue_edits::{
-    add, add_id, clear, delete, delete_id, move_id, move_range, prio, prio_id, shuffle, swap,
-    swap_id,
-};
-use queue_commands::queue_songs::{changed_places, changes, playlist_id, playlist_info};
+use queue_commands::{playback, queue};
 use shelf::Shelf;
 use song_db::SharedDb;
-use status_commands::connection::{commands, not_commands, ping, tag_types};
-use status_commands::devices::{outputs, switch_output, toggle_output};
-use status_commands::messages::{channels, read_messages, send_message, subscribe, unsubscribe};
-use status_commands::options::{
-    consume, crossfade, get_volume, random, repeat, set_volume, single,
-};
-use status_commands::status::{idle, no_idle, status};
+use status_commands::status::{idle, no_idle};
+use status_commands::{connection, messages, options, outputs, status};
 use std::alloc::{AllocError, Global};
 use transitions::{Asked, Move, Read, Response, Stand, Transition, refuses_line, shut, tells};
 
@@ -203,7 +186,7 @@ fn ends_waiting(stand: Stand, request: &Request) -> bool
     ensures { result ≡ ends_waiting_lem stand request.now }
 {
     match (stand, request) {
-        (Stand::Alone, Request::Run(_, Command::NoIdle)) => true,
+        (Stand::Alone, Request::Run(_, Command::Status(StatusCommand::NoIdle))) => true,
         _ => false,
     }
 }
@@ -251,92 +234,38 @@ fn answer_command(
     ensures fits { IfOk result (λ transition. Fits part.now transition.effect) }
 {
     match command {
-        Command::Idle(named) => Ok(Transition::only(idle(alloc, asked, client, *named)?)),
-        Command::NoIdle => Ok(Transition::only(no_idle(alloc, asked, client)?)),
+        Command::Status(StatusCommand::Idle(named)) => {
+            Ok(Transition::only(idle(alloc, asked, client, *named)?))
+        }
+        Command::Status(StatusCommand::NoIdle) => {
+            Ok(Transition::only(no_idle(alloc, asked, client)?))
+        }
         _ => run(alloc, asked, part, library, read, command),
     }
 }
 
-/// The table of results: what each command asks of the player, and what it reads of it.
-#[rattlefmt::skip]
-fn run(alloc: Global, asked: Asked, part: &Part, library: &Library, read: &Read, command: &Command) -> Result<Transition, AllocError>
+/// What a command asks of the player, and what it reads of it, by its group.
+fn run(
+    alloc: Global,
+    asked: Asked,
+    part: &Part,
+    library: &Library,
+    read: &Read,
+    command: &Command,
+) -> Result<Transition, AllocError>
     ensures transition { IfOk result (λ transition. transition ≡ transition_by (result_of asked part.now library.now read.now command.now)) }
     ensures fits { IfOk result (λ transition. Fits part.now transition.effect) }
 {
     match command {
-        Command::Add(uri) => add(alloc, asked, part, library, uri),
-        Command::AddId(uri, place) => add_id(alloc, asked, part, library, uri, *place),
-        Command::Channels => channels(alloc, asked, part),
-        Command::Clear => clear(alloc, asked, part),
-        Command::ClearError => clear_error(alloc, asked),
-        Command::Close => Transition::closes_client(alloc, asked),
-        Command::Commands(allow_kill) => Ok(Transition::only(commands(alloc, asked, *allow_kill)?)),
-        Command::Consume(on) => consume(alloc, asked, *on),
-        Command::Count(wanted) => count(alloc, asked, library, wanted),
-        Command::Crossfade(seconds) => crossfade(alloc, asked, seconds),
-        Command::CurrentSong => current_song(alloc, asked, part, library),
-        Command::Delete(range) => delete(alloc, asked, part, *range),
-        Command::DeleteId(id) => delete_id(alloc, asked, part, *id),
-        Command::DisableOutput(output) => switch_output(alloc, asked, part, *output as usize, false),
-        Command::EnableOutput(output) => switch_output(alloc, asked, part, *output as usize, true),
-        Command::Find(wanted, window) => find(alloc, asked, library, Case::Heeded, wanted, *window),
-        Command::FindAdd(wanted) => find_add(alloc, asked, part, library, Case::Heeded, wanted),
-        Command::GetVol => get_volume(alloc, asked, part),
-        Command::Idle(_) => Ok(Transition::only(shut(alloc)?)),
-        Command::Kill => Transition::closes_client(alloc, asked),
-        Command::List(name, wanted) => list(alloc, asked, library, *name, wanted.as_ref()),
-        Command::ListAll(uri) => list_all(alloc, asked, library, uri.as_ref()),
-        Command::ListPlaylist(name) => list_playlist(alloc, asked, read, name),
-        Command::ListPlaylistInfo(name) => list_playlist_info(alloc, asked, library, read, name),
-        Command::ListPlaylists => list_playlists(alloc, asked, read),
-        Command::Load(name, range) => load(alloc, asked, part, library, read, name, *range),
-        Command::LsInfo(uri) => list_info(alloc, asked, library, uri.as_ref()),
-        Command::Move(range, to) => move_range(alloc, asked, part, *range, *to),
-        Command::MoveId(id, to) => move_id(alloc, asked, part, *id, *to),
-        Command::Next => next(alloc, asked, part),
-        Command::NoIdle => Ok(Transition::only(shut(alloc)?)),
-        Command::NotCommands(allow_kill) => Ok(Transition::only(not_commands(alloc, asked, *allow_kill)?)),
-        Command::Outputs => outputs(alloc, asked, part),
-        Command::Pause(on) => pause(alloc, asked, *on),
-        Command::Ping => Ok(Transition::only(ping(alloc, asked)?)),
-        Command::PlChanges(version, range) => changes(alloc, asked, part, library, *version, *range),
-        Command::PlChangesPosId(version, range) => changed_places(alloc, asked, part, library, *version, *range),
-        Command::Play(place) => play(alloc, asked, part, *place),
-        Command::PlayId(id) => play_id(alloc, asked, part, *id),
-        Command::PlaylistAdd(name, uri) => playlist_add(alloc, asked, library, read, name, uri),
-        Command::PlaylistClear(name) => playlist_clear(alloc, asked, read, name),
-        Command::PlaylistDelete(name, place) => playlist_delete(alloc, asked, read, name, *place),
-        Command::PlaylistId(id) => playlist_id(alloc, asked, part, library, *id),
-        Command::PlaylistInfo(range) => playlist_info(alloc, asked, part, library, *range),
-        Command::PlaylistMove(name, from, to) => playlist_move(alloc, asked, read, name, *from, *to),
-        Command::Previous => previous(alloc, asked, part),
-        Command::Prio(priority, ranges) => prio(alloc, asked, part, *priority, ranges.items()),
-        Command::PrioId(priority, ids) => prio_id(alloc, asked, part, *priority, ids.items()),
-        Command::Random(on) => random(alloc, asked, *on),
-        Command::ReadMessages => read_messages(alloc, asked, part),
-        Command::Rename(name, new) => rename(alloc, asked, name, new),
-        Command::Repeat(on) => repeat(alloc, asked, *on),
-        Command::Rescan(_) => update(alloc, asked, library),
-        Command::Rm(name) => remove(alloc, asked, name),
-        Command::Save(name) => save(alloc, asked, part, name),
-        Command::Search(wanted, window) => find(alloc, asked, library, Case::Ignored, wanted, *window),
-        Command::SearchAdd(wanted) => find_add(alloc, asked, part, library, Case::Ignored, wanted),
-        Command::Seek(place, time) => seek(alloc, asked, part, library, *place, *time),
-        Command::SeekCur(seeking) => seek_cur(alloc, asked, part, library, *seeking),
-        Command::SeekId(id, time) => seek_id(alloc, asked, part, library, *id, *time),
-        Command::SendMessage(channel, text) => send_message(alloc, asked, part, channel, text),
-        Command::SetVol(volume) => set_volume(alloc, asked, volume),
-        Command::Shuffle(range) => shuffle(alloc, asked, part, *range),
-        Command::Single(mode) => single(alloc, asked, *mode),
-        Command::Status => status(alloc, asked, part, library),
-        Command::Sticker(command) => sticker(alloc, asked, library, read, command),
-        Command::Stop => stop(alloc, asked),
-        Command::Subscribe(channel) => subscribe(alloc, asked, part, channel),
-        Command::Swap(first, second) => swap(alloc, asked, part, *first, *second),
-        Command::SwapId(first, second) => swap_id(alloc, asked, part, *first, *second),
-        Command::TagTypes => Ok(Transition::only(tag_types(alloc, asked)?)),
-        Command::ToggleOutput(output) => toggle_output(alloc, asked, part, *output as usize),
-        Command::Unsubscribe(channel) => unsubscribe(alloc, asked, part, channel),
-        Command::Update(_) => update(alloc, asked, library),
+        Command::Status(command) => status::run(alloc, asked, part, library, command),
+        Command::Options(command) => options::run(alloc, asked, part, command),
+        Command::Playback(command) => playback::run(alloc, asked, part, library, command),
+        Command::Queue(command) => queue::run(alloc, asked, part, library, command),
+        Command::Playlists(command) => playlists::run(alloc, asked, part, library, read, command),
+        Command::Database(command) => database::run(alloc, asked, part, library, command),
+        Command::Stickers(command) => stickers::run(alloc, asked, library, read, command),
+        Command::Connection(command) => connection::run(alloc, asked, part, command),
+        Command::Outputs(command) => outputs::run(alloc, asked, part, command),
+        Command::Messages(command) => messages::run(alloc, asked, part, command),
     }
 }

@@ -1,12 +1,22 @@
--- An event may go to another thread. A filter is a tree that holds itself, and `search` does not go through a
--- command's many variants at one call: so each type between a filter and an event has its lemma.
-use denote.Param.Send.{IsSend, sendable, view_send}
+-- An event may go to another thread. A filter is a tree that holds itself, and `search` does not go through it: so
+-- each type between a filter and an event has its lemma.
+use denote.Param.Send.{IsSend, sendable}
 use denote.Param.SendFields.{declared_send, variants_send}
 use Rattle.std.proofs.Crossing.{crosses}
 use Rattle.filters.proofs.expression.Filter.TheLaws.TheKnot as filter
+use Rattle.mpd_command.proofs.connection.ConnectionCommand.TheSendSync as connection
+use Rattle.mpd_command.proofs.messages.MessageCommand.TheSendSync as messages
 use Rattle.mpd_command.proofs.name.Name.TheSendSync as name
+use Rattle.mpd_command.proofs.options.OptionCommand.TheSendSync as options
+use Rattle.mpd_command.proofs.outputs.OutputCommand.TheSendSync as outputs
+use Rattle.mpd_command.proofs.playback.PlaybackCommand.TheSendSync as playback
+use Rattle.mpd_command.proofs.playlists.PlaylistCommand.TheSendSync as playlists
+use Rattle.mpd_command.proofs.queue.QueueCommand.TheSendSync as queue
+use Rattle.mpd_command.proofs.status.StatusCommand.TheSendSync as status
+use Rattle.mpd_command.proofs.sticker.StickerCommand.TheSendSync as stickers
 use Rattle.mpd_command.proofs.request.Ack.TheSendSync as ack
 use Rattle.mpd_command.specs.contracts.command.Command as Command
+use Rattle.mpd_command.specs.contracts.database.DatabaseCommand as DatabaseCommand
 use Rattle.mpd_command.specs.contracts.request.Request as Request
 use Rattle.mpd_command.specs.contracts.wanted.FilterHandle as Handle
 use Rattle.player_events.proofs.event.Outcome.TheSendSync as outcome
@@ -26,82 +36,32 @@ handle_send = search (filter.crosses, parts) depth 60 fits 20000
 
 ruleset with_filter = (handle_send, parts)
 
-command_send : IsSend Command.the_row
-command_send = variants_send Command.enum (
-    (search parts depth 60 fits 20000 ⨟ tt) ⨟
-    (search parts depth 60 fits 20000 ⨟ search parts depth 60 fits 20000 ⨟ tt) ⨟
-    tt ⨟
-    tt ⨟
-    tt ⨟
-    tt ⨟
-    (search parts depth 60 fits 20000 ⨟ tt) ⨟
-    (search parts depth 60 fits 20000 ⨟ tt) ⨟
+database_send : IsSend DatabaseCommand.the_row
+database_send = variants_send DatabaseCommand.enum (
     (search with_filter depth 60 fits 20000 ⨟ tt) ⨟
-    (search parts depth 60 fits 20000 ⨟ tt) ⨟
-    tt ⨟
-    (search parts depth 60 fits 20000 ⨟ tt) ⨟
-    (search parts depth 60 fits 20000 ⨟ tt) ⨟
-    (search parts depth 60 fits 20000 ⨟ tt) ⨟
-    (search parts depth 60 fits 20000 ⨟ tt) ⨟
     (search with_filter depth 60 fits 20000 ⨟ search parts depth 60 fits 20000 ⨟ tt) ⨟
     (search with_filter depth 60 fits 20000 ⨟ tt) ⨟
-    tt ⨟
-    (search parts depth 60 fits 20000 ⨟ tt) ⨟
-    tt ⨟
     (search parts depth 60 fits 20000 ⨟ search with_filter depth 60 fits 20000 ⨟ tt) ⨟
     (search parts depth 60 fits 20000 ⨟ tt) ⨟
     (search parts depth 60 fits 20000 ⨟ tt) ⨟
     (search parts depth 60 fits 20000 ⨟ tt) ⨟
-    tt ⨟
-    (search parts depth 60 fits 20000 ⨟ search parts depth 60 fits 20000 ⨟ tt) ⨟
-    (search parts depth 60 fits 20000 ⨟ tt) ⨟
-    (search parts depth 60 fits 20000 ⨟ search parts depth 60 fits 20000 ⨟ tt) ⨟
-    (search parts depth 60 fits 20000 ⨟ search parts depth 60 fits 20000 ⨟ tt) ⨟
-    tt ⨟
-    tt ⨟
-    (search parts depth 60 fits 20000 ⨟ tt) ⨟
-    tt ⨟
-    (search parts depth 60 fits 20000 ⨟ tt) ⨟
-    tt ⨟
-    (search parts depth 60 fits 20000 ⨟ tt) ⨟
-    (search parts depth 60 fits 20000 ⨟ tt) ⨟
-    (search parts depth 60 fits 20000 ⨟ search parts depth 60 fits 20000 ⨟ tt) ⨟
-    (search parts depth 60 fits 20000 ⨟ tt) ⨟
-    (search parts depth 60 fits 20000 ⨟ search parts depth 60 fits 20000 ⨟ tt) ⨟
-    (search parts depth 60 fits 20000 ⨟ tt) ⨟
-    (search parts depth 60 fits 20000 ⨟ tt) ⨟
-    (search parts depth 60 fits 20000 ⨟ search parts depth 60 fits 20000 ⨟ search parts depth 60 fits 20000 ⨟ tt) ⨟
-    (search parts depth 60 fits 20000 ⨟ search parts depth 60 fits 20000 ⨟ tt) ⨟
-    (search parts depth 60 fits 20000 ⨟ search parts depth 60 fits 20000 ⨟ tt) ⨟
-    tt ⨟
-    (search parts depth 60 fits 20000 ⨟ search parts depth 60 fits 20000 ⨟ tt) ⨟
-    (search parts depth 60 fits 20000 ⨟ search parts depth 60 fits 20000 ⨟ tt) ⨟
-    (search parts depth 60 fits 20000 ⨟ tt) ⨟
-    tt ⨟
-    (search parts depth 60 fits 20000 ⨟ search parts depth 60 fits 20000 ⨟ tt) ⨟
-    (search parts depth 60 fits 20000 ⨟ tt) ⨟
-    (search parts depth 60 fits 20000 ⨟ tt) ⨟
-    (search parts depth 60 fits 20000 ⨟ tt) ⨟
-    (search parts depth 60 fits 20000 ⨟ tt) ⨟
     (search with_filter depth 60 fits 20000 ⨟ search parts depth 60 fits 20000 ⨟ tt) ⨟
     (search with_filter depth 60 fits 20000 ⨟ tt) ⨟
-    (search parts depth 60 fits 20000 ⨟ search parts depth 60 fits 20000 ⨟ tt) ⨟
     (search parts depth 60 fits 20000 ⨟ tt) ⨟
-    (search parts depth 60 fits 20000 ⨟ search parts depth 60 fits 20000 ⨟ tt) ⨟
-    (search parts depth 60 fits 20000 ⨟ search parts depth 60 fits 20000 ⨟ tt) ⨟
-    (search parts depth 60 fits 20000 ⨟ tt) ⨟
-    (search parts depth 60 fits 20000 ⨟ tt) ⨟
-    (search parts depth 60 fits 20000 ⨟ tt) ⨟
-    tt ⨟
-    (search parts depth 60 fits 20000 ⨟ tt) ⨟
-    tt ⨟
-    (search parts depth 60 fits 20000 ⨟ tt) ⨟
-    (search parts depth 60 fits 20000 ⨟ search parts depth 60 fits 20000 ⨟ tt) ⨟
-    (search parts depth 60 fits 20000 ⨟ search parts depth 60 fits 20000 ⨟ tt) ⨟
-    tt ⨟
-    (search parts depth 60 fits 20000 ⨟ tt) ⨟
-    (search parts depth 60 fits 20000 ⨟ tt) ⨟
-    (search parts depth 60 fits 20000 ⨟ tt) ⨟
+    tt)
+
+command_send : IsSend Command.the_row
+command_send = variants_send Command.enum (
+    (status.the_send ⨟ tt) ⨟
+    (options.the_send ⨟ tt) ⨟
+    (playback.the_send ⨟ tt) ⨟
+    (queue.the_send ⨟ tt) ⨟
+    (playlists.the_send ⨟ tt) ⨟
+    (database_send ⨟ tt) ⨟
+    (stickers.the_send ⨟ tt) ⨟
+    (connection.the_send ⨟ tt) ⨟
+    (outputs.the_send ⨟ tt) ⨟
+    (messages.the_send ⨟ tt) ⨟
     tt)
 
 request_send : IsSend Request.the_row

@@ -2,19 +2,21 @@
 //!
 //! Each line of a text is read, and told as a command with its values or as the refusal.
 use crate::wanted::wants;
-use mpd_command::{Command, Request};
+use mpd_command::{
+    Command, OptionCommand, OutputCommand, PlaybackCommand, QueueCommand, Request, StatusCommand,
+};
 use queue_tests::steps::push_line;
 use std::alloc::{AllocError, Global};
 
 /// A command that has no argument.
 fn bare(command: &Command) -> &'static str {
     match command {
-        Command::ClearError => "ClearError",
-        Command::CurrentSong => "CurrentSong",
-        Command::Next => "Next",
-        Command::Outputs => "Outputs",
-        Command::Previous => "Previous",
-        Command::Stop => "Stop",
+        Command::Status(StatusCommand::ClearError) => "ClearError",
+        Command::Status(StatusCommand::CurrentSong) => "CurrentSong",
+        Command::Playback(PlaybackCommand::Next) => "Next",
+        Command::Outputs(OutputCommand::Outputs) => "Outputs",
+        Command::Playback(PlaybackCommand::Previous) => "Previous",
+        Command::Playback(PlaybackCommand::Stop) => "Stop",
         _ => "another",
     }
 }
@@ -22,10 +24,10 @@ fn bare(command: &Command) -> &'static str {
 /// A command of the options, or one that has no argument.
 fn option(alloc: Global, command: &Command) -> Result<String, AllocError> {
     match command {
-        Command::Consume(on) => format!(in alloc; "Consume({on})"),
-        Command::Random(on) => format!(in alloc; "Random({on})"),
-        Command::Single(mode) => format!(in alloc; "Single({mode:?})"),
-        Command::Shuffle(range) => format!(in alloc; "Shuffle({range:?})"),
+        Command::Options(OptionCommand::Consume(on)) => format!(in alloc; "Consume({on})"),
+        Command::Options(OptionCommand::Random(on)) => format!(in alloc; "Random({on})"),
+        Command::Options(OptionCommand::Single(mode)) => format!(in alloc; "Single({mode:?})"),
+        Command::Queue(QueueCommand::Shuffle(range)) => format!(in alloc; "Shuffle({range:?})"),
         _ => String::from_str(alloc, bare(command)),
     }
 }
@@ -33,9 +35,15 @@ fn option(alloc: Global, command: &Command) -> Result<String, AllocError> {
 /// A command of an output, or what is none of the playback.
 fn output(alloc: Global, command: &Command) -> Result<String, AllocError> {
     match command {
-        Command::DisableOutput(output) => format!(in alloc; "DisableOutput({output})"),
-        Command::EnableOutput(output) => format!(in alloc; "EnableOutput({output})"),
-        Command::ToggleOutput(output) => format!(in alloc; "ToggleOutput({output})"),
+        Command::Outputs(OutputCommand::DisableOutput(output)) => format!(in alloc;
+            "DisableOutput({output})"
+        ),
+        Command::Outputs(OutputCommand::EnableOutput(output)) => format!(in alloc;
+            "EnableOutput({output})"
+        ),
+        Command::Outputs(OutputCommand::ToggleOutput(output)) => format!(in alloc;
+            "ToggleOutput({output})"
+        ),
         _ => option(alloc, command),
     }
 }
@@ -43,12 +51,20 @@ fn output(alloc: Global, command: &Command) -> Result<String, AllocError> {
 /// A command with its values.
 fn told(alloc: Global, command: &Command) -> Result<String, AllocError> {
     match command {
-        Command::Pause(on) => format!(in alloc; "Pause({on:?})"),
-        Command::Play(place) => format!(in alloc; "Play({place:?})"),
-        Command::PlayId(id) => format!(in alloc; "PlayId({id:?})"),
-        Command::Seek(place, time) => format!(in alloc; "Seek({place}, {})", time.0),
-        Command::SeekId(id, time) => format!(in alloc; "SeekId({id}, {})", time.0),
-        Command::SeekCur(seeking) => format!(in alloc; "SeekCur({seeking:?})"),
+        Command::Playback(PlaybackCommand::Pause(on)) => format!(in alloc; "Pause({on:?})"),
+        Command::Playback(PlaybackCommand::Play(place)) => format!(in alloc; "Play({place:?})"),
+        Command::Playback(PlaybackCommand::PlayId(id)) => format!(in alloc; "PlayId({id:?})"),
+        Command::Playback(PlaybackCommand::Seek(place, time)) => format!(in alloc;
+            "Seek({place}, {})",
+            time.0
+        ),
+        Command::Playback(PlaybackCommand::SeekId(id, time)) => format!(in alloc;
+            "SeekId({id}, {})",
+            time.0
+        ),
+        Command::Playback(PlaybackCommand::SeekCur(seeking)) => format!(in alloc;
+            "SeekCur({seeking:?})"
+        ),
         _ => output(alloc, command),
     }
 }

@@ -14,6 +14,8 @@ use Rattle.transitions.specs.declared.asked.Asked.{Asked}
 use Rattle.player_state.specs.declared.state.Library.{Library}
 use Rattle.player_state.specs.declared.state.Part.{Part}
 use Rattle.transitions.specs.Transitions.{CommandResult}
+use Rattle.mpd_command.specs.declared.playback.PlaybackCommand.{PlaybackCommand}
+use Rattle.mpd_command.specs.declared.playback.PlaybackCommand.TheVariants as playback
 
 -- the song at a place starts; without one the player goes on, or begins
 abbrev pub play : Asked → Part → Option ℕ → CommandResult
@@ -94,3 +96,15 @@ current_song asked part library = shows asked (lines_at library.rate part.queue 
 
 abbrev pub clear_error : Asked → CommandResult
 clear_error asked = does asked ClearsError
+
+-- what each command makes of the player
+unfoldable pub result_of : Asked → Part → Library → PlaybackCommand → CommandResult
+result_of asked part library playback.Next = next asked part
+result_of asked part library (playback.Pause on) = pause asked on
+result_of asked part library (playback.Play place) = play asked part place
+result_of asked part library (playback.PlayId id) = play_id asked part id
+result_of asked part library playback.Previous = previous asked part
+result_of asked part library (playback.Seek place time) = seek asked part library place time.0
+result_of asked part library (playback.SeekCur seeking) = seek_cur asked part library seeking
+result_of asked part library (playback.SeekId id time) = seek_id asked part library id time.0
+result_of asked part library playback.Stop = stop asked

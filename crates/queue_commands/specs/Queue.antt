@@ -22,6 +22,8 @@ use Rattle.transitions.specs.declared.asked.Asked.{Asked}
 use Rattle.player_state.specs.declared.state.Library.{Library}
 use Rattle.player_state.specs.declared.state.Part.{Part}
 use Rattle.transitions.specs.Transitions.{CommandResult}
+use Rattle.mpd_command.specs.declared.queue.QueueCommand.{QueueCommand}
+use Rattle.mpd_command.specs.declared.queue.QueueCommand.TheVariants as queue
 
 abbrev pub count : Part → ℕ
 count part = length (queue_of part.queue)
@@ -246,3 +248,22 @@ changes asked part library version range = show_changed asked part (entry_lines 
 -- these places, with the ids of their songs
 abbrev pub changed_places : Asked → Part → ℕ → Option Range → CommandResult
 changed_places asked part version range = show_changed asked part place_lines version (range_or_all range (count part))
+
+-- what each command makes of the player
+unfoldable pub result_of : Asked → Part → Library → QueueCommand → CommandResult
+result_of asked part library (queue.Add uri) = add asked part library uri.0
+result_of asked part library (queue.AddId uri place) = add_id asked part library uri.0 place
+result_of asked part library queue.Clear = clear asked part
+result_of asked part library (queue.Delete range) = delete asked part range
+result_of asked part library (queue.DeleteId id) = delete_id asked part id
+result_of asked part library (queue.Move range to) = move asked part range to
+result_of asked part library (queue.MoveId id to) = move_id asked part id to
+result_of asked part library (queue.PlaylistId id) = playlist_id asked part library id
+result_of asked part library (queue.PlaylistInfo range) = playlist_info asked part library range
+result_of asked part library (queue.PlChanges version range) = changes asked part library version range
+result_of asked part library (queue.PlChangesPosId version range) = changed_places asked part version range
+result_of asked part library (queue.Prio priority ranges) = prio asked part priority ranges
+result_of asked part library (queue.PrioId priority ids) = prio_id asked part priority ids
+result_of asked part library (queue.Shuffle range) = shuffle asked part range
+result_of asked part library (queue.Swap first second) = swap asked part first second
+result_of asked part library (queue.SwapId first second) = swap_id asked part first second

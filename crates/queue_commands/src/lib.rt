@@ -2,5 +2,6 @@
 #![tactic(auto)]
 
 pub mod playback;
+pub mod queue;
 pub mod queue_edits;
-pub mod queue_songs;
+mod queue_songs;

@@ -2,12 +2,13 @@
 //! `clearerror`: Querying MPD's status).
 ghost use Rattle.std.specs.Prelude.{◌≡◌, ◌≤◌, ◌++◌, Some, IfOk, OnOk};
 ghost use Rattle.player_core.specs.Player.{is_stopped as is_stopped_lem};
-ghost use Rattle.queue_commands.specs.Playback.{clear_error as clear_error_lem, current_song as current_song_lem, elapsed as elapsed_lem, frame_at as frame_at_lem, lines_at, next as next_lem, pause as pause_lem, play as play_lem, play_id as play_id_lem, previous as previous_lem, seek as seek_lem, seek_cur as seek_cur_lem, seek_id as seek_id_lem, stop as stop_lem, time_of as time_of_lem};
+ghost use Rattle.queue_commands.specs.Playback.{clear_error as clear_error_lem, current_song as current_song_lem, elapsed as elapsed_lem, frame_at as frame_at_lem, lines_at, next as next_lem, pause as pause_lem, play as play_lem, play_id as play_id_lem, previous as previous_lem, seek as seek_lem, seek_cur as seek_cur_lem, result_of, seek_id as seek_id_lem, stop as stop_lem, time_of as time_of_lem};
+ghost use Rattle.player_state.specs.Fits.{Fits};
 ghost use Rattle.transitions.specs.Transitions.{transition_by};
 
 use crate::queue_edits::current_place;
 use crate::queue_songs::push_entry;
-use mpd_command::Seeking;
+use mpd_command::{PlaybackCommand, Seeking};
 use mpd_text::{Answer, Millis};
 use player_core::Playback;
 use player_state::{CommandEffect, Library, Part};
@@ -15,7 +16,27 @@ use song_db::{Rate, length_of};
 use std::alloc::{AllocError, Global};
 use transitions::{Asked, Transition};
 
-pub fn play(
+/// The rows: what each command asks of the player.
+#[rattlefmt::skip]
+#[tactic(auto, unfolding(crate::specs::Playback::result_of))]
+pub fn run(alloc: Global, asked: Asked, part: &Part, library: &Library, command: &PlaybackCommand) -> Result<Transition, AllocError>
+    ensures transition { IfOk result (λ transition. transition ≡ transition_by (result_of asked part.now library.now command.now)) }
+    ensures fits { IfOk result (λ transition. Fits part.now transition.effect) }
+{
+    match command {
+        PlaybackCommand::Next => next(alloc, asked, part),
+        PlaybackCommand::Pause(on) => pause(alloc, asked, *on),
+        PlaybackCommand::Play(place) => play(alloc, asked, part, *place),
+        PlaybackCommand::PlayId(id) => play_id(alloc, asked, part, *id),
+        PlaybackCommand::Previous => previous(alloc, asked, part),
+        PlaybackCommand::Seek(place, time) => seek(alloc, asked, part, library, *place, *time),
+        PlaybackCommand::SeekCur(seeking) => seek_cur(alloc, asked, part, library, *seeking),
+        PlaybackCommand::SeekId(id, time) => seek_id(alloc, asked, part, library, *id, *time),
+        PlaybackCommand::Stop => stop(alloc, asked),
+    }
+}
+
+fn play(
     alloc: Global,
     asked: Asked,
     part: &Part,
@@ -33,7 +54,7 @@ pub fn play(
     Transition::does(alloc, asked, CommandEffect::PlaysPlace(place))
 }
 
-pub fn play_id(
+fn play_id(
     alloc: Global,
     asked: Asked,
     part: &Part,
@@ -50,7 +71,7 @@ pub fn play_id(
     }
 }
 
-pub fn pause(alloc: Global, asked: Asked, on: Option<bool>) -> Result<Transition, AllocError>
+fn pause(alloc: Global, asked: Asked, on: Option<bool>) -> Result<Transition, AllocError>
     ensures { IfOk result (λ transition. transition ≡ transition_by (pause_lem asked on)) }
 {
     match on {
@@ -59,13 +80,13 @@ pub fn pause(alloc: Global, asked: Asked, on: Option<bool>) -> Result<Transition
     }
 }
 
-pub fn stop(alloc: Global, asked: Asked) -> Result<Transition, AllocError>
+fn stop(alloc: Global, asked: Asked) -> Result<Transition, AllocError>
     ensures { IfOk result (λ transition. transition ≡ transition_by (stop_lem asked)) }
 {
     Transition::does(alloc, asked, CommandEffect::Stops)
 }
 
-pub fn next(alloc: Global, asked: Asked, part: &Part) -> Result<Transition, AllocError>
+fn next(alloc: Global, asked: Asked, part: &Part) -> Result<Transition, AllocError>
     ensures { IfOk result (λ transition. transition ≡ transition_by (next_lem asked part.now)) }
 {
     if is_stopped(part) {
@@ -74,7 +95,7 @@ pub fn next(alloc: Global, asked: Asked, part: &Part) -> Result<Transition, Allo
     Transition::does(alloc, asked, CommandEffect::GoesOn)
 }
 
-pub fn previous(alloc: Global, asked: Asked, part: &Part) -> Result<Transition, AllocError>
+fn previous(alloc: Global, asked: Asked, part: &Part) -> Result<Transition, AllocError>
     ensures { IfOk result (λ transition. transition ≡ transition_by (previous_lem asked part.now)) }
 {
     if is_stopped(part) {
@@ -93,7 +114,7 @@ pub fn is_stopped(part: &Part) -> bool
 }
 
 /// To a time in the song at a place.
-pub fn seek(
+fn seek(
     alloc: Global,
     asked: Asked,
     part: &Part,
@@ -112,7 +133,7 @@ pub fn seek(
 }
 
 /// To a time in the song with an id.
-pub fn seek_id(
+fn seek_id(
     alloc: Global,
     asked: Asked,
     part: &Part,
@@ -130,7 +151,7 @@ pub fn seek_id(
 }
 
 /// To a time in the current song, which may count from the time that has elapsed.
-pub fn seek_cur(
+fn seek_cur(
     alloc: Global,
     asked: Asked,
     part: &Part,

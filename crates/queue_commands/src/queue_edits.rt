@@ -21,7 +21,7 @@ use std::alloc::{AllocError, Global};
 use std::ops;
 use transitions::{Asked, Transition};
 
-pub fn add(
+pub(crate) fn add(
     alloc: Global,
     asked: Asked,
     part: &Part,
@@ -153,7 +153,7 @@ fn insert_one(
     Transition::edits(asked, Edit::Insert(place, songs), lines)
 }
 
-pub fn add_id(
+pub(crate) fn add_id(
     alloc: Global,
     asked: Asked,
     part: &Part,
@@ -262,7 +262,7 @@ fn insert_at(
     insert_one(alloc, asked, part, song, place, lines)
 }
 
-pub fn clear(alloc: Global, asked: Asked, part: &Part) -> Result<Transition, AllocError>
+pub(crate) fn clear(alloc: Global, asked: Asked, part: &Part) -> Result<Transition, AllocError>
     ensures transition { IfOk result (λ transition. transition ≡ transition_by (clear_lem asked part.now)) }
     ensures fits { IfOk result (λ transition. Fits part.now transition.effect) }
 {
@@ -270,7 +270,7 @@ pub fn clear(alloc: Global, asked: Asked, part: &Part) -> Result<Transition, All
     Transition::edits(asked, edit, Answer::new(alloc))
 }
 
-pub fn delete(
+pub(crate) fn delete(
     alloc: Global,
     asked: Asked,
     part: &Part,
@@ -286,7 +286,7 @@ pub fn delete(
     Transition::edits(asked, edit, Answer::new(alloc))
 }
 
-pub fn delete_id(
+pub(crate) fn delete_id(
     alloc: Global,
     asked: Asked,
     part: &Part,
@@ -302,7 +302,7 @@ pub fn delete_id(
     Transition::edits(asked, edit, Answer::new(alloc))
 }
 
-pub fn move_range(
+pub(crate) fn move_range(
     alloc: Global,
     asked: Asked,
     part: &Part,
@@ -324,7 +324,7 @@ pub fn move_range(
     Transition::edits(asked, Edit::Move(start, end, to), Answer::new(alloc))
 }
 
-pub fn move_id(
+pub(crate) fn move_id(
     alloc: Global,
     asked: Asked,
     part: &Part,
@@ -346,7 +346,7 @@ pub fn move_id(
 }
 
 /// Shuffles the songs of a range, or all.
-pub fn shuffle(
+pub(crate) fn shuffle(
     alloc: Global,
     asked: Asked,
     part: &Part,
@@ -366,7 +366,7 @@ pub fn shuffle(
     )
 }
 
-pub fn swap(
+pub(crate) fn swap(
     alloc: Global,
     asked: Asked,
     part: &Part,
@@ -385,7 +385,7 @@ pub fn swap(
     Transition::edits(asked, edit, Answer::new(alloc))
 }
 
-pub fn swap_id(
+pub(crate) fn swap_id(
     alloc: Global,
     asked: Asked,
     part: &Part,
@@ -405,7 +405,7 @@ pub fn swap_id(
     Transition::edits(asked, edit, Answer::new(alloc))
 }
 
-pub fn prio(
+pub(crate) fn prio(
     alloc: Global,
     asked: Asked,
     part: &Part,
@@ -441,7 +441,7 @@ fn places_of_ranges(
     Ok(Some(places))
 }
 
-pub fn prio_id(
+pub(crate) fn prio_id(
     alloc: Global,
     asked: Asked,
     part: &Part,

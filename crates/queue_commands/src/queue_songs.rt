@@ -25,7 +25,7 @@ enum Shown {
     Place,
 }
 
-pub fn playlist_info(
+pub(crate) fn playlist_info(
     alloc: Global,
     asked: Asked,
     part: &Part,
@@ -40,7 +40,7 @@ pub fn playlist_info(
     }
 }
 
-pub fn playlist_id(
+pub(crate) fn playlist_id(
     alloc: Global,
     asked: Asked,
     part: &Part,
@@ -83,7 +83,7 @@ fn show_places(
     Transition::shows(asked, lines)
 }
 
-pub fn changes(
+pub(crate) fn changes(
     alloc: Global,
     asked: Asked,
     part: &Part,
@@ -96,7 +96,7 @@ pub fn changes(
     show_changed(alloc, asked, part, library, version, range, Shown::Song)
 }
 
-pub fn changed_places(
+pub(crate) fn changed_places(
     alloc: Global,
     asked: Asked,
     part: &Part,

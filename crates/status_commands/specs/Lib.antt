@@ -1,5 +1,5 @@
 pub mod Connection
-pub mod Devices
+pub mod Outputs
 pub mod Messages
 pub mod Options
 pub mod Status

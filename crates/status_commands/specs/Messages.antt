@@ -11,6 +11,8 @@ use Rattle.player_state.specs.declared.effect.CommandEffect.TheVariants.{ReadsMe
 use Rattle.transitions.specs.declared.asked.Asked.{Asked}
 use Rattle.player_state.specs.declared.state.Part.{Part}
 use Rattle.transitions.specs.Transitions.{CommandResult}
+use Rattle.mpd_command.specs.declared.messages.MessageCommand.{MessageCommand}
+use Rattle.mpd_command.specs.declared.messages.MessageCommand.TheVariants as messages
 
 -- the client listens to a channel to which it does not listen yet, if it may listen to one more
 abbrev pub subscribe_named : Asked → Part → List ℕ → CommandResult
@@ -58,3 +60,11 @@ lines_of_messages messages = flat_map message_lines messages
 abbrev pub read_messages : Asked → Part → CommandResult
 read_messages asked part =
     record (only (succeeds asked.stand (lines_of_messages (messages_of asked.client part.channels)))) { effect = ReadsMessages asked.client }
+
+-- what each command makes of the player
+unfoldable pub result_of : Asked → Part → MessageCommand → CommandResult
+result_of asked part messages.Channels = channels asked part
+result_of asked part messages.ReadMessages = read_messages asked part
+result_of asked part (messages.SendMessage channel text) = send_message asked part channel text
+result_of asked part (messages.Subscribe channel) = subscribe asked part channel
+result_of asked part (messages.Unsubscribe channel) = unsubscribe asked part channel

@@ -12,6 +12,8 @@ use Rattle.player_state.specs.declared.effect.CommandEffect.TheVariants.{SetsVol
 use Rattle.transitions.specs.declared.asked.Asked.{Asked}
 use Rattle.player_state.specs.declared.state.Part.{Part}
 use Rattle.transitions.specs.Transitions.{CommandResult}
+use Rattle.mpd_command.specs.declared.options.OptionCommand.{OptionCommand}
+use Rattle.mpd_command.specs.declared.options.OptionCommand.TheVariants as options
 
 abbrev pub repeat : Asked → Bool → CommandResult
 repeat asked on = does asked (SetsRepeat on)
@@ -42,3 +44,13 @@ set_volume asked volume = does asked (SetsVolume volume)
 
 abbrev pub get_volume : Asked → Part → CommandResult
 get_volume asked part = shows asked (pair_line (codes "volume") (decimal part.volume))
+
+-- what each command makes of the player
+unfoldable pub result_of : Asked → Part → OptionCommand → CommandResult
+result_of asked part (options.Consume on) = consume asked on
+result_of asked part (options.Crossfade seconds) = crossfade asked seconds
+result_of asked part options.GetVol = get_volume asked part
+result_of asked part (options.Random on) = random asked on
+result_of asked part (options.Repeat on) = repeat asked on
+result_of asked part (options.SetVol volume) = set_volume asked volume
+result_of asked part (options.Single mode) = single asked mode

@@ -4,7 +4,7 @@ use Rattle.idle_notes.specs.declared.sets.Subsystems.{Subsystems}
 use Rattle.idle_notes.specs.Names.{changed_lines}
 use Rattle.idle_notes.specs.Notes.{waits, notice_of}
 use Rattle.mpd_command.specs.declared.command.Command.{Command}
-use Rattle.mpd_command.specs.declared.command.Command.TheVariants.{Idle, NoIdle}
+use Rattle.mpd_command.specs.declared.command.Command.TheVariants as command
 use Rattle.mpd_text.specs.declared.answers.answer.ErrorNumber.TheVariants.{Argument}
 use Rattle.song_db.specs.Lines.{duration_text, millis}
 use Rattle.song_queue.specs.declared.entry.Entry.{Entry}
@@ -18,8 +18,9 @@ use Rattle.player_core.specs.declared.state.Playback.{Playback}
 use Rattle.player_core.specs.declared.state.Playback.TheVariants.{Stop, Play, Pause}
 use Rattle.player_core.specs.Player.{is_stopped}
 use Rattle.player_core.specs.Steps.{current_entry, peek}
-use Rattle.transitions.specs.Answers.{ResponseData, refuses, stays, tells}
-use Rattle.transitions.specs.CommandResults.{shows}
+use Rattle.transitions.specs.Answers.{ResponseData, refuses, shut, stays, tells}
+use Rattle.transitions.specs.CommandResults.{only, shows}
+use Rattle.queue_commands.specs.Playback.{clear_error, current_song}
 use Rattle.transitions.specs.declared.asked.Asked.{Asked}
 use Rattle.transitions.specs.declared.reply.Move.TheVariants.{Wait, Learn, Resume}
 use Rattle.transitions.specs.declared.reply.Next.TheVariants.{Waits}
@@ -31,15 +32,18 @@ use Rattle.player_state.specs.declared.state.Library.{Library}
 use Rattle.transitions.specs.Transitions.{CommandResult}
 use Rattle.player_state.specs.Scans.{running}
 use Rattle.mpd_text.specs.Answers.Answer.{pair_line}
+use Rattle.mpd_command.specs.declared.status.StatusCommand.{StatusCommand}
+use Rattle.mpd_command.specs.declared.status.StatusCommand.TheVariants as status_command
 
 -- what a client asks that changes nothing but how it waits: to wait for these, or to wait no more
 pub data Wish : Type 0 where
   ToWait : Subsystems → Wish
   ToGoOn : Wish
 
+-- what a command asks for by which a client waits, or waits no more
 abbrev pub wish_of : Command → Option Wish
-wish_of (Idle named) = Some (ToWait named)
-wish_of NoIdle = Some ToGoOn
+wish_of (command.Status (status_command.Idle named)) = Some (ToWait named)
+wish_of (command.Status status_command.NoIdle) = Some ToGoOn
 wish_of _ = None
 
 abbrev pub notice_text : Subsystems → List ℕ
@@ -166,3 +170,11 @@ status asked part library =
     ++ (current_lines part.queue part.player.current ++ (next_lines part.queue (peek part.player (queue_of part.queue))
     ++ (progress_lines library.rate part ++ (fade_line part.player.crossfade
     ++ (scan_line (running library.scan) ++ error_line part.player.error)))))))
+
+-- what each command makes of the player; those by which a client waits are wishes and make nothing of it
+unfoldable pub result_of : Asked → Part → Library → StatusCommand → CommandResult
+result_of asked part library status_command.ClearError = clear_error asked
+result_of asked part library status_command.CurrentSong = current_song asked part library
+result_of asked part library (status_command.Idle named) = only shut
+result_of asked part library status_command.NoIdle = only shut
+result_of asked part library status_command.Status = status asked part library

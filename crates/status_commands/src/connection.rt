@@ -4,21 +4,41 @@ ghost use Rattle.std.specs.Prelude.{◌≡◌, ◌++◌, true, false, IfOk, OnOk
 ghost use Rattle.std.specs.List.{flat_map};
 ghost use Rattle.mpd_text.specs.Answers.Answer.{pair_line};
 ghost use Rattle.mpd_text.specs.Songs.Tags.{tag_names, tag_text};
+ghost use Rattle.player_state.specs.Fits.{Fits};
 ghost use Rattle.transitions.specs.Answers.{stays};
-ghost use Rattle.status_commands.specs.Connection.{command_line, command_lines, commands as commands_lem, not_commands as not_commands_lem, ping as ping_lem, tag_types as tag_types_lem};
+ghost use Rattle.transitions.specs.Transitions.{transition_by};
+ghost use Rattle.status_commands.specs.Connection.{command_line, command_lines, commands as commands_lem, not_commands as not_commands_lem, ping as ping_lem, result_of, tag_types as tag_types_lem};
 
-use mpd_command::{NAMES, Name};
+use mpd_command::{ConnectionCommand, is_forbidden, names};
 use mpd_text::{Answer, TAG_NAMES};
+use player_state::Part;
 use std::alloc::{AllocError, Global};
-use transitions::{Asked, Response, shows, succeeds};
+use transitions::{Asked, Response, Transition, shows, succeeds};
 
-pub fn ping(alloc: Global, asked: Asked) -> Result<Response, AllocError>
+/// The rows: what each command asks of the player.
+#[rattlefmt::skip]
+#[tactic(auto, unfolding(crate::specs::Connection::result_of))]
+pub fn run(alloc: Global, asked: Asked, part: &Part, command: &ConnectionCommand) -> Result<Transition, AllocError>
+    ensures transition { IfOk result (λ transition. transition ≡ transition_by (result_of asked command.now)) }
+    ensures fits { IfOk result (λ transition. Fits part.now transition.effect) }
+{
+    match command {
+        ConnectionCommand::Close => Transition::closes_client(alloc, asked),
+        ConnectionCommand::Commands(allow_kill) => Ok(Transition::only(commands(alloc, asked, *allow_kill)?)),
+        ConnectionCommand::Kill => Transition::closes_client(alloc, asked),
+        ConnectionCommand::NotCommands(allow_kill) => Ok(Transition::only(not_commands(alloc, asked, *allow_kill)?)),
+        ConnectionCommand::Ping => Ok(Transition::only(ping(alloc, asked)?)),
+        ConnectionCommand::TagTypes => Ok(Transition::only(tag_types(alloc, asked)?)),
+    }
+}
+
+fn ping(alloc: Global, asked: Asked) -> Result<Response, AllocError>
     ensures { IfOk result (λ response. response ≡ stays (ping_lem asked)) }
 {
     succeeds(alloc, asked)
 }
 
-pub fn tag_types(alloc: Global, asked: Asked) -> Result<Response, AllocError>
+fn tag_types(alloc: Global, asked: Asked) -> Result<Response, AllocError>
     ensures { IfOk result (λ response. response ≡ stays (tag_types_lem asked)) }
 {
     let mut answer = Answer::new(alloc);
@@ -36,7 +56,7 @@ fn push_types(answer: &mut Answer) -> Result<(), AllocError>
 }
 
 /// The commands that may be run.
-pub fn commands(alloc: Global, asked: Asked, allow_kill: bool) -> Result<Response, AllocError>
+fn commands(alloc: Global, asked: Asked, allow_kill: bool) -> Result<Response, AllocError>
     ensures { IfOk result (λ response. response ≡ stays (commands_lem asked allow_kill)) }
 {
     let mut answer = Answer::new(alloc);
@@ -45,7 +65,7 @@ pub fn commands(alloc: Global, asked: Asked, allow_kill: bool) -> Result<Respons
 }
 
 /// The commands that may not be run.
-pub fn not_commands(alloc: Global, asked: Asked, allow_kill: bool) -> Result<Response, AllocError>
+fn not_commands(alloc: Global, asked: Asked, allow_kill: bool) -> Result<Response, AllocError>
     ensures { IfOk result (λ response. response ≡ stays (not_commands_lem asked allow_kill)) }
 {
     let mut answer = Answer::new(alloc);
@@ -54,7 +74,7 @@ pub fn not_commands(alloc: Global, asked: Asked, allow_kill: bool) -> Result<Res
 }
 
 /// Shows the commands that are forbidden, or those that are not.
-#[tactic(auto, unfolding(crate::specs::Connection::command_lines))]
+
 fn push_all_commands(
     answer: &mut Answer,
     allow_kill: bool,
@@ -62,17 +82,17 @@ fn push_all_commands(
 ) -> Result<(), AllocError>
     ensures { OnOk result (answer.new ≡ answer.old ++ command_lines allow_kill forbidden) }
 {
-    push_commands(answer, &NAMES, allow_kill, forbidden)
+    push_commands(answer, names(), allow_kill, forbidden)
 }
 
 /// Shows those of some commands that are forbidden, or those that are not.
 fn push_commands(
     answer: &mut Answer,
-    names: &[Name],
+    names: &[&'static str],
     allow_kill: bool,
     forbidden: bool,
 ) -> Result<(), AllocError>
-    ensures { OnOk result (answer.new ≡ answer.old ++ flat_map (command_line allow_kill forbidden) names.now) }
+    ensures { OnOk result (answer.new ≡ answer.old ++ flat_map (λ name. command_line allow_kill forbidden name.now) names.now) }
 {
     for name in names {
         push_command(answer, *name, allow_kill, forbidden)?;
@@ -82,14 +102,14 @@ fn push_commands(
 
 fn push_command(
     answer: &mut Answer,
-    name: Name,
+    name: &str,
     allow_kill: bool,
     forbidden: bool,
 ) -> Result<(), AllocError>
-    ensures { OnOk result (answer.new ≡ answer.old ++ command_line allow_kill forbidden name) }
+    ensures { OnOk result (answer.new ≡ answer.old ++ command_line allow_kill forbidden name.now) }
 {
-    if name.is_forbidden(allow_kill) == forbidden {
-        answer.pair("command", name.text())?;
+    if is_forbidden(name, allow_kill) == forbidden {
+        answer.pair("command", name)?;
     }
     Ok(())
 }

@@ -2,7 +2,7 @@
 #![tactic(auto)]
 
 pub mod connection;
-pub mod devices;
 pub mod messages;
 pub mod options;
+pub mod outputs;
 pub mod status;

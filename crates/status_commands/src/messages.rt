@@ -1,17 +1,34 @@
 //! The commands by which clients send one another messages (MPD protocol reference, Client to client).
 ghost use Rattle.std.specs.Prelude.{◌≡◌, ◌++◌, IfOk, OnOk, map};
 ghost use Rattle.std.specs.List.{flat_map};
-ghost use Rattle.status_commands.specs.Messages.{channels as channels_lem, lines_of_channels, lines_of_messages, message_lines, read_messages as read_messages_lem, send_message as send_message_lem, subscribe as subscribe_lem, unsubscribe as unsubscribe_lem};
+ghost use Rattle.status_commands.specs.Messages.{channels as channels_lem, lines_of_channels, lines_of_messages, message_lines, read_messages as read_messages_lem, result_of, send_message as send_message_lem, subscribe as subscribe_lem, unsubscribe as unsubscribe_lem};
 ghost use Rattle.transitions.specs.Transitions.{transition_by};
 ghost use Rattle.player_state.specs.Fits.{Fits};
 
 use idle_notes::{MAX_SUBSCRIPTIONS, Message, is_channel_name};
+use mpd_command::MessageCommand;
 use mpd_text::{Answer, ErrorNumber, Text};
 use player_state::{CommandEffect, Part};
 use std::alloc::{AllocError, Global};
 use transitions::{Asked, Transition};
 
-pub fn subscribe(
+/// The rows: what each command asks of the player.
+#[rattlefmt::skip]
+#[tactic(auto, unfolding(crate::specs::Messages::result_of))]
+pub fn run(alloc: Global, asked: Asked, part: &Part, command: &MessageCommand) -> Result<Transition, AllocError>
+    ensures transition { IfOk result (λ transition. transition ≡ transition_by (result_of asked part.now command.now)) }
+    ensures fits { IfOk result (λ transition. Fits part.now transition.effect) }
+{
+    match command {
+        MessageCommand::Channels => channels(alloc, asked, part),
+        MessageCommand::ReadMessages => read_messages(alloc, asked, part),
+        MessageCommand::SendMessage(channel, text) => send_message(alloc, asked, part, channel, text),
+        MessageCommand::Subscribe(channel) => subscribe(alloc, asked, part, channel),
+        MessageCommand::Unsubscribe(channel) => unsubscribe(alloc, asked, part, channel),
+    }
+}
+
+fn subscribe(
     alloc: Global,
     asked: Asked,
     part: &Part,
@@ -33,7 +50,7 @@ pub fn subscribe(
     Transition::does(alloc, asked, CommandEffect::Subscribes(asked.client, name))
 }
 
-pub fn unsubscribe(
+fn unsubscribe(
     alloc: Global,
     asked: Asked,
     part: &Part,
@@ -56,7 +73,7 @@ pub fn unsubscribe(
     )
 }
 
-pub fn channels(alloc: Global, asked: Asked, part: &Part) -> Result<Transition, AllocError>
+fn channels(alloc: Global, asked: Asked, part: &Part) -> Result<Transition, AllocError>
     ensures { IfOk result (λ transition. transition ≡ transition_by (channels_lem asked part.now)) }
 {
     let names = part.channels.channels(alloc)?;
@@ -75,7 +92,7 @@ fn push_channels(lines: &mut Answer, names: &[&str]) -> Result<(), AllocError>
     Ok(())
 }
 
-pub fn send_message(
+fn send_message(
     alloc: Global,
     asked: Asked,
     part: &Part,
@@ -99,7 +116,7 @@ pub fn send_message(
     Transition::does(alloc, asked, CommandEffect::Sends(name, text))
 }
 
-pub fn read_messages(alloc: Global, asked: Asked, part: &Part) -> Result<Transition, AllocError>
+fn read_messages(alloc: Global, asked: Asked, part: &Part) -> Result<Transition, AllocError>
     ensures transition { IfOk result (λ transition. transition ≡ transition_by (read_messages_lem asked part.now)) }
     ensures fits { IfOk result (λ transition. Fits part.now transition.effect) }
 {

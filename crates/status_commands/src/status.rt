@@ -4,23 +4,42 @@ ghost use Rattle.idle_notes.specs.Notes.{waits, notice_of};
 ghost use Rattle.std.specs.Option.{option_copied};
 ghost use Rattle.song_queue.specs.State.{queue_of};
 ghost use Rattle.player_core.specs.Steps.{current_entry, peek};
-ghost use Rattle.status_commands.specs.Status.{ToWait, ToGoOn, audio_line, consume_text as consume_text_lem, current_lines, digit as digit_lem, duration_line, duration_of, elapsed_line, error_line, fade_line, idles, mode_lines, next_lines, next_place_lines, progress_lines, queue_lines, resumes, scan_line, single_text as single_text_lem, song_place_lines, state_text as state_text_lem, status as status_lem, wished};
+ghost use Rattle.status_commands.specs.Status.{ToWait, ToGoOn, audio_line, consume_text as consume_text_lem, current_lines, digit as digit_lem, duration_line, duration_of, elapsed_line, error_line, fade_line, idles, mode_lines, next_lines, next_place_lines, progress_lines, queue_lines, result_of, resumes, scan_line, single_text as single_text_lem, song_place_lines, state_text as state_text_lem, status as status_lem, wished};
 ghost use Rattle.mpd_text.specs.declared.answers.answer.ErrorNumber.TheVariants.{Argument};
 ghost use Rattle.transitions.specs.Answers.{refuses as refuses_lem, stays};
 ghost use Rattle.transitions.specs.Transitions.{transition_by};
+ghost use Rattle.player_state.specs.Fits.{Fits};
 ghost use Rattle.player_state.specs.Scans.{running};
 
 use idle_notes::Subsystems;
+use mpd_command::StatusCommand;
 use mpd_text::{Answer, ErrorNumber, SharedText};
 use play_order::{Consume, Modes, Single};
 use player_core::Playback;
 use player_state::{Client, Library, Part};
-use queue_commands::playback::is_stopped;
+use queue_commands::playback::{clear_error, current_song, is_stopped};
 use song_db::{Rate, duration, length_of};
 use std::alloc::{AllocError, Global};
-use transitions::{Asked, Move, Next, Response, Stand, Transition, refuses, tells};
+use transitions::{Asked, Move, Next, Response, Stand, Transition, refuses, shut, tells};
 
-pub fn status(
+/// The rows: what each command shows. By `idle` and `noidle` a client waits, so here they make nothing of the
+/// player.
+#[rattlefmt::skip]
+#[tactic(auto, unfolding(crate::specs::Status::result_of))]
+pub fn run(alloc: Global, asked: Asked, part: &Part, library: &Library, command: &StatusCommand) -> Result<Transition, AllocError>
+    ensures transition { IfOk result (λ transition. transition ≡ transition_by (result_of asked part.now library.now command.now)) }
+    ensures fits { IfOk result (λ transition. Fits part.now transition.effect) }
+{
+    match command {
+        StatusCommand::ClearError => clear_error(alloc, asked),
+        StatusCommand::CurrentSong => current_song(alloc, asked, part, library),
+        StatusCommand::Idle(_) => Ok(Transition::only(shut(alloc)?)),
+        StatusCommand::NoIdle => Ok(Transition::only(shut(alloc)?)),
+        StatusCommand::Status => status(alloc, asked, part, library),
+    }
+}
+
+fn status(
     alloc: Global,
     asked: Asked,
     part: &Part,

@@ -1,0 +1,313 @@
+//! The commands that ask for songs and folders of the library, and add songs of it (MPD protocol reference,
+//! The music database).
+ghost use Rattle.std.specs.Prelude.{◌≡◌, ◌++◌, [], Some, IfOk, OnOk, map, take, drop};
+ghost use Rattle.std.specs.Option.{option_copied};
+ghost use Rattle.filters.specs.Expressions.{Under};
+ghost use Rattle.std.specs.List.{flat_map};
+ghost use Rattle.mpd_text.specs.Answers.Answer.{pair_line};
+ghost use Rattle.mpd_text.specs.Songs.Tags.{tag_text};
+ghost use Rattle.library_commands.specs.Database.{count_songs as count_songs_lem, find as find_lem, find_add as find_add_lem, lines_of_folders, lines_of_songs, lines_of_texts, lines_of_uris, list as list_lem, list_all as list_all_lem, list_info as list_info_lem, list_texts as list_texts_lem, no_such_directory as no_such_directory_lem, result_of, show_folder as show_folder_lem, unreadable as unreadable_lem, update as update_lem, uri_or_all as uri_or_all_lem, windowed as windowed_lem};
+ghost use Rattle.transitions.specs.Transitions.{transition_by};
+ghost use Rattle.player_state.specs.Fits.{Fits};
+
+use filters::{Case, Filter, Test};
+use mpd_command::{DatabaseCommand, Uri, Wanted, Window};
+use mpd_text::{Answer, ErrorNumber, TagName};
+use player_state::{Library, Part};
+use queue_commands::queue_edits::add_found;
+use song_db::{SharedSong, push_song};
+use song_search::{counted, find as find_songs, is_folder, list_folder, listed, under};
+use std::alloc::{AllocError, Global};
+use transitions::{Asked, Transition};
+
+/// The rows: what each command of the library asks of the player.
+#[rattlefmt::skip]
+#[tactic(auto, unfolding(crate::specs::Database::result_of))]
+pub fn run(alloc: Global, asked: Asked, part: &Part, library: &Library, command: &DatabaseCommand) -> Result<Transition, AllocError>
+    ensures transition { IfOk result (λ transition. transition ≡ transition_by (result_of asked part.now library.now command.now)) }
+    ensures fits { IfOk result (λ transition. Fits part.now transition.effect) }
+{
+    match command {
+        DatabaseCommand::Count(wanted) => count(alloc, asked, library, wanted),
+        DatabaseCommand::Find(wanted, window) => find(alloc, asked, library, Case::Heeded, wanted, *window),
+        DatabaseCommand::FindAdd(wanted) => find_add(alloc, asked, part, library, Case::Heeded, wanted),
+        DatabaseCommand::List(name, wanted) => list(alloc, asked, library, *name, wanted.as_ref()),
+        DatabaseCommand::ListAll(uri) => list_all(alloc, asked, library, uri.as_ref()),
+        DatabaseCommand::LsInfo(uri) => list_info(alloc, asked, library, uri.as_ref()),
+        DatabaseCommand::Rescan(_) => update(alloc, asked, library),
+        DatabaseCommand::Search(wanted, window) => find(alloc, asked, library, Case::Ignored, wanted, *window),
+        DatabaseCommand::SearchAdd(wanted) => find_add(alloc, asked, part, library, Case::Ignored, wanted),
+        DatabaseCommand::Update(_) => update(alloc, asked, library),
+    }
+}
+
+fn find(
+    alloc: Global,
+    asked: Asked,
+    library: &Library,
+    case: Case,
+    wanted: &Wanted,
+    window: Option<Window>,
+) -> Result<Transition, AllocError>
+    ensures { IfOk result (λ transition. transition ≡ transition_by (find_lem asked library.now case wanted.now window)) }
+{
+    match wanted {
+        Wanted::Meeting(filter) => {
+            let songs = find_songs(alloc, library.songs.db(), filter, case)?;
+            let mut lines = Answer::new(alloc);
+            push_songs(alloc, &mut lines, library, windowed(&songs, window))?;
+            Transition::shows(asked, lines)
+        }
+        Wanted::Refused(text) => unreadable(alloc, asked, text.as_str()),
+    }
+}
+
+/// A filter that cannot be read.
+fn unreadable(alloc: Global, asked: Asked, text: &str) -> Result<Transition, AllocError>
+    ensures { IfOk result (λ transition. transition ≡ transition_by (unreadable_lem asked text.now)) }
+{
+    Transition::refuses(alloc, asked, ErrorNumber::Argument, text)
+}
+
+/// The songs that a window shows. It ends with the last of them.
+#[tactic(auto, using(crate::proofs::Windows::shown))]
+fn windowed<'a, 'b>(songs: &'b [&'a SharedSong], window: Option<Window>) -> &'b [&'a SharedSong]
+    ensures { map (λ song. song.now) result.now ≡ windowed_lem window (map (λ song. song.now) songs.now) }
+{
+    let Some(window) = window else {
+        return songs;
+    };
+    let count = window.end.saturating_sub(window.start);
+    first(after(songs, window.start as usize), count as usize)
+}
+
+/// The songs from a place on.
+fn after<'a, 'b>(songs: &'b [&'a SharedSong], start: usize) -> &'b [&'a SharedSong]
+    ensures { result.now ≡ drop start songs.now }
+{
+    if start >= songs.len() {
+        return &[];
+    }
+    &songs[start..]
+}
+
+/// The first songs, up to so many.
+fn first<'a, 'b>(songs: &'b [&'a SharedSong], count: usize) -> &'b [&'a SharedSong]
+    ensures { result.now ≡ take count songs.now }
+{
+    if count >= songs.len() {
+        return songs;
+    }
+    &songs[..count]
+}
+
+/// Appends the lines of songs that were found.
+#[tactic(auto, unfolding(crate::specs::Database::lines_of_songs))]
+fn push_songs(
+    alloc: Global,
+    lines: &mut Answer,
+    library: &Library,
+    songs: &[&SharedSong],
+) -> Result<(), AllocError>
+    ensures { OnOk result (lines.new ≡ lines.old ++ lines_of_songs library.now.rate (map (λ song. song.now) songs.now)) }
+{
+    for song in songs {
+        push_song(alloc, lines, song.song(), &library.rate)?;
+    }
+    Ok(())
+}
+
+fn find_add(
+    alloc: Global,
+    asked: Asked,
+    part: &Part,
+    library: &Library,
+    case: Case,
+    wanted: &Wanted,
+) -> Result<Transition, AllocError>
+    ensures transition { IfOk result (λ transition. transition ≡ transition_by (find_add_lem asked part.now library.now case wanted.now)) }
+    ensures fits { IfOk result (λ transition. Fits part.now transition.effect) }
+{
+    match wanted {
+        Wanted::Meeting(filter) => {
+            let songs = find_songs(alloc, library.songs.db(), filter, case)?;
+            add_found(alloc, asked, part, &songs)
+        }
+        Wanted::Refused(text) => unreadable(alloc, asked, text.as_str()),
+    }
+}
+
+fn list(
+    alloc: Global,
+    asked: Asked,
+    library: &Library,
+    name: TagName,
+    wanted: Option<&Wanted>,
+) -> Result<Transition, AllocError>
+    ensures { IfOk result (λ transition. transition ≡ transition_by (list_lem asked library.now name (option_copied wanted.entry))) }
+{
+    match wanted {
+        None => list_texts(alloc, asked, library, name, &all_songs(alloc)?),
+        Some(Wanted::Meeting(filter)) => list_texts(alloc, asked, library, name, filter),
+        Some(Wanted::Refused(text)) => unreadable(alloc, asked, text.as_str()),
+    }
+}
+
+/// The filter that all songs meet.
+fn all_songs(alloc: Global) -> Result<Filter, AllocError>
+    ensures { IfOk result (λ filter. filter ≡ Under []) }
+{
+    match Filter::of_pairs(alloc, &[], Test::Equals) {
+        Ok(filter) => Ok(filter),
+        Err(_) => Err(AllocError),
+    }
+}
+
+/// The texts of a tag among the songs that meet a filter.
+fn list_texts(
+    alloc: Global,
+    asked: Asked,
+    library: &Library,
+    name: TagName,
+    filter: &Filter,
+) -> Result<Transition, AllocError>
+    ensures { IfOk result (λ transition. transition ≡ transition_by (list_texts_lem asked library.now name filter.now)) }
+{
+    let texts = listed(alloc, library.songs.db(), name, filter)?;
+    let lines = text_lines(alloc, name, &texts)?;
+    Transition::shows(asked, lines)
+}
+
+#[tactic(auto, unfolding(crate::specs::Database::lines_of_texts))]
+fn text_lines(alloc: Global, name: TagName, texts: &[&str]) -> Result<Answer, AllocError>
+    ensures { IfOk result (λ lines. lines ≡ lines_of_texts name (map (λ text. text.now) texts.now)) }
+{
+    let mut lines = Answer::new(alloc);
+    for text in texts {
+        lines.pair(name.text(), *text)?;
+    }
+    Ok(lines)
+}
+
+fn count(
+    alloc: Global,
+    asked: Asked,
+    library: &Library,
+    wanted: &Wanted,
+) -> Result<Transition, AllocError>
+    ensures { IfOk result (λ transition. transition ≡ transition_by (count_songs_lem asked library.now wanted.now)) }
+{
+    match wanted {
+        Wanted::Meeting(filter) => {
+            let count = counted(library.songs.db(), filter, &library.rate);
+            let mut lines = Answer::new(alloc);
+            lines.pair("songs", count.songs)?;
+            lines.pair("playtime", count.seconds)?;
+            Transition::shows(asked, lines)
+        }
+        Wanted::Refused(text) => unreadable(alloc, asked, text.as_str()),
+    }
+}
+
+fn list_info(
+    alloc: Global,
+    asked: Asked,
+    library: &Library,
+    uri: Option<&Uri>,
+) -> Result<Transition, AllocError>
+    ensures { IfOk result (λ transition. transition ≡ transition_by (list_info_lem asked library.now (option_copied uri.entry))) }
+{
+    let uri = uri_or_all(uri);
+    match library.songs.db().get(uri) {
+        Some(song) => {
+            let mut lines = Answer::new(alloc);
+            push_song(alloc, &mut lines, song, &library.rate)?;
+            Transition::shows(asked, lines)
+        }
+        None => show_folder(alloc, asked, library, uri),
+    }
+}
+
+/// The URI that is asked for: the whole library, where none is.
+fn uri_or_all(uri: Option<&Uri>) -> &str
+    ensures { result.now ≡ uri_or_all_lem (option_copied uri.entry) }
+{
+    match uri {
+        Some(uri) => uri.0.as_str(),
+        None => "",
+    }
+}
+
+/// Shows the folders and songs right in a folder.
+fn show_folder(
+    alloc: Global,
+    asked: Asked,
+    library: &Library,
+    folder: &str,
+) -> Result<Transition, AllocError>
+    ensures { IfOk result (λ transition. transition ≡ transition_by (show_folder_lem asked library.now folder.now)) }
+{
+    if !is_folder(library.songs.db(), folder) {
+        return no_such_directory(alloc, asked);
+    }
+    let found = list_folder(alloc, library.songs.db(), folder)?;
+    let mut lines = folder_lines(alloc, &found.folders)?;
+    push_songs(alloc, &mut lines, library, &found.songs)?;
+    Transition::shows(asked, lines)
+}
+
+fn no_such_directory(alloc: Global, asked: Asked) -> Result<Transition, AllocError>
+    ensures { IfOk result (λ transition. transition ≡ transition_by (no_such_directory_lem asked)) }
+{
+    Transition::refuses(alloc, asked, ErrorNumber::NoExist, "no such directory")
+}
+
+#[tactic(auto, unfolding(crate::specs::Database::lines_of_folders))]
+fn folder_lines(alloc: Global, folders: &[&str]) -> Result<Answer, AllocError>
+    ensures { IfOk result (λ lines. lines ≡ lines_of_folders (map (λ text. text.now) folders.now)) }
+{
+    let mut lines = Answer::new(alloc);
+    for folder in folders {
+        lines.pair("directory", *folder)?;
+    }
+    Ok(lines)
+}
+
+fn list_all(
+    alloc: Global,
+    asked: Asked,
+    library: &Library,
+    uri: Option<&Uri>,
+) -> Result<Transition, AllocError>
+    ensures { IfOk result (λ transition. transition ≡ transition_by (list_all_lem asked library.now (option_copied uri.entry))) }
+{
+    let folder = uri_or_all(uri);
+    if !is_folder(library.songs.db(), folder) {
+        return no_such_directory(alloc, asked);
+    }
+    let lines = uri_lines(alloc, under(library.songs.db(), folder))?;
+    Transition::shows(asked, lines)
+}
+
+#[tactic(auto, unfolding(crate::specs::Database::lines_of_uris))]
+fn uri_lines(alloc: Global, songs: &[SharedSong]) -> Result<Answer, AllocError>
+    ensures { IfOk result (λ lines. lines ≡ lines_of_uris songs.now) }
+{
+    let mut lines = Answer::new(alloc);
+    for song in songs {
+        lines.pair("file", song.song().uri())?;
+    }
+    Ok(lines)
+}
+
+fn update(alloc: Global, asked: Asked, library: &Library) -> Result<Transition, AllocError>
+    ensures { IfOk result (λ transition. transition ≡ transition_by (update_lem asked library.now)) }
+{
+    if library.scan.running().is_some() {
+        let text = "already updating";
+        return Transition::refuses(alloc, asked, ErrorNumber::UpdateAlready, text);
+    }
+    let mut lines = Answer::new(alloc);
+    lines.pair("updating_db", library.scan.next())?;
+    Transition::begins_scan(asked, lines)
+}

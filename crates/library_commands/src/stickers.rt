@@ -1,0 +1,285 @@
+//! The commands of stickers (MPD protocol reference, Stickers). What the shelf answered to a command's question is
+//! there; what is to be written is part of the transition.
+ghost use Rattle.std.specs.Prelude.{◌≡◌, IfOk, not};
+ghost use Rattle.std.specs.Option.{option_copied};
+ghost use Rattle.shelf.specs.Maps.{Trusted, Turns};
+ghost use Rattle.player_state.specs.declared.effect.Effect.TheVariants.{ByCommand};
+ghost use Rattle.player_state.specs.declared.effect.CommandEffect.TheVariants.{Rests};
+ghost use Rattle.library_commands.specs.Stickers.{asks_all, asks_found, asks_sticker, is_place as is_place_lem, is_song as is_song_lem, question_of, result_of};
+ghost use Rattle.transitions.specs.CommandResults.{writes as writes_lem};
+ghost use Rattle.transitions.specs.Shelves.{IsRead, is_ok_read};
+ghost use Rattle.transitions.specs.Transitions.{transition_by};
+
+use crate::playlists::{misread, refused};
+use mpd_command::{Comparison, StickerCommand, Uri};
+use mpd_text::Text;
+use player_state::Library;
+use shelf::{Shelf, ShelfFault, is_sticker_name};
+use shelf_contents::{found_lines, sticker_line, sticker_lines};
+use song_search::is_folder;
+use std::alloc::{AllocError, Global};
+use transitions::{Asked, Entries, Read, ShelfWrite, Transition};
+
+/// The rows: what each command of stickers asks of the shelf. Stickers are of the songs that the library has.
+pub fn run(
+    alloc: Global,
+    asked: Asked,
+    library: &Library,
+    read: &Read,
+    command: &StickerCommand,
+) -> Result<Transition, AllocError>
+    ensures transition { IfOk result (λ transition. transition ≡ transition_by (result_of asked library.now read.now command.now)) }
+    ensures rests { IfOk result (λ transition. transition.effect ≡ ByCommand Rests) }
+{
+    match command {
+        StickerCommand::Get(uri, name) => get_sticker(alloc, asked, library, read, uri, name),
+        StickerCommand::Set(uri, name, value) => {
+            set_sticker(alloc, asked, library, read, uri, name, value)
+        }
+        StickerCommand::Delete(uri, name) => {
+            delete_stickers(alloc, asked, library, uri, name.as_ref())
+        }
+        StickerCommand::List(uri) => list_stickers(alloc, asked, library, read, uri),
+        StickerCommand::Find(uri, name, test) => {
+            find_stickers(alloc, asked, library, read, uri, name, test.as_ref())
+        }
+    }
+}
+
+/// Whether a URI is that of a song of the library.
+pub(crate) fn is_song(library: &Library, uri: &str) -> bool
+    ensures { result ≡ is_song_lem library.now uri.now }
+{
+    library.songs.db().get(uri).is_some()
+}
+
+/// Whether a URI is that of a song of the library, or of a folder.
+pub(crate) fn is_place(library: &Library, uri: &str) -> bool
+    ensures { result ≡ is_place_lem library.now uri.now }
+{
+    is_song(library, uri) || is_folder(library.songs.db(), uri)
+}
+
+fn get_sticker(
+    alloc: Global,
+    asked: Asked,
+    library: &Library,
+    read: &Read,
+    uri: &Uri,
+    name: &Text,
+) -> Result<Transition, AllocError>
+    ensures transition { IfOk result (λ transition. transition ≡ transition_by (result_of asked library.now read.now (StickerCommand.Get uri.now name.now))) }
+    ensures rests { IfOk result (λ transition. transition.effect ≡ ByCommand Rests) }
+{
+    if !is_song(library, uri.0.as_str()) {
+        return Transition::no_such_song(alloc, asked);
+    }
+    if !is_sticker_name(name.as_str()) {
+        return Transition::bad_name(alloc, asked, name.as_str());
+    }
+    match read {
+        Read::Value(value) => {
+            let line = sticker_line(alloc, name.as_str(), value.as_str())?;
+            Transition::shows(asked, line)
+        }
+        Read::Refused(fault) => refused(alloc, asked, *fault),
+        _ => misread(alloc, asked),
+    }
+}
+
+fn set_sticker(
+    alloc: Global,
+    asked: Asked,
+    library: &Library,
+    read: &Read,
+    uri: &Uri,
+    name: &Text,
+    value: &Text,
+) -> Result<Transition, AllocError>
+    ensures transition { IfOk result (λ transition. transition ≡ transition_by (result_of asked library.now read.now (StickerCommand.Set uri.now name.now value.now))) }
+    ensures rests { IfOk result (λ transition. transition.effect ≡ ByCommand Rests) }
+{
+    if !is_song(library, uri.0.as_str()) {
+        return Transition::no_such_song(alloc, asked);
+    }
+    if !is_sticker_name(name.as_str()) {
+        return Transition::bad_name(alloc, asked, name.as_str());
+    }
+    let changes = match read {
+        Read::Value(before) => before.as_str() != value.as_str(),
+        Read::Refused(ShelfFault::NoSticker) => true,
+        Read::Refused(fault) => return refused(alloc, asked, *fault),
+        _ => return misread(alloc, asked),
+    };
+    let uri = Text::new(alloc, uri.0.as_str())?;
+    let name = Text::new(alloc, name.as_str())?;
+    let value = Text::new(alloc, value.as_str())?;
+    Transition::writes(
+        alloc,
+        asked,
+        ShelfWrite::SetSticker(uri, name, value, changes),
+    )
+}
+
+fn delete_stickers(
+    alloc: Global,
+    asked: Asked,
+    library: &Library,
+    uri: &Uri,
+    name: Option<&Text>,
+) -> Result<Transition, AllocError>
+    ensures transition { IfOk result (λ transition. transition ≡ transition_by (result_of asked library.now Read.Nothing (StickerCommand.Delete uri.now (option_copied name.entry)))) }
+    ensures rests { IfOk result (λ transition. transition.effect ≡ ByCommand Rests) }
+{
+    if !is_song(library, uri.0.as_str()) {
+        return Transition::no_such_song(alloc, asked);
+    }
+    let song = Text::new(alloc, uri.0.as_str())?;
+    let Some(name) = name else {
+        return Transition::writes(alloc, asked, ShelfWrite::DeleteStickers(song));
+    };
+    if !is_sticker_name(name.as_str()) {
+        return Transition::bad_name(alloc, asked, name.as_str());
+    }
+    let name = Text::new(alloc, name.as_str())?;
+    Transition::writes(alloc, asked, ShelfWrite::DeleteSticker(song, name))
+}
+
+fn list_stickers(
+    alloc: Global,
+    asked: Asked,
+    library: &Library,
+    read: &Read,
+    uri: &Uri,
+) -> Result<Transition, AllocError>
+    ensures transition { IfOk result (λ transition. transition ≡ transition_by (result_of asked library.now read.now (StickerCommand.List uri.now))) }
+    ensures rests { IfOk result (λ transition. transition.effect ≡ ByCommand Rests) }
+{
+    if !is_song(library, uri.0.as_str()) {
+        return Transition::no_such_song(alloc, asked);
+    }
+    match read {
+        Read::Entries(entries) => Transition::shows(
+            asked,
+            sticker_lines(alloc, entries.as_slice())?,
+        ),
+        Read::Refused(fault) => refused(alloc, asked, *fault),
+        _ => misread(alloc, asked),
+    }
+}
+
+fn find_stickers(
+    alloc: Global,
+    asked: Asked,
+    library: &Library,
+    read: &Read,
+    uri: &Uri,
+    name: &Text,
+    test: Option<&Comparison>,
+) -> Result<Transition, AllocError>
+    ensures transition { IfOk result (λ transition. transition ≡ transition_by (result_of asked library.now read.now (StickerCommand.Find uri.now name.now (option_copied test.entry)))) }
+    ensures rests { IfOk result (λ transition. transition.effect ≡ ByCommand Rests) }
+{
+    if !is_place(library, uri.0.as_str()) {
+        return Transition::no_such_song(alloc, asked);
+    }
+    if !is_sticker_name(name.as_str()) {
+        return Transition::bad_name(alloc, asked, name.as_str());
+    }
+    match read {
+        Read::Entries(entries) => {
+            let db = library.songs.db();
+            let asked_uri = uri.0.as_str();
+            let found = found_lines(
+                alloc,
+                db,
+                asked_uri,
+                name.as_str(),
+                entries.as_slice(),
+                test,
+            )?;
+            Transition::shows(asked, found)
+        }
+        Read::Refused(fault) => refused(alloc, asked, *fault),
+        _ => misread(alloc, asked),
+    }
+}
+
+/// Asks the shelf what a command asks of it.
+pub(crate) fn ask<S: Shelf>(
+    library: &Library,
+    shelf: &mut S,
+    command: &StickerCommand,
+) -> Result<Read, AllocError>
+    ensures turns { Turns (S.standing shelf.old) (S.standing shelf.new) (is_ok_read result) (S.standing shelf.old).maps }
+    ensures read { Trusted (S.standing shelf.old) (S.standing shelf.new) → IfOk result (λ read. IsRead (S.failed shelf.old shelf.new) (S.standing shelf.old).maps (question_of library.now command.now) read) }
+{
+    match command {
+        StickerCommand::Get(uri, name) => {
+            ask_sticker(library, shelf, uri.0.as_str(), name.as_str())
+        }
+        StickerCommand::Set(uri, name, _) => {
+            ask_sticker(library, shelf, uri.0.as_str(), name.as_str())
+        }
+        StickerCommand::Delete(_, _) => Ok(Read::Nothing),
+        StickerCommand::List(uri) => ask_all(library, shelf, uri.0.as_str()),
+        StickerCommand::Find(uri, name, _) => {
+            ask_found(library, shelf, uri.0.as_str(), name.as_str())
+        }
+    }
+}
+
+/// Asks for the sticker of a song of the library, if the name can be one's.
+fn ask_sticker<S: Shelf>(
+    library: &Library,
+    shelf: &mut S,
+    uri: &str,
+    name: &str,
+) -> Result<Read, AllocError>
+    ensures turns { Turns (S.standing shelf.old) (S.standing shelf.new) (is_ok_read result) (S.standing shelf.old).maps }
+    ensures read { Trusted (S.standing shelf.old) (S.standing shelf.new) → IfOk result (λ read. IsRead (S.failed shelf.old shelf.new) (S.standing shelf.old).maps (asks_sticker library.now uri.now name.now) read) }
+{
+    if !is_song(library, uri) || !is_sticker_name(name) {
+        return Ok(Read::Nothing);
+    }
+    match shelf.sticker(uri, name) {
+        Ok(value) => Ok(Read::Value(Text::of(value))),
+        Err(ShelfFault::NoMemory) => Err(AllocError),
+        Err(fault) => Ok(Read::Refused(fault)),
+    }
+}
+
+/// Asks for all stickers of a song of the library.
+fn ask_all<S: Shelf>(library: &Library, shelf: &mut S, uri: &str) -> Result<Read, AllocError>
+    ensures turns { Turns (S.standing shelf.old) (S.standing shelf.new) (is_ok_read result) (S.standing shelf.old).maps }
+    ensures read { Trusted (S.standing shelf.old) (S.standing shelf.new) → IfOk result (λ read. IsRead (S.failed shelf.old shelf.new) (S.standing shelf.old).maps (asks_all library.now uri.now) read) }
+{
+    if !is_song(library, uri) {
+        return Ok(Read::Nothing);
+    }
+    match shelf.stickers_of(uri) {
+        Ok(entries) => Ok(Read::Entries(Entries::of(entries))),
+        Err(ShelfFault::NoMemory) => Err(AllocError),
+        Err(fault) => Ok(Read::Refused(fault)),
+    }
+}
+
+/// Asks which songs have a sticker of a name, if the name can be one's.
+fn ask_found<S: Shelf>(
+    library: &Library,
+    shelf: &mut S,
+    uri: &str,
+    name: &str,
+) -> Result<Read, AllocError>
+    ensures turns { Turns (S.standing shelf.old) (S.standing shelf.new) (is_ok_read result) (S.standing shelf.old).maps }
+    ensures read { Trusted (S.standing shelf.old) (S.standing shelf.new) → IfOk result (λ read. IsRead (S.failed shelf.old shelf.new) (S.standing shelf.old).maps (asks_found library.now uri.now name.now) read) }
+{
+    if !is_place(library, uri) || !is_sticker_name(name) {
+        return Ok(Read::Nothing);
+    }
+    match shelf.find_stickers(name) {
+        Ok(entries) => Ok(Read::Entries(Entries::of(entries))),
+        Err(ShelfFault::NoMemory) => Err(AllocError),
+        Err(fault) => Ok(Read::Refused(fault)),
+    }
+}

@@ -1,0 +1,17 @@
+-- The table of commands that set how songs are played, and the volume (MPD protocol reference, Playback options).
+use Rattle.std.specs.Prelude.{List, [], ◌∷◌, codes}
+use Rattle.mpd_command.specs.Forms.{switch_of, single_of, volume_of, fade_of}
+use Rattle.mpd_command.specs.Tables.{Row, none, one}
+use Rattle.mpd_command.specs.declared.options.OptionCommand.{OptionCommand}
+use Rattle.mpd_command.specs.declared.options.OptionCommand.TheVariants as options
+
+unfoldable pub rows : List (Row OptionCommand)
+rows =
+    (codes "consume", one switch_of options.Consume)
+    ∷ (codes "crossfade", one fade_of options.Crossfade)
+    ∷ (codes "getvol", none options.GetVol)
+    ∷ (codes "random", one switch_of options.Random)
+    ∷ (codes "repeat", one switch_of options.Repeat)
+    ∷ (codes "setvol", one volume_of options.SetVol)
+    ∷ (codes "single", one single_of options.Single)
+    ∷ []

@@ -1,0 +1,48 @@
+//! Commands that set how songs are played, and the volume (MPD protocol reference, Playback options).
+ghost use Rattle.std.specs.Prelude.{string_bytes, map};
+ghost use Rattle.mpd_command.specs.Readers.{Gives};
+ghost use Rattle.mpd_command.specs.Tables.{found};
+ghost use Rattle.mpd_command.specs.Options.{rows};
+
+use crate::fade::FadeSeconds;
+use crate::forms::SingleMode;
+use crate::readers::{Misread, none, one};
+use crate::volume::Volume;
+use std::alloc::Global;
+
+/// A command that sets how songs are played, or the volume.
+#[derive(Drop)]
+pub enum OptionCommand {
+    /// `consume 0|1`: whether a song leaves the queue once it was played.
+    Consume(bool),
+    /// `crossfade SECONDS`: how long one song fades into the next.
+    Crossfade(FadeSeconds),
+    /// `getvol`.
+    GetVol,
+    /// `random 0|1`: whether songs play in a random order.
+    Random(bool),
+    /// `repeat 0|1`: whether the queue begins anew at its end.
+    Repeat(bool),
+    /// `setvol VOLUME`.
+    SetVol(Volume),
+    /// `single 0|1|oneshot`: whether playing ends after the current song.
+    Single(SingleMode),
+}
+
+/// The rows: what the words after each name are read as.
+#[rattlefmt::skip]
+#[tactic(auto, unfolding(crate::specs::Options::rows))]
+pub(crate) fn read(alloc: Global, word: &str, words: &[String]) -> Result<Option<OptionCommand>, Misread>
+    ensures { Gives result (found rows word.now (map string_bytes words.now)) }
+{
+    Ok(Some(match word {
+        "consume" => OptionCommand::Consume(one(alloc, words)?),
+        "crossfade" => OptionCommand::Crossfade(one(alloc, words)?),
+        "getvol" => none(words, OptionCommand::GetVol)?,
+        "random" => OptionCommand::Random(one(alloc, words)?),
+        "repeat" => OptionCommand::Repeat(one(alloc, words)?),
+        "setvol" => OptionCommand::SetVol(one(alloc, words)?),
+        "single" => OptionCommand::Single(one(alloc, words)?),
+        _ => return Ok(None),
+    }))
+}

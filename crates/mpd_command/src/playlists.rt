@@ -1,0 +1,61 @@
+//! Commands of stored playlists (MPD protocol reference, Stored playlists).
+ghost use Rattle.std.specs.Prelude.{string_bytes, map};
+ghost use Rattle.mpd_command.specs.Readers.{Gives};
+ghost use Rattle.mpd_command.specs.Tables.{found};
+ghost use Rattle.mpd_command.specs.Playlists.{rows};
+
+use crate::forms::Uri;
+use crate::readers::{Misread, none, one, one_perhaps, three, two};
+use mpd_text::{Range, Text};
+use std::alloc::Global;
+
+/// A command of stored playlists.
+#[derive(Drop)]
+pub enum PlaylistCommand {
+    /// `listplaylist NAME`: the songs of a stored playlist, by their URIs.
+    ListPlaylist(Text),
+    /// `listplaylistinfo NAME`: the songs of a stored playlist, with their tags.
+    ListPlaylistInfo(Text),
+    /// `listplaylists`: the names of the stored playlists.
+    ListPlaylists,
+    /// `load NAME [RANGE]`: puts the songs of a stored playlist, of a range or all, at the end of the
+    /// queue.
+    Load(Text, Option<Range>),
+    /// `playlistadd NAME URI`: puts a song, or the songs under a folder, at the end of a stored playlist.
+    PlaylistAdd(Text, Uri),
+    /// `playlistclear NAME`: takes all songs out of a stored playlist.
+    PlaylistClear(Text),
+    /// `playlistdelete NAME POS`: takes the song at a place out of a stored playlist.
+    PlaylistDelete(Text, u32),
+    /// `playlistmove NAME FROM TO`: moves the song of a stored playlist from a place, the first number, to
+    /// another.
+    PlaylistMove(Text, u32, u32),
+    /// `rename NAME NEW`: gives the stored playlist of the first name the second.
+    Rename(Text, Text),
+    /// `rm NAME`: takes a stored playlist away.
+    Rm(Text),
+    /// `save NAME`: keeps the queue as a stored playlist of this name.
+    Save(Text),
+}
+
+/// The rows: what the words after each name are read as.
+#[rattlefmt::skip]
+#[tactic(auto, unfolding(crate::specs::Playlists::rows))]
+pub(crate) fn read(alloc: Global, word: &str, words: &[String]) -> Result<Option<PlaylistCommand>, Misread>
+    ensures { Gives result (found rows word.now (map string_bytes words.now)) }
+{
+    Ok(Some(match word {
+        "listplaylist" => PlaylistCommand::ListPlaylist(one(alloc, words)?),
+        "listplaylistinfo" => PlaylistCommand::ListPlaylistInfo(one(alloc, words)?),
+        "listplaylists" => none(words, PlaylistCommand::ListPlaylists)?,
+        "load" => { let (list, range) = one_perhaps(alloc, words)?; PlaylistCommand::Load(list, range) }
+        "playlistadd" => { let (list, uri) = two(alloc, words)?; PlaylistCommand::PlaylistAdd(list, uri) }
+        "playlistclear" => PlaylistCommand::PlaylistClear(one(alloc, words)?),
+        "playlistdelete" => { let (list, place) = two(alloc, words)?; PlaylistCommand::PlaylistDelete(list, place) }
+        "playlistmove" => { let (list, from, to) = three(alloc, words)?; PlaylistCommand::PlaylistMove(list, from, to) }
+        "rename" => { let (list, new) = two(alloc, words)?; PlaylistCommand::Rename(list, new) }
+        "rm" => PlaylistCommand::Rm(one(alloc, words)?),
+        "save" => PlaylistCommand::Save(one(alloc, words)?),
+        _ => return Ok(None),
+    }))
+}

@@ -1,0 +1,75 @@
+//! Commands of the queue (MPD protocol reference, The Queue).
+ghost use Rattle.std.specs.Prelude.{string_bytes, map};
+ghost use Rattle.mpd_command.specs.Readers.{Gives};
+ghost use Rattle.mpd_command.specs.Tables.{found};
+ghost use Rattle.mpd_command.specs.Queue.{rows};
+
+use crate::forms::{Place, Uri};
+use crate::readers::{Misread, none, one, one_many, one_perhaps, perhaps, two};
+use mpd_text::{Range, Sequence};
+use std::alloc::Global;
+
+/// A command of the queue.
+#[derive(Drop)]
+pub enum QueueCommand {
+    /// `add URI`: puts a song of the library at the end of the queue.
+    Add(Uri),
+    /// `addid URI [POSITION]`: puts a song into the queue, at its end or at a place, and tells its id.
+    AddId(Uri, Option<Place>),
+    /// `clear`: takes all songs out of the queue.
+    Clear,
+    /// `delete RANGE`: takes the songs of a range out of the queue.
+    Delete(Range),
+    /// `deleteid ID`: takes the song with an id out of the queue.
+    DeleteId(u32),
+    /// `move RANGE TO`: moves the songs of a range, so that the first of them is at a place.
+    Move(Range, u32),
+    /// `moveid ID TO`: moves the song with an id to a place.
+    MoveId(u32, u32),
+    /// `playlistid [ID]`: the song with an id, or all songs of the queue.
+    PlaylistId(Option<u32>),
+    /// `playlistinfo [RANGE]`: the songs of a range, or all songs of the queue.
+    PlaylistInfo(Option<Range>),
+    /// `plchanges V [RANGE]`: the songs at the places that changed since a version, of a range or all.
+    PlChanges(u32, Option<Range>),
+    /// `plchangesposid V [RANGE]`: the places that changed since a version, with their ids, of a range or
+    /// all.
+    PlChangesPosId(u32, Option<Range>),
+    /// `prio N RANGE...`: gives the songs of ranges a priority.
+    Prio(u8, Sequence<Range>),
+    /// `prioid N ID...`: gives the songs with these ids a priority.
+    PrioId(u8, Sequence<u32>),
+    /// `shuffle [RANGE]`: puts the songs of a range, or all, into a random order.
+    Shuffle(Option<Range>),
+    /// `swap POS POS`: the songs at two places change round.
+    Swap(u32, u32),
+    /// `swapid ID ID`: the songs with two ids change round.
+    SwapId(u32, u32),
+}
+
+/// The rows: what the words after each name are read as.
+#[rattlefmt::skip]
+#[tactic(auto, unfolding(crate::specs::Queue::rows))]
+pub(crate) fn read(alloc: Global, word: &str, words: &[String]) -> Result<Option<QueueCommand>, Misread>
+    ensures { Gives result (found rows word.now (map string_bytes words.now)) }
+{
+    Ok(Some(match word {
+        "add" => QueueCommand::Add(one(alloc, words)?),
+        "addid" => { let (uri, place) = one_perhaps(alloc, words)?; QueueCommand::AddId(uri, place) }
+        "clear" => none(words, QueueCommand::Clear)?,
+        "delete" => QueueCommand::Delete(one(alloc, words)?),
+        "deleteid" => QueueCommand::DeleteId(one(alloc, words)?),
+        "move" => { let (range, to) = two(alloc, words)?; QueueCommand::Move(range, to) }
+        "moveid" => { let (id, to) = two(alloc, words)?; QueueCommand::MoveId(id, to) }
+        "playlistid" => QueueCommand::PlaylistId(perhaps(alloc, words)?),
+        "playlistinfo" => QueueCommand::PlaylistInfo(perhaps(alloc, words)?),
+        "plchanges" => { let (version, range) = one_perhaps(alloc, words)?; QueueCommand::PlChanges(version, range) }
+        "plchangesposid" => { let (version, range) = one_perhaps(alloc, words)?; QueueCommand::PlChangesPosId(version, range) }
+        "prio" => { let (priority, ranges) = one_many(alloc, words)?; QueueCommand::Prio(priority, ranges) }
+        "prioid" => { let (priority, ids) = one_many(alloc, words)?; QueueCommand::PrioId(priority, ids) }
+        "shuffle" => QueueCommand::Shuffle(perhaps(alloc, words)?),
+        "swap" => { let (first, second) = two(alloc, words)?; QueueCommand::Swap(first, second) }
+        "swapid" => { let (first, second) = two(alloc, words)?; QueueCommand::SwapId(first, second) }
+        _ => return Ok(None),
+    }))
+}

@@ -1,9 +1,0 @@
-use Rattle.std.proofs.Common.{◌≡◌, ◌++◌, drop}
-use Rattle.std.specs.List.{enumerate_from, flat_map}
-use Rattle.status_commands.specs.Devices.{output_lines}
-use Rattle.status_commands.proofs.devices.lines_of.Given as goal
-
-abbrev pub invariant-loop-name : goal.invariant-loop-name
-invariant-loop-name l =
-    (l.number ≡ l.name-index)
-    × (l.lines ++ flat_map (output_lines l.outputs) (enumerate_from l.name-index (drop l.name-index l.outputs.names)) ≡ flat_map (output_lines l.outputs) (enumerate_from 0 l.outputs.names))
