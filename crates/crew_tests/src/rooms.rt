@@ -67,7 +67,7 @@ pub(crate) struct Day {
 }
 
 impl Day {
-    /// What was heard and seen, behind it the files that were opened, and a line for each output: frames
+    /// What was heard and seen, after it the files that were opened, and a line for each output: frames
     /// decoded, written, discarded and left, and bytes torn.
     pub(crate) fn told(&self, alloc: Global) -> Result<String, PartitionFault> {
         let mut told = String::from_str(alloc, self.heard.as_str())?;

@@ -7,7 +7,7 @@ use Rattle.library_scan.specs.declared.step.Kind.TheVariants.{Folder, File, Othe
 use Rattle.library_scan.specs.declared.step.Step.{Step}
 use Rattle.library_scan.specs.declared.step.Step.TheVariants.{Skip, Descend, Read, Refuse}
 
--- a path and a name or a path behind it, with a slash between them; where one is empty, the other alone
+-- a path and a name or a path after it, with a slash between them; where one is empty, the other alone
 abbrev pub path_of : List ℕ → List ℕ → List ℕ
 path_of front name = if length front == 0 then name else (if length name == 0 then front else front ++ 47 ∷ name)
 

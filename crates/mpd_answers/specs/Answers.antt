@@ -84,7 +84,7 @@ abbrev pub IsRead : List ListLine → Bool → List Request → Option ℕ → T
 IsRead lines may_kill requests None = requests ≡ read_lines may_kill lines
 IsRead lines may_kill requests (Some place) = (requests ≡ take place (read_lines may_kill lines)) × (place < length lines)
 
--- what stands behind the answers of a list where all succeed: `OK`; or that there was no memory to read the
+-- what stands after the answers of a list where all succeed: `OK`; or that there was no memory to read the
 -- line at this place
 abbrev pub list_end : Option ℕ → List ℕ
 list_end None = codes "OK\n"

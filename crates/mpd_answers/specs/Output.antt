@@ -17,7 +17,7 @@ module _ {P : Type 0} (Answers : P → Asking → List ℕ → Sequel → P → 
   IsOutput p (one ∷ more) output q =
       (notices text rest : List ℕ) × (mid : P) × (output ≡ notices ++ (text ++ rest)) × AreNotices notices × Answers p one text Stays mid × IsOutput mid more rest q
 
-  -- What is written where the last of these closes it: nothing stands behind that answer.
+  -- What is written where the last of these closes it: nothing stands after that answer.
   abbrev pub IsLastOutput : P → List Asking → Asking → Sequel → List ℕ → P → Type 0
   IsLastOutput p asked last next output q =
       (front text : List ℕ) × (mid : P) × (output ≡ front ++ text) × IsOutput p asked front mid × Answers mid last text next q

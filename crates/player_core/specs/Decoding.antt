@@ -84,7 +84,7 @@ job_for rate p entry next =
 abbrev pub nothing : PlayerState → Wanted
 nothing p = record { stepped = stays p; job = None }
 
--- behind the last frame of its entry the current song ends, and there is no job
+-- after the last frame of its entry the current song ends, and there is no job
 abbrev pub want_at : ℕ → PlayerState → List Entry → ℕ → Option Entry → Wanted
 want_at rate p entries id None = nothing p
 want_at rate p entries id (Some entry) =

@@ -79,7 +79,7 @@ fn changed(place: usize, byte: u8) -> [u8; 75] {
     bytes
 }
 
-/// A file of 9,000 bytes of data, with its title behind them.
+/// A file of 9,000 bytes of data, with its title after them.
 fn late<R: Abort>(rt: &R, alloc: Global) -> Vec<u8> {
     let mut bytes = Vec::new(alloc);
     for part in [&WAVE[..36], b"data\x28\x23\0\0", &[0; 9_000], &WAVE[36..60]] {

@@ -23,7 +23,7 @@ pub fn owned<R: Abort>(rt: &R, alloc: Global, text: &str) -> String {
     String::from_str(alloc, text).expect(rt, "no memory")
 }
 
-/// Adds to a text, and a space behind it.
+/// Adds to a text, and a space after it.
 pub fn push<R: Abort>(rt: &R, all: &mut String, text: &str) {
     all.push_str(text).expect(rt, "no memory");
     all.push(' ').expect(rt, "no memory");
@@ -65,7 +65,7 @@ pub fn library<R: Abort>(rt: &R, alloc: Global, songs: Vec<Song>) -> Db {
     Db::of_songs(alloc, songs).expect(rt, "no library")
 }
 
-/// The URIs of songs, each with a space behind it.
+/// The URIs of songs, each with a space after it.
 pub fn uris<R: Abort>(rt: &R, alloc: Global, songs: &[SharedSong]) -> String {
     let mut all = String::new(alloc);
     for shared in songs {
@@ -83,7 +83,7 @@ pub fn uris_of<R: Abort>(rt: &R, alloc: Global, songs: &[&SharedSong]) -> String
     all
 }
 
-/// Texts, each with a space behind it.
+/// Texts, each with a space after it.
 pub fn joined<R: Abort>(rt: &R, alloc: Global, texts: &[&str]) -> String {
     let mut all = String::new(alloc);
     for text in texts {

@@ -12,7 +12,7 @@ use std::io::ErrorKind;
 use std::process::Abort;
 use std::rt::Files;
 
-/// What a folder tells; the second has a folder below it whose listing breaks off behind its first name.
+/// What a folder tells; the second has a folder below it whose listing breaks off after its first name.
 const ODD: &[u8] = b"a.wav\0\xff.wav\0shut.wav\0far.wav\0b.wav\0broken\0gone\0c.wav\0";
 
 const BROKEN: &[u8] = b"d.wav\0e.wav\0";

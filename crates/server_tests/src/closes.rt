@@ -7,7 +7,7 @@ use std::alloc::{AllocError, Global};
 use std::sync::Wait;
 use std::test::Fail;
 
-/// Nothing is run behind `close`, in its piece or later.
+/// Nothing is run after `close`, in its piece or later.
 #[test]
 fn no_line_is_run_behind_a_close(rt: HostRuntime) -> Result<(), Fail> {
     let steps = [

@@ -160,7 +160,7 @@ fn day<L: Ledgers>(
     steps_of(rt, alloc, &house, &mut seat, steps, may_kill)
 }
 
-/// What the sessions of a day wrote, each behind its client's number and whether it is closed.
+/// What the sessions of a day wrote, each after its client's number and whether it is closed.
 pub(crate) fn told<R: Wait>(
     rt: &R,
     alloc: Global,

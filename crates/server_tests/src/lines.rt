@@ -86,7 +86,7 @@ fn a_longer_line_closes(rt: HostRuntime) -> Result<(), Fail> {
     Ok(())
 }
 
-/// The lines before a longer one in the same piece are answered, and those behind it are not.
+/// The lines before a longer one in the same piece are answered, and those after it are not.
 #[test]
 fn lines_before_a_longer_one_are_answered(rt: HostRuntime) -> Result<(), Fail> {
     let alloc = rt.alloc();

@@ -92,7 +92,7 @@ fn an_open_list_is_not_run(rt: HostRuntime) -> Result<(), Fail> {
     Ok(())
 }
 
-/// A list of 128 lines of 16,384 bytes each, newlines counted, which is the most; behind them perhaps some
+/// A list of 128 lines of 16,384 bytes each, newlines counted, which is the most; after them perhaps some
 /// more bytes, the end of the list, and a `ping`. What the lines hold is not shown.
 fn told_of_large_list<R: Wait>(
     rt: &R,

@@ -47,7 +47,7 @@ impl UriList {
         UriList { text }
     }
 
-    /// Puts a URI behind the others.
+    /// Puts a URI after the others.
     pub fn push(&mut self, uri: &str) -> Result<(), AllocError>
         requires { HasNoNewline uri.now }
         ensures ok { OnOk result (self.new ≡ self.old ++ uri.now ∷ []) }
@@ -97,7 +97,7 @@ impl Clone for UriList {
     }
 }
 
-/// The first line of a text, without its newline, and what comes behind it. What no newline ends is no line.
+/// The first line of a text, without its newline, and what comes after it. What no newline ends is no line.
 pub fn next_uri(rest: &str) -> Option<(&str, &str)>
     ensures lines { MatchOption result (lines_of rest.now ≡ []) (λ parts. lines_of rest.now ≡ parts.0.now ∷ lines_of parts.1.now) }
     ensures single { IfSome result (λ parts. HasNoNewline parts.0.now) }
@@ -106,7 +106,7 @@ pub fn next_uri(rest: &str) -> Option<(&str, &str)>
     rest.split_once('\n')
 }
 
-/// Where the last line of a text ends, behind its newline.
+/// Where the last line of a text ends, after its newline.
 fn end_of_lines(text: &str) -> usize
     ensures within { result ≤ length text.now }
     ensures cut { 0 < result → IsCharBoundary text.now result }

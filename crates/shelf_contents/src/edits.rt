@@ -26,7 +26,7 @@ pub fn uris_of_queue(alloc: Global, queue: &Queue) -> Result<UriList, AllocError
     Ok(uris)
 }
 
-/// The list with the URIs of these songs behind it.
+/// The list with the URIs of these songs after it.
 pub fn with_songs(list: &UriList, songs: &[SharedSong]) -> Result<UriList, AllocError>
     ensures { IfOk result (λ longer. longer ≡ list.now ++ uris_of songs.now) }
 {

@@ -51,7 +51,7 @@ fn first_songs(
     Ok(songs)
 }
 
-/// Puts the song at a URI behind others, where the library has one.
+/// Puts the song at a URI after others, where the library has one.
 fn push_song_at(songs: &mut Vec<SharedSong>, db: &Db, uri: &str) -> Result<(), AllocError>
     ensures { OnOk result (songs.new.items ≡ songs.old.items ++ option_to_list (song_of db.now uri.now)) }
 {

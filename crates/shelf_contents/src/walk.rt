@@ -6,7 +6,7 @@ ghost use Rattle.shelf.specs.Lines.{lines_of};
 use shelf::{UriList, next_uri};
 use std::alloc::AllocError;
 
-/// What comes behind so many lines.
+/// What comes after so many lines.
 pub(crate) fn behind(text: &str, count: usize) -> &str
     ensures { lines_of result.now ≡ drop count (lines_of text.now) }
 {
@@ -22,7 +22,7 @@ pub(crate) fn behind(text: &str, count: usize) -> &str
     rest
 }
 
-/// What comes behind the first line.
+/// What comes after the first line.
 pub(crate) fn behind_first(text: &str) -> &str
     ensures { lines_of result.now ≡ drop 1 (lines_of text.now) }
 {
@@ -32,7 +32,7 @@ pub(crate) fn behind_first(text: &str) -> &str
     }
 }
 
-/// Puts the first lines behind a list, so many of them.
+/// Puts the first lines after a list, so many of them.
 pub(crate) fn push_first(list: &mut UriList, text: &str, count: usize) -> Result<(), AllocError>
     ensures { OnOk result (list.new ≡ list.old ++ take count (lines_of text.now)) }
 {
@@ -49,7 +49,7 @@ pub(crate) fn push_first(list: &mut UriList, text: &str, count: usize) -> Result
     Ok(())
 }
 
-/// Puts all lines behind a list.
+/// Puts all lines after a list.
 pub(crate) fn push_all(list: &mut UriList, text: &str) -> Result<(), AllocError>
     ensures { OnOk result (list.new ≡ list.old ++ lines_of text.now) }
 {

@@ -111,7 +111,7 @@ fn are_same(alloc: Global, text: &str, other: &str) -> Result<bool, AllocError> 
     Ok(uris.is_same(&UriList::of_text(String::from_str(alloc, other)?)))
 }
 
-/// The first URI of a text and what comes behind it, with a bar between them.
+/// The first URI of a text and what comes after it, with a bar between them.
 fn first(alloc: Global, text: &str) -> Result<String, AllocError> {
     match next_uri(text) {
         Some((uri, more)) => format!(in alloc; "{uri}|{more}"),

@@ -78,7 +78,7 @@ moved_to-back es start end to back within =
     ap (λ x. take to x ++ part ++ drop to x) rest ∙ put_between first (between ++ last) part to (length-take-le to es (omega arith))
     ∙ sym (append_assoc (first ++ part) between last) ∙ ap (λ x. x ++ last) (append_assoc first part between)
 
--- a move to a place behind
+-- a move to a later place
 pub moved_to-ahead : (es : List Entry) (start end to : ℕ) → start ≤ end → start ≤ to → to + (end - start) ≤ length es → moved_to es start end to ≡ turned es start end (to + (end - start))
 moved_to-ahead es start end to order ahead within =
     let high : ℕ = to + (end - start) in

@@ -35,7 +35,7 @@ present-since (now ∷ before ∷ newer) older then p h = elim (cases_Bool (same
       absurd (omega arith)
 ]
 
--- a row at the end of what is done: what is left of the client's queue behind it
+-- a row at the end of what is done: what is left of the client's queue after it
 patched : (q : ℕ) (e : Entry) (done rest : List Entry) → length done ≡ q
     → (left : List Entry) × (patch_row (done ++ rest) (q, e) ≡ (done ++ e ∷ []) ++ left) × ((i : ℕ) → slice_get left i ≡ slice_get rest (suc i))
 patched q e done [] n =

@@ -12,12 +12,12 @@ pub restamped-append : (v : ℕ) (w : Bool) (ss xs : List Slot) (es : List Entry
 restamped-append v w [] xs es = refl
 restamped-append v w (a ∷ ss) xs es = λ i. cond-true (same_entry a.entry a.entry) (kept w a) (written v w a.entry) (same_entry-refl a.entry) i ∷ restamped-append v w ss xs es i
 
--- with none behind them
+-- with none after them
 restamped-kept : (v : ℕ) (w : Bool) (ss : List Slot) → restamped v w ss (entries_of ss) ≡ map (kept w) ss
 restamped-kept v w [] = refl
 restamped-kept v w (s ∷ ss) = λ i. cond-true (same_entry s.entry s.entry) (kept w s) (written v w s.entry) (same_entry-refl s.entry) i ∷ restamped-kept v w ss i
 
--- behind as many others
+-- after as many others
 pub restamped-middle : (v : ℕ) (w : Bool) (xs ss : List Slot) (es : List Entry) → length xs ≡ length es → restamped v w (xs ++ ss) (es ++ entries_of ss) ≡ restamped v w xs es ++ map (kept w) ss
 restamped-middle v w [] ss [] n = restamped-kept v w ss
 restamped-middle v w [] ss (e ∷ es) n = absurd (omega arith)

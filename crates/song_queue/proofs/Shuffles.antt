@@ -52,7 +52,7 @@ pub Distinct-shuffled : (es : List Entry) (start end : ℕ) (words : List ℕ) �
 Distinct-shuffled es start end words within distinct =
     IsPermutation-keeps es Distinct distinct (λ l i j li lj d. Distinct-swap l i j li lj d) (shuffled es start end words) (IsPermutation-shuffled es start end words within)
 
--- a swap leaves what is before its places and behind them
+-- a swap leaves what is before its places and after them
 take-swap : {X : Type 0} (n : ℕ) (xs : List X) (i j : ℕ) → n ≤ i → n ≤ j → take n (swap xs i j) ≡ take n xs
 take-swap n [] i j li lj = refl
 take-swap n (x ∷ xs) i j li lj = take-set-le n (set (x ∷ xs) i (get_or (x ∷ xs) j x)) j (get_or (x ∷ xs) i x) lj ∙ take-set-le n (x ∷ xs) i (get_or (x ∷ xs) j x) li

@@ -77,7 +77,7 @@ again = refl
 abbrev three : List Edit
 three = Insert 0 (song 1 ∷ song 2 ∷ song 3 ∷ []) ∷ []
 
--- the first two of three songs moved behind the third: each slot is shown
+-- the first two of three songs moved after the third: each slot is shown
 moved_behind : ids (changed (state_after (opened 10 100 100) (three ++ Move 0 2 1 ∷ [])) 2) ≡ (0, 3) ∷ (1, 1) ∷ (2, 2) ∷ []
 moved_behind = refl
 

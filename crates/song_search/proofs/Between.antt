@@ -22,7 +22,7 @@ use Rattle.song_search.proofs.Fronts.{begins_from, begins_rest}
 order : IsTotalOrder by_bytes
 order = nat_list_cmp_total
 
--- which text is first is told by their first bytes, or behind them
+-- which text is first is told by their first bytes, or after them
 head_less : (x y : ℕ) (o : Ordering) → ordering_then (nat_cmp x y) o ≡ Less → (x < y) ⊎ ((x ≡ y) × (o ≡ Less))
 head_less x y o h = told (nat_cmp x y) (ranks x y) h
   where
@@ -104,7 +104,7 @@ before_fails folder s h =
     (λ u. not_before (front_of folder) (drop (length (front_of folder)) s.uri)
     (subst (λ (t : List ℕ). by_bytes t (front_of folder) ≡ Less) (begins_rest s.uri (front_of folder) u) (is-less (by_bytes s.uri (front_of folder)) h)))
 
--- behind them the folder's stand first
+-- after them the folder's stand first
 pub under_first_part : (folder : List ℕ) (xs : List SongData) → InByteOrder xs → All (λ s. before folder s ≡ false) xs → IsPartitionedBy (λ (s : SongData). is_under folder s.uri) xs
 under_first_part folder xs h late i j d low within hit = elim (cases_eq i j) [
   | inl e ↦ subst (λ k. is_under folder (get_or xs k d).uri ≡ true) (sym e) hit
@@ -114,7 +114,7 @@ under_first_part folder xs h late i j d low within hit = elim (cases_eq i j) [
       begins_from (get_or xs i d).uri (front_of folder) rest.0 rest.1
 ]
 
--- behind a song in a folder the others in it stand first
+-- after a song in a folder the others in it stand first
 pub in_first_part : (folder : List ℕ) (x : SongData) (xs : List SongData) → InByteOrder (x ∷ xs) → lies_in folder x.uri ≡ true → IsPartitionedBy (λ (s : SongData). lies_in folder s.uri) xs
 in_first_part folder x xs h here i j d low within hit = elim (cases_eq i j) [
   | inl e ↦ subst (λ k. lies_in folder (get_or xs k d).uri ≡ true) (sym e) hit
@@ -125,7 +125,7 @@ in_first_part folder x xs h here i j d low within hit = elim (cases_eq i j) [
       begins_from (get_or xs i d).uri (folder ++ 47 ∷ []) rest.0 rest.1
 ]
 
--- all behind the first search's end are not before
+-- all after the first search's end are not before
 pub late : (folder : List ℕ) (xs : List SongData) (start : ℕ) → AllWithin (λ s. before folder s ≡ false) xs start (length xs) → All (λ s. before folder s ≡ false) (drop start xs)
 late folder xs start h k d l = subst (λ (s : SongData). before folder s ≡ false) (sym (get_or-drop start xs k d)) (h (start + k) d (omega arith) (let n = length-drop start xs in omega arith))
 
@@ -140,7 +140,7 @@ under_is folder xs rest start end h is low high first second =
     sym (filter_skip (λ (s : SongData). is_under folder s.uri) xs start (λ k d l m. before_fails folder (get_or xs k d) (one.0 k d l m)) low
     ∙ ap (filter (λ (s : SongData). is_under folder s.uri)) (sym is) ∙ filter_front (λ (s : SongData). is_under folder s.uri) rest end high two.0 two.1)
 
--- whether a text is before a folder's, told by what stands behind the folder
+-- whether a text is before a folder's, told by what stands after the folder
 slash_told : (rest : List ℕ) → 0 < length rest → nat_lt (get_or rest 0 0) 47 ≡ is_lt (by_bytes rest (47 ∷ []))
 slash_told [] some = absurd (omega arith)
 slash_told (x ∷ xs) some = told (nat_cmp x 47) (ranks x 47)

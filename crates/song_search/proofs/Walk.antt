@@ -55,7 +55,7 @@ has_first (x ∷ xs) h = told (eqb x 47) h (has_first xs)
     told true h deeper = omega arith
     told false h deeper = let low : position_or_len slash xs < length xs = deeper h in omega arith
 
--- a text with a slash is what stands before the first one, the slash, and what stands behind it
+-- a text with a slash is what stands before the first one, the slash, and what stands after it
 at_first : (path : List ℕ) → has_slash path ≡ true → path ≡ before_first slash path ++ 47 ∷ after_first slash path
 at_first path h =
     split_at_first slash path 0 (has_first path h)

@@ -50,7 +50,7 @@ struct Passed {
     runs: u64,
 }
 
-/// Runs a row as it is, and once more behind each line of its `again`. `None` where a run prints something
+/// Runs a row as it is, and once more after each line of its `again`. `None` where a run prints something
 /// else.
 fn passes(rt: &HostRuntime, text: &str) -> io::Result<Option<Passed>> {
     let Some(row) = Row::read(rt.alloc(), text)? else {
