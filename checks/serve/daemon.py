@@ -111,11 +111,11 @@ class Client:
 class Process:
     """A server that runs, and what the system says of it."""
 
-    def __init__(self, words, port, folder, wait=True):
+    def __init__(self, words, port, folder, wait=True, environment=None):
         self.port = port
         self.told = open(os.path.join(folder, 'told'), 'w+b')
         self.faults = open(os.path.join(folder, 'faults'), 'w+b')
-        self.process = subprocess.Popen(words, stdin=subprocess.DEVNULL, stdout=self.told, stderr=self.faults)
+        self.process = subprocess.Popen(words, stdin=subprocess.DEVNULL, stdout=self.told, stderr=self.faults, env=environment)
         if wait:
             self.wait_for_port()
 
@@ -164,7 +164,7 @@ class Process:
 class Daemon(Process):
     """music_daemon with settings of its own."""
 
-    def __init__(self, program, folder, music, outputs=(), shelf=None, kill=True, rate=44100, more='', wait=True):
+    def __init__(self, program, folder, music, outputs=(), shelf=None, kill=True, rate=44100, more='', wait=True, environment=None):
         self.settings = os.path.join(folder, 'settings.toml')
         port = free_port()
         lines = ['music = "%s"' % music, 'listen = "127.0.0.1:%d"' % port, 'rate = %d' % rate, 'kill = %s' % ('true' if kill else 'false')]
@@ -176,7 +176,7 @@ class Daemon(Process):
             lines += ['[[output]]', 'name = "out%d"' % number, 'path = "%s"' % path, 'enabled = %s' % ('true' if enabled else 'false')]
         with open(self.settings, 'w') as file:
             file.write('\n'.join(lines) + '\n')
-        super().__init__([program, 'serve', '--config', self.settings], port, folder, wait)
+        super().__init__([program, 'serve', '--config', self.settings], port, folder, wait, environment)
 
     def end(self):
         """Ends it by `kill`: its status and its summary."""

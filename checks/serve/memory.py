@@ -1,0 +1,282 @@
+#!/usr/bin/env python3
+"""Refused memory: in each run one allocation of the daemon, from its start to `kill`, finds no memory.
+
+    checks/serve/memory.py [PROGRAM] [--step N] [--jobs N]
+
+N counts up until a run ends before its Nth allocation; with --step only each Nth is tried. Two clients add, save, ask, wait and play.
+A run is right where each answer is. A start may end with status 1 and `music_daemon: out of memory`; a client may be closed before
+its greeting, and then comes again; one answer may want memory (`ACK [52@..]`), and all later answers are as if its line, of a list
+its later lines, had not come. An output whose file could not be opened for want of memory is off, as for any fault of opening, and
+discarded all. Where there is no memory for the end, the daemon ends with status 1 and that line. Else what was played is whole in
+the output's file, and the summary balances.
+"""
+import argparse
+import concurrent.futures
+import os
+import re
+import subprocess
+import sys
+import tempfile
+import time
+
+sys.dont_write_bytecode = True
+
+from daemon import ANSWER, END, HERE, START, Client, Daemon, program_of, wave
+
+FRAMES = {'a.wav': 1000, 'b.wav': 1500}
+REFUSAL = re.compile(r'ACK \[52@(\d+)\] \{\w*\} (out of memory|history full)$')
+SUMMARY = re.compile(r'output 0: decoded (\d+) written (\d+) discarded (\d+) left (\d+)$')
+IDLE = 'output 0: decoded 0 written 0 discarded 0 left 0\n'
+RIGHT, START_ENDED, CLOSED, REFUSED, OFF, NO_SUMMARY, FAILED = 'right', 'start ended', 'client closed', 'answer refused', 'output off', 'no summary', 'FAILED'
+SORTS = RIGHT, START_ENDED, CLOSED, REFUSED, OFF, NO_SUMMARY, FAILED
+LONGEST = 10    # the seconds within which all is played
+
+
+class Wrong(Exception):
+    pass
+
+
+class Household:
+    """Two clients of a daemon, and what it must answer them: the ids in the queue, and the list that was saved."""
+
+    def __init__(self, daemon):
+        self.daemon, self.queue, self.added, self.saved, self.sticker = daemon, [], 0, None, False
+        self.closed = self.refused = 0
+        self.first, self.second = self.let_in(), self.let_in()
+
+    def let_in(self):
+        """A client that was greeted. One for which there was no memory is closed, and comes again."""
+        while True:
+            try:
+                client = Client(self.daemon.port)
+                if client.greeting:
+                    return client
+            except ConnectionResetError:
+                # unless it was the start that ended, this client comes again
+                time.sleep(0.02)
+            self.closed += 1
+
+    def ask(self, line, wanted):
+        """Whether a line is answered as it must be; if not, it wanted memory."""
+        answer = self.first.ask(line)
+        if answer == wanted:
+            return True
+        if len(answer) == 1 and REFUSAL.match(answer[0]):
+            self.refused += 1
+            return False
+        raise Wrong('%s: %s' % (line, answer))
+
+    def add(self, uri):
+        """Whether a song was added."""
+        number = self.added + 1
+        if not self.ask('addid %s' % uri, ['Id: %d' % number, 'OK']):
+            return False
+        self.queue.append(uri)
+        self.added = number
+        return True
+
+    def add_list(self, uris):
+        """Songs that are added in one list; those before the one that wants memory stand."""
+        self.first.send('\n'.join(['command_list_ok_begin', *('addid %s' % uri for uri in uris), 'command_list_end']))
+        answer, wanted = self.first.answer(), []
+        for place, uri in enumerate(uris):
+            if answer[:-1] == wanted and REFUSAL.match(answer[-1]) and REFUSAL.match(answer[-1]).group(1) == str(place):
+                self.refused += 1
+                return
+            self.queue.append(uri)
+            self.added += 1
+            wanted += ['Id: %d' % self.added, 'list_OK']
+        if answer != wanted + ['OK']:
+            raise Wrong('a list: %s' % answer)
+
+    def status(self):
+        """What `status` says by its keys, once it is answered."""
+        while True:
+            answer = self.first.ask('status')
+            if answer[-1] == 'OK':
+                return dict(line.split(': ', 1) for line in answer[:-1])
+            if len(answer) > 1 or not REFUSAL.match(answer[0]):
+                raise Wrong('status: %s' % answer)
+            self.refused += 1
+
+    def look(self):
+        status = self.status()
+        if (status['playlistlength'], status['playlist']) != (str(len(self.queue)), str(self.changes + 1)):
+            raise Wrong('status: %s at %d songs and %d changes' % (status, len(self.queue), self.changes))
+
+    def edit(self):
+        """Songs are added, kept and shown."""
+        self.add('a.wav')
+        self.add('b.wav')
+        self.changes = len(self.queue)
+        self.look()
+        if self.ask('save x', ['OK']):
+            self.saved = list(self.queue)
+        lines = ['ACK [50@0] {listplaylist} no such playlist'] if self.saved is None else ['file: ' + uri for uri in self.saved] + ['OK']
+        self.ask('listplaylist x', lines)
+        self.sticker = self.ask('sticker set song a.wav r 5', ['OK'])
+        self.ask('sticker get song a.wav r', ['sticker: r=5', 'OK'] if self.sticker else ['ACK [50@0] {sticker} no such sticker'])
+        self.ask('find "(Title == \'none\')"', ['OK'])
+        self.ask('count "(Title == \'none\')"', ['songs: 0', 'playtime: 0', 'OK'])
+        before = len(self.queue)
+        self.add_list(['a.wav', 'b.wav'])
+        self.changes += len(self.queue) - before
+        self.look()
+
+    def wait(self):
+        """The second client waits, and hears of a change of the first."""
+        self.second.send('idle playlist')
+        # its line has been read once a line that came later is answered
+        self.status()
+        if not self.add('a.wav'):
+            self.second.send('noidle')
+            if self.second.answer() not in (['OK'], ['changed: playlist', 'OK']):
+                raise Wrong('noidle')
+            return
+        self.changes += 1
+        answer = self.second.answer()
+        if len(answer) == 1 and REFUSAL.match(answer[0]):
+            self.refused += 1
+        elif answer != ['changed: playlist', 'OK']:
+            raise Wrong('idle: %s' % answer)
+
+    def frames(self):
+        return sum(FRAMES[uri] for uri in self.queue)
+
+    def is_off(self):
+        answer = self.first.ask('outputs')
+        if len(answer) == 1 and REFUSAL.match(answer[0]):
+            self.refused += 1
+        return 'outputenabled: 0' in answer
+
+    def play(self, path):
+        """All songs are played, one after the other, and written, unless the output is off."""
+        while not self.ask('play 0', ['OK']):
+            pass
+        end = time.monotonic() + LONGEST
+        while self.status()['state'] != 'stop' or not (self.is_off() or os.path.exists(path) and os.path.getsize(path) == 4 * self.frames()):
+            if time.monotonic() > end:
+                raise Wrong('it still plays')
+            time.sleep(0.01)
+
+    def kill(self):
+        while True:
+            self.first.send('kill')
+            answer = self.first.answer()
+            if answer == ['']:
+                return
+            if not REFUSAL.match(answer[0]):
+                raise Wrong('kill: %s' % answer)
+            self.refused += 1
+
+
+def listens(daemon):
+    """Whether it came to listen; a start that ended wanted memory."""
+    end = time.monotonic() + START
+    while time.monotonic() < end:
+        if daemon.process.poll() is not None:
+            return False
+        try:
+            Client(daemon.port, greeted=False).close()
+            return True
+        except OSError:
+            time.sleep(0.005)
+    raise Wrong('it does not listen')
+
+
+def met(daemon):
+    """Its two clients; none where its start ended, which it may also do once it listens."""
+    try:
+        return Household(daemon) if listens(daemon) else None
+    except ConnectionRefusedError:
+        return None
+
+
+def ended(daemon, played, path):
+    """The sort of the end of a daemon that was ended by `kill`: it wrote all; or its output could not be opened, and it discarded
+    all; or it had no memory for the end."""
+    status = daemon.process.wait(END)
+    if (status, daemon.output(), daemon.errors()) == (1, '', 'music_daemon: out of memory'):
+        return NO_SUMMARY
+    summary = SUMMARY.match(daemon.output().strip())
+    if status != 0 or not summary or daemon.errors():
+        raise Wrong('it ended with status %d, %r, %r' % (status, daemon.output(), daemon.errors()))
+    decoded, written, discarded, left = map(int, summary.groups())
+    if decoded != written + discarded + left:
+        raise Wrong('the summary: %s' % summary.group())
+    size = os.path.getsize(path) if os.path.exists(path) else None
+    if (decoded, written, size) == (played, played, 4 * played):
+        return RIGHT
+    if size is not None or (written, left) != (0, 0):
+        raise Wrong('%d frames were played, the file has %s bytes; %s' % (played, size, summary.group()))
+    return OFF
+
+
+def run(program, library, music, number):
+    """One run: its sort, why it is wrong, and how many allocations it made."""
+    with tempfile.TemporaryDirectory() as folder:
+        path, report = os.path.join(folder, 'out.raw'), os.path.join(folder, 'report')
+        environment = dict(os.environ, LD_PRELOAD=library, FAULTY_REPORT=report, FAULTY_ALLOCATION=str(number))
+        daemon = Daemon(program, folder, music, [path], shelf=os.path.join(folder, 'shelf.db'), rate=8000, wait=False, environment=environment)
+        try:
+            household = met(daemon)
+            if not household:
+                status, errors, told = daemon.process.wait(END), daemon.errors(), daemon.output()
+                if (status, errors) != (1, 'music_daemon: out of memory') or told not in ('', IDLE):
+                    raise Wrong('the start ended with status %d, %r, %r' % (status, told, errors))
+                return START_ENDED, '', count_in(report)
+            household.edit()
+            household.wait()
+            household.play(path)
+            household.kill()
+            end = ended(daemon, household.frames(), path)
+            if household.refused + household.closed + (end != RIGHT) > 1:
+                raise Wrong('%d answers and %d clients were refused' % (household.refused, household.closed))
+            sort = REFUSED if household.refused else CLOSED if household.closed else end
+            return sort, '', count_in(report)
+        except (Wrong, OSError, KeyError, subprocess.TimeoutExpired) as fault:
+            daemon.kill()
+            return FAILED, 'allocation %d refused: %s' % (number, str(fault) or repr(fault)), number
+
+
+def count_in(report):
+    with open(report, encoding='ascii') as file:
+        return next(int(line.split()[1]) for line in file if line.startswith('allocations '))
+
+
+def main():
+    parser = argparse.ArgumentParser(description='Refused memory of a daemon.')
+    parser.add_argument('program', nargs='?')
+    parser.add_argument('--step', type=int, default=1)
+    parser.add_argument('--jobs', type=int, default=4)
+    given = parser.parse_args()
+    program, sorts, failures, tried = program_of(given.program), dict.fromkeys(SORTS, 0), [], 0
+    with tempfile.TemporaryDirectory() as folder, concurrent.futures.ThreadPoolExecutor(given.jobs) as pool:
+        library, music = os.path.join(folder, 'faulty.so'), os.path.join(folder, 'music')
+        source = os.path.join(os.path.dirname(HERE), 'faulty.c')
+        subprocess.run(['gcc', '-shared', '-fPIC', '-O2', '-o', library, source, '-ldl'], check=True)
+        os.mkdir(music)
+        for name, frames in FRAMES.items():
+            with open(os.path.join(music, name), 'wb') as file:
+                file.write(wave([(1, -1)] * frames, rate=8000))
+        is_over = False
+        while not is_over:
+            numbers = [tried + 1 + given.step * place for place in range(8 * given.jobs)]
+            for number, (sort, why, count) in zip(numbers, pool.map(lambda number: run(program, library, music, number), numbers)):
+                if count < number:
+                    is_over = True
+                sorts[sort] += 1
+                failures += [why] if sort == FAILED else []
+            tried = numbers[-1] + given.step - 1
+            is_over = is_over or len(failures) > 20
+    print('One allocation of a daemon is refused, from its start to `kill`: %d runs' % sum(sorts.values()))
+    for sort in SORTS:
+        print('  %-16s %6d' % (sort, sorts[sort]))
+    for why in failures:
+        print('    ' + why)
+    print('\n%d failed' % len(failures))
+    return 1 if failures else 0
+
+
+if __name__ == '__main__':
+    sys.exit(main())
