@@ -1,6 +1,6 @@
 -- Where a device is, and where it fails (this profile's).
 use Rattle.std.specs.Prelude.{◌≡◌, ℕ, ◌-◌, ◌^◌, List, drop, Result, Option, Some, IfSome, MatchResult, ◌==◌, if◌then◌else◌}
-use Rattle.counted_devices.specs.Tally.{count_up}
+use Rattle.counted_devices.specs.CallCounts.{count_up}
 use Rattle.counted_devices.specs.declared.fail_at.FailurePoint.{FailurePoint}
 use Rattle.counted_devices.specs.declared.fail_at.FailurePoint.TheVariants.{Never, Call, Byte}
 

@@ -2,9 +2,9 @@
 ghost use Rattle.std.specs.Prelude.{◌≡◌, OnErr};
 ghost use Rattle.std.specs.Io.{ReadsAtMost, WritesAtMost};
 ghost use Rattle.std.specs.Io.KnownBytes.{ReadConsumes, WriteAppends, Keeps};
-ghost use Rattle.counted_devices.specs.Tally.{NoFewer, HasFailed, CountsCall, CountsWrite, one_call, no_calls};
+ghost use Rattle.counted_devices.specs.CallCounts.{NoFewer, HasFailed, CountsCall, CountsWrite, one_call, no_calls};
 
-use crate::{Failing, Media, ReadSeek, Sink, Source, Tally};
+use crate::{CallCounts, Failing, Media, ReadSeek, Sink, Source};
 use std::io;
 use std::io::{Read, Write};
 
@@ -13,18 +13,18 @@ use std::io::{Read, Write};
 #[derive(Drop)]
 pub struct Counting<T> {
     inner: T,
-    tally: Tally,
+    call_counts: CallCounts,
 }
 
 impl<T> Counting<T> {
     /// Wraps a device that was not called yet: every count is 0.
     pub fn new(inner: T) -> Counting<T>
         ensures inner { result.inner ≡ inner }
-        ensures tally { result.tally ≡ no_calls }
+        ensures call_counts { result.call_counts ≡ no_calls }
     {
         Counting {
             inner,
-            tally: Tally::new(),
+            call_counts: CallCounts::new(),
         }
     }
 
@@ -44,18 +44,18 @@ impl<T> Counting<T> {
 }
 
 impl<T> Failing for Counting<T> {
-    ghost tally = { λ c. c.tally };
+    ghost call_counts = { λ c. c.call_counts };
 
     fn failures(&self) -> u64 {
-        self.tally.failures
+        self.call_counts.failures
     }
 
     fn blocked(&self) -> u64 {
-        self.tally.blocked
+        self.call_counts.blocked
     }
 
     fn calls(&self) -> u64 {
-        self.tally.calls
+        self.call_counts.calls
     }
 }
 
@@ -65,13 +65,13 @@ impl<T: Read> Read for Counting<T> {
     fn read(&mut self, buf: &mut [u8]) -> io::Result<usize>
         ensures bound { ReadsAtMost result buf.new }
         ensures bytes { ReadConsumes (T.remaining self.old.inner) (T.remaining self.new.inner) result buf.new }
-        ensures counts { CountsCall self.old.tally self.new.tally result }
-        ensures calls { self.new.tally.calls ≡ (one_call self.old.tally).calls }
-        ensures failed { OnErr result (HasFailed self.old.tally self.new.tally) }
-        ensures calm { NoFewer self.old.tally self.new.tally }
+        ensures counts { CountsCall self.old.call_counts self.new.call_counts result }
+        ensures calls { self.new.call_counts.calls ≡ (one_call self.old.call_counts).calls }
+        ensures failed { OnErr result (HasFailed self.old.call_counts self.new.call_counts) }
+        ensures calm { NoFewer self.old.call_counts self.new.call_counts }
     {
         let returned = self.inner.read(buf);
-        self.tally.count_result(&returned);
+        self.call_counts.count_result(&returned);
         returned
     }
 }
@@ -88,23 +88,23 @@ impl<T: Write> Write for Counting<T> {
     fn write(&mut self, buf: &[u8]) -> io::Result<usize>
         ensures bound { WritesAtMost result buf.now }
         ensures bytes { WriteAppends (T.contents self.old.inner) (T.contents self.new.inner) result buf.now }
-        ensures counts { CountsWrite self.old.tally self.new.tally result buf.now }
-        ensures failed { OnErr result (HasFailed self.old.tally self.new.tally) }
-        ensures calm { NoFewer self.old.tally self.new.tally }
+        ensures counts { CountsWrite self.old.call_counts self.new.call_counts result buf.now }
+        ensures failed { OnErr result (HasFailed self.old.call_counts self.new.call_counts) }
+        ensures calm { NoFewer self.old.call_counts self.new.call_counts }
     {
         let returned = self.inner.write(buf);
-        self.tally.count_write(&returned, buf);
+        self.call_counts.count_write(&returned, buf);
         returned
     }
 
     fn flush(&mut self) -> io::Result<()>
         ensures bytes { Keeps (T.contents self.old.inner) (T.contents self.new.inner) }
-        ensures counts { CountsCall self.old.tally self.new.tally result }
-        ensures failed { OnErr result (HasFailed self.old.tally self.new.tally) }
-        ensures calm { NoFewer self.old.tally self.new.tally }
+        ensures counts { CountsCall self.old.call_counts self.new.call_counts result }
+        ensures failed { OnErr result (HasFailed self.old.call_counts self.new.call_counts) }
+        ensures calm { NoFewer self.old.call_counts self.new.call_counts }
     {
         let returned = self.inner.flush();
-        self.tally.count_result(&returned);
+        self.call_counts.count_result(&returned);
         returned
     }
 }
@@ -125,19 +125,19 @@ impl<T: ReadSeek> Media for Counting<T> {
 
     fn seek_to(&mut self, place: u64) -> io::Result<()> {
         let returned = self.inner.move_to(place);
-        self.tally.count_result(&returned);
+        self.call_counts.count_result(&returned);
         returned
     }
 
     fn seek_to_end(&mut self) -> io::Result<u64> {
         let returned = self.inner.move_to_end();
-        self.tally.count_result(&returned);
+        self.call_counts.count_result(&returned);
         returned
     }
 
     fn read_here(&mut self, buf: &mut [u8]) -> io::Result<usize> {
         let returned = self.inner.read_on(buf);
-        self.tally.count_result(&returned);
+        self.call_counts.count_result(&returned);
         returned
     }
 }

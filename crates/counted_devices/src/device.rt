@@ -1,9 +1,9 @@
 //! Readers and writers that count how their calls end.
 ghost use Rattle.std.specs.Prelude.{◌≡◌, ℕ, List, Option, length, IfSome, IfOk, OnErr};
-ghost use Rattle.counted_devices.specs.declared.tally.Tally.{Tally};
+ghost use Rattle.counted_devices.specs.declared.call_counts.CallCounts.{CallCounts};
 ghost use Rattle.std.specs.Io.{ReadsAtMost, WritesAtMost};
 ghost use Rattle.std.specs.Io.KnownBytes.{ReadConsumes, WriteAppends, Keeps};
-ghost use Rattle.counted_devices.specs.Tally.{NoFewer, HasFailed, CountsCall, CountsWrite, one_call};
+ghost use Rattle.counted_devices.specs.CallCounts.{NoFewer, HasFailed, CountsCall, CountsWrite, one_call};
 ghost use Rattle.counted_devices.specs.Bytes.{SeeksTo};
 
 use std::io;
@@ -11,19 +11,19 @@ use std::io::{Read, Write};
 
 /// A device that counts how its calls end. A count stops at its greatest value, 2^64-1.
 pub trait Failing {
-    ghost tally: { Self → Tally };
+    ghost call_counts: { Self → CallCounts };
 
     /// How many calls returned an error other than `WouldBlock`, or took none of some bytes.
     fn failures(&self) -> u64
-        ensures { result ≡ (tally self.now).failures };
+        ensures { result ≡ (call_counts self.now).failures };
 
     /// How many calls returned `WouldBlock`.
     fn blocked(&self) -> u64
-        ensures { result ≡ (tally self.now).blocked };
+        ensures { result ≡ (call_counts self.now).blocked };
 
     /// How many calls were made in all.
     fn calls(&self) -> u64
-        ensures { result ≡ (tally self.now).calls };
+        ensures { result ≡ (call_counts self.now).calls };
 }
 
 /// A reader that counts its calls.
@@ -32,10 +32,10 @@ pub trait Source: Read + Failing {
     fn read_some(&mut self, buf: &mut [u8]) -> io::Result<usize>
         ensures bound { ReadsAtMost result buf.new }
         ensures bytes { ReadConsumes (Self.remaining self.old) (Self.remaining self.new) result buf.new }
-        ensures counts { CountsCall (Self.tally self.old) (Self.tally self.new) result }
-        ensures calls { (Self.tally self.new).calls ≡ (one_call (Self.tally self.old)).calls }
-        ensures failed { OnErr result (HasFailed (Self.tally self.old) (Self.tally self.new)) }
-        ensures calm { NoFewer (Self.tally self.old) (Self.tally self.new) };
+        ensures counts { CountsCall (Self.call_counts self.old) (Self.call_counts self.new) result }
+        ensures calls { (Self.call_counts self.new).calls ≡ (one_call (Self.call_counts self.old)).calls }
+        ensures failed { OnErr result (HasFailed (Self.call_counts self.old) (Self.call_counts self.new)) }
+        ensures calm { NoFewer (Self.call_counts self.old) (Self.call_counts self.new) };
 }
 
 /// A writer that counts its calls.
@@ -44,16 +44,16 @@ pub trait Sink: Write + Failing {
     fn write_some(&mut self, buf: &[u8]) -> io::Result<usize>
         ensures bound { WritesAtMost result buf.now }
         ensures bytes { WriteAppends (Self.contents self.old) (Self.contents self.new) result buf.now }
-        ensures counts { CountsWrite (Self.tally self.old) (Self.tally self.new) result buf.now }
-        ensures failed { OnErr result (HasFailed (Self.tally self.old) (Self.tally self.new)) }
-        ensures calm { NoFewer (Self.tally self.old) (Self.tally self.new) };
+        ensures counts { CountsWrite (Self.call_counts self.old) (Self.call_counts self.new) result buf.now }
+        ensures failed { OnErr result (HasFailed (Self.call_counts self.old) (Self.call_counts self.new)) }
+        ensures calm { NoFewer (Self.call_counts self.old) (Self.call_counts self.new) };
 
     /// Flushes as `Write::flush` does, and counts the call.
     fn flush_out(&mut self) -> io::Result<()>
         ensures bytes { Keeps (Self.contents self.old) (Self.contents self.new) }
-        ensures counts { CountsCall (Self.tally self.old) (Self.tally self.new) result }
-        ensures failed { OnErr result (HasFailed (Self.tally self.old) (Self.tally self.new)) }
-        ensures calm { NoFewer (Self.tally self.old) (Self.tally self.new) };
+        ensures counts { CountsCall (Self.call_counts self.old) (Self.call_counts self.new) result }
+        ensures failed { OnErr result (HasFailed (Self.call_counts self.old) (Self.call_counts self.new)) }
+        ensures calm { NoFewer (Self.call_counts self.old) (Self.call_counts self.new) };
 }
 
 /// A reader that can be set to any place of its bytes, and counts its calls. Each call is one read
@@ -66,28 +66,28 @@ pub trait Media: Source {
     fn seek_to(&mut self, place: u64) -> io::Result<()>
         ensures moves { SeeksTo (all_bytes self.old) place (Self.remaining self.old) (Self.remaining self.new) result }
         ensures stays { all_bytes self.new ≡ all_bytes self.old }
-        ensures counts { CountsCall (Self.tally self.old) (Self.tally self.new) result }
-        ensures calls { (Self.tally self.new).calls ≡ (one_call (Self.tally self.old)).calls }
-        ensures failed { OnErr result (HasFailed (Self.tally self.old) (Self.tally self.new)) }
-        ensures calm { NoFewer (Self.tally self.old) (Self.tally self.new) };
+        ensures counts { CountsCall (Self.call_counts self.old) (Self.call_counts self.new) result }
+        ensures calls { (Self.call_counts self.new).calls ≡ (one_call (Self.call_counts self.old)).calls }
+        ensures failed { OnErr result (HasFailed (Self.call_counts self.old) (Self.call_counts self.new)) }
+        ensures calm { NoFewer (Self.call_counts self.old) (Self.call_counts self.new) };
 
     /// Sets the reader after its last byte, and gives how many bytes there are.
     fn seek_to_end(&mut self) -> io::Result<u64>
         ensures size { IfSome (all_bytes self.old) (λ bytes. IfOk result (λ n. n ≡ length bytes)) }
         ensures moves { IfSome (all_bytes self.old) (λ bytes. SeeksTo (all_bytes self.old) (length bytes) (Self.remaining self.old) (Self.remaining self.new) result) }
         ensures stays { all_bytes self.new ≡ all_bytes self.old }
-        ensures counts { CountsCall (Self.tally self.old) (Self.tally self.new) result }
-        ensures calls { (Self.tally self.new).calls ≡ (one_call (Self.tally self.old)).calls }
-        ensures failed { OnErr result (HasFailed (Self.tally self.old) (Self.tally self.new)) }
-        ensures calm { NoFewer (Self.tally self.old) (Self.tally self.new) };
+        ensures counts { CountsCall (Self.call_counts self.old) (Self.call_counts self.new) result }
+        ensures calls { (Self.call_counts self.new).calls ≡ (one_call (Self.call_counts self.old)).calls }
+        ensures failed { OnErr result (HasFailed (Self.call_counts self.old) (Self.call_counts self.new)) }
+        ensures calm { NoFewer (Self.call_counts self.old) (Self.call_counts self.new) };
 
     /// Reads as `Source::read_some` does, from where the reader is, and leaves all bytes as they were.
     fn read_here(&mut self, buf: &mut [u8]) -> io::Result<usize>
         ensures bound { ReadsAtMost result buf.new }
         ensures bytes { ReadConsumes (Self.remaining self.old) (Self.remaining self.new) result buf.new }
         ensures stays { all_bytes self.new ≡ all_bytes self.old }
-        ensures counts { CountsCall (Self.tally self.old) (Self.tally self.new) result }
-        ensures calls { (Self.tally self.new).calls ≡ (one_call (Self.tally self.old)).calls }
-        ensures failed { OnErr result (HasFailed (Self.tally self.old) (Self.tally self.new)) }
-        ensures calm { NoFewer (Self.tally self.old) (Self.tally self.new) };
+        ensures counts { CountsCall (Self.call_counts self.old) (Self.call_counts self.new) result }
+        ensures calls { (Self.call_counts self.new).calls ≡ (one_call (Self.call_counts self.old)).calls }
+        ensures failed { OnErr result (HasFailed (Self.call_counts self.old) (Self.call_counts self.new)) }
+        ensures calm { NoFewer (Self.call_counts self.old) (Self.call_counts self.new) };
 }

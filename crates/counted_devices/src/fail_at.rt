@@ -4,10 +4,10 @@ ghost use Rattle.std.specs.Io.{ReadsAtMost, WritesAtMost};
 ghost use Rattle.std.specs.Io.KnownBytes.{ReadConsumes, WriteAppends, Keeps};
 ghost use Rattle.std.specs.Io.Seek.{SeekMoves};
 ghost use Rattle.std.specs.IoError.{error_kind};
-ghost use Rattle.counted_devices.specs.Tally.{CountsCall, CountsError, CountsWrite, HasFailed, NoFewer, one_call, no_calls};
+ghost use Rattle.counted_devices.specs.CallCounts.{CountsCall, CountsError, CountsWrite, HasFailed, NoFewer, one_call, no_calls};
 ghost use Rattle.counted_devices.specs.Bytes.{room_after};
 
-use crate::{Failing, Media, ReadSeek, Sink, Source, Tally};
+use crate::{CallCounts, Failing, Media, ReadSeek, Sink, Source};
 use std::io;
 use std::io::{ErrorKind, Read, Seek, SeekFrom, Write};
 
@@ -28,7 +28,7 @@ pub enum FailurePoint {
 pub struct FailAt {
     bytes: Vec<u8>,
     position: u64,
-    tally: Tally,
+    call_counts: CallCounts,
     point: FailurePoint,
     kind: ErrorKind,
 }
@@ -36,12 +36,12 @@ pub struct FailAt {
 impl FailAt {
     /// A device that holds these bytes, is at the first, and returns `ErrorKind::Other` at the point.
     pub fn new(bytes: Vec<u8>, point: FailurePoint) -> FailAt
-        ensures { result ≡ record { bytes = bytes; position = 0; tally = no_calls; point = point; kind = ErrorKind.Other } }
+        ensures { result ≡ record { bytes = bytes; position = 0; call_counts = no_calls; point = point; kind = ErrorKind.Other } }
     {
         FailAt {
             bytes,
             position: 0,
-            tally: Tally::new(),
+            call_counts: CallCounts::new(),
             point,
             kind: ErrorKind::Other,
         }
@@ -49,12 +49,12 @@ impl FailAt {
 
     /// A device as `new` makes it, that returns `ErrorKind::WouldBlock` at the point.
     pub fn would_block(bytes: Vec<u8>, point: FailurePoint) -> FailAt
-        ensures { result ≡ record { bytes = bytes; position = 0; tally = no_calls; point = point; kind = ErrorKind.WouldBlock } }
+        ensures { result ≡ record { bytes = bytes; position = 0; call_counts = no_calls; point = point; kind = ErrorKind.WouldBlock } }
     {
         FailAt {
             bytes,
             position: 0,
-            tally: Tally::new(),
+            call_counts: CallCounts::new(),
             point,
             kind: ErrorKind::WouldBlock,
         }
@@ -77,12 +77,12 @@ impl FailAt {
 
     /// How many bytes the next call may let through after so many: none where it is to fail.
     fn room(&self, before: u64) -> usize
-        ensures { result ≡ room_after self.now.point self.now.tally.calls before }
+        ensures { result ≡ room_after self.now.point self.now.call_counts.calls before }
     {
         match self.point {
             FailurePoint::Never => usize::MAX,
             FailurePoint::Call(call) => {
-                if self.tally.calls.saturating_add(1) == call {
+                if self.call_counts.calls.saturating_add(1) == call {
                     0
                 } else {
                     usize::MAX
@@ -95,31 +95,31 @@ impl FailAt {
     /// Counts the failure, and gives its error.
     fn fail(&mut self) -> io::Error
         ensures kind { error_kind result ≡ self.old.kind }
-        ensures counts { CountsError self.old.tally self.new.tally result }
-        ensures calls { self.new.tally.calls ≡ (one_call self.old.tally).calls }
-        ensures failed { HasFailed self.old.tally self.new.tally }
-        ensures calm { NoFewer self.old.tally self.new.tally }
+        ensures counts { CountsError self.old.call_counts self.new.call_counts result }
+        ensures calls { self.new.call_counts.calls ≡ (one_call self.old.call_counts).calls }
+        ensures failed { HasFailed self.old.call_counts self.new.call_counts }
+        ensures calm { NoFewer self.old.call_counts self.new.call_counts }
         ensures bytes { self.new.bytes ≡ self.old.bytes }
         ensures position { self.new.position ≡ self.old.position }
     {
-        self.tally.count_error(self.kind);
+        self.call_counts.count_error(self.kind);
         io::Error::from(self.kind)
     }
 }
 
 impl Failing for FailAt {
-    ghost tally = { λ d. d.tally };
+    ghost call_counts = { λ d. d.call_counts };
 
     fn failures(&self) -> u64 {
-        self.tally.failures
+        self.call_counts.failures
     }
 
     fn blocked(&self) -> u64 {
-        self.tally.blocked
+        self.call_counts.blocked
     }
 
     fn calls(&self) -> u64 {
-        self.tally.calls
+        self.call_counts.calls
     }
 }
 
@@ -130,20 +130,20 @@ impl Read for FailAt {
         ensures bound { ReadsAtMost result buf.new }
         ensures bytes { ReadConsumes (Some (drop self.old.position self.old.bytes.items)) (Some (drop self.new.position self.new.bytes.items)) result buf.new }
         ensures stays { self.new.bytes ≡ self.old.bytes }
-        ensures counts { CountsCall self.old.tally self.new.tally result }
-        ensures calls { self.new.tally.calls ≡ (one_call self.old.tally).calls }
-        ensures failed { OnErr result (HasFailed self.old.tally self.new.tally) }
-        ensures calm { NoFewer self.old.tally self.new.tally }
-        ensures count { IfOk result (λ n. n ≡ min (min (room_after self.old.point self.old.tally.calls self.old.position) (length (drop self.old.position self.old.bytes.items))) (length buf.new)) }
-        ensures fails { IsErr result ↔ (room_after self.old.point self.old.tally.calls self.old.position ≡ 0) }
+        ensures counts { CountsCall self.old.call_counts self.new.call_counts result }
+        ensures calls { self.new.call_counts.calls ≡ (one_call self.old.call_counts).calls }
+        ensures failed { OnErr result (HasFailed self.old.call_counts self.new.call_counts) }
+        ensures calm { NoFewer self.old.call_counts self.new.call_counts }
+        ensures count { IfOk result (λ n. n ≡ min (min (room_after self.old.point self.old.call_counts.calls self.old.position) (length (drop self.old.position self.old.bytes.items))) (length buf.new)) }
+        ensures fails { IsErr result ↔ (room_after self.old.point self.old.call_counts.calls self.old.position ≡ 0) }
         ensures kind { IfErr result (λ e. error_kind e ≡ self.old.kind) }
     {
         // Read once, so that the proof has the range of each count.
-        let Tally {
+        let CallCounts {
             failures: _failures,
             blocked: _blocked,
             calls: _calls,
-        } = self.tally;
+        } = self.call_counts;
         let room = self.room(self.position);
         if room == 0 {
             return Err(self.fail());
@@ -152,7 +152,7 @@ impl Read for FailAt {
         let count = room.min(rest.len()).min(buf.len());
         buf[..count].copy_from_slice(&rest[..count]);
         self.position = self.position.saturating_add(count as u64);
-        self.tally.count_call();
+        self.call_counts.count_call();
         Ok(count)
     }
 }
@@ -169,20 +169,20 @@ impl Write for FailAt {
     fn write(&mut self, buf: &[u8]) -> io::Result<usize>
         ensures bound { WritesAtMost result buf.now }
         ensures bytes { WriteAppends (Some self.old.bytes.items) (Some self.new.bytes.items) result buf.now }
-        ensures counts { CountsWrite self.old.tally self.new.tally result buf.now }
-        ensures failed { OnErr result (HasFailed self.old.tally self.new.tally) }
-        ensures calm { NoFewer self.old.tally self.new.tally }
-        ensures count { IfOk result (λ n. n ≡ min (room_after self.old.point self.old.tally.calls (length self.old.bytes.items)) (length buf.now)) }
-        ensures fails { room_after self.old.point self.old.tally.calls (length self.old.bytes.items) ≡ 0 → IsErr result × IfErr result (λ e. error_kind e ≡ self.old.kind) }
+        ensures counts { CountsWrite self.old.call_counts self.new.call_counts result buf.now }
+        ensures failed { OnErr result (HasFailed self.old.call_counts self.new.call_counts) }
+        ensures calm { NoFewer self.old.call_counts self.new.call_counts }
+        ensures count { IfOk result (λ n. n ≡ min (room_after self.old.point self.old.call_counts.calls (length self.old.bytes.items)) (length buf.now)) }
+        ensures fails { room_after self.old.point self.old.call_counts.calls (length self.old.bytes.items) ≡ 0 → IsErr result × IfErr result (λ e. error_kind e ≡ self.old.kind) }
         // An error elsewhere is want of memory.
-        ensures memory { room_after self.old.point self.old.tally.calls (length self.old.bytes.items) ≢ 0 → IfErr result (λ e. error_kind e ≡ ErrorKind.OutOfMemory) }
+        ensures memory { room_after self.old.point self.old.call_counts.calls (length self.old.bytes.items) ≢ 0 → IfErr result (λ e. error_kind e ≡ ErrorKind.OutOfMemory) }
     {
         // Read once, so that the proof has the range of each count.
-        let Tally {
+        let CallCounts {
             failures: _failures,
             blocked: _blocked,
             calls: _calls,
-        } = self.tally;
+        } = self.call_counts;
         let room = self.room(self.bytes.len() as u64);
         if room == 0 {
             return Err(self.fail());
@@ -192,29 +192,29 @@ impl Write for FailAt {
             Ok(()) => Ok(count),
             Err(e) => Err(io::Error::from(e)),
         };
-        self.tally.count_result(&returned);
+        self.call_counts.count_result(&returned);
         returned
     }
 
     fn flush(&mut self) -> io::Result<()>
         ensures bytes { Keeps (Some self.old.bytes.items) (Some self.new.bytes.items) }
         ensures stays { self.new.bytes ≡ self.old.bytes }
-        ensures counts { CountsCall self.old.tally self.new.tally result }
-        ensures failed { OnErr result (HasFailed self.old.tally self.new.tally) }
-        ensures calm { NoFewer self.old.tally self.new.tally }
-        ensures fails { IsErr result ↔ (room_after self.old.point self.old.tally.calls 0 ≡ 0) }
+        ensures counts { CountsCall self.old.call_counts self.new.call_counts result }
+        ensures failed { OnErr result (HasFailed self.old.call_counts self.new.call_counts) }
+        ensures calm { NoFewer self.old.call_counts self.new.call_counts }
+        ensures fails { IsErr result ↔ (room_after self.old.point self.old.call_counts.calls 0 ≡ 0) }
         ensures kind { IfErr result (λ e. error_kind e ≡ self.old.kind) }
     {
         // Read once, so that the proof has the range of each count.
-        let Tally {
+        let CallCounts {
             failures: _failures,
             blocked: _blocked,
             calls: _calls,
-        } = self.tally;
+        } = self.call_counts;
         if self.room(0) == 0 {
             return Err(self.fail());
         }
-        self.tally.count_call();
+        self.call_counts.count_call();
         Ok(())
     }
 }
@@ -240,21 +240,21 @@ impl Seek for FailAt {
         ensures stays_there { OnErr result (self.new.position ≡ self.old.position) }
         ensures bytes { Keeps (Some self.old.bytes.items) (Some self.new.bytes.items) }
         ensures stays { self.new.bytes ≡ self.old.bytes }
-        ensures counts { CountsCall self.old.tally self.new.tally result }
-        ensures calls { self.new.tally.calls ≡ (one_call self.old.tally).calls }
-        ensures failed { OnErr result (HasFailed self.old.tally self.new.tally) }
-        ensures calm { NoFewer self.old.tally self.new.tally }
-        ensures fails { room_after self.old.point self.old.tally.calls 0 ≡ 0 → IsErr result × IfErr result (λ e. error_kind e ≡ self.old.kind) }
+        ensures counts { CountsCall self.old.call_counts self.new.call_counts result }
+        ensures calls { self.new.call_counts.calls ≡ (one_call self.old.call_counts).calls }
+        ensures failed { OnErr result (HasFailed self.old.call_counts self.new.call_counts) }
+        ensures calm { NoFewer self.old.call_counts self.new.call_counts }
+        ensures fails { room_after self.old.point self.old.call_counts.calls 0 ≡ 0 → IsErr result × IfErr result (λ e. error_kind e ≡ self.old.kind) }
         // An error elsewhere is a place before the first byte or past 2^64-1.
-        ensures place_wrong { room_after self.old.point self.old.tally.calls 0 ≢ 0 → IfErr result (λ e. error_kind e ≡ ErrorKind.InvalidInput) }
-        ensures start { room_after self.old.point self.old.tally.calls 0 ≢ 0 → (n : ℕ) → to ≡ SeekFrom.Start n → IsOk result }
+        ensures place_wrong { room_after self.old.point self.old.call_counts.calls 0 ≢ 0 → IfErr result (λ e. error_kind e ≡ ErrorKind.InvalidInput) }
+        ensures start { room_after self.old.point self.old.call_counts.calls 0 ≢ 0 → (n : ℕ) → to ≡ SeekFrom.Start n → IsOk result }
     {
         // Read once, so that the proof has the range of each count.
-        let Tally {
+        let CallCounts {
             failures: _failures,
             blocked: _blocked,
             calls: _calls,
-        } = self.tally;
+        } = self.call_counts;
         if self.room(0) == 0 {
             return Err(self.fail());
         }
@@ -272,11 +272,11 @@ impl Seek for FailAt {
         match target {
             Some(place) => {
                 self.position = place;
-                self.tally.count_call();
+                self.call_counts.count_call();
                 Ok(place)
             }
             None => {
-                self.tally.count_error(ErrorKind::InvalidInput);
+                self.call_counts.count_error(ErrorKind::InvalidInput);
                 Err(io::Error::from(ErrorKind::InvalidInput))
             }
         }

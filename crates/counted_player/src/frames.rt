@@ -2,11 +2,11 @@
 ghost use Rattle.std.specs.Prelude.{◌≡◌, ◌<◌, ℕ, false, length, slice_index_or};
 ghost use Rattle.player_state.specs.Outputs.{is_enabled};
 
-use player_state::{Books, Outputs};
+use player_state::{FrameCounts, Outputs};
 
 /// The frames that each of eight outputs was given.
 #[tactic(auto, using(crate::proofs::Eight::eight))]
-pub(crate) fn decoded_in(books: &Books) -> [u64; 8]
+pub(crate) fn decoded_in(books: &FrameCounts) -> [u64; 8]
     requires { length books.now.decoded ≡ 8 }
     ensures { result ≡ books.now.decoded }
 {
@@ -24,7 +24,7 @@ pub(crate) fn decoded_in(books: &Books) -> [u64; 8]
 
 /// The frames that each of eight outputs wrote.
 #[tactic(auto, using(crate::proofs::Eight::eight))]
-pub(crate) fn written_in(books: &Books) -> [u64; 8]
+pub(crate) fn written_in(books: &FrameCounts) -> [u64; 8]
     requires { length books.now.written ≡ 8 }
     ensures { result ≡ books.now.written }
 {
@@ -42,7 +42,7 @@ pub(crate) fn written_in(books: &Books) -> [u64; 8]
 
 /// The frames that each of eight outputs discarded.
 #[tactic(auto, using(crate::proofs::Eight::eight))]
-pub(crate) fn discarded_in(books: &Books) -> [u64; 8]
+pub(crate) fn discarded_in(books: &FrameCounts) -> [u64; 8]
     requires { length books.now.discarded ≡ 8 }
     ensures { result ≡ books.now.discarded }
 {

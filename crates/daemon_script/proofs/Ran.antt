@@ -5,9 +5,9 @@ use Rattle.std.proofs.lemmas.List.{map-append}
 use Rattle.std.specs.Option.{IsSome, IfSome}
 use Rattle.std.specs.Result.{OnErr}
 use Rattle.std.specs.Io.KnownBytes.{Appends, Consumes, Keeps, IsAtEnd}
-use Rattle.counted_devices.specs.declared.tally.Tally.{Tally}
+use Rattle.counted_devices.specs.declared.call_counts.CallCounts.{CallCounts}
 use Rattle.mpd_text.specs.Lines.Cut.{split, cut, split_from, then_split}
-use Rattle.counted_devices.specs.Tally.{NoFewer, one_call}
+use Rattle.counted_devices.specs.CallCounts.{NoFewer, one_call}
 use Rattle.mpd_text.specs.Lines.Split.{line_of}
 use Rattle.partition.specs.Image.{Image}
 use Rattle.daemon_script.specs.Kinds.{Shelved, images}
@@ -17,11 +17,11 @@ use Rattle.daemon_script.specs.Script.{ScriptData, opening_script}
 use Rattle.daemon_script.proofs.Runs.{script_after-append, text_of-append, lines_in-append, ample, lines_in-ample}
 
 -- a device was called this often, by a count that stays at its greatest value
-abbrev Called : ℕ → Tally → Tally → Type 0
+abbrev Called : ℕ → CallCounts → CallCounts → Type 0
 Called turns old new = ((turns ≡ 0) × (new.calls ≡ old.calls)) ⊎ (new.calls ≡ min (old.calls + turns) (2 ^ 64 - 1))
 
 -- what was read and written so far, by what its lines found of memory
-pub record Ran (unread left old new start : Option (List ℕ)) (script : ScriptData (Shelved Image)) (turns : ℕ) (reader reader' writer writer' : Tally) : Type 0 where
+pub record Ran (unread left old new start : Option (List ℕ)) (script : ScriptData (Shelved Image)) (turns : ℕ) (reader reader' writer writer' : CallCounts) : Type 0 where
   pub read : List ℕ
   pub run : Run
   pub consumed : Consumes unread left read
@@ -100,7 +100,7 @@ output_open read start run e some =
     ap (λ (o : Option (List ℕ)). text_of images opening_script run ++ ending o) e
     ∙ ap (λ (t : List ℕ). text_of images opening_script run ++ t) (no_ending start some) ∙ append-nil (text_of images opening_script run)
 
-none_ran : (unread old : Option (List ℕ)) (reader writer : Tally) → Ran unread unread old old (Some []) opening_script 0 reader reader writer writer
+none_ran : (unread old : Option (List ℕ)) (reader writer : CallCounts) → Ran unread unread old old (Some []) opening_script 0 reader reader writer writer
 unfolding split cut script_after text_of
 none_ran unread old reader writer = record {
   read = [];
@@ -116,12 +116,12 @@ none_ran unread old reader writer = record {
   calls = inl (refl, refl);
 }
 
-pub start_ran : (unread old start : Option (List ℕ)) (script : ScriptData (Shelved Image)) (reader writer : Tally) → start ≡ Some [] → script ≡ opening_script
+pub start_ran : (unread old start : Option (List ℕ)) (script : ScriptData (Shelved Image)) (reader writer : CallCounts) → start ≡ Some [] → script ≡ opening_script
     → Ran unread unread old old start script 0 reader reader writer writer
 start_ran unread old start script reader writer e f = rw (e, f) (none_ran unread old reader writer)
 
 -- all that was read is answered
-pub all_here : (unread left left' old new start : Option (List ℕ)) (script : ScriptData (Shelved Image)) (turns : ℕ) (r r' w w' : Tally)
+pub all_here : (unread left left' old new start : Option (List ℕ)) (script : ScriptData (Shelved Image)) (turns : ℕ) (r r' w w' : CallCounts)
     → Ran unread left old new start script turns r r' w w' → Keeps left left' → WritesAll images unread left' old new
 all_here unread left left' old new start script turns r r' w w' ran keeps = (
   ran.read,
@@ -134,7 +134,7 @@ front_of_all unread left old new (read, consumes, (run, are, written)) =
     (read, consumes, run, are, (output_of images read run, [], sym (append-nil (output_of images read run)), written))
 
 -- a front of what a piece prints was written
-pub front_piece : Cuts → (unread left left' old mid new start : Option (List ℕ)) (script : ScriptData (Shelved Image)) (piece : List ℕ) (more : Run) (turns : ℕ) (r r' w w' : Tally)
+pub front_piece : Cuts → (unread left left' old mid new start : Option (List ℕ)) (script : ScriptData (Shelved Image)) (piece : List ℕ) (more : Run) (turns : ℕ) (r r' w w' : CallCounts)
     → Ran unread left old mid start script turns r r' w w' → Consumes left left' piece → lines_in more ≡ map line_of (split_from start piece).lines
     → AppendsFront mid new (text_of images script more ++ ending (split_from start piece).next) → WritesFront images unread left' old new
 front_piece cuts unread left left' old mid new start script piece more turns r r' w w' ran consumes lines front =
@@ -154,7 +154,7 @@ front_piece cuts unread left left' old mid new start script piece more turns r r
     )
 
 -- nothing of a piece was written
-pub none_of_piece : Cuts → (unread left left' old mid start : Option (List ℕ)) (script : ScriptData (Shelved Image)) (piece : List ℕ) (turns : ℕ) (r r' w w' : Tally)
+pub none_of_piece : Cuts → (unread left left' old mid start : Option (List ℕ)) (script : ScriptData (Shelved Image)) (piece : List ℕ) (turns : ℕ) (r r' w w' : CallCounts)
     → Ran unread left old mid start script turns r r' w w' → Consumes left left' piece → WritesFront images unread left' old mid
 none_of_piece cuts unread left left' old mid start script piece turns r r' w w' ran consumes =
     let more : Run = ample (map line_of (split_from start piece).lines) in
@@ -167,7 +167,7 @@ ends_all None left read P c e h = tt
 ends_all (Some x) None read P c e h = absurd c
 ends_all (Some x) (Some y) read P c e h = subst P (sym (c ∙ ap (λ (l : List ℕ). read ++ l) e ∙ append-nil read)) h
 
-pub whole_input : (unread left left' old new start : Option (List ℕ)) (script : ScriptData (Shelved Image)) (turns : ℕ) (r r' w w' : Tally)
+pub whole_input : (unread left left' old new start : Option (List ℕ)) (script : ScriptData (Shelved Image)) (turns : ℕ) (r r' w w' : CallCounts)
     → Ran unread left old new start script turns r r' w w' → Consumes left left' [] → IsAtEnd left' → IfSome unread (WritesOutput images old new)
 whole_input unread left left' old new start script turns r r' w w' ran consumes ends =
     let consumed = subst (Consumes unread left') (append-nil ran.read) (consumes_both unread left left' ran.read [] ran.consumed consumes) in
@@ -208,7 +208,7 @@ piece_written cuts old mid new start script script' read piece before after run 
     (appends_both old mid new texts after written appends)
 
 -- a line was too long
-pub all_closed : Cuts → (unread left left' old mid new start : Option (List ℕ)) (script script' : ScriptData (Shelved Image)) (piece before after : List ℕ) (turns : ℕ) (r r' w w' : Tally)
+pub all_closed : Cuts → (unread left left' old mid new start : Option (List ℕ)) (script script' : ScriptData (Shelved Image)) (piece before after : List ℕ) (turns : ℕ) (r r' w w' : CallCounts)
     → Ran unread left old mid start script turns r r' w w' → Consumes left left' piece
     → before ≡ [] → ShowsPiece start piece script script' before after → Appends mid new after → (split_from start piece).next ≡ None
     → IfSome unread (WritesOutput images old new)
@@ -221,7 +221,7 @@ all_closed cuts unread left left' old mid new start script script' piece before 
     )
 
 -- only a front of what a piece prints was written
-pub front_shown : Cuts → (unread left left' old mid new start : Option (List ℕ)) (script script' : ScriptData (Shelved Image)) (piece before after : List ℕ) (turns : ℕ) (r r' w w' : Tally)
+pub front_shown : Cuts → (unread left left' old mid new start : Option (List ℕ)) (script script' : ScriptData (Shelved Image)) (piece before after : List ℕ) (turns : ℕ) (r r' w w' : CallCounts)
     → Ran unread left old mid start script turns r r' w w' → Consumes left left' piece
     → before ≡ [] → ShowsPiece start piece script script' before after → AppendsFront mid new after → WritesFront images unread left' old new
 front_shown cuts unread left left' old mid new start script script' piece before after turns r r' w w' ran consumes none shows front =
@@ -235,7 +235,7 @@ min_first : (a b turns top : ℕ) → turns ≡ 0 → b ≡ a → min (b + 1) to
 min_first a b turns top e f = rw (e, f) refl
 
 -- one more call
-more_calls : (old mid : Tally) (turns now : ℕ) → Called turns old mid → now ≡ (one_call mid).calls → now ≡ min (old.calls + (turns + 1)) (2 ^ 64 - 1)
+more_calls : (old mid : CallCounts) (turns now : ℕ) → Called turns old mid → now ≡ (one_call mid).calls → now ≡ min (old.calls + (turns + 1)) (2 ^ 64 - 1)
 more_calls old mid turns now before e = elim before [
   | inl h ↦ e ∙ min_first old.calls mid.calls turns (2 ^ 64 - 1) h.0 h.1
   | inr h ↦ e ∙ ap (λ (n : ℕ). min (n + 1) (2 ^ 64 - 1)) h ∙ min_more old.calls turns (2 ^ 64 - 1)
@@ -244,26 +244,26 @@ more_calls old mid turns now before e = elim before [
 at_most : (a b turns top : ℕ) → b ≡ min (a + turns) top → turns ≤ 2 ^ 32 → b ≤ a + 2 ^ 32
 at_most a b turns top e most = omega (arith, e, most)
 
-all_calls : (old new : Tally) (turns : ℕ) → Called turns old new → turns ≡ 2 ^ 32 → CalledTooOften old new
+all_calls : (old new : CallCounts) (turns : ℕ) → Called turns old new → turns ≡ 2 ^ 32 → CalledTooOften old new
 all_calls old new turns called e = elim called [ inl h ↦ absurd (omega (arith, h.0, e)) | inr h ↦ h ∙ ap (λ (n : ℕ). min (old.calls + n) (2 ^ 64 - 1)) e ]
 
 -- after one call more than were made so far
-pub few : (unread left old new start : Option (List ℕ)) (script : ScriptData (Shelved Image)) (turns : ℕ) (r r' w w' : Tally) (now : ℕ)
+pub few : (unread left old new start : Option (List ℕ)) (script : ScriptData (Shelved Image)) (turns : ℕ) (r r' w w' : CallCounts) (now : ℕ)
     → Ran unread left old new start script turns r r' w w' → now ≡ (one_call r').calls → turns < 2 ^ 32 → now ≤ r.calls + 2 ^ 32
 few unread left old new start script turns r r' w w' now ran calls less =
     at_most r.calls now (turns + 1) (2 ^ 64 - 1) (more_calls r r' turns now ran.calls calls) (omega (arith, less))
 
 -- after all calls
-pub too_often : (unread left old new start : Option (List ℕ)) (script : ScriptData (Shelved Image)) (turns : ℕ) (r r' w w' : Tally)
+pub too_often : (unread left old new start : Option (List ℕ)) (script : ScriptData (Shelved Image)) (turns : ℕ) (r r' w w' : CallCounts)
     → Ran unread left old new start script turns r r' w w' → turns ≡ 2 ^ 32 → CalledTooOften r r'
 too_often unread left old new start script turns r r' w w' ran e = all_calls r r' turns ran.calls e
 
-pub few_in_all : (unread left old new start : Option (List ℕ)) (script : ScriptData (Shelved Image)) (turns : ℕ) (r r' w w' : Tally)
+pub few_in_all : (unread left old new start : Option (List ℕ)) (script : ScriptData (Shelved Image)) (turns : ℕ) (r r' w w' : CallCounts)
     → Ran unread left old new start script turns r r' w w' → turns ≡ 2 ^ 32 → r'.calls ≤ r.calls + 2 ^ 32
 few_in_all unread left old new start script turns r r' w w' ran e = at_most r.calls r'.calls (2 ^ 32) (2 ^ 64 - 1) (all_calls r r' turns ran.calls e) (omega arith)
 
 -- one more turn
-pub one_turn : Cuts → (unread left left' old mid new start start' : Option (List ℕ)) (script script' : ScriptData (Shelved Image)) (piece before after : List ℕ) (turns : ℕ) (r r' r'' w w' w'' : Tally)
+pub one_turn : Cuts → (unread left left' old mid new start start' : Option (List ℕ)) (script script' : ScriptData (Shelved Image)) (piece before after : List ℕ) (turns : ℕ) (r r' r'' w w' w'' : CallCounts)
     → Ran unread left old mid start script turns r r' w w' → Consumes left left' piece
     → before ≡ [] → ShowsPiece start piece script script' before after → Appends mid new after → start' ≡ (split_from start piece).next → IsSome start'
     → NoFewer r' r'' → r''.calls ≡ (one_call r').calls → NoFewer w' w'' → Ran unread left' old new start' script' (turns + 1) r r'' w w''

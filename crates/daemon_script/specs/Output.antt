@@ -1,7 +1,7 @@
 -- What a whole run writes (this profile's script).
 use Rattle.std.specs.Prelude.{◌≡◌, ℕ, ◌+◌, ◌-◌, ◌^◌, min, List, [], ◌∷◌, ◌++◌, map, codes, Option, Some, None, option_map}
 use Rattle.std.specs.Io.KnownBytes.{Appends, Consumes}
-use Rattle.counted_devices.specs.declared.tally.Tally.{Tally}
+use Rattle.counted_devices.specs.declared.call_counts.CallCounts.{CallCounts}
 use Rattle.mpd_text.specs.Lines.Cut.{split}
 use Rattle.mpd_text.specs.Lines.Split.{line_of}
 use Rattle.partition.specs.Image.{Image}
@@ -58,7 +58,7 @@ WritesFront kind unread left old new =
     (read : List ℕ) × Consumes unread left read × (run : Run) × IsRunOf read run × AppendsFront old new (output_of kind read run)
 
 -- the device was called 2 ^ 32 times since, by a count that stays at its greatest value
-abbrev pub CalledTooOften : Tally → Tally → Type 0
+abbrev pub CalledTooOften : CallCounts → CallCounts → Type 0
 CalledTooOften old new = new.calls ≡ min (old.calls + 2 ^ 32) (2 ^ 64 - 1)
 
 -- what commands read of a player's trace, beside the same shelf

@@ -2,7 +2,7 @@
 ghost use Rattle.std.specs.Prelude.{◌≡◌, ◌⊎◌, ◌≤◌, ◌+◌, ◌^◌, OnOk, OnErr, IfErr, IfSome, IsErrOf, IsSome, Some, []};
 ghost use Rattle.std.specs.Io.KnownBytes.{Appends};
 ghost use Rattle.mpd_text.specs.Lines.Cut.{split_from};
-ghost use Rattle.counted_devices.specs.Tally.{HasFailed, NoFewer};
+ghost use Rattle.counted_devices.specs.CallCounts.{HasFailed, NoFewer};
 ghost use Rattle.mpd_text.specs.Lines.Split.{views};
 ghost use Rattle.daemon_script.specs.Kinds.{images, traces};
 ghost use Rattle.daemon_script.specs.Output.{WritesOutput, WritesAll, WritesFront, AppendsFront, CalledTooOften};
@@ -61,9 +61,9 @@ pub fn run_script<R: Source, W: Sink>(
     ensures read { IsErrOf result ScriptFault.ReadFault → WritesAll traces (R.remaining reader.old) (R.remaining reader.new) (W.contents writer.old) (W.contents writer.new) }
     ensures front { OnErr result (WritesFront traces (R.remaining reader.old) (R.remaining reader.new) (W.contents writer.old) (W.contents writer.new)) }
     // A fault of a device comes only where it failed, or was read 2 ^ 32 times.
-    ensures read_fault { IsErrOf result ScriptFault.ReadFault → HasFailed (R.tally reader.old) (R.tally reader.new) ⊎ CalledTooOften (R.tally reader.old) (R.tally reader.new) }
-    ensures few_calls { (R.tally reader.new).calls ≤ (R.tally reader.old).calls + 2 ^ 32 }
-    ensures write_fault { IsErrOf result ScriptFault.WriteFault → HasFailed (W.tally writer.old) (W.tally writer.new) }
+    ensures read_fault { IsErrOf result ScriptFault.ReadFault → HasFailed (R.call_counts reader.old) (R.call_counts reader.new) ⊎ CalledTooOften (R.call_counts reader.old) (R.call_counts reader.new) }
+    ensures few_calls { (R.call_counts reader.new).calls ≤ (R.call_counts reader.old).calls + 2 ^ 32 }
+    ensures write_fault { IsErrOf result ScriptFault.WriteFault → HasFailed (W.call_counts writer.old) (W.call_counts writer.new) }
 {
     runs_are_traced();
     let mut splitter = Splitter::new(alloc);
@@ -84,9 +84,9 @@ fn run_pieces<R: Source, W: Sink>(
     ensures ok { OnOk result (IfSome (R.remaining reader.old) (WritesOutput images (W.contents writer.old) (W.contents writer.new))) }
     ensures read { IsErrOf result ScriptFault.ReadFault → WritesAll images (R.remaining reader.old) (R.remaining reader.new) (W.contents writer.old) (W.contents writer.new) }
     ensures front { OnErr result (WritesFront images (R.remaining reader.old) (R.remaining reader.new) (W.contents writer.old) (W.contents writer.new)) }
-    ensures read_fault { IsErrOf result ScriptFault.ReadFault → HasFailed (R.tally reader.old) (R.tally reader.new) ⊎ CalledTooOften (R.tally reader.old) (R.tally reader.new) }
-    ensures few_calls { (R.tally reader.new).calls ≤ (R.tally reader.old).calls + 2 ^ 32 }
-    ensures write_fault { IsErrOf result ScriptFault.WriteFault → HasFailed (W.tally writer.old) (W.tally writer.new) }
+    ensures read_fault { IsErrOf result ScriptFault.ReadFault → HasFailed (R.call_counts reader.old) (R.call_counts reader.new) ⊎ CalledTooOften (R.call_counts reader.old) (R.call_counts reader.new) }
+    ensures few_calls { (R.call_counts reader.new).calls ≤ (R.call_counts reader.old).calls + 2 ^ 32 }
+    ensures write_fault { IsErrOf result ScriptFault.WriteFault → HasFailed (W.call_counts writer.old) (W.call_counts writer.new) }
 {
     any_cut();
     let mut shown = Vec::new(alloc);
@@ -146,8 +146,8 @@ fn write_whole<W: Sink>(writer: &mut W, bytes: &[u8]) -> Result<(), ScriptFault>
     ensures ok { OnOk result (Appends (W.contents writer.old) (W.contents writer.new) bytes.now) }
     ensures err { IfErr result (λ fault. fault ≡ ScriptFault.WriteFault) }
     ensures front { OnErr result (AppendsFront (W.contents writer.old) (W.contents writer.new) bytes.now) }
-    ensures failed { OnErr result (HasFailed (W.tally writer.old) (W.tally writer.new)) }
-    ensures calm { NoFewer (W.tally writer.old) (W.tally writer.new) }
+    ensures failed { OnErr result (HasFailed (W.call_counts writer.old) (W.call_counts writer.new)) }
+    ensures calm { NoFewer (W.call_counts writer.old) (W.call_counts writer.new) }
 {
     let mut rest = bytes;
     while !rest.is_empty() {

@@ -1,25 +1,25 @@
 //! Devices that count how their calls end.
-use counted_devices::{Counting, FailAt, Failing, FailurePoint, Media, ReadSeek, Sink, Tally};
+use counted_devices::{CallCounts, Counting, FailAt, Failing, FailurePoint, Media, ReadSeek, Sink};
 use std::alloc::{AllocError, Global};
 use std::io;
 use std::io::{Cursor, ErrorKind, Seek, SeekFrom};
 
-fn tally_of_each() -> Tally {
-    let mut tally = Tally::new();
-    tally.count_call();
-    tally.count_error(ErrorKind::WouldBlock);
-    tally.count_error(ErrorKind::Other);
-    tally.count_failure();
-    tally
+fn counts_of_each() -> CallCounts {
+    let mut call_counts = CallCounts::new();
+    call_counts.count_call();
+    call_counts.count_error(ErrorKind::WouldBlock);
+    call_counts.count_error(ErrorKind::Other);
+    call_counts.count_failure();
+    call_counts
 }
 
 #[test]
 fn counts_of_answers(rt: HostRuntime) {
-    let Tally {
+    let CallCounts {
         failures,
         blocked,
         calls,
-    } = tally_of_each();
+    } = counts_of_each();
     assert!(rt; failures == 2 && blocked == 1 && calls == 4);
 }
 

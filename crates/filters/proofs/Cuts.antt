@@ -4,15 +4,15 @@ use Rattle.std.specs.Str.{IsUtf8}
 use Rattle.std.proofs.lemmas.Str.Ascii.{IsAscii-nil, IsAscii-cons, IsAscii-push}
 use Rattle.std.proofs.lemmas.Str.{IsUtf8-from_ascii}
 use Rattle.std.proofs.lemmas.Bool.Decides.{nat_tests}
-use Rattle.filters.specs.declared.place.Stop.{Stop}
-use Rattle.filters.specs.declared.place.Stop.TheVariants.{Syntax, UnknownTag, TooDeep}
-use Rattle.filters.specs.declared.place.Purpose.{Purpose}
-use Rattle.filters.specs.declared.place.Purpose.TheVariants.{Whole, Negated, First, Next}
-use Rattle.filters.specs.declared.place.Named.{Named}
-use Rattle.filters.specs.declared.place.Named.TheVariants.{Field as NamedField, Base as NamedBase}
-use Rattle.filters.specs.declared.place.Goal.TheVariants.{Compared, Base as BaseGoal}
-use Rattle.filters.specs.declared.place.Place.{Place}
-use Rattle.filters.specs.declared.place.Place.TheVariants.{Start, Opened, Bang, Word, AfterField, Sign, Contains, NeedsSpace, BeforeText, InText, Escaped, Done, Joined, AfterJoined, And, AfterAnd, Finished}
+use Rattle.filters.specs.declared.state.Stop.{Stop}
+use Rattle.filters.specs.declared.state.Stop.TheVariants.{Syntax, UnknownTag, TooDeep}
+use Rattle.filters.specs.declared.state.Purpose.{Purpose}
+use Rattle.filters.specs.declared.state.Purpose.TheVariants.{Whole, Negated, First, Next}
+use Rattle.filters.specs.declared.state.Named.{Named}
+use Rattle.filters.specs.declared.state.Named.TheVariants.{Field as NamedField, Base as NamedBase}
+use Rattle.filters.specs.declared.state.Goal.TheVariants.{Compared, Base as BaseGoal}
+use Rattle.filters.specs.declared.state.State.{State}
+use Rattle.filters.specs.declared.state.State.TheVariants.{Start, Opened, Bang, Word, AfterField, Sign, Contains, NeedsSpace, BeforeText, InText, Escaped, Done, Joined, AfterJoined, And, AfterAnd, Finished}
 use Rattle.filters.specs.declared.expression.Field.{Field}
 use Rattle.filters.specs.declared.expression.Test.TheVariants.{Equals, Differs, Contains as ContainsTest}
 use Rattle.filters.specs.Expressions.{Expression, Negation, Both}
@@ -24,47 +24,47 @@ after_ascii : (c : ℕ) (ys : List ℕ) → IsUtf8 (c ∷ ys) → c < 128 → Is
 after_ascii c ys utf8 small = (cut_at [] ys c utf8 small).1
 
 -- what was read stays cut well after this byte, if one more may follow
-CutsNext : List ℕ → Result (Place × List Purpose) Stop → Type 0
+CutsNext : List ℕ → Result (State × List Purpose) Stop → Type 0
 CutsNext rest (Ok next) = IsCut next.0 rest
 CutsNext rest (Err stop) = Unit {0}
 
-record Cuts (rest : List ℕ) (r : Result (Place × List Purpose) Stop) : Type 0 where
+record Cuts (rest : List ℕ) (r : Result (State × List Purpose) Stop) : Type 0 where
   is : CutsNext rest r
 
-goes : (rest : List ℕ) (place : Place) (purposes : List Purpose) → IsCut place rest → Cuts rest (Ok (place, purposes))
+goes : (rest : List ℕ) (state : State) (purposes : List Purpose) → IsCut state rest → Cuts rest (Ok (state, purposes))
 unfolding CutsNext
-goes rest place purposes is = record { is = is }
+goes rest state purposes is = record { is = is }
 
 stop : (rest : List ℕ) (s : Stop) → Cuts rest (Err s)
 unfolding CutsNext
 stop rest s = record { is = tt }
 
-when : (rest : List ℕ) (c : Bool) (x y : Result (Place × List Purpose) Stop) → (c ≡ true → Cuts rest x) → (c ≡ false → Cuts rest y) → Cuts rest (cond c x y)
+when : (rest : List ℕ) (c : Bool) (x y : Result (State × List Purpose) Stop) → (c ≡ true → Cuts rest x) → (c ≡ false → Cuts rest y) → Cuts rest (cond c x y)
 when rest true x y h k = h refl
 when rest false x y h k = k refl
 
-CutsAlone : List ℕ → Result Place Stop → Type 0
-CutsAlone rest (Ok place) = IsCut place rest
+CutsAlone : List ℕ → Result State Stop → Type 0
+CutsAlone rest (Ok state) = IsCut state rest
 CutsAlone rest (Err stop) = Unit {0}
 
-record CutsPlace (rest : List ℕ) (r : Result Place Stop) : Type 0 where
+record CutsPlace (rest : List ℕ) (r : Result State Stop) : Type 0 where
   is : CutsAlone rest r
 
-goes_place : (rest : List ℕ) (place : Place) → IsCut place rest → CutsPlace rest (Ok place)
+goes_place : (rest : List ℕ) (state : State) → IsCut state rest → CutsPlace rest (Ok state)
 unfolding CutsAlone
-goes_place rest place is = record { is = is }
+goes_place rest state is = record { is = is }
 
 stop_place : (rest : List ℕ) (s : Stop) → CutsPlace rest (Err s)
 unfolding CutsAlone
 stop_place rest s = record { is = tt }
 
-when_place : (rest : List ℕ) (c : Bool) (x y : Result Place Stop) → (c ≡ true → CutsPlace rest x) → (c ≡ false → CutsPlace rest y) → CutsPlace rest (cond c x y)
+when_place : (rest : List ℕ) (c : Bool) (x y : Result State Stop) → (c ≡ true → CutsPlace rest x) → (c ≡ false → CutsPlace rest y) → CutsPlace rest (cond c x y)
 when_place rest true x y h k = h refl
 when_place rest false x y h k = k refl
 
-from_place : (rest : List ℕ) (r : Result Place Stop) (purposes : List Purpose) → CutsPlace rest r → Cuts rest (alone r purposes)
+from_place : (rest : List ℕ) (r : Result State Stop) (purposes : List Purpose) → CutsPlace rest r → Cuts rest (alone r purposes)
 unfolding CutsNext CutsAlone
-from_place rest (Ok place) purposes h = record { is = h.is }
+from_place rest (Ok state) purposes h = record { is = h.is }
 from_place rest (Err s) purposes h = record { is = tt }
 
 -- a byte that is this ASCII byte is gone
@@ -135,7 +135,7 @@ quote_small b e = grind (arith, nat_tests)
 equal : (b c : ℕ) → (b == c) ≡ true → b ≡ c
 equal b c e = grind (arith, nat_tests)
 
-keeps : (place : Place) (purposes : List Purpose) (b : ℕ) (rest : List ℕ) → IsCut place (b ∷ rest) → Cuts rest (step true place purposes b)
+keeps : (state : State) (purposes : List Purpose) (b : ℕ) (rest : List ℕ) → IsCut state (b ∷ rest) → Cuts rest (step true state purposes b)
 unfolding step
 keeps Start purposes b rest is = when rest (b == 40) _ _ (λ e. opens Whole purposes rest (past b 40 rest is e (omega arith))) (λ _. stop rest Syntax)
 keeps Opened purposes b rest is =
@@ -176,12 +176,12 @@ keeps (AfterAnd e) purposes b rest is =
 keeps (Finished e) purposes b rest is = stop rest Syntax
 
 -- after the next byte what was read is cut well
-pub cut_on : (place : Place) (purposes : List Purpose) (b : ℕ) (rest : List ℕ) (next : Place) (more : List Purpose) → IsCut place (b ∷ rest) → step true place purposes b ≡ Ok (next, more) → IsCut next rest
+pub cut_on : (state : State) (purposes : List Purpose) (b : ℕ) (rest : List ℕ) (next : State) (more : List Purpose) → IsCut state (b ∷ rest) → step true state purposes b ≡ Ok (next, more) → IsCut next rest
 unfolding CutsNext
-cut_on place purposes b rest next more is e = subst (CutsNext rest) e (keeps place purposes b rest is).is
+cut_on state purposes b rest next more is e = subst (CutsNext rest) e (keeps state purposes b rest is).is
 
 -- what may be taken
-pub can_take : (place : Place) (b : ℕ) (rest : List ℕ) → IsCut place (b ∷ rest) → CanTake place b
+pub can_take : (state : State) (b : ℕ) (rest : List ℕ) → IsCut state (b ∷ rest) → CanTake state b
 can_take (Word word) b rest is = IsUtf8-from_ascii word is.0
 can_take (InText goal quote text) b rest is = λ e. (cut_at text rest b is.1 (omega (arith, is.0, e))).0
 can_take Start b rest is = tt
@@ -200,7 +200,7 @@ can_take (And e read) b rest is = tt
 can_take (AfterAnd e) b rest is = tt
 can_take (Finished e) b rest is = tt
 
-pub can_end : (place : Place) → IsCut place [] → CanEnd place
+pub can_end : (state : State) → IsCut state [] → CanEnd state
 can_end (Word word) is = IsUtf8-from_ascii word is.0
 can_end (InText goal quote text) is = tt
 can_end Start is = tt

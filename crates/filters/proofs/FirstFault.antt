@@ -1,11 +1,11 @@
 -- A word that names nothing, and a 33rd parenthesis, are answered where they are.
 use Rattle.std.proofs.Common.{◌≡◌, inl, inr, ℕ, zero, suc, ◌<◌, ◌≤◌, nat_le, true, false, List, [], ◌∷◌, ◌++◌, length, None, Result, Err, refl, sym, subst, ◌∙◌, arith}
 use Rattle.std.proofs.lemmas.Bool.Decides.{nat_tests}
-use Rattle.filters.specs.declared.place.Stop.TheVariants.{UnknownTag as UnknownStop, TooDeep as DeepStop}
-use Rattle.filters.specs.declared.place.Purpose.{Purpose}
-use Rattle.filters.specs.declared.place.Purpose.TheVariants.{Whole, Negated, First, Next}
-use Rattle.filters.specs.declared.place.Place.{Place}
-use Rattle.filters.specs.declared.place.Place.TheVariants.{Start, Opened, Bang, Word, AfterAnd}
+use Rattle.filters.specs.declared.state.Stop.TheVariants.{UnknownTag as UnknownStop, TooDeep as DeepStop}
+use Rattle.filters.specs.declared.state.Purpose.{Purpose}
+use Rattle.filters.specs.declared.state.Purpose.TheVariants.{Whole, Negated, First, Next}
+use Rattle.filters.specs.declared.state.State.{State}
+use Rattle.filters.specs.declared.state.State.TheVariants.{Start, Opened, Bang, Word, AfterAnd}
 use Rattle.filters.specs.declared.reading.FilterFault.{FilterFault}
 use Rattle.filters.specs.declared.reading.FilterFault.TheVariants.{UnknownTag, TooDeep}
 use Rattle.filters.specs.Expressions.{Expression}
@@ -15,9 +15,9 @@ use Rattle.filters.specs.Grammar.{Spaces, IsWord, EndsWord, MayOpen, AreOpen, Na
 use Rattle.filters.proofs.Reaching.{Reaches, by_byte, goes, spaces_reach, word_reach}
 use Rattle.filters.proofs.GrammarRead.{opens, bang, first_opens, next_opens, whole_opens, stays_opened, body_reach, at_joined, and_reach, allowed_from}
 
--- from each place where a parenthesis may open
+-- from each state where a parenthesis may open
 abbrev OpensTo : List Purpose → List ℕ → Result Expression FilterFault → Type 0
-OpensTo purposes text r = (place : Place) (purpose : Purpose) → step true place purposes 40 ≡ opened true purpose purposes → Reaches true place purposes text r
+OpensTo purposes text r = (state : State) (purpose : Purpose) → step true state purposes 40 ≡ opened true purpose purposes → Reaches true state purposes text r
 
 may_open : (n : ℕ) (text rest : List ℕ) (purposes : List Purpose) (r : Result Expression FilterFault) → MayOpen (suc n) text rest → length purposes ≡ suc n → OpensTo purposes rest r → Reaches true Opened purposes text r
 may_open n text rest purposes r may long to = elim may [
@@ -31,8 +31,8 @@ may_open n text rest purposes r may long to = elim may [
 ]
 
 one_more : (purposes : List Purpose) (outer inner rest : List ℕ) (r : Result Expression FilterFault) → outer ≡ 40 ∷ inner → Spaces inner rest → length purposes < 32 → ((purpose : Purpose) → Reaches true Opened (purpose ∷ purposes) rest r) → OpensTo purposes outer r
-one_more purposes outer inner rest r is spaces low to = λ place purpose opening. subst (λ (t : List ℕ). Reaches true place purposes t r) (sym is)
-    (by_byte true place purposes 40 inner Opened (purpose ∷ purposes) r (opening ∙ opens true purpose purposes (λ _. low)) (spaces_reach true Opened (purpose ∷ purposes) inner rest r (stays_opened true (purpose ∷ purposes)) spaces (to purpose)))
+one_more purposes outer inner rest r is spaces low to = λ state purpose opening. subst (λ (t : List ℕ). Reaches true state purposes t r) (sym is)
+    (by_byte true state purposes 40 inner Opened (purpose ∷ purposes) r (opening ∙ opens true purpose purposes (λ _. low)) (spaces_reach true Opened (purpose ∷ purposes) inner rest r (stays_opened true (purpose ∷ purposes)) spaces (to purpose)))
 
 are_open : (n : ℕ) (text rest : List ℕ) (r : Result Expression FilterFault) → AreOpen (suc n) text rest → n < 32 → ((purposes : List Purpose) → length purposes ≡ suc n → Reaches true Opened purposes rest r) → Reaches true Start [] text r
 are_open zero text rest r s low to = subst (λ (t : List ℕ). Reaches true Start [] t r) (sym (s.3 ∙ s.4)) (one_more [] s.1 s.2 rest r s.5 s.6 low (λ purpose. to (purpose ∷ []) refl) Start Whole (whole_opens true []))
@@ -72,4 +72,4 @@ too_deep purpose purposes long = rw (full (length purposes) long) refl
 pub deep_first : (text : List ℕ) → GoesTooDeep text → parsed text ≡ Err TooDeep
 deep_first text g =
     are_open 31 text g.0 (Err TooDeep) g.3 (omega arith) (λ purposes long. may_open 31 g.0 g.1 purposes (Err TooDeep) g.4 long
-    (λ place purpose opening. subst (λ (t : List ℕ). Reaches true place purposes t (Err TooDeep)) (sym g.5) (λ n. goes true n place purposes 40 g.2 (Err DeepStop) (opening ∙ too_deep purpose purposes long)))) 0
+    (λ state purpose opening. subst (λ (t : List ℕ). Reaches true state purposes t (Err TooDeep)) (sym g.5) (λ n. goes true n state purposes 40 g.2 (Err DeepStop) (opening ∙ too_deep purpose purposes long)))) 0

@@ -1,16 +1,16 @@
--- What is read is spelled by the grammar: what the bytes before a place are.
+-- What is read is spelled by the grammar: what the bytes before a state are.
 use Rattle.std.proofs.Common.{◌≡◌, ◌≢◌, ◌⊎◌, inl, inr, ℕ, zero, suc, ◌+◌, ◌<◌, ◌≤◌, ◌==◌, nat_le, nat_lt, slice_index, ◌&&◌, ◌||◌, Bool, true, false, cond, List, [], ◌∷◌, ◌++◌, length, take, codes, Option, Some, None, is_some, Result, Ok, Err, refl, ap, sym, subst, ◌∙◌, append_assoc, arith}
 use Rattle.std.proofs.lemmas.Bool.Decides.{nat_tests}
-use Rattle.filters.specs.declared.place.Stop.{Stop}
-use Rattle.filters.specs.declared.place.Stop.TheVariants.{Syntax, UnknownTag, TooDeep, NoMemory}
-use Rattle.filters.specs.declared.place.Purpose.{Purpose}
-use Rattle.filters.specs.declared.place.Purpose.TheVariants.{Whole, Negated, First as FirstPurpose, Next}
-use Rattle.filters.specs.declared.place.Goal.{Goal}
-use Rattle.filters.specs.declared.place.Goal.TheVariants.{Compared, Base as BaseGoal}
-use Rattle.filters.specs.declared.place.Named.{Named}
-use Rattle.filters.specs.declared.place.Named.TheVariants.{Field as NamedField, Base as NamedBase}
-use Rattle.filters.specs.declared.place.Place.{Place}
-use Rattle.filters.specs.declared.place.Place.TheVariants.{Start, Opened, Bang, Word, AfterField, Sign, Contains, NeedsSpace, BeforeText, InText, Escaped, Done, Joined, AfterJoined, And, AfterAnd, Finished}
+use Rattle.filters.specs.declared.state.Stop.{Stop}
+use Rattle.filters.specs.declared.state.Stop.TheVariants.{Syntax, UnknownTag, TooDeep, NoMemory}
+use Rattle.filters.specs.declared.state.Purpose.{Purpose}
+use Rattle.filters.specs.declared.state.Purpose.TheVariants.{Whole, Negated, First as FirstPurpose, Next}
+use Rattle.filters.specs.declared.state.Goal.{Goal}
+use Rattle.filters.specs.declared.state.Goal.TheVariants.{Compared, Base as BaseGoal}
+use Rattle.filters.specs.declared.state.Named.{Named}
+use Rattle.filters.specs.declared.state.Named.TheVariants.{Field as NamedField, Base as NamedBase}
+use Rattle.filters.specs.declared.state.State.{State}
+use Rattle.filters.specs.declared.state.State.TheVariants.{Start, Opened, Bang, Word, AfterField, Sign, Contains, NeedsSpace, BeforeText, InText, Escaped, Done, Joined, AfterJoined, And, AfterAnd, Finished}
 use Rattle.filters.specs.declared.expression.Field.{Field}
 use Rattle.filters.specs.declared.expression.Test.{Test}
 use Rattle.filters.specs.declared.expression.Test.TheVariants.{Equals, Differs, Contains as ContainsTest}
@@ -87,8 +87,8 @@ record Whole_filter (strict : Bool) (e : Expression) (text rest : List ℕ) : Ty
   means : meaning body ≡ e
   allowed : Allowed strict 1 body
 
--- what the text is up to a place, before the rest
-At : Bool → Place → List Purpose → List ℕ → List ℕ → Type 0
+-- what the text is up to a state, before the rest
+At : Bool → State → List Purpose → List ℕ → List ℕ → Type 0
 At strict Start purposes text rest = (purposes ≡ []) × (text ≡ rest)
 At strict Opened purposes text rest = Opens strict purposes text rest
 At strict Bang purposes text rest = (outer : List ℕ) × Opens strict purposes text outer × (outer ≡ 33 ∷ rest)
@@ -110,26 +110,26 @@ At strict (AfterAnd e) purposes text rest = (gap word second_gap : List ℕ) × 
 At strict (Finished e) purposes text rest = Whole_filter strict e text rest
 
 -- what the step leads to has this property of the rest
-KeptNext : Bool → List ℕ → List ℕ → Result (Place × List Purpose) Stop → Type 0
+KeptNext : Bool → List ℕ → List ℕ → Result (State × List Purpose) Stop → Type 0
 KeptNext strict text rest (Ok next) = At strict next.0 next.1 text rest
 KeptNext strict text rest (Err stop) = Unit {0}
 
-record Kept (strict : Bool) (text rest : List ℕ) (r : Result (Place × List Purpose) Stop) : Type 0 where
+record Kept (strict : Bool) (text rest : List ℕ) (r : Result (State × List Purpose) Stop) : Type 0 where
   is : KeptNext strict text rest r
 
-to : (strict : Bool) (text rest : List ℕ) (place : Place) (purposes : List Purpose) → At strict place purposes text rest → Kept strict text rest (Ok (place, purposes))
+to : (strict : Bool) (text rest : List ℕ) (state : State) (purposes : List Purpose) → At strict state purposes text rest → Kept strict text rest (Ok (state, purposes))
 unfolding KeptNext
-to strict text rest place purposes at = record { is = at }
+to strict text rest state purposes at = record { is = at }
 
 stop : (strict : Bool) (text rest : List ℕ) (s : Stop) → Kept strict text rest (Err s)
 unfolding KeptNext
 stop strict text rest s = record { is = tt }
 
-when : (strict : Bool) (text rest : List ℕ) (c : Bool) (x y : Result (Place × List Purpose) Stop) → (c ≡ true → Kept strict text rest x) → (c ≡ false → Kept strict text rest y) → Kept strict text rest (cond c x y)
+when : (strict : Bool) (text rest : List ℕ) (c : Bool) (x y : Result (State × List Purpose) Stop) → (c ≡ true → Kept strict text rest x) → (c ≡ false → Kept strict text rest y) → Kept strict text rest (cond c x y)
 when strict text rest true x y h k = h refl
 when strict text rest false x y h k = k refl
 
-when_alone : (strict : Bool) (text rest : List ℕ) (purposes : List Purpose) (c : Bool) (x y : Result Place Stop) → (c ≡ true → Kept strict text rest (alone x purposes)) → (c ≡ false → Kept strict text rest (alone y purposes)) → Kept strict text rest (alone (cond c x y) purposes)
+when_alone : (strict : Bool) (text rest : List ℕ) (purposes : List Purpose) (c : Bool) (x y : Result State Stop) → (c ≡ true → Kept strict text rest (alone x purposes)) → (c ≡ false → Kept strict text rest (alone y purposes)) → Kept strict text rest (alone (cond c x y) purposes)
 when_alone strict text rest purposes true x y h k = h refl
 when_alone strict text rest purposes false x y h k = k refl
 
@@ -393,7 +393,7 @@ signed strict field Equals purposes text b rest at e = Operates field Equals at.
 signed strict field Differs purposes text b rest at e = Operates field Differs at.0 refl at.2 (at.1, rest, at.3, at.4 ∙ ap (λ (c : ℕ). 33 ∷ c ∷ rest) e, no_spaces rest)
 signed strict field ContainsTest purposes text b rest at e = absurd at
 
-kept : (strict : Bool) (place : Place) (purposes : List Purpose) (text : List ℕ) (b : ℕ) (rest : List ℕ) → At strict place purposes text (b ∷ rest) → Kept strict text rest (step strict place purposes b)
+kept : (strict : Bool) (state : State) (purposes : List Purpose) (text : List ℕ) (b : ℕ) (rest : List ℕ) → At strict state purposes text (b ∷ rest) → Kept strict text rest (step strict state purposes b)
 unfolding step At Opens
 kept strict Start purposes text b rest at =
     when strict text rest (b == 40) _ _ (λ e. opened_kept strict Whole purposes text rest (λ room. (rest, at.0, at.1 ∙ ap (λ (c : ℕ). c ∷ rest) (equal b 40 e), no_spaces rest))) (λ _. stop strict text rest Syntax)
@@ -455,24 +455,24 @@ word_ends n None word e h = cc
 word_ends n (Some name) word e h = cc
 
 -- what a whole text gives is the meaning of a form that the text is
-ended : (strict : Bool) (n : ℕ) (place : Place) (purposes : List Purpose) (text : List ℕ) (e : Expression) → At strict place purposes text [] → ending n place ≡ Ok e → Whole_filter strict e text []
+ended : (strict : Bool) (n : ℕ) (state : State) (purposes : List Purpose) (text : List ℕ) (e : Expression) → At strict state purposes text [] → ending n state ≡ Ok e → Whole_filter strict e text []
 unfolding At
 ended strict n (Finished f) purposes text e at h = let same : f ≡ e = cc in subst (λ (g : Expression). Whole_filter strict g text []) same at
 ended strict n (Word word) purposes text e at h = absurd (word_ends n (named_of word) word e h)
 ended strict n _ purposes text e at h = cc
 
-onward : (strict : Bool) (n : ℕ) (place : Place) (purposes : List Purpose) (text : List ℕ) (b : ℕ) (rest : List ℕ) (e : Expression) (r : Result (Place × List Purpose) Stop) → step strict place purposes b ≡ r → Kept strict text rest (step strict place purposes b)
-    → run strict n place purposes (b ∷ rest) ≡ Ok e → ((next : Place) (more : List Purpose) → At strict next more text rest → run strict (n + 1) next more rest ≡ Ok e → Whole_filter strict e text []) → Whole_filter strict e text []
+onward : (strict : Bool) (n : ℕ) (state : State) (purposes : List Purpose) (text : List ℕ) (b : ℕ) (rest : List ℕ) (e : Expression) (r : Result (State × List Purpose) Stop) → step strict state purposes b ≡ r → Kept strict text rest (step strict state purposes b)
+    → run strict n state purposes (b ∷ rest) ≡ Ok e → ((next : State) (more : List Purpose) → At strict next more text rest → run strict (n + 1) next more rest ≡ Ok e → Whole_filter strict e text []) → Whole_filter strict e text []
 unfolding KeptNext
-onward strict n place purposes text b rest e (Ok next) s k h go =
-    go next.0 next.1 (subst (KeptNext strict text rest) s k.is) (sym (goes strict n place purposes b rest (Ok next) s) ∙ h)
-onward strict n place purposes text b rest e (Err fault) s k h go = let failed : Err (fault_at n fault) ≡ Ok e = sym (goes strict n place purposes b rest (Err fault) s) ∙ h in cc
+onward strict n state purposes text b rest e (Ok next) s k h go =
+    go next.0 next.1 (subst (KeptNext strict text rest) s k.is) (sym (goes strict n state purposes b rest (Ok next) s) ∙ h)
+onward strict n state purposes text b rest e (Err fault) s k h go = let failed : Err (fault_at n fault) ≡ Ok e = sym (goes strict n state purposes b rest (Err fault) s) ∙ h in cc
 
-run_spelled : (rest : List ℕ) (strict : Bool) (n : ℕ) (place : Place) (purposes : List Purpose) (text : List ℕ) (e : Expression) → At strict place purposes text rest → run strict n place purposes rest ≡ Ok e → Whole_filter strict e text []
+run_spelled : (rest : List ℕ) (strict : Bool) (n : ℕ) (state : State) (purposes : List Purpose) (text : List ℕ) (e : Expression) → At strict state purposes text rest → run strict n state purposes rest ≡ Ok e → Whole_filter strict e text []
 unfolding run
-run_spelled [] strict n place purposes text e at h = ended strict n place purposes text e at h
-run_spelled (b ∷ rest) strict n place purposes text e at h =
-    onward strict n place purposes text b rest e (step strict place purposes b) refl (kept strict place purposes text b rest at) h (λ next more at_next ok. run_spelled rest strict (n + 1) next more text e at_next ok)
+run_spelled [] strict n state purposes text e at h = ended strict n state purposes text e at h
+run_spelled (b ∷ rest) strict n state purposes text e at h =
+    onward strict n state purposes text b rest e (step strict state purposes b) refl (kept strict state purposes text b rest at) h (λ next more at_next ok. run_spelled rest strict (n + 1) next more text e at_next ok)
 
 -- what is read whole is spelled so
 pub read_is_spelled : (strict : Bool) (text : List ℕ) (e : Expression) → run strict 0 Start [] text ≡ Ok e → (body : Body) × InParentheses (IsBody body) text [] × (meaning body ≡ e) × Allowed strict 1 body
@@ -506,17 +506,17 @@ are_open (Next e ∷ purposes) text rest o =
     ((o.0, o.4, o.5, outer.0, may_open purposes true text o.0 o.4 o.6 (inr (inr (follows_and (length purposes) e o.0 o.1 o.2 o.3 o.4 low o.7 o.8 o.9 o.10))), o.11, o.12), omega arith, omega (arith, room))
 
 -- why a step of the strict rules stops
-CausesNext : List ℕ → Result (Place × List Purpose) Stop → Type 0
+CausesNext : List ℕ → Result (State × List Purpose) Stop → Type 0
 CausesNext text (Ok next) = Unit {0}
 CausesNext text (Err Syntax) = Unit {0}
 CausesNext text (Err (UnknownTag word)) = NamesNothing text word
 CausesNext text (Err TooDeep) = GoesTooDeep text
 CausesNext text (Err NoMemory) = ⊥
 
-record Causes (text : List ℕ) (r : Result (Place × List Purpose) Stop) : Type 0 where
+record Causes (text : List ℕ) (r : Result (State × List Purpose) Stop) : Type 0 where
   is : CausesNext text r
 
-goes_on_so : (text : List ℕ) (next : Place × List Purpose) → Causes text (Ok next)
+goes_on_so : (text : List ℕ) (next : State × List Purpose) → Causes text (Ok next)
 unfolding CausesNext
 goes_on_so text next = record { is = tt }
 
@@ -524,11 +524,11 @@ syntax_so : (text : List ℕ) → Causes text (Err Syntax)
 unfolding CausesNext
 syntax_so text = record { is = tt }
 
-caused_when : (text : List ℕ) (c : Bool) (x y : Result (Place × List Purpose) Stop) → (c ≡ true → Causes text x) → (c ≡ false → Causes text y) → Causes text (cond c x y)
+caused_when : (text : List ℕ) (c : Bool) (x y : Result (State × List Purpose) Stop) → (c ≡ true → Causes text x) → (c ≡ false → Causes text y) → Causes text (cond c x y)
 caused_when text true x y h k = h refl
 caused_when text false x y h k = k refl
 
-caused_alone : (text : List ℕ) (purposes : List Purpose) (c : Bool) (x y : Result Place Stop) → Causes text (alone x purposes) → Causes text (alone y purposes) → Causes text (alone (cond c x y) purposes)
+caused_alone : (text : List ℕ) (purposes : List Purpose) (c : Bool) (x y : Result State Stop) → Causes text (alone x purposes) → Causes text (alone y purposes) → Causes text (alone (cond c x y) purposes)
 caused_alone text purposes true x y h k = h
 caused_alone text purposes false x y h k = k
 
@@ -574,7 +574,7 @@ closed_causes e (Negated ∷ purposes) text = goes_on_so text _
 closed_causes e (FirstPurpose ∷ purposes) text = goes_on_so text _
 closed_causes e (Next first ∷ purposes) text = goes_on_so text _
 
-one_test : (text : List ℕ) (c : Bool) (next : Place × List Purpose) → Causes text (cond c (Ok next) (Err Syntax))
+one_test : (text : List ℕ) (c : Bool) (next : State × List Purpose) → Causes text (cond c (Ok next) (Err Syntax))
 one_test text c next = caused_when text c _ _ (λ _. goes_on_so text next) (λ _. syntax_so text)
 
 closes_or_not : (text : List ℕ) (c : Bool) (e : Expression) (purposes : List Purpose) → Causes text (cond c (closed e purposes) (Err Syntax))
@@ -583,7 +583,7 @@ closes_or_not text c e purposes = caused_when text c _ _ (λ _. closed_causes e 
 none_full : (n : ℕ) → n ≡ 0 → (true && nat_le 32 n) ≡ true → ⊥
 none_full n none e = let high : 32 ≤ n = grind (arith, nat_tests) in omega (arith, high, none)
 
-caused : (place : Place) (purposes : List Purpose) (text : List ℕ) (b : ℕ) (rest : List ℕ) → At true place purposes text (b ∷ rest) → Causes text (step true place purposes b)
+caused : (state : State) (purposes : List Purpose) (text : List ℕ) (b : ℕ) (rest : List ℕ) → At true state purposes text (b ∷ rest) → Causes text (step true state purposes b)
 unfolding step At
 caused Start purposes text b rest at =
     caused_when text (b == 40) _ _ (λ _. caused_when text (true && nat_le 32 (length purposes)) _ _ (λ h. absurd (none_full (length purposes) (ap length at.0) h)) (λ _. goes_on_so text _)) (λ _. syntax_so text)
@@ -633,25 +633,25 @@ word_end_cause n None word purposes text outer fault named o is letters some e =
     let same : UnknownFault word ≡ fault = cc in subst (HasCause text) same (names_nothing word purposes text outer [] named o is letters some tt)
 word_end_cause n (Some name) word purposes text outer fault named o is letters some e = let same : SyntaxFault n ≡ fault = cc in subst (HasCause text) same tt
 
-end_cause : (n : ℕ) (place : Place) (purposes : List Purpose) (text : List ℕ) (fault : FilterFault) → At true place purposes text [] → ending n place ≡ Err fault → HasCause text fault
+end_cause : (n : ℕ) (state : State) (purposes : List Purpose) (text : List ℕ) (fault : FilterFault) → At true state purposes text [] → ending n state ≡ Err fault → HasCause text fault
 unfolding At
 end_cause n (Finished e) purposes text fault at h = cc
 end_cause n (Word word) purposes text fault at h = word_end_cause n (named_of word) word purposes text at.0 fault refl at.1 at.2 at.3 at.4 h
 end_cause n _ purposes text fault at h = let same : SyntaxFault n ≡ fault = cc in subst (HasCause text) same tt
 
-step_cause : (n : ℕ) (place : Place) (purposes : List Purpose) (text : List ℕ) (b : ℕ) (rest : List ℕ) (fault : FilterFault) (r : Result (Place × List Purpose) Stop) → step true place purposes b ≡ r → Causes text (step true place purposes b) → Kept true text rest (step true place purposes b)
-    → run true n place purposes (b ∷ rest) ≡ Err fault → ((next : Place) (more : List Purpose) → At true next more text rest → run true (n + 1) next more rest ≡ Err fault → HasCause text fault) → HasCause text fault
+step_cause : (n : ℕ) (state : State) (purposes : List Purpose) (text : List ℕ) (b : ℕ) (rest : List ℕ) (fault : FilterFault) (r : Result (State × List Purpose) Stop) → step true state purposes b ≡ r → Causes text (step true state purposes b) → Kept true text rest (step true state purposes b)
+    → run true n state purposes (b ∷ rest) ≡ Err fault → ((next : State) (more : List Purpose) → At true next more text rest → run true (n + 1) next more rest ≡ Err fault → HasCause text fault) → HasCause text fault
 unfolding KeptNext
-step_cause n place purposes text b rest fault (Ok next) s c k h go = go next.0 next.1 (subst (KeptNext true text rest) s k.is) (sym (goes true n place purposes b rest (Ok next) s) ∙ h)
-step_cause n place purposes text b rest fault (Err why) s c k h go =
-    let same : fault_at n why ≡ fault = (let failed : Err (fault_at n why) ≡ Err fault = sym (goes true n place purposes b rest (Err why) s) ∙ h in cc) in
+step_cause n state purposes text b rest fault (Ok next) s c k h go = go next.0 next.1 (subst (KeptNext true text rest) s k.is) (sym (goes true n state purposes b rest (Ok next) s) ∙ h)
+step_cause n state purposes text b rest fault (Err why) s c k h go =
+    let same : fault_at n why ≡ fault = (let failed : Err (fault_at n why) ≡ Err fault = sym (goes true n state purposes b rest (Err why) s) ∙ h in cc) in
     subst (HasCause text) same (fault_cause n text why (subst (CausesNext text) s c.is))
 
-run_cause : (rest : List ℕ) (n : ℕ) (place : Place) (purposes : List Purpose) (text : List ℕ) (fault : FilterFault) → At true place purposes text rest → run true n place purposes rest ≡ Err fault → HasCause text fault
+run_cause : (rest : List ℕ) (n : ℕ) (state : State) (purposes : List Purpose) (text : List ℕ) (fault : FilterFault) → At true state purposes text rest → run true n state purposes rest ≡ Err fault → HasCause text fault
 unfolding run
-run_cause [] n place purposes text fault at h = end_cause n place purposes text fault at h
-run_cause (b ∷ rest) n place purposes text fault at h =
-    step_cause n place purposes text b rest fault (step true place purposes b) refl (caused place purposes text b rest at) (kept true place purposes text b rest at) h (λ next more at_next failed. run_cause rest (n + 1) next more text fault at_next failed)
+run_cause [] n state purposes text fault at h = end_cause n state purposes text fault at h
+run_cause (b ∷ rest) n state purposes text fault at h =
+    step_cause n state purposes text b rest fault (step true state purposes b) refl (caused state purposes text b rest at) (kept true state purposes text b rest at) h (λ next more at_next failed. run_cause rest (n + 1) next more text fault at_next failed)
 
 pub refused_for : (text : List ℕ) (fault : FilterFault) → run true 0 Start [] text ≡ Err fault → HasCause text fault
 unfolding At

@@ -1,11 +1,11 @@
 -- What is spelled by the grammar is read as its expression.
 use Rattle.std.proofs.Common.{◌≡◌, ℕ, suc, ◌+◌, ◌<◌, ◌≤◌, nat_le, Bool, true, false, List, [], ◌∷◌, ◌++◌, length, codes, is_some, Result, Ok, refl, sym, subst, ◌∙◌, arith}
 use Rattle.std.proofs.lemmas.Bool.Decides.{nat_tests}
-use Rattle.filters.specs.declared.place.Purpose.{Purpose}
-use Rattle.filters.specs.declared.place.Purpose.TheVariants.{Whole, Negated, First as FirstPurpose, Next}
-use Rattle.filters.specs.declared.place.Goal.TheVariants.{Compared, Base as BaseGoal}
-use Rattle.filters.specs.declared.place.Place.{Place}
-use Rattle.filters.specs.declared.place.Place.TheVariants.{Start, Opened, Bang, Done, Joined, AfterJoined, And, AfterAnd, Finished}
+use Rattle.filters.specs.declared.state.Purpose.{Purpose}
+use Rattle.filters.specs.declared.state.Purpose.TheVariants.{Whole, Negated, First as FirstPurpose, Next}
+use Rattle.filters.specs.declared.state.Goal.TheVariants.{Compared, Base as BaseGoal}
+use Rattle.filters.specs.declared.state.State.{State}
+use Rattle.filters.specs.declared.state.State.TheVariants.{Start, Opened, Bang, Done, Joined, AfterJoined, And, AfterAnd, Finished}
 use Rattle.filters.specs.declared.reading.FilterFault.{FilterFault}
 use Rattle.filters.specs.Expressions.{Expression, Negation, Both}
 use Rattle.filters.specs.Words.{field_named}
@@ -25,7 +25,7 @@ Allowed strict level (Not b) = Room strict level × Allowed strict (suc level) b
 Allowed strict level (First b) = Room strict level × Allowed strict (suc level) b
 Allowed strict level (Then j b) = Allowed strict level j × Room strict level × Allowed strict (suc level) b
 
-abbrev end_place : Bool → Expression → Place
+abbrev end_place : Bool → Expression → State
 end_place true e = Joined e
 end_place false e = Done e
 
@@ -45,7 +45,7 @@ joined_closes : (strict : Bool) (e : Expression) (purposes : List Purpose) → (
 unfolding step
 joined_closes strict e purposes = (refl, refl)
 
-joined_end : (strict : Bool) (f : Expression) (purposes : List Purpose) (spaces more rest : List ℕ) (next : Place) (outer : List Purpose) (e : Result Expression FilterFault) → AreSpaces spaces → more ≡ 41 ∷ rest → closed f purposes ≡ Ok (next, outer)
+joined_end : (strict : Bool) (f : Expression) (purposes : List Purpose) (spaces more rest : List ℕ) (next : State) (outer : List Purpose) (e : Result Expression FilterFault) → AreSpaces spaces → more ≡ 41 ∷ rest → closed f purposes ≡ Ok (next, outer)
     → Reaches strict next outer rest e → Reaches strict (Joined f) purposes (spaces ++ more) e
 unfolding step
 joined_end strict f purposes [] more rest next outer e are ends closes r = rw ends (by_byte strict (Joined f) purposes 41 rest next outer e ((joined_closes strict f purposes).0 ∙ closes) r)
@@ -53,7 +53,7 @@ joined_end strict f purposes (b ∷ bs) more rest next outer e are ends closes r
     rw are.0 (by_byte strict (Joined f) purposes 32 (bs ++ more) (AfterJoined f) purposes e refl
     (spaces_reach strict (AfterJoined f) purposes (bs ++ more) more e refl (bs, refl, are.1) (rw ends (by_byte strict (AfterJoined f) purposes 41 rest next outer e ((joined_closes strict f purposes).1 ∙ closes) r))))
 
-ends : (strict joined : Bool) (f : Expression) (purposes : List Purpose) (text more rest : List ℕ) (next : Place) (outer : List Purpose) (e : Result Expression FilterFault) → Spaces text more → more ≡ 41 ∷ rest → closed f purposes ≡ Ok (next, outer)
+ends : (strict joined : Bool) (f : Expression) (purposes : List Purpose) (text more rest : List ℕ) (next : State) (outer : List Purpose) (e : Result Expression FilterFault) → Spaces text more → more ≡ 41 ∷ rest → closed f purposes ≡ Ok (next, outer)
     → Reaches strict next outer rest e → Reaches strict (end_place joined f) purposes text e
 unfolding step
 ends strict true f purposes text more rest next outer e spaces last closes r = subst (λ (t : List ℕ). Reaches strict (Joined f) purposes t e) (sym spaces.1) (joined_end strict f purposes spaces.0 more rest next outer e spaces.2 last closes r)
@@ -96,12 +96,12 @@ abbrev ReadsInside : Body → Bool → List Purpose → Result Expression Filter
 ReadsInside b strict purposes e = (text rest : List ℕ) → IsBody b text rest → Reaches strict (end_place (is_joined b) (meaning b)) purposes rest e → Reaches strict Opened purposes text e
 
 -- a parenthesis of such a form: from the byte that opens it up to what follows it
-parentheses_reach : (b : Body) (strict : Bool) (place : Place) (purpose : Purpose) (purposes : List Purpose) (text rest : List ℕ) (next : Place) (e : Result Expression FilterFault)
-    → step strict place purposes 40 ≡ opened strict purpose purposes → Room strict (length purposes) → ReadsInside b strict (purpose ∷ purposes) e → InParentheses (IsBody b) text rest → closed (meaning b) (purpose ∷ purposes) ≡ Ok (next, purposes)
-    → Reaches strict next purposes rest e → Reaches strict place purposes text e
-parentheses_reach b strict place purpose purposes text rest next e opening room inside is closes r =
-    subst (λ (t : List ℕ). Reaches strict place purposes t e) (sym is.4)
-    (by_byte strict place purposes 40 is.0 Opened (purpose ∷ purposes) e (opening ∙ opens strict purpose purposes room)
+parentheses_reach : (b : Body) (strict : Bool) (state : State) (purpose : Purpose) (purposes : List Purpose) (text rest : List ℕ) (next : State) (e : Result Expression FilterFault)
+    → step strict state purposes 40 ≡ opened strict purpose purposes → Room strict (length purposes) → ReadsInside b strict (purpose ∷ purposes) e → InParentheses (IsBody b) text rest → closed (meaning b) (purpose ∷ purposes) ≡ Ok (next, purposes)
+    → Reaches strict next purposes rest e → Reaches strict state purposes text e
+parentheses_reach b strict state purpose purposes text rest next e opening room inside is closes r =
+    subst (λ (t : List ℕ). Reaches strict state purposes t e) (sym is.4)
+    (by_byte strict state purposes 40 is.0 Opened (purpose ∷ purposes) e (opening ∙ opens strict purpose purposes room)
     (spaces_reach strict Opened (purpose ∷ purposes) is.0 is.1 e (stays_opened strict (purpose ∷ purposes)) is.5
     (inside is.1 is.2 is.6 (ends strict (is_joined b) (meaning b) (purpose ∷ purposes) is.2 is.3 rest next purposes e is.7 is.8 closes r))))
 

@@ -1,53 +1,53 @@
--- A step leads from a place that can be completed to one that can be.
+-- A step leads from a state that can be completed to one that can be.
 use Rattle.std.proofs.Common.{◌≡◌, ℕ, ◌+◌, ◌≤◌, ◌==◌, ◌&&◌, ◌||◌, slice_index, nat_lt, Bool, true, false, cond, List, [], ◌∷◌, ◌++◌, codes, Option, Some, None, Result, Ok, Err, refl, arith}
 use Rattle.std.proofs.lemmas.Bool.Decides.{nat_tests}
-use Rattle.filters.specs.declared.place.Stop.{Stop}
-use Rattle.filters.specs.declared.place.Stop.TheVariants.{Syntax, UnknownTag}
-use Rattle.filters.specs.declared.place.Purpose.{Purpose}
-use Rattle.filters.specs.declared.place.Purpose.TheVariants.{Whole, Negated, First, Next}
-use Rattle.filters.specs.declared.place.Named.{Named}
-use Rattle.filters.specs.declared.place.Named.TheVariants.{Field as NamedField, Base as NamedBase}
-use Rattle.filters.specs.declared.place.Place.{Place}
-use Rattle.filters.specs.declared.place.Place.TheVariants.{Start, Opened, Bang, Word, AfterField, Sign, Contains, NeedsSpace, BeforeText, InText, Escaped, Done, Joined, AfterJoined, And, AfterAnd, Finished}
+use Rattle.filters.specs.declared.state.Stop.{Stop}
+use Rattle.filters.specs.declared.state.Stop.TheVariants.{Syntax, UnknownTag}
+use Rattle.filters.specs.declared.state.Purpose.{Purpose}
+use Rattle.filters.specs.declared.state.Purpose.TheVariants.{Whole, Negated, First, Next}
+use Rattle.filters.specs.declared.state.Named.{Named}
+use Rattle.filters.specs.declared.state.Named.TheVariants.{Field as NamedField, Base as NamedBase}
+use Rattle.filters.specs.declared.state.State.{State}
+use Rattle.filters.specs.declared.state.State.TheVariants.{Start, Opened, Bang, Word, AfterField, Sign, Contains, NeedsSpace, BeforeText, InText, Escaped, Done, Joined, AfterJoined, And, AfterAnd, Finished}
 use Rattle.filters.specs.declared.expression.Field.{Field}
-use Rattle.filters.specs.declared.place.Goal.TheVariants.{Compared, Base as BaseGoal}
+use Rattle.filters.specs.declared.state.Goal.TheVariants.{Compared, Base as BaseGoal}
 use Rattle.filters.specs.declared.expression.Test.TheVariants.{Equals, Differs, Contains as ContainsTest}
 use Rattle.filters.specs.Expressions.{Expression, Negation, Both}
 use Rattle.filters.specs.Words.{is_letter}
 use Rattle.filters.specs.Machine.{step, filter_for, names, closed, sign, after_word, contains_letter, and_letter, alone}
 use Rattle.filters.proofs.Live.{IsOpen, IsLive}
 
-abbrev pub StaysLive : Result (Place × List Purpose) Stop → Type 0
+abbrev pub StaysLive : Result (State × List Purpose) Stop → Type 0
 StaysLive (Ok next) = IsLive next.0 next.1
 StaysLive (Err stop) = Unit {0}
 
-record Lives (r : Result (Place × List Purpose) Stop) : Type 0 where
+record Lives (r : Result (State × List Purpose) Stop) : Type 0 where
   is : StaysLive r
 
-record LivesAlone (purposes : List Purpose) (r : Result Place Stop) : Type 0 where
+record LivesAlone (purposes : List Purpose) (r : Result State Stop) : Type 0 where
   is : StaysLive (alone r purposes)
 
-yes_place : (place : Place) (purposes : List Purpose) → IsLive place purposes → Lives (Ok (place, purposes))
-yes_place place purposes is = record { is = is }
+yes_place : (state : State) (purposes : List Purpose) → IsLive state purposes → Lives (Ok (state, purposes))
+yes_place state purposes is = record { is = is }
 
 stop : (s : Stop) → Lives (Err s)
 stop s = record { is = tt }
 
-either : (c : Bool) (x y : Result (Place × List Purpose) Stop) → Lives x → Lives y → Lives (cond c x y)
+either : (c : Bool) (x y : Result (State × List Purpose) Stop) → Lives x → Lives y → Lives (cond c x y)
 either true x y h k = h
 either false x y h k = k
 
-yes_alone : (place : Place) (purposes : List Purpose) → IsLive place purposes → LivesAlone purposes (Ok place)
-yes_alone place purposes is = record { is = is }
+yes_alone : (state : State) (purposes : List Purpose) → IsLive state purposes → LivesAlone purposes (Ok state)
+yes_alone state purposes is = record { is = is }
 
 stop_alone : (purposes : List Purpose) (s : Stop) → LivesAlone purposes (Err s)
 stop_alone purposes s = record { is = tt }
 
-when : (purposes : List Purpose) (c : Bool) (x y : Result Place Stop) → (c ≡ true → LivesAlone purposes x) → LivesAlone purposes y → LivesAlone purposes (cond c x y)
+when : (purposes : List Purpose) (c : Bool) (x y : Result State Stop) → (c ≡ true → LivesAlone purposes x) → LivesAlone purposes y → LivesAlone purposes (cond c x y)
 when purposes true x y h k = h refl
 when purposes false x y h k = k
 
-not_alone : (purposes : List Purpose) (r : Result Place Stop) → LivesAlone purposes r → Lives (alone r purposes)
+not_alone : (purposes : List Purpose) (r : Result State Stop) → LivesAlone purposes r → Lives (alone r purposes)
 not_alone purposes r h = record { is = h.is }
 
 closed_live : (e : Expression) (purposes : List Purpose) → IsOpen purposes → Lives (closed e purposes)
@@ -79,7 +79,7 @@ whole : (purposes : List Purpose) → purposes ≡ [] → IsOpen (Whole ∷ purp
 whole [] e = tt
 whole (purpose ∷ purposes) e = cc
 
-lives : (place : Place) (purposes : List Purpose) (b : ℕ) → IsLive place purposes → Lives (step false place purposes b)
+lives : (state : State) (purposes : List Purpose) (b : ℕ) → IsLive state purposes → Lives (step false state purposes b)
 unfolding step
 lives Start purposes b is = either (b == 40) _ _ (yes_place (Opened) (Whole ∷ purposes) (whole purposes is)) (stop Syntax)
 lives Opened purposes b is = either (b == 32) _ _ (yes_place (Opened) purposes is) (either (b == 33) _ _ (yes_place (Bang) purposes is) (either (is_letter b) _ _ (yes_place (Word (b ∷ [])) purposes is) (either (b == 40) _ _ (yes_place (Opened) (First ∷ purposes) is) (stop Syntax))))
@@ -99,5 +99,5 @@ lives (And e read) purposes b is = not_alone purposes _ (and_live e read purpose
 lives (AfterAnd e) purposes b is = either (b == 32) _ _ (yes_place (AfterAnd e) purposes is) (either (b == 40) _ _ (yes_place (Opened) (Next e ∷ purposes) is) (stop Syntax))
 lives (Finished e) purposes b is = stop Syntax
 
-pub keeps : (place : Place) (purposes : List Purpose) (b : ℕ) → IsLive place purposes → StaysLive (step false place purposes b)
-keeps place purposes b is = (lives place purposes b is).is
+pub keeps : (state : State) (purposes : List Purpose) (b : ℕ) → IsLive state purposes → StaysLive (step false state purposes b)
+keeps state purposes b is = (lives state purposes b is).is

@@ -1,14 +1,14 @@
--- Each place before a byte can be completed to a filter.
+-- Each state before a byte can be completed to a filter.
 use Rattle.std.proofs.Common.{◌≡◌, ℕ, zero, suc, ◌+◌, ◌-◌, ◌<◌, ◌≤◌, ◌==◌, true, false, List, [], ◌∷◌, ◌++◌, codes, drop, Option, Some, None, Result, Ok, Err, refl, sym, subst, arith}
 use Rattle.std.proofs.lemmas.Bool.Decides.{nat_tests}
-use Rattle.filters.specs.declared.place.Purpose.{Purpose}
-use Rattle.filters.specs.declared.place.Purpose.TheVariants.{Whole, Negated, First, Next}
-use Rattle.filters.specs.declared.place.Goal.{Goal}
-use Rattle.filters.specs.declared.place.Goal.TheVariants.{Base as BaseGoal}
-use Rattle.filters.specs.declared.place.Named.{Named}
-use Rattle.filters.specs.declared.place.Named.TheVariants.{Field as NamedField, Base as NamedBase}
-use Rattle.filters.specs.declared.place.Place.{Place}
-use Rattle.filters.specs.declared.place.Place.TheVariants.{Start, Opened, Bang, Word, AfterField, Sign, Contains, NeedsSpace, BeforeText, InText, Escaped, Done, Joined, AfterJoined, And, AfterAnd, Finished}
+use Rattle.filters.specs.declared.state.Purpose.{Purpose}
+use Rattle.filters.specs.declared.state.Purpose.TheVariants.{Whole, Negated, First, Next}
+use Rattle.filters.specs.declared.state.Goal.{Goal}
+use Rattle.filters.specs.declared.state.Goal.TheVariants.{Base as BaseGoal}
+use Rattle.filters.specs.declared.state.Named.{Named}
+use Rattle.filters.specs.declared.state.Named.TheVariants.{Field as NamedField, Base as NamedBase}
+use Rattle.filters.specs.declared.state.State.{State}
+use Rattle.filters.specs.declared.state.State.TheVariants.{Start, Opened, Bang, Word, AfterField, Sign, Contains, NeedsSpace, BeforeText, InText, Escaped, Done, Joined, AfterJoined, And, AfterAnd, Finished}
 use Rattle.filters.specs.declared.expression.Field.{Field}
 use Rattle.filters.specs.declared.expression.Field.TheVariants.{Any}
 use Rattle.filters.specs.declared.expression.Test.{Test}
@@ -29,8 +29,8 @@ abbrev pub IsFilter : Result Expression FilterFault → Type 0
 IsFilter (Ok e) = Unit {0}
 IsFilter (Err fault) = ⊥
 
--- a place that some start of a text leads to
-abbrev pub IsLive : Place → List Purpose → Type 0
+-- a state that some start of a text leads to
+abbrev pub IsLive : State → List Purpose → Type 0
 IsLive Start purposes = purposes ≡ []
 IsLive (Finished e) purposes = Unit {0}
 IsLive (Contains field read) purposes = (1 ≤ read) × (read ≤ 7) × IsOpen purposes
@@ -149,7 +149,7 @@ all_and n e purposes is (suc (suc zero)) low = after_and (n + 1 + 1 + 1) e purpo
 all_and n e purposes is (suc (suc (suc k))) low = absurd (omega arith)
 
 -- what is before a byte can be completed to a filter
-pub live : (n : ℕ) (place : Place) (purposes : List Purpose) → IsLive place purposes → (rest : List ℕ) × IsFilter (run false n place purposes rest)
+pub live : (n : ℕ) (state : State) (purposes : List Purpose) → IsLive state purposes → (rest : List ℕ) × IsFilter (run false n state purposes rest)
 live n Start purposes is = (40 ∷ opened_end (Whole ∷ []), subst (λ (f : List Purpose). IsFilter (run false n Start f (40 ∷ opened_end (Whole ∷ [])))) (sym is) (at_start n))
 live n Opened purposes is = (_, at_opened n purposes is)
 live n Bang purposes is = (_, at_bang n purposes is)

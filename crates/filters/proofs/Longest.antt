@@ -1,14 +1,14 @@
 -- A fault of syntax is after the longest start with which some filter begins.
 use Rattle.std.proofs.Common.{◌≡◌, ℕ, ◌+◌, Bool, true, false, ◌==◌, cond, List, [], ◌∷◌, ◌++◌, length, Option, Some, None, Result, Ok, Err, refl, ap, sym, subst, ◌∙◌, append_assoc, arith}
-use Rattle.filters.specs.declared.place.Stop.{Stop}
-use Rattle.filters.specs.declared.place.Stop.TheVariants.{Syntax, UnknownTag, TooDeep, NoMemory}
+use Rattle.filters.specs.declared.state.Stop.{Stop}
+use Rattle.filters.specs.declared.state.Stop.TheVariants.{Syntax, UnknownTag, TooDeep, NoMemory}
 use Rattle.filters.specs.declared.reading.FilterFault.{FilterFault}
 use Rattle.filters.specs.declared.reading.FilterFault.TheVariants.{Syntax as Err_Syntax}
-use Rattle.filters.specs.declared.place.Purpose.{Purpose}
-use Rattle.filters.specs.declared.place.Purpose.TheVariants.{Whole, Negated, First, Next}
-use Rattle.filters.specs.declared.place.Named.{Named}
-use Rattle.filters.specs.declared.place.Place.{Place}
-use Rattle.filters.specs.declared.place.Place.TheVariants.{Start, Opened, Bang, Word, AfterAnd, Finished}
+use Rattle.filters.specs.declared.state.Purpose.{Purpose}
+use Rattle.filters.specs.declared.state.Purpose.TheVariants.{Whole, Negated, First, Next}
+use Rattle.filters.specs.declared.state.Named.{Named}
+use Rattle.filters.specs.declared.state.State.{State}
+use Rattle.filters.specs.declared.state.State.TheVariants.{Start, Opened, Bang, Word, AfterAnd, Finished}
 use Rattle.filters.specs.Expressions.{Expression}
 use Rattle.filters.specs.Machine.{run, parsed, step, ending, word_at_end, fault_at, named_of, or_any, opened, alone, after_word}
 use Rattle.filters.specs.Words.{is_letter}
@@ -20,14 +20,14 @@ use Rattle.filters.proofs.Live.{IsLive, IsFilter, live}
 use Rattle.filters.proofs.Keeps.{StaysLive, keeps}
 
 -- without the strict rules a byte is taken where it was, and refused where it was against the grammar
-Agrees : Result (Place × List Purpose) Stop → Result (Place × List Purpose) Stop → Type 0
+Agrees : Result (State × List Purpose) Stop → Result (State × List Purpose) Stop → Type 0
 Agrees (Ok next) r = r ≡ Ok next
 Agrees (Err Syntax) r = r ≡ Err Syntax
 Agrees (Err (UnknownTag word)) r = Unit {0}
 Agrees (Err TooDeep) r = Unit {0}
 Agrees (Err NoMemory) r = Unit {0}
 
-same : (r : Result (Place × List Purpose) Stop) → Agrees r r
+same : (r : Result (State × List Purpose) Stop) → Agrees r r
 unfolding Agrees
 same (Ok next) = refl
 same (Err Syntax) = refl
@@ -35,11 +35,11 @@ same (Err (UnknownTag word)) = tt
 same (Err TooDeep) = tt
 same (Err NoMemory) = tt
 
-both : (c : Bool) (x y z w : Result (Place × List Purpose) Stop) → Agrees x z → Agrees y w → Agrees (cond c x y) (cond c z w)
+both : (c : Bool) (x y z w : Result (State × List Purpose) Stop) → Agrees x z → Agrees y w → Agrees (cond c x y) (cond c z w)
 both true x y z w h k = h
 both false x y z w h k = k
 
-at_most : (c : Bool) (next : Place × List Purpose) → Agrees (cond c (Err TooDeep) (Ok next)) (Ok next)
+at_most : (c : Bool) (next : State × List Purpose) → Agrees (cond c (Err TooDeep) (Ok next)) (Ok next)
 unfolding Agrees
 at_most true next = tt
 at_most false next = refl
@@ -52,7 +52,7 @@ unfolding Agrees
 names_agree None word purposes b = tt
 names_agree (Some name) word purposes b = same (alone (after_word (Some name) word b) purposes)
 
-agrees : (place : Place) (purposes : List Purpose) (b : ℕ) → Agrees (step true place purposes b) (step false place purposes b)
+agrees : (state : State) (purposes : List Purpose) (b : ℕ) → Agrees (step true state purposes b) (step false state purposes b)
 unfolding step
 agrees Start purposes b = both (b == 40) _ (Err Syntax) _ (Err Syntax) (opens Whole purposes) (same (Err Syntax))
 agrees Opened purposes b =
@@ -65,35 +65,35 @@ agrees (Word word) purposes b = both (is_letter b) (Ok (Word (word ++ b ∷ []),
 agrees (AfterAnd e) purposes b =
     both (b == 32) (Ok (AfterAnd e, purposes)) _ (Ok (AfterAnd e, purposes)) _ (same (Ok (AfterAnd e, purposes)))
     (both (b == 40) _ (Err Syntax) _ (Err Syntax) (opens (Next e) purposes) (same (Err Syntax)))
-agrees place purposes b = same (step false place purposes b)
+agrees state purposes b = same (step false state purposes b)
 
 at_word : (n k : ℕ) (name : Option Named) (word : List ℕ) → word_at_end n name word ≡ Err (Err_Syntax k) → k ≡ n
 at_word n k None word e = cc
 at_word n k (Some name) word e = cc
 
-ends_at : (n k : ℕ) (place : Place) → ending n place ≡ Err (Err_Syntax k) → k ≡ n
+ends_at : (n k : ℕ) (state : State) → ending n state ≡ Err (Err_Syntax k) → k ≡ n
 ends_at n k (Finished e) h = cc
 ends_at n k (Word word) h = at_word n k (named_of word) word h
 ends_at n k _ h = cc
 
--- k bytes are the longest start with which some filter begins, where n bytes led to this place, and the text
+-- k bytes are the longest start with which some filter begins, where n bytes led to this state, and the text
 -- is no filter
-record Longest (n k : ℕ) (place : Place) (purposes : List Purpose) (text : List ℕ) : Type 0 where
+record Longest (n k : ℕ) (state : State) (purposes : List Purpose) (text : List ℕ) : Type 0 where
   front : List ℕ
   back : List ℕ
   parts : text ≡ front ++ back
   at : k ≡ n + length front
   rest : List ℕ
-  begins : IsFilter (run false n place purposes (front ++ rest))
-  ends : (b : ℕ) (more : List ℕ) → back ≡ b ∷ more → (other : List ℕ) → IsFilter (run false n place purposes (front ++ b ∷ other)) → ⊥
-  none : IsFilter (run false n place purposes text) → ⊥
+  begins : IsFilter (run false n state purposes (front ++ rest))
+  ends : (b : ℕ) (more : List ℕ) → back ≡ b ∷ more → (other : List ℕ) → IsFilter (run false n state purposes (front ++ b ∷ other)) → ⊥
+  none : IsFilter (run false n state purposes text) → ⊥
 
-faulty : (n : ℕ) (place : Place) (purposes : List Purpose) (b : ℕ) (bs : List ℕ) → step false place purposes b ≡ Err Syntax → IsFilter (run false n place purposes (b ∷ bs)) → ⊥
-faulty n place purposes b bs s is = subst IsFilter (goes false n place purposes b bs (Err Syntax) s) is
+faulty : (n : ℕ) (state : State) (purposes : List Purpose) (b : ℕ) (bs : List ℕ) → step false state purposes b ≡ Err Syntax → IsFilter (run false n state purposes (b ∷ bs)) → ⊥
+faulty n state purposes b bs s is = subst IsFilter (goes false n state purposes b bs (Err Syntax) s) is
 
-stuck : (n k : ℕ) (place : Place) (purposes : List Purpose) (b : ℕ) (bs : List ℕ) → IsLive place purposes → step false place purposes b ≡ Err Syntax → k ≡ n → Longest n k place purposes (b ∷ bs)
-stuck n k place purposes b bs is s at =
-    let l = live n place purposes is in
+stuck : (n k : ℕ) (state : State) (purposes : List Purpose) (b : ℕ) (bs : List ℕ) → IsLive state purposes → step false state purposes b ≡ Err Syntax → k ≡ n → Longest n k state purposes (b ∷ bs)
+stuck n k state purposes b bs is s at =
+    let l = live n state purposes is in
     record {
       front = [];
       back = b ∷ bs;
@@ -101,22 +101,22 @@ stuck n k place purposes b bs is s at =
       at = omega arith;
       rest = l.0;
       begins = l.1;
-      ends = λ c more same_byte other h. faulty n place purposes b other s (subst (λ (d : ℕ). IsFilter (run false n place purposes (d ∷ other))) (cc) h);
-      none = faulty n place purposes b bs s;
+      ends = λ c more same_byte other h. faulty n state purposes b other s (subst (λ (d : ℕ). IsFilter (run false n state purposes (d ∷ other))) (cc) h);
+      none = faulty n state purposes b bs s;
     }
 
-further : (n k : ℕ) (place : Place) (purposes : List Purpose) (b : ℕ) (bs : List ℕ) (next : Place) (more : List Purpose) → step false place purposes b ≡ Ok (next, more)
-    → Longest (n + 1) k next more bs → Longest n k place purposes (b ∷ bs)
-further n k place purposes b bs next more s l =
+further : (n k : ℕ) (state : State) (purposes : List Purpose) (b : ℕ) (bs : List ℕ) (next : State) (more : List Purpose) → step false state purposes b ≡ Ok (next, more)
+    → Longest (n + 1) k next more bs → Longest n k state purposes (b ∷ bs)
+further n k state purposes b bs next more s l =
     record {
       front = b ∷ l.front;
       back = l.back;
       parts = ap (λ (t : List ℕ). b ∷ t) l.parts;
       at = omega (arith, l.at);
       rest = l.rest;
-      begins = subst IsFilter (sym (goes false n place purposes b (l.front ++ l.rest) (Ok (next, more)) s)) l.begins;
-      ends = λ c after split other h. l.ends c after split other (subst IsFilter (goes false n place purposes b (l.front ++ c ∷ other) (Ok (next, more)) s) h);
-      none = λ h. l.none (subst IsFilter (goes false n place purposes b bs (Ok (next, more)) s) h);
+      begins = subst IsFilter (sym (goes false n state purposes b (l.front ++ l.rest) (Ok (next, more)) s)) l.begins;
+      ends = λ c after split other h. l.ends c after split other (subst IsFilter (goes false n state purposes b (l.front ++ c ∷ other) (Ok (next, more)) s) h);
+      none = λ h. l.none (subst IsFilter (goes false n state purposes b bs (Ok (next, more)) s) h);
     }
 
 stops_at : (n k : ℕ) (stop : Stop) (r : Result Expression FilterFault) → r ≡ Err (fault_at n stop) → r ≡ Err (Err_Syntax k) → (stop ≡ Syntax) × (k ≡ n)
@@ -125,38 +125,38 @@ stops_at n k (UnknownTag word) r h e = cc
 stops_at n k TooDeep r h e = cc
 stops_at n k NoMemory r h e = cc
 
-stays : (place : Place) (purposes : List Purpose) (b : ℕ) (next : Place) (more : List Purpose) → IsLive place purposes → step false place purposes b ≡ Ok (next, more) → IsLive next more
-stays place purposes b next more is s = subst StaysLive s (keeps place purposes b is)
+stays : (state : State) (purposes : List Purpose) (b : ℕ) (next : State) (more : List Purpose) → IsLive state purposes → step false state purposes b ≡ Ok (next, more) → IsLive next more
+stays state purposes b next more is s = subst StaysLive s (keeps state purposes b is)
 
-loose_ok : (place : Place) (purposes : List Purpose) (b : ℕ) (next : Place × List Purpose) → step true place purposes b ≡ Ok next → step false place purposes b ≡ Ok next
+loose_ok : (state : State) (purposes : List Purpose) (b : ℕ) (next : State × List Purpose) → step true state purposes b ≡ Ok next → step false state purposes b ≡ Ok next
 unfolding Agrees
-loose_ok place purposes b next s = subst (λ (r : Result (Place × List Purpose) Stop). Agrees r (step false place purposes b)) s (agrees place purposes b)
+loose_ok state purposes b next s = subst (λ (r : Result (State × List Purpose) Stop). Agrees r (step false state purposes b)) s (agrees state purposes b)
 
-loose_err : (place : Place) (purposes : List Purpose) (b : ℕ) → step true place purposes b ≡ Err Syntax → step false place purposes b ≡ Err Syntax
+loose_err : (state : State) (purposes : List Purpose) (b : ℕ) → step true state purposes b ≡ Err Syntax → step false state purposes b ≡ Err Syntax
 unfolding Agrees
-loose_err place purposes b s = subst (λ (r : Result (Place × List Purpose) Stop). Agrees r (step false place purposes b)) s (agrees place purposes b)
+loose_err state purposes b s = subst (λ (r : Result (State × List Purpose) Stop). Agrees r (step false state purposes b)) s (agrees state purposes b)
 
-nothing_left : (n k : ℕ) (place : Place) (purposes : List Purpose) → IsLive place purposes → run true n place purposes [] ≡ Err (Err_Syntax k) → Longest n k place purposes []
+nothing_left : (n k : ℕ) (state : State) (purposes : List Purpose) → IsLive state purposes → run true n state purposes [] ≡ Err (Err_Syntax k) → Longest n k state purposes []
 unfolding run
-nothing_left n k place purposes is e =
-    let l = live n place purposes is in
-    let at = ends_at n k place e in
+nothing_left n k state purposes is e =
+    let l = live n state purposes is in
+    let at = ends_at n k state e in
     record { front = []; back = []; parts = refl; at = omega arith; rest = l.0; begins = l.1; ends = λ b more empty rest h. cc; none = λ h. subst IsFilter e h }
 
-onward : (b : ℕ) (bs : List ℕ) (n k : ℕ) (place : Place) (purposes : List Purpose) → IsLive place purposes → run true n place purposes (b ∷ bs) ≡ Err (Err_Syntax k)
-    → ((m : ℕ) (next : Place) (more : List Purpose) → IsLive next more → run true m next more bs ≡ Err (Err_Syntax k) → Longest m k next more bs)
-    → (r : Result (Place × List Purpose) Stop) → step true place purposes b ≡ r → Longest n k place purposes (b ∷ bs)
-onward b bs n k place purposes is e deeper (Ok next) s =
-    let loose = loose_ok place purposes b next s in
-    further n k place purposes b bs next.0 next.1 loose
-    (deeper (n + 1) next.0 next.1 (stays place purposes b next.0 next.1 is loose) (sym (goes true n place purposes b bs (Ok next) s) ∙ e))
-onward b bs n k place purposes is e deeper (Err stop) s =
-    let at = stops_at n k stop (run true n place purposes (b ∷ bs)) (goes true n place purposes b bs (Err stop) s) e in
-    stuck n k place purposes b bs is (loose_err place purposes b (s ∙ ap Err at.0)) at.1
+onward : (b : ℕ) (bs : List ℕ) (n k : ℕ) (state : State) (purposes : List Purpose) → IsLive state purposes → run true n state purposes (b ∷ bs) ≡ Err (Err_Syntax k)
+    → ((m : ℕ) (next : State) (more : List Purpose) → IsLive next more → run true m next more bs ≡ Err (Err_Syntax k) → Longest m k next more bs)
+    → (r : Result (State × List Purpose) Stop) → step true state purposes b ≡ r → Longest n k state purposes (b ∷ bs)
+onward b bs n k state purposes is e deeper (Ok next) s =
+    let loose = loose_ok state purposes b next s in
+    further n k state purposes b bs next.0 next.1 loose
+    (deeper (n + 1) next.0 next.1 (stays state purposes b next.0 next.1 is loose) (sym (goes true n state purposes b bs (Ok next) s) ∙ e))
+onward b bs n k state purposes is e deeper (Err stop) s =
+    let at = stops_at n k stop (run true n state purposes (b ∷ bs)) (goes true n state purposes b bs (Err stop) s) e in
+    stuck n k state purposes b bs is (loose_err state purposes b (s ∙ ap Err at.0)) at.1
 
-longest : (text : List ℕ) (n k : ℕ) (place : Place) (purposes : List Purpose) → IsLive place purposes → run true n place purposes text ≡ Err (Err_Syntax k) → Longest n k place purposes text
-longest [] n k place purposes is e = nothing_left n k place purposes is e
-longest (b ∷ bs) n k place purposes is e = onward b bs n k place purposes is e (λ m next more live_there h. longest bs m k next more live_there h) (step true place purposes b) refl
+longest : (text : List ℕ) (n k : ℕ) (state : State) (purposes : List Purpose) → IsLive state purposes → run true n state purposes text ≡ Err (Err_Syntax k) → Longest n k state purposes text
+longest [] n k state purposes is e = nothing_left n k state purposes is e
+longest (b ∷ bs) n k state purposes is e = onward b bs n k state purposes is e (λ m next more live_there h. longest bs m k next more live_there h) (step true state purposes b) refl
 
 is_filter : (r : Result Expression FilterFault) → IsFilter r → (e : Expression) × (r ≡ Ok e)
 is_filter (Ok e) is = (e, refl)

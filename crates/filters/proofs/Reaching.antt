@@ -2,13 +2,13 @@
 use Rattle.std.proofs.Common.{◌≡◌, ◌≢◌, inl, inr, ℕ, ◌+◌, ◌==◌, Bool, true, false, List, [], ◌∷◌, ◌++◌, codes, Option, Some, None, is_some, Result, Ok, refl, ap, sym, subst, ◌∙◌, append_assoc, arith}
 use Rattle.std.proofs.lemmas.List.{append-nil}
 use Rattle.std.proofs.lemmas.Bool.Decides.{nat_tests}
-use Rattle.filters.specs.declared.place.Stop.{Stop}
-use Rattle.filters.specs.declared.place.Purpose.{Purpose}
-use Rattle.filters.specs.declared.place.Goal.{Goal}
-use Rattle.filters.specs.declared.place.Goal.TheVariants.{Compared, Base as BaseGoal}
-use Rattle.filters.specs.declared.place.Named.TheVariants.{Field as NamedField, Base as NamedBase}
-use Rattle.filters.specs.declared.place.Place.{Place}
-use Rattle.filters.specs.declared.place.Place.TheVariants.{Opened, Word, AfterField, Sign, Contains, NeedsSpace, BeforeText, InText, Escaped, Done}
+use Rattle.filters.specs.declared.state.Stop.{Stop}
+use Rattle.filters.specs.declared.state.Purpose.{Purpose}
+use Rattle.filters.specs.declared.state.Goal.{Goal}
+use Rattle.filters.specs.declared.state.Goal.TheVariants.{Compared, Base as BaseGoal}
+use Rattle.filters.specs.declared.state.Named.TheVariants.{Field as NamedField, Base as NamedBase}
+use Rattle.filters.specs.declared.state.State.{State}
+use Rattle.filters.specs.declared.state.State.TheVariants.{Opened, Word, AfterField, Sign, Contains, NeedsSpace, BeforeText, InText, Escaped, Done}
 use Rattle.filters.specs.declared.expression.Field.{Field}
 use Rattle.filters.specs.declared.expression.Test.{Test}
 use Rattle.filters.specs.declared.expression.Test.TheVariants.{Equals, Differs, Contains as ContainsTest}
@@ -18,35 +18,35 @@ use Rattle.filters.specs.Words.{is_letter, is_base, field_named}
 use Rattle.filters.specs.Machine.{run, step, goes_on, named_of, names, filter_for}
 use Rattle.filters.specs.Grammar.{AreSpaces, Spaces, Gap, AreLetters, IsWord, IsInside, IsQuote, IsString, IsOperator, field_of}
 
--- from this place the text is answered so, wherever it is
-abbrev pub Reaches : Bool → Place → List Purpose → List ℕ → Result Expression FilterFault → Type 0
-Reaches strict place purposes text e = (n : ℕ) → run strict n place purposes text ≡ e
+-- from this state the text is answered so, wherever it is
+abbrev pub Reaches : Bool → State → List Purpose → List ℕ → Result Expression FilterFault → Type 0
+Reaches strict state purposes text e = (n : ℕ) → run strict n state purposes text ≡ e
 
-pub goes : (strict : Bool) (n : ℕ) (place : Place) (purposes : List Purpose) (b : ℕ) (bs : List ℕ) (r : Result (Place × List Purpose) Stop) → step strict place purposes b ≡ r
-    → run strict n place purposes (b ∷ bs) ≡ goes_on n r (λ next more. run strict (n + 1) next more bs)
+pub goes : (strict : Bool) (n : ℕ) (state : State) (purposes : List Purpose) (b : ℕ) (bs : List ℕ) (r : Result (State × List Purpose) Stop) → step strict state purposes b ≡ r
+    → run strict n state purposes (b ∷ bs) ≡ goes_on n r (λ next more. run strict (n + 1) next more bs)
 unfolding run
-goes strict n place purposes b bs r e = rw e refl
+goes strict n state purposes b bs r e = rw e refl
 
 -- by one byte
-pub by_byte : (strict : Bool) (place : Place) (purposes : List Purpose) (b : ℕ) (rest : List ℕ) (next : Place) (more : List Purpose) (e : Result Expression FilterFault) → step strict place purposes b ≡ Ok (next, more)
-    → Reaches strict next more rest e → Reaches strict place purposes (b ∷ rest) e
-by_byte strict place purposes b rest next more e h r = λ n. goes strict n place purposes b rest (Ok (next, more)) h ∙ r (n + 1)
+pub by_byte : (strict : Bool) (state : State) (purposes : List Purpose) (b : ℕ) (rest : List ℕ) (next : State) (more : List Purpose) (e : Result Expression FilterFault) → step strict state purposes b ≡ Ok (next, more)
+    → Reaches strict next more rest e → Reaches strict state purposes (b ∷ rest) e
+by_byte strict state purposes b rest next more e h r = λ n. goes strict n state purposes b rest (Ok (next, more)) h ∙ r (n + 1)
 
-by_spaces : (strict : Bool) (place : Place) (purposes : List Purpose) (spaces rest : List ℕ) (e : Result Expression FilterFault) → step strict place purposes 32 ≡ Ok (place, purposes) → AreSpaces spaces
-    → Reaches strict place purposes rest e → Reaches strict place purposes (spaces ++ rest) e
-by_spaces strict place purposes [] rest e stay are r = r
-by_spaces strict place purposes (b ∷ bs) rest e stay are r =
-    rw are.0 (by_byte strict place purposes 32 (bs ++ rest) place purposes e stay (by_spaces strict place purposes bs rest e stay are.1 r))
+by_spaces : (strict : Bool) (state : State) (purposes : List Purpose) (spaces rest : List ℕ) (e : Result Expression FilterFault) → step strict state purposes 32 ≡ Ok (state, purposes) → AreSpaces spaces
+    → Reaches strict state purposes rest e → Reaches strict state purposes (spaces ++ rest) e
+by_spaces strict state purposes [] rest e stay are r = r
+by_spaces strict state purposes (b ∷ bs) rest e stay are r =
+    rw are.0 (by_byte strict state purposes 32 (bs ++ rest) state purposes e stay (by_spaces strict state purposes bs rest e stay are.1 r))
 
 -- by spaces, where one more changes nothing
-pub spaces_reach : (strict : Bool) (place : Place) (purposes : List Purpose) (text rest : List ℕ) (e : Result Expression FilterFault) → step strict place purposes 32 ≡ Ok (place, purposes) → Spaces text rest
-    → Reaches strict place purposes rest e → Reaches strict place purposes text e
-spaces_reach strict place purposes text rest e stay s r = subst (λ (t : List ℕ). Reaches strict place purposes t e) (sym s.1) (by_spaces strict place purposes s.0 rest e stay s.2 r)
+pub spaces_reach : (strict : Bool) (state : State) (purposes : List Purpose) (text rest : List ℕ) (e : Result Expression FilterFault) → step strict state purposes 32 ≡ Ok (state, purposes) → Spaces text rest
+    → Reaches strict state purposes rest e → Reaches strict state purposes text e
+spaces_reach strict state purposes text rest e stay s r = subst (λ (t : List ℕ). Reaches strict state purposes t e) (sym s.1) (by_spaces strict state purposes s.0 rest e stay s.2 r)
 
-pub gap_reach : (strict : Bool) (place next : Place) (purposes : List Purpose) (text rest : List ℕ) (e : Result Expression FilterFault) → step strict place purposes 32 ≡ Ok (next, purposes) → step strict next purposes 32 ≡ Ok (next, purposes)
-    → Gap text rest → Reaches strict next purposes rest e → Reaches strict place purposes text e
-gap_reach strict place next purposes text rest e go stay gap r =
-    subst (λ (t : List ℕ). Reaches strict place purposes t e) (sym gap.1) (by_byte strict place purposes 32 gap.0 next purposes e go (spaces_reach strict next purposes gap.0 rest e stay gap.2 r))
+pub gap_reach : (strict : Bool) (state next : State) (purposes : List Purpose) (text rest : List ℕ) (e : Result Expression FilterFault) → step strict state purposes 32 ≡ Ok (next, purposes) → step strict next purposes 32 ≡ Ok (next, purposes)
+    → Gap text rest → Reaches strict next purposes rest e → Reaches strict state purposes text e
+gap_reach strict state next purposes text rest e go stay gap r =
+    subst (λ (t : List ℕ). Reaches strict state purposes t e) (sym gap.1) (by_byte strict state purposes 32 gap.0 next purposes e go (spaces_reach strict next purposes gap.0 rest e stay gap.2 r))
 
 -- texts in quotes
 is_quote : (quote : ℕ) → (quote == quote) ≡ true
@@ -193,8 +193,8 @@ operator_first Differs text rest is =
     let first = spaced_first is.2.0 (61 ∷ is.1) 33 is.2.2 refl in (first.0, first.1, is.2.1 ∙ ap (λ (t : List ℕ). is.2.0 ++ t) is.3 ∙ first.2, first.3)
 operator_first ContainsTest text rest is = (32, is.2.0, is.2.1, refl)
 
-same_from : (strict : Bool) (place next : Place) (purposes : List Purpose) (b : ℕ) (rest : List ℕ) (e : Result Expression FilterFault) → step strict place purposes b ≡ step strict next purposes b → Reaches strict next purposes (b ∷ rest) e → Reaches strict place purposes (b ∷ rest) e
-same_from strict place next purposes b rest e same r = λ n. goes strict n place purposes b rest (step strict next purposes b) same ∙ sym (goes strict n next purposes b rest (step strict next purposes b) refl) ∙ r n
+same_from : (strict : Bool) (state next : State) (purposes : List Purpose) (b : ℕ) (rest : List ℕ) (e : Result Expression FilterFault) → step strict state purposes b ≡ step strict next purposes b → Reaches strict next purposes (b ∷ rest) e → Reaches strict state purposes (b ∷ rest) e
+same_from strict state next purposes b rest e same r = λ n. goes strict n state purposes b rest (step strict next purposes b) same ∙ sym (goes strict n next purposes b rest (step strict next purposes b) refl) ∙ r n
 
 pub operator_reach : (strict : Bool) (word : List ℕ) (field : Field) (test : Test) (purposes : List Purpose) (text rest : List ℕ) (e : Result Expression FilterFault) → names strict word ≡ Some (NamedField field) → IsOperator test text rest
     → Reaches strict (BeforeText (Compared field test)) purposes rest e → Reaches strict (Word word) purposes text e

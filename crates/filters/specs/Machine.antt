@@ -6,16 +6,16 @@ use Rattle.std.specs.Str.{IsAscii, IsUtf8}
 use Rattle.filters.specs.declared.expression.Field.{Field}
 use Rattle.filters.specs.declared.expression.Field.TheVariants.{Any}
 use Rattle.filters.specs.declared.expression.Test.TheVariants.{Equals, Differs, Contains as ContainsTest}
-use Rattle.filters.specs.declared.place.Stop.{Stop}
-use Rattle.filters.specs.declared.place.Stop.TheVariants.{Syntax, UnknownTag, TooDeep, NoMemory}
-use Rattle.filters.specs.declared.place.Purpose.{Purpose}
-use Rattle.filters.specs.declared.place.Purpose.TheVariants.{Whole, Negated, First, Next}
-use Rattle.filters.specs.declared.place.Goal.{Goal}
-use Rattle.filters.specs.declared.place.Goal.TheVariants.{Compared, Base as BaseGoal}
-use Rattle.filters.specs.declared.place.Named.{Named}
-use Rattle.filters.specs.declared.place.Named.TheVariants.{Field as NamedField, Base as NamedBase}
-use Rattle.filters.specs.declared.place.Place.{Place}
-use Rattle.filters.specs.declared.place.Place.TheVariants.{Start, Opened, Bang, Word, AfterField, Sign, Contains, NeedsSpace, BeforeText, InText, Escaped, Done, Joined, AfterJoined, And, AfterAnd, Finished}
+use Rattle.filters.specs.declared.state.Stop.{Stop}
+use Rattle.filters.specs.declared.state.Stop.TheVariants.{Syntax, UnknownTag, TooDeep, NoMemory}
+use Rattle.filters.specs.declared.state.Purpose.{Purpose}
+use Rattle.filters.specs.declared.state.Purpose.TheVariants.{Whole, Negated, First, Next}
+use Rattle.filters.specs.declared.state.Goal.{Goal}
+use Rattle.filters.specs.declared.state.Goal.TheVariants.{Compared, Base as BaseGoal}
+use Rattle.filters.specs.declared.state.Named.{Named}
+use Rattle.filters.specs.declared.state.Named.TheVariants.{Field as NamedField, Base as NamedBase}
+use Rattle.filters.specs.declared.state.State.{State}
+use Rattle.filters.specs.declared.state.State.TheVariants.{Start, Opened, Bang, Word, AfterField, Sign, Contains, NeedsSpace, BeforeText, InText, Escaped, Done, Joined, AfterJoined, And, AfterAnd, Finished}
 use Rattle.filters.specs.declared.reading.FilterFault.{FilterFault}
 use Rattle.filters.specs.declared.reading.FilterFault.TheVariants.{Syntax as Err_Syntax, UnknownTag as Err_UnknownTag, TooDeep as Err_TooDeep, NoMemory as Err_NoMemory}
 use Rattle.filters.specs.Expressions.{Expression, Compare, Under, Negation, Both}
@@ -39,46 +39,46 @@ filter_for (Compared field test) text = Compare field test text
 filter_for BaseGoal text = Under text
 
 -- one parenthesis more is open; the strict rules bound how many
-abbrev pub opened : Bool → Purpose → List Purpose → Result (Place × List Purpose) Stop
+abbrev pub opened : Bool → Purpose → List Purpose → Result (State × List Purpose) Stop
 opened strict purpose purposes = if strict && nat_le 32 (length purposes) then Err TooDeep else Ok (Opened, purpose ∷ purposes)
 
 -- the innermost parenthesis is closed after this expression
-abbrev pub closed : Expression → List Purpose → Result (Place × List Purpose) Stop
+abbrev pub closed : Expression → List Purpose → Result (State × List Purpose) Stop
 closed e [] = Err Syntax
 closed e (Whole ∷ purposes) = Ok (Finished e, purposes)
 closed e (Negated ∷ purposes) = Ok (Done (Negation e), purposes)
 closed e (First ∷ purposes) = Ok (Joined e, purposes)
 closed e (Next first ∷ purposes) = Ok (Joined (Both first e), purposes)
 
-abbrev pub sign : Field → ℕ → Result Place Stop
+abbrev pub sign : Field → ℕ → Result State Stop
 sign field b =
     if b == 32 then Ok (AfterField field)
     else (if b == 61 then Ok (Sign field Equals)
     else (if b == 33 then Ok (Sign field Differs)
     else (if b == 99 then Ok (Contains field 1) else Err Syntax)))
 
-abbrev pub after_word : Option Named → List ℕ → ℕ → Result Place Stop
+abbrev pub after_word : Option Named → List ℕ → ℕ → Result State Stop
 after_word None word b = Err (UnknownTag word)
 after_word (Some (NamedField field)) word b = sign field b
 after_word (Some NamedBase) word b = if b == 32 then Ok (BeforeText BaseGoal) else Err Syntax
 
-abbrev pub contains_letter : Field → ℕ → ℕ → Result Place Stop
+abbrev pub contains_letter : Field → ℕ → ℕ → Result State Stop
 contains_letter field read b =
     if nat_lt read 7 && (b == slice_index (codes "contains") read) then Ok (Contains field (read + 1))
     else (if (read == 7) && (b == 115) then Ok (NeedsSpace (Compared field ContainsTest)) else Err Syntax)
 
-abbrev pub and_letter : Expression → ℕ → ℕ → Result Place Stop
+abbrev pub and_letter : Expression → ℕ → ℕ → Result State Stop
 and_letter e read b =
     if (read == 1) && (b == 78) then Ok (And e 2)
     else (if (read == 2) && (b == 68) then Ok (And e 3)
     else (if (read == 3) && (b == 32) then Ok (AfterAnd e) else Err Syntax))
 
 -- a step that opens and closes nothing
-abbrev pub alone : Result Place Stop → List Purpose → Result (Place × List Purpose) Stop
-alone (Ok place) purposes = Ok (place, purposes)
+abbrev pub alone : Result State Stop → List Purpose → Result (State × List Purpose) Stop
+alone (Ok state) purposes = Ok (state, purposes)
 alone (Err stop) purposes = Err stop
 
-unfoldable pub step : Bool → Place → List Purpose → ℕ → Result (Place × List Purpose) Stop
+unfoldable pub step : Bool → State → List Purpose → ℕ → Result (State × List Purpose) Stop
 step strict Start purposes b = if b == 40 then opened strict Whole purposes else Err Syntax
 step strict Opened purposes b =
     if b == 32 then Ok (Opened, purposes)
@@ -110,15 +110,15 @@ step strict (AfterAnd e) purposes b = if b == 32 then Ok (AfterAnd e, purposes) 
 step strict (Finished e) purposes b = Err Syntax
 
 -- what is given, with what is open then, is this, unless memory ran out
-abbrev pub Steps : Result Place Stop → List Purpose → Result (Place × List Purpose) Stop → Type 0
-Steps (Ok place) purposes exact = exact ≡ Ok (place, purposes)
+abbrev pub Steps : Result State Stop → List Purpose → Result (State × List Purpose) Stop → Type 0
+Steps (Ok state) purposes exact = exact ≡ Ok (state, purposes)
 Steps (Err NoMemory) purposes exact = Unit {0}
 Steps (Err Syntax) purposes exact = exact ≡ Err Syntax
 Steps (Err (UnknownTag word)) purposes exact = exact ≡ Err (UnknownTag word)
 Steps (Err TooDeep) purposes exact = exact ≡ Err TooDeep
 
-abbrev pub StepsAlone : Result Place Stop → Result Place Stop → Type 0
-StepsAlone (Ok place) exact = exact ≡ Ok place
+abbrev pub StepsAlone : Result State Stop → Result State Stop → Type 0
+StepsAlone (Ok state) exact = exact ≡ Ok state
 StepsAlone (Err NoMemory) exact = Unit {0}
 StepsAlone (Err Syntax) exact = exact ≡ Err Syntax
 StepsAlone (Err (UnknownTag word)) exact = exact ≡ Err (UnknownTag word)
@@ -135,19 +135,19 @@ word_at_end n None word = Err (Err_UnknownTag word)
 word_at_end n (Some name) word = Err (Err_Syntax n)
 
 -- what a filter is that ends here, at so many bytes
-abbrev pub ending : ℕ → Place → Result Expression FilterFault
+abbrev pub ending : ℕ → State → Result Expression FilterFault
 ending n (Finished e) = Ok e
 ending n (Word word) = word_at_end n (named_of word) word
 ending n _ = Err (Err_Syntax n)
 
-abbrev pub goes_on : ℕ → Result (Place × List Purpose) Stop → (Place → List Purpose → Result Expression FilterFault) → Result Expression FilterFault
+abbrev pub goes_on : ℕ → Result (State × List Purpose) Stop → (State → List Purpose → Result Expression FilterFault) → Result Expression FilterFault
 goes_on n (Ok next) more = more next.0 next.1
 goes_on n (Err stop) more = Err (fault_at n stop)
 
 -- what the rest of a filter gives after so many bytes
-unfoldable pub run : Bool → ℕ → Place → List Purpose → List ℕ → Result Expression FilterFault
-run strict n place purposes [] = ending n place
-run strict n place purposes (b ∷ bs) = goes_on n (step strict place purposes b) (λ next more. run strict (n + 1) next more bs)
+unfoldable pub run : Bool → ℕ → State → List Purpose → List ℕ → Result Expression FilterFault
+run strict n state purposes [] = ending n state
+run strict n state purposes (b ∷ bs) = goes_on n (step strict state purposes b) (λ next more. run strict (n + 1) next more bs)
 
 -- the expression of a text, or its first fault from the left
 abbrev pub parsed : List ℕ → Result Expression FilterFault
@@ -161,18 +161,18 @@ Reads (Err (Err_UnknownTag word)) exact = exact ≡ Err (Err_UnknownTag word)
 Reads (Err Err_TooDeep) exact = exact ≡ Err Err_TooDeep
 
 -- what was read of a word or of a text in quotes, joined with the rest of the filter, is UTF-8
-abbrev pub IsCut : Place → List ℕ → Type 0
+abbrev pub IsCut : State → List ℕ → Type 0
 IsCut (Word word) rest = IsAscii word × IsUtf8 rest
 IsCut (InText goal quote text) rest = (quote < 128) × IsUtf8 (text ++ rest)
 IsCut (Escaped goal quote text) rest = (quote < 128) × IsUtf8 (text ++ rest)
 IsCut _ rest = IsUtf8 rest
 
 -- a word that ends here, and a text whose quote is closed here, are UTF-8
-abbrev pub CanTake : Place → ℕ → Type 0
+abbrev pub CanTake : State → ℕ → Type 0
 CanTake (Word word) b = IsUtf8 word
 CanTake (InText goal quote text) b = b ≡ quote → IsUtf8 text
 CanTake _ b = Unit {0}
 
-abbrev pub CanEnd : Place → Type 0
+abbrev pub CanEnd : State → Type 0
 CanEnd (Word word) = IsUtf8 word
 CanEnd _ = Unit {0}

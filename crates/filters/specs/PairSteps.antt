@@ -2,8 +2,8 @@
 use Rattle.std.specs.Prelude.{List, [], ◌∷◌, ℕ, Option, Some, None, Result, Ok, Err}
 use Rattle.filters.specs.declared.expression.Test.{Test}
 use Rattle.filters.specs.declared.pairs.Pair.{Pair}
-use Rattle.filters.specs.declared.place.Named.{Named}
-use Rattle.filters.specs.declared.place.Named.TheVariants.{Field as NamedField, Base as NamedBase}
+use Rattle.filters.specs.declared.state.Named.{Named}
+use Rattle.filters.specs.declared.state.Named.TheVariants.{Field as NamedField, Base as NamedBase}
 use Rattle.filters.specs.declared.reading.FilterFault.{FilterFault}
 use Rattle.filters.specs.declared.reading.FilterFault.TheVariants.{UnknownTag}
 use Rattle.filters.specs.Expressions.{Expression, Compare, Under, Both}

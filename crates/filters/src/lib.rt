@@ -5,12 +5,12 @@
 mod expression;
 mod matching;
 mod pairs;
-mod place;
 mod reading;
 mod stack;
+mod state;
 
 pub use expression::{Field, Filter, Test};
 pub use matching::Case;
 pub use pairs::Pair;
-pub use place::MAX_DEPTH;
 pub use reading::{FilterFault, one_answer, parsed_is_the_answer};
+pub use state::MAX_DEPTH;

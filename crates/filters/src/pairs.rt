@@ -6,8 +6,8 @@ ghost use Rattle.filters.specs.Pairs.{pairs_meaning};
 ghost use Rattle.filters.specs.PairSteps.{pair_of as pair_of_lem, pairs_of};
 
 use crate::expression::{Filter, Test};
-use crate::place::{Named, name_of};
 use crate::reading::FilterFault;
+use crate::state::{Named, name_of};
 use mpd_text::Text;
 use std::alloc::Global;
 

@@ -8,8 +8,8 @@ ghost use Rattle.filters.specs.declared.reading.FilterFault.TheVariants.{NoMemor
 ghost use Rattle.filters.specs.Machine.{parsed, Reads, fault_at, ending, CanEnd};
 
 use crate::expression::Filter;
-use crate::place::{Place, Stop, name_of, step, text_of};
 use crate::stack::Stack;
+use crate::state::{State, Stop, name_of, step, text_of};
 use mpd_text::Text;
 use std::alloc::{AllocError, AllocFailed, Global};
 
@@ -77,14 +77,14 @@ fn read(alloc: Global, text: &[u8]) -> Result<Filter, FilterFault>
     ensures { Reads result (parsed text.now) }
 {
     let mut purposes = Stack::new(alloc);
-    let mut place = Place::Start;
+    let mut state = State::Start;
     for (i, b) in text.iter().enumerate() {
-        match step(alloc, place, &mut purposes, *b) {
-            Ok(next) => place = next,
+        match step(alloc, state, &mut purposes, *b) {
+            Ok(next) => state = next,
             Err(stop) => return Err(fault(i, stop)),
         }
     }
-    end(text.len(), place)
+    end(text.len(), state)
 }
 
 fn fault(at: usize, stop: Stop) -> FilterFault
@@ -98,14 +98,14 @@ fn fault(at: usize, stop: Stop) -> FilterFault
     }
 }
 
-/// What a text is that ends at this place, after so many bytes.
-fn end(at: usize, place: Place) -> Result<Filter, FilterFault>
-    requires { CanEnd place }
-    ensures { Reads result (ending at place) }
+/// What a text is that ends at this state, after so many bytes.
+fn end(at: usize, state: State) -> Result<Filter, FilterFault>
+    requires { CanEnd state }
+    ensures { Reads result (ending at state) }
 {
-    match place {
-        Place::Finished(filter) => Ok(filter),
-        Place::Word(word) => match name_of(word.items()) {
+    match state {
+        State::Finished(filter) => Ok(filter),
+        State::Word(word) => match name_of(word.items()) {
             None => Err(FilterFault::UnknownTag(text_of(word))),
             Some(_) => Err(FilterFault::Syntax(at)),
         },

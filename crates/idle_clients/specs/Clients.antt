@@ -41,7 +41,7 @@ client_of number [] = None
 client_of number (client ∷ clients) = if client.number == number then Some client else client_of number clients
 
 -- the parts of a player that its subsystems speak of
-pub record Parts : Type 0 where
+pub record Watched : Type 0 where
   pub library : Library
   pub queue : List Entry
   pub player : PlayerState
@@ -49,8 +49,8 @@ pub record Parts : Type 0 where
   pub outputs : OutputsData
   pub channels : List MemberData
 
-abbrev pub parts_of : Part → Library → Parts
-parts_of part library = record { library = library; queue = queue_of part.queue; player = part.player; volume = part.volume; outputs = part.outputs; channels = part.channels }
+abbrev pub watched_of : Part → Library → Watched
+watched_of part library = record { library = library; queue = queue_of part.queue; player = part.player; volume = part.volume; outputs = part.outputs; channels = part.channels }
 
 -- numbers by which states and modes are compared
 abbrev pub playback_number : Playback → ℕ
@@ -131,7 +131,7 @@ begins_to_have number before after = not (has_messages number before) && has_mes
 -- the stored playlists, the queue, what is played, the volume, which outputs are enabled, the modes and the
 -- seconds of a fade, the stickers, who listens to which channel. A client hears of messages where it had none
 -- waiting and has some
-abbrev pub raised : ShelfWrite → Parts → Parts → ℕ → Subsystems
+abbrev pub raised : ShelfWrite → Watched → Watched → ℕ → Subsystems
 raised written before after number = record none {
   database = not (same_songs before.library.songs after.library.songs);
   update = differ before.library.scan.runs after.library.scan.runs;

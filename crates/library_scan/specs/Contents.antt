@@ -1,8 +1,8 @@
 -- What a scan keeps of a file, by what its bytes mean.
 use Rattle.std.specs.Prelude.{◌≡◌, ◌<◌, ◌⊎◌, ⊤, ℕ, List, length, codes, Option, Result, Ok, Err, IfSome, IfOk}
 use Rattle.std.specs.declared.alloc.AllocError.{AllocError}
-use Rattle.counted_devices.specs.Tally.{HasFailed}
-use Rattle.counted_devices.specs.declared.tally.Tally.{Tally}
+use Rattle.counted_devices.specs.CallCounts.{HasFailed}
+use Rattle.counted_devices.specs.declared.call_counts.CallCounts.{CallCounts}
 use Rattle.wave.specs.Devices.{CalledTooOften}
 use Rattle.wave.specs.Waves.{Wave, wave_of}
 use Rattle.wave.specs.declared.fault.WaveFault.{WaveFault}
@@ -32,7 +32,7 @@ KeepsBytes rate known result = IfSome known (λ bytes. IfOk result (λ content. 
 
 -- a file is unread only where its device failed in the call, or was called too often, or its count is at its
 -- greatest value
-abbrev pub UnreadOnFailure : Tally → Tally → Result Content AllocError → Type 0
+abbrev pub UnreadOnFailure : CallCounts → CallCounts → Result Content AllocError → Type 0
 UnreadOnFailure old new result = result ≡ Ok (Refused refusal.ReadFault) → HasFailed old new ⊎ CalledTooOften old new
 
 -- the name that a refusal is shown by

@@ -3,8 +3,8 @@ use Rattle.std.specs.Prelude.{◌≡◌, ◌≢◌, ℕ, nat_le, ◌+◌, ◌-�
 use Rattle.std.specs.IoError.{error_kind}
 use Rattle.std.specs.declared.io.Error.{Error}
 use Rattle.std.specs.declared.io.ErrorKind.TheVariants.{WouldBlock}
-use Rattle.counted_devices.specs.declared.tally.Tally.{Tally}
-use Rattle.counted_devices.specs.Tally.{count_up}
+use Rattle.counted_devices.specs.declared.call_counts.CallCounts.{CallCounts}
+use Rattle.counted_devices.specs.CallCounts.{count_up}
 
 -- all bytes of a file, where they are known and as many as it had when it was looked at
 abbrev pub whole : Option (List ℕ) → ℕ → Option (List ℕ)
@@ -29,11 +29,11 @@ abbrev pub IsEnd : Option (List ℕ) → ℕ → ℕ → Type 0
 IsEnd file len place = (all : List ℕ) → file ≡ Some all → length all ≡ len → drop place all ≡ []
 
 -- what failed is counted with the file, and the calls apart
-abbrev pub with_calls : ℕ → Tally → Tally
-with_calls calls tally = record tally { calls = calls }
+abbrev pub with_calls : ℕ → CallCounts → CallCounts
+with_calls calls call_counts = record call_counts { calls = calls }
 
 -- of calls of a file that gave this together the last failed, or would have blocked, or none did
-abbrev pub FailsAs : {X : Type 0} → Tally → Tally → Result X Error → Type 0
+abbrev pub FailsAs : {X : Type 0} → CallCounts → CallCounts → Result X Error → Type 0
 FailsAs old new (Ok x) = (new.failures ≡ old.failures) × (new.blocked ≡ old.blocked)
 FailsAs old new (Err e) =
     (error_kind e ≡ WouldBlock → (new.failures ≡ old.failures) × (new.blocked ≡ count_up old.blocked))

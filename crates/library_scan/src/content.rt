@@ -62,7 +62,7 @@ pub fn content_of<M: Media>(
     // It is what the whole bytes mean.
     ensures value { IfSome (M.all_bytes media.old) (λ bytes. IfOk result (λ content. Keeps content (wave_of rate.now bytes))) }
     // It is unread only where the device failed, or was called too often.
-    ensures read_fault { UnreadOnFailure (M.tally media.old) (M.tally media.new) result }
+    ensures read_fault { UnreadOnFailure (M.call_counts media.old) (M.call_counts media.new) result }
 {
     match read_head(alloc, media, rate.frames()) {
         Ok(head) if head.frames() == 0 => Ok(Content::Empty),

@@ -2,7 +2,7 @@
 ghost use Rattle.std.specs.Prelude.{None, Some, List, ℕ, [], ◌≡◌, ◌≤◌, ◌<◌, ◌++◌, length, take, drop, min, ◌+◌, ◌-◌, ◌^◌, OnOk, OnErr};
 ghost use Rattle.std.specs.Io.{ReadsAtMost};
 ghost use Rattle.std.specs.Io.KnownBytes.{ReadConsumes};
-ghost use Rattle.counted_devices.specs.Tally.{NoFewer, HasFailed, CountsCall, one_call, count_up};
+ghost use Rattle.counted_devices.specs.CallCounts.{NoFewer, HasFailed, CountsCall, one_call, count_up};
 ghost use Rattle.library_scan.specs.Windows.{whole, from_place, left, StandAt, IsEnd, FailsAs, with_calls};
 
 use counted_devices::{Failing, Media, Source};
@@ -84,9 +84,9 @@ impl<M: Media> Windowed<M> {
         ensures calls { self.new.calls ≡ self.old.calls }
         ensures read { OnOk result (self.new.start ≡ self.old.place) }
         ensures ends { OnOk result (self.new.filled ≡ 0 → (all : List ℕ) → M.all_bytes self.old.file ≡ Some all → drop self.old.place all ≡ []) }
-        ensures fails { FailsAs (M.tally self.old.file) (M.tally self.new.file) result }
-        ensures failed { OnErr result (HasFailed (M.tally self.old.file) (M.tally self.new.file)) }
-        ensures calm { NoFewer (M.tally self.old.file) (M.tally self.new.file) }
+        ensures fails { FailsAs (M.call_counts self.old.file) (M.call_counts self.new.file) result }
+        ensures failed { OnErr result (HasFailed (M.call_counts self.old.file) (M.call_counts self.new.file)) }
+        ensures calm { NoFewer (M.call_counts self.old.file) (M.call_counts self.new.file) }
     {
         self.filled = 0;
         self.file.seek_to(self.place)?;
@@ -103,9 +103,9 @@ impl<M: Media> Windowed<M> {
         ensures place { self.new.place ≡ self.old.place }
         ensures calls { self.new.calls ≡ self.old.calls }
         ensures ends { OnOk result (left self.new.place self.new.start self.new.filled ≡ 0 → IsEnd (M.all_bytes self.old.file) self.old.len self.old.place) }
-        ensures fails { FailsAs (M.tally self.old.file) (M.tally self.new.file) result }
-        ensures failed { OnErr result (HasFailed (M.tally self.old.file) (M.tally self.new.file)) }
-        ensures calm { NoFewer (M.tally self.old.file) (M.tally self.new.file) }
+        ensures fails { FailsAs (M.call_counts self.old.file) (M.call_counts self.new.file) result }
+        ensures failed { OnErr result (HasFailed (M.call_counts self.old.file) (M.call_counts self.new.file)) }
+        ensures calm { NoFewer (M.call_counts self.old.file) (M.call_counts self.new.file) }
     {
         if !self.ahead().is_empty() {
             return Ok(());
@@ -136,7 +136,7 @@ impl<M: Media> Windowed<M> {
 
 // What failed is what failed of the file.
 impl<M: Media> Failing for Windowed<M> {
-    ghost tally = { λ w. with_calls w.calls (M.tally w.file) };
+    ghost call_counts = { λ w. with_calls w.calls (M.call_counts w.file) };
 
     fn failures(&self) -> u64 {
         self.file.failures()
@@ -159,9 +159,9 @@ impl<M: Media> Read for Windowed<M> {
         ensures bytes { ReadConsumes (from_place self.old.place (whole (M.all_bytes self.old.file) self.old.len)) (from_place self.new.place (whole (M.all_bytes self.new.file) self.new.len)) result buf.new }
         ensures stays { whole (M.all_bytes self.new.file) self.new.len ≡ whole (M.all_bytes self.old.file) self.old.len }
         ensures calls { self.new.calls ≡ count_up self.old.calls }
-        ensures fails { FailsAs (M.tally self.old.file) (M.tally self.new.file) result }
-        ensures failed { OnErr result (HasFailed (M.tally self.old.file) (M.tally self.new.file)) }
-        ensures calm { NoFewer (M.tally self.old.file) (M.tally self.new.file) }
+        ensures fails { FailsAs (M.call_counts self.old.file) (M.call_counts self.new.file) result }
+        ensures failed { OnErr result (HasFailed (M.call_counts self.old.file) (M.call_counts self.new.file)) }
+        ensures calm { NoFewer (M.call_counts self.old.file) (M.call_counts self.new.file) }
     {
         self.count_call();
         self.make_ready()?;

@@ -6,8 +6,8 @@ use Rattle.command_lists.specs.declared.collector.Taken.{Taken}
 use Rattle.command_lists.specs.declared.collector.Taken.TheVariants.{Alone, Begun, Collected, Ended, TooLarge}
 use Rattle.command_lists.specs.declared.list.CommandList.{CommandList}
 use Rattle.mpd_text.specs.Lines.Split.{view}
-use Rattle.mpd_answers.specs.declared.gatherer.Asked.{Asked}
-use Rattle.mpd_answers.specs.declared.gatherer.Asked.TheVariants.{Single as OneLine, Whole as OneList}
+use Rattle.mpd_answers.specs.declared.gatherer.ClientRequest.{ClientRequest}
+use Rattle.mpd_answers.specs.declared.gatherer.ClientRequest.TheVariants.{Single as OneLine, Whole as OneList}
 
 -- what is answered as one: a line that is in no list, or a whole list
 pub data Asking : Type 0 where
@@ -82,16 +82,16 @@ abbrev pub LinesInAnyCut : Type 0
 LinesInAnyCut = (state : ListState) (lines more : List LineData) → gather state (lines ++ more) ≡ then_gather (gather state lines) more
 
 -- what the program has of it
-abbrev pub asking_of : Asked → Asking
+abbrev pub asking_of : ClientRequest → Asking
 asking_of (OneLine line) = Single (view line)
 asking_of (OneList list) = Whole list
 
-abbrev pub askings_of : Option Asked → List Asking
+abbrev pub askings_of : Option ClientRequest → List Asking
 askings_of None = []
 askings_of (Some one) = asking_of one ∷ []
 
 -- the first of the lines that wait is taken, and this is what it adds
-abbrev pub Takes : ListState → List LineData → Option Asked → ListState → List LineData → Type 0
+abbrev pub Takes : ListState → List LineData → Option ClientRequest → ListState → List LineData → Type 0
 Takes old [] asked new left = Unit {0}
 Takes old (line ∷ lines) asked new left = (left ≡ lines) × (gather_line old line ≡ record { asked = askings_of asked; list = new })
 

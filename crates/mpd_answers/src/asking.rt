@@ -11,7 +11,7 @@ ghost use Rattle.idle_clients.specs.Clients.{closes};
 ghost use Rattle.partition.specs.Lists.{text_with};
 
 use crate::asker::{Asker, Sequel};
-use crate::gatherer::{Asked, text_of};
+use crate::gatherer::{ClientRequest, text_of};
 use crate::owed::Owed;
 use command_lists::{CommandList, ListLine};
 use counted_player::{Ledgers, Seat};
@@ -33,13 +33,21 @@ pub fn ask<L: Ledgers, S: Shelf, R: Wait>(
     seat: &mut Seat<L>,
     shelf: &mut S,
     asker: Asker,
-    asked: &Asked,
+    asked: &ClientRequest,
 ) -> (Owed, Sequel)
     ensures { IsOwed (Answers S.standing S.failed asker) (caller seat.old shelf.old) (asking_of asked.now) (owed_bytes result.0) result.1 (caller seat.new shelf.new) }
 {
     match asked {
-        Asked::Single(line) => ask_line(rt, alloc, house, seat, shelf, asker, text_of(line)),
-        Asked::Whole(list) => ask_list(rt, alloc, house, seat, shelf, asker, list),
+        ClientRequest::Single(line) => ask_line(
+            rt,
+            alloc,
+            house,
+            seat,
+            shelf,
+            asker,
+            text_of(line),
+        ),
+        ClientRequest::Whole(list) => ask_list(rt, alloc, house, seat, shelf, asker, list),
     }
 }
 

@@ -13,7 +13,7 @@ use std::marker::Model;
 
 /// What is answered as one.
 #[derive(Drop)]
-pub enum Asked {
+pub enum ClientRequest {
     /// A line that is in no list.
     Single(Line),
     /// A whole list.
@@ -63,7 +63,7 @@ impl Gatherer {
         &mut self,
         alloc: Global,
         lines: &mut VecDeque<Line>,
-    ) -> Result<Option<Asked>, AllocError>
+    ) -> Result<Option<ClientRequest>, AllocError>
         ensures ok { IfOk result (λ asked. Takes self.old (views lines.old.items) asked self.new (views lines.new.items)) }
         ensures shorter { OnOk result (length lines.new.items + 1 ≡ length lines.old.items ⊎ (lines.old.items ≡ [])) }
         ensures open { IfOk result (λ asked. IfSome asked (λ _. is_over_in self.new ≡ false)) }
@@ -99,12 +99,12 @@ fn is_too_large(taken: &Taken) -> bool
 }
 
 /// What a line completes that was taken so.
-fn completed(taken: Taken, line: Option<Line>) -> Option<Asked>
+fn completed(taken: Taken, line: Option<Line>) -> Option<ClientRequest>
     ensures { askings_of result ≡ completes taken (option_map view line) }
 {
     match (taken, line) {
-        (Taken::Alone, Some(line)) => Some(Asked::Single(line)),
-        (Taken::Ended(list), _) => Some(Asked::Whole(list)),
+        (Taken::Alone, Some(line)) => Some(ClientRequest::Single(line)),
+        (Taken::Ended(list), _) => Some(ClientRequest::Whole(list)),
         _ => None,
     }
 }

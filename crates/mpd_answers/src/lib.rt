@@ -9,6 +9,6 @@ mod owed;
 
 pub use asker::{Asker, Sequel};
 pub use asking::ask;
-pub use gatherer::{Asked, Gatherer};
+pub use gatherer::{ClientRequest, Gatherer};
 pub use laws::{any_cut_of_lines, lines_ask_for, outputs_join, outputs_join_over};
 pub use owed::Owed;

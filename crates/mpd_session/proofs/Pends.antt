@@ -3,7 +3,7 @@ use Rattle.std.proofs.Common.{◌≡◌, ◌≢◌, ℕ, List, [], ◌∷◌, �
 use Rattle.command_lists.specs.Lists.{LineData}
 use Rattle.mpd_text.specs.Lines.Cut.{split_from}
 use Rattle.mpd_text.specs.Lines.Split.{line_of}
-use Rattle.mpd_answers.specs.declared.gatherer.Asked.{Asked}
+use Rattle.mpd_answers.specs.declared.gatherer.ClientRequest.{ClientRequest}
 use Rattle.mpd_answers.specs.Requests.{ListState, Over, Gathered, Takes, askings_of, gather}
 use Rattle.mpd_session.specs.Sessions.{Pending, coming, coming_from, fed, ahead}
 use Rattle.mpd_answers.proofs.Gathers.{none_behind}
@@ -24,7 +24,7 @@ split_here list lines lines' next next' (b ∷ bs) piece' none some done are is 
     ∙ ap (λ (ls : List LineData). coming_from list (ls ++ map line_of (split_from next (b ∷ bs)).lines) (split_from next (b ∷ bs)).next) (sym none)
 
 -- a line is taken
-pub taken : (old new : ListState) (lines left : List LineData) (asked : Option Asked) (next : Option (List ℕ)) (piece : List ℕ)
+pub taken : (old new : ListState) (lines left : List LineData) (asked : Option ClientRequest) (next : Option (List ℕ)) (piece : List ℕ)
     → lines ≢ [] → Takes old lines asked new left → coming (pend old lines next piece) ≡ ahead (askings_of asked) (coming (pend new left next piece))
 unfolding coming gather
 taken old new [] left asked next piece some takes = absurd (some refl)

@@ -9,7 +9,7 @@ use Rattle.mpd_answers.specs.declared.asker.Sequel.{Sequel}
 use Rattle.mpd_answers.specs.declared.asker.Sequel.TheVariants.{Stays, Leaves, Kills}
 use Rattle.mpd_session.specs.declared.end.End.{End}
 use Rattle.mpd_session.specs.declared.end.End.TheVariants.{Left, Killed, LongLine, LargeList, Unsent, NoPeer, ReadFault, WriteFault}
-use Rattle.mpd_answers.specs.declared.gatherer.Asked.{Asked}
+use Rattle.mpd_answers.specs.declared.gatherer.ClientRequest.{ClientRequest}
 use Rattle.mpd_answers.specs.Notices.{AreNotices}
 use Rattle.mpd_answers.specs.Output.{IsOutput, IsOwed}
 use Rattle.mpd_answers.specs.Requests.{Asking, ListState, Within, Over, Takes, asking_of, askings_of, is_over}
@@ -52,7 +52,7 @@ views_some (l ∷ ls) some e = absurd cc
 
 -- A step takes a line.
 
-took : (old mid new : Held) (h : ListState) (ls : List LineData) (one : Option Asked) → mid.pending ≡ old.pending → old.pending.lines ≢ []
+took : (old mid new : Held) (h : ListState) (ls : List LineData) (one : Option ClientRequest) → mid.pending ≡ old.pending → old.pending.lines ≢ []
     → Takes mid.pending.list mid.pending.lines one h ls → new.pending ≡ pend h ls mid.pending.next mid.pending.piece → coming old.pending ≡ ahead (askings_of one) (coming new.pending)
 took old mid new h ls one same some takes is =
     ap coming (sym same)
@@ -272,19 +272,19 @@ module _ {P : Type 0} (A : P → Asking → List ℕ → Sequel → P → Type 0
       let none = no_more new.pending h in
       too_large old new a notices (f ∙ ap end_in_list is) (ap (λ (c : Coming). c.asked) same ∙ none.0) (ap (λ (c : Coming). c.list) same ∙ none.1) n unsent
 
-  pub step_line : (old mid new : Held) (a : P) (h : ListState) (ls : List LineData) (one : Option Asked) (over : Bool) → old.ended ≡ None → mid.pending ≡ old.pending → TellsOf old.unsent mid.unsent → old.pending.lines ≢ []
+  pub step_line : (old mid new : Held) (a : P) (h : ListState) (ls : List LineData) (one : Option ClientRequest) (over : Bool) → old.ended ≡ None → mid.pending ≡ old.pending → TellsOf old.unsent mid.unsent → old.pending.lines ≢ []
       → Takes mid.pending.list mid.pending.lines one h ls → one ≡ None → new.pending ≡ pend h ls mid.pending.next mid.pending.piece → over ≡ is_over h → new.ended ≡ end_in_list over → new.unsent ≡ mid.unsent → Says A old a new a
   step_line old mid new a h ls one over goes same (notices, are, told_is) some takes none is large ended unsent =
       says_line old new a h over notices goes (ap (λ (p : Pending). p.list) is) large ended
-      (took old mid new h ls one same some takes is ∙ ap (λ (r : Option Asked). ahead (askings_of r) (coming new.pending)) none) are (unsent ∙ told_is)
+      (took old mid new h ls one same some takes is ∙ ap (λ (r : Option ClientRequest). ahead (askings_of r) (coming new.pending)) none) are (unsent ∙ told_is)
 
-  pub step_answer : (old mid new last : Held) (a c : P) (h : ListState) (ls : List LineData) (one : Asked) (given : Option Asked) (items held owed : List ℕ) (sequel : Sequel) → last ≡ new → mid.pending ≡ old.pending → TellsOf old.unsent mid.unsent → old.pending.lines ≢ []
+  pub step_answer : (old mid new last : Held) (a c : P) (h : ListState) (ls : List LineData) (one : ClientRequest) (given : Option ClientRequest) (items held owed : List ℕ) (sequel : Sequel) → last ≡ new → mid.pending ≡ old.pending → TellsOf old.unsent mid.unsent → old.pending.lines ≢ []
       → Takes mid.pending.list mid.pending.lines given h ls → given ≡ Some one → new.pending ≡ pend h ls mid.pending.next mid.pending.piece → IsOwed A a (asking_of one) owed sequel c → new.ended ≡ end_by sequel
       → new.unsent ≡ items ++ owed → mid.unsent ≡ items ++ held → held ≡ [] → Says A old a last c
   step_answer old mid new last a c h ls one given items held owed sequel e same (notices, are, told_is) some takes is pends owes ended unsent middle none =
       subst (λ (x : Held). Says A old a x c) (sym e)
       (says_answer old new a c (asking_of one) notices owed sequel ended
-      (took old mid new h ls given same some takes pends ∙ ap (λ (r : Option Asked). ahead (askings_of r) (coming new.pending)) is) are owes
+      (took old mid new h ls given same some takes pends ∙ ap (λ (r : Option ClientRequest). ahead (askings_of r) (coming new.pending)) is) are owes
       (told_eq new.unsent items held owed owed unsent refl none ∙ ap (λ (x : List ℕ). x ++ owed) (sym middle ∙ told_is)))
 
   -- The lines are run.

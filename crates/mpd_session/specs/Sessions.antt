@@ -3,7 +3,7 @@ use Rattle.std.specs.Prelude.{◌≡◌, ◌≢◌, ◌⊎◌, ◌<◌, ◌≤�
 use Rattle.std.specs.Io.KnownBytes.{Appends, Consumes}
 use Rattle.mpd_text.specs.Lines.Cut.{Split, split_from}
 use Rattle.mpd_text.specs.Lines.Split.{line_of, views}
-use Rattle.counted_devices.specs.declared.tally.Tally.{Tally}
+use Rattle.counted_devices.specs.declared.call_counts.CallCounts.{CallCounts}
 use Rattle.command_lists.specs.Lists.{LineData}
 use Rattle.mpd_answers.specs.declared.asker.Asker.{Asker}
 use Rattle.mpd_answers.specs.declared.asker.Sequel.{Sequel}
@@ -180,7 +180,7 @@ Sends old written new written' =
     (new.pending ≡ old.pending) × Grows written old.unsent written' new.unsent [] × SentAs old.ended old.unsent new.ended new.unsent
 
 -- a call of the device failed since, and not for having to wait; or their count is at its greatest value
-abbrev pub HasFailedSince : Tally → Tally → Type 0
+abbrev pub HasFailedSince : CallCounts → CallCounts → Type 0
 HasFailedSince old new = (old.failures < new.failures) ⊎ (2 ^ 64 - 1 ≤ new.failures)
 
 -- a session is ended for no device's fault
@@ -190,18 +190,18 @@ BlamesNone (Some WriteFault) = ⊥
 BlamesNone _ = Unit {0}
 
 -- a session is ended for its reader's fault only where that failed, and for no writer's
-abbrev pub BlamesReader : Option End → Tally → Tally → Type 0
+abbrev pub BlamesReader : Option End → CallCounts → CallCounts → Type 0
 BlamesReader (Some ReadFault) old new = HasFailedSince old new
 BlamesReader (Some WriteFault) old new = ⊥
 BlamesReader _ old new = Unit {0}
 
-abbrev pub BlamesWriter : Option End → Tally → Tally → Type 0
+abbrev pub BlamesWriter : Option End → CallCounts → CallCounts → Type 0
 BlamesWriter (Some ReadFault) old new = ⊥
 BlamesWriter (Some WriteFault) old new = HasFailedSince old new
 BlamesWriter _ old new = Unit {0}
 
 -- a session is ended for a device's fault only where that device failed: the reader, or the writer
-abbrev pub Blames : Option End → Tally → Tally → Tally → Tally → Type 0
+abbrev pub Blames : Option End → CallCounts → CallCounts → CallCounts → CallCounts → Type 0
 Blames (Some ReadFault) reader reader' writer writer' = HasFailedSince reader reader'
 Blames (Some WriteFault) reader reader' writer writer' = HasFailedSince writer writer'
 Blames _ reader reader' writer writer' = Unit {0}

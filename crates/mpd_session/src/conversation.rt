@@ -3,7 +3,7 @@ ghost use Rattle.std.specs.Prelude.{◌≡◌, ◌≢◌, ◌++◌, ◌<◌, ◌
 ghost use Rattle.std.specs.Io.KnownBytes.{Appends, Consumes};
 ghost use Rattle.mpd_text.specs.Lines.Split.{views, line_of};
 ghost use Rattle.mpd_text.specs.Lines.Cut.{split_from};
-ghost use Rattle.counted_devices.specs.Tally.{NoFewer};
+ghost use Rattle.counted_devices.specs.CallCounts.{NoFewer};
 ghost use Rattle.mpd_answers.specs.Answers.{Answers, caller};
 ghost use Rattle.mpd_answers.specs.Output.{greeting};
 ghost use Rattle.mpd_answers.specs.Owing.{owed_bytes};
@@ -127,7 +127,7 @@ impl Conversation {
         ensures ends { (end : End) → result ≡ Ok (Goes.Closed end) → self.new.ended ≡ Some end }
         ensures read_fault { result ≡ Err SessionFault.ReadFault → self.new.ended ≡ Some End.ReadFault }
         ensures write_fault { result ≡ Err SessionFault.WriteFault → self.new.ended ≡ Some End.WriteFault }
-        ensures blamed { self.old.ended ≡ None → Blames self.new.ended (I.tally reader.old) (I.tally reader.new) (O.tally writer.old) (O.tally writer.new) }
+        ensures blamed { self.old.ended ≡ None → Blames self.new.ended (I.call_counts reader.old) (I.call_counts reader.new) (O.call_counts writer.old) (O.call_counts writer.new) }
     {
         if let Some(end) = self.ended {
             let _settled = self.settle();
@@ -158,8 +158,8 @@ impl Conversation {
         ensures long { is_ok result ≡ true → self.new.ended ≡ None → self.new.piece.items ≡ [] → self.new.splitter ≢ None }
         ensures turns { Turns (Answers S.standing S.failed self.old.asker) (held_of self.old) (caller seat.old shelf.old) (I.remaining reader.old) (O.contents writer.old) (held_of self.new) (caller seat.new shelf.new) (I.remaining reader.new) (O.contents writer.new) }
         ensures all { OnOk result (self.new.ended ≡ None → self.new.lines.items ≡ []) }
-        ensures calm { (O.tally writer.old).failures ≤ (O.tally writer.new).failures }
-        ensures blamed { Blames self.new.ended (I.tally reader.old) (I.tally reader.new) (O.tally writer.old) (O.tally writer.new) }
+        ensures calm { (O.call_counts writer.old).failures ≤ (O.call_counts writer.new).failures }
+        ensures blamed { Blames self.new.ended (I.call_counts reader.old) (I.call_counts reader.new) (O.call_counts writer.old) (O.call_counts writer.new) }
     {
         self.settle()?;
         self.tell(rt, house)?;
@@ -175,7 +175,7 @@ impl Conversation {
         requires { self.old.ended ≡ None }
         ensures frame { self.new ≡ record self.old { splitter = self.new.splitter; lines = self.new.lines; piece = self.new.piece; ended = self.new.ended } }
         ensures reads { ReadsOn (held_of self.old) (I.remaining reader.old) (held_of self.new) (I.remaining reader.new) }
-        ensures blamed { BlamesReader self.new.ended (I.tally reader.old) (I.tally reader.new) }
+        ensures blamed { BlamesReader self.new.ended (I.call_counts reader.old) (I.call_counts reader.new) }
     {
         if !self.lines.is_empty() {
             return Ok(());
@@ -190,7 +190,7 @@ impl Conversation {
         requires lines { self.old.lines.items ≡ [] }
         ensures frame { self.new ≡ record self.old { piece = self.new.piece; ended = self.new.ended } }
         ensures reads { ReadsOn (held_of self.old) (I.remaining reader.old) (held_of self.new) (I.remaining reader.new) }
-        ensures blamed { BlamesReader self.new.ended (I.tally reader.old) (I.tally reader.new) }
+        ensures blamed { BlamesReader self.new.ended (I.call_counts reader.old) (I.call_counts reader.new) }
     {
         if !self.piece.is_empty() {
             return Ok(());
@@ -232,7 +232,7 @@ impl Conversation {
         ensures was { self.old.piece.items ≡ [] }
         ensures reads { Consumes (I.remaining reader.old) (I.remaining reader.new) self.new.piece.items }
         ensures ends { ReadsAs self.old.ended self.new.piece.items self.new.ended }
-        ensures blamed { BlamesReader self.new.ended (I.tally reader.old) (I.tally reader.new) }
+        ensures blamed { BlamesReader self.new.ended (I.call_counts reader.old) (I.call_counts reader.new) }
     {
         self.piece.resize(PIECE, 0)?;
         let Got { count, end } = read_some(reader, self.piece.as_mut_slice());
@@ -275,8 +275,8 @@ impl Conversation {
         ensures long { OnOk result (self.new.ended ≡ None → self.new.piece.items ≡ [] → self.new.splitter ≢ None) }
         ensures runs { Runs (Answers S.standing S.failed self.old.asker) (held_of self.old) (caller seat.old shelf.old) (O.contents writer.old) (held_of self.new) (caller seat.new shelf.new) (O.contents writer.new) }
         ensures all { OnOk result (self.new.ended ≡ None → self.new.lines.items ≡ []) }
-        ensures calm { (O.tally writer.old).failures ≤ (O.tally writer.new).failures }
-        ensures blamed { BlamesWriter self.new.ended (O.tally writer.old) (O.tally writer.new) }
+        ensures calm { (O.call_counts writer.old).failures ≤ (O.call_counts writer.new).failures }
+        ensures blamed { BlamesWriter self.new.ended (O.call_counts writer.old) (O.call_counts writer.new) }
     {
         while self.has_work() {
             self.step(rt, house, seat, shelf)?;
@@ -345,8 +345,8 @@ impl Conversation {
         ensures stays { self.new.ended ≡ None → self.old.ended ≡ None }
         ensures few { self.new.ended ≡ None → length self.new.unsent ≤ 16777216 }
         ensures sends { Sends (held_of self.old) (O.contents writer.old) (held_of self.new) (O.contents writer.new) }
-        ensures failed { self.new.ended ≡ Some End.WriteFault → (self.old.ended ≡ Some End.WriteFault) ⊎ HasFailedSince (O.tally writer.old) (O.tally writer.new) }
-        ensures calm { (O.tally writer.old).failures ≤ (O.tally writer.new).failures }
+        ensures failed { self.new.ended ≡ Some End.WriteFault → (self.old.ended ≡ Some End.WriteFault) ⊎ HasFailedSince (O.call_counts writer.old) (O.call_counts writer.new) }
+        ensures calm { (O.call_counts writer.old).failures ≤ (O.call_counts writer.new).failures }
     {
         if is_given_up(self.ended) {
             return;
@@ -369,7 +369,7 @@ fn read_some<I: Source>(reader: &mut I, buf: &mut [u8]) -> Got
     ensures count { result.count ≤ length buf.new }
     ensures bytes { Consumes (I.remaining reader.old) (I.remaining reader.new) (take result.count buf.new) }
     ensures ends { (result.end ≡ None) ⊎ ((result.count ≡ 0) × ((result.end ≡ Some End.NoPeer) ⊎ (result.end ≡ Some End.ReadFault))) }
-    ensures blamed { BlamesReader result.end (I.tally reader.old) (I.tally reader.new) }
+    ensures blamed { BlamesReader result.end (I.call_counts reader.old) (I.call_counts reader.new) }
 {
     match reader.read_some(buf) {
         Ok(0) => Got {
@@ -494,8 +494,8 @@ struct Sent {
 fn send_some<O: Sink>(writer: &mut O, bytes: &[u8]) -> Sent
     ensures count { result.count ≤ length bytes.now }
     ensures written { Appends (O.contents writer.old) (O.contents writer.new) (take result.count bytes.now) }
-    ensures failed { result.failed ≡ true → HasFailedSince (O.tally writer.old) (O.tally writer.new) }
-    ensures calm { (O.tally writer.old).failures ≤ (O.tally writer.new).failures }
+    ensures failed { result.failed ≡ true → HasFailedSince (O.call_counts writer.old) (O.call_counts writer.new) }
+    ensures calm { (O.call_counts writer.old).failures ≤ (O.call_counts writer.new).failures }
 {
     let mut count = 0;
     while count < bytes.len() {

@@ -92,7 +92,7 @@ impl Session {
         ensures ends { (end : End) → result ≡ Ok (Goes.Closed end) → self.new.held.ended ≡ Some end }
         ensures read_fault { result ≡ Err SessionFault.ReadFault → self.new.held.ended ≡ Some End.ReadFault }
         ensures write_fault { result ≡ Err SessionFault.WriteFault → self.new.held.ended ≡ Some End.WriteFault }
-        ensures blamed { self.old.held.ended ≡ None → Blames self.new.held.ended (I.tally reader.old) (I.tally reader.new) (O.tally writer.old) (O.tally writer.new) }
+        ensures blamed { self.old.held.ended ≡ None → Blames self.new.held.ended (I.call_counts reader.old) (I.call_counts reader.new) (O.call_counts writer.old) (O.call_counts writer.new) }
     {
         self.conversation
             .turn(rt, reader, writer, house, seat, shelf)

@@ -4,8 +4,8 @@ use Rattle.std.proofs.lemmas.List.{append-nil}
 use Rattle.std.proofs.lemmas.Bool.Decides.{nat_tests}
 use Rattle.mpd_text.specs.declared.lines.quoting.WordsFault.{WordsFault}
 use Rattle.mpd_text.specs.declared.lines.quoting.WordsFault.TheVariants.{BadUnquoted, NoClosingQuote, NoSpaceAfterQuote, TooMany, NoMemory}
-use Rattle.mpd_text.specs.declared.lines.quoting.Place.{Place}
-use Rattle.mpd_text.specs.declared.lines.quoting.Place.TheVariants.{Between, Bare, Quoted, Closed}
+use Rattle.mpd_text.specs.declared.lines.quoting.QuotingState.{QuotingState}
+use Rattle.mpd_text.specs.declared.lines.quoting.QuotingState.TheVariants.{Between, Bare, Quoted, Closed}
 use Rattle.mpd_text.specs.Lines.Scan.{is_blank, is_bare, after, scan, words_of}
 use Rattle.mpd_text.specs.Lines.Grammar.{AreBlanks, AreBare, IsInside, IsBareWord, IsQuotedWord, EndsWord, Begins, Spells, GoesWrong, IsFaulty}
 use Rattle.mpd_text.proofs.Scans.{after_nil, after_after}
@@ -41,10 +41,10 @@ inside_scan (c ∷ text) inside count word rest is =
     elim is.1 [ inl h ↦ rw (h.0, not_quote c h.1, not_backslash c h.2) more | inr h ↦ rw h more ]
 
 -- where a word ends
-ends_scan : (place : Place) (count : ℕ) (word more : List ℕ) → ((place ≡ Bare) ⊎ (place ≡ Closed)) → EndsWord more → scan place count word more ≡ after (word ∷ []) (scan Between (count + 1) [] more)
+ends_scan : (state : QuotingState) (count : ℕ) (word more : List ℕ) → ((state ≡ Bare) ⊎ (state ≡ Closed)) → EndsWord more → scan state count word more ≡ after (word ∷ []) (scan Between (count + 1) [] more)
 unfolding scan
-ends_scan place count word [] at ends = elim at [ inl e ↦ rw e refl | inr e ↦ rw e refl ]
-ends_scan place count word (b ∷ more) at ends = elim at [ inl e ↦ rw (e, ends) refl | inr e ↦ rw (e, ends) refl ]
+ends_scan state count word [] at ends = elim at [ inl e ↦ rw e refl | inr e ↦ rw e refl ]
+ends_scan state count word (b ∷ more) at ends = elim at [ inl e ↦ rw (e, ends) refl | inr e ↦ rw (e, ends) refl ]
 
 bare_begins : (b : ℕ) (count : ℕ) (rest : List ℕ) → is_bare b ≡ true → count < 65 → scan Between count [] (b ∷ rest) ≡ scan Bare count (b ∷ []) rest
 unfolding scan

@@ -4,8 +4,8 @@ use Rattle.std.proofs.lemmas.List.{append-nil, length_push}
 use Rattle.std.proofs.lemmas.Bool.Decides.{nat_tests}
 use Rattle.mpd_text.specs.declared.lines.quoting.WordsFault.{WordsFault}
 use Rattle.mpd_text.specs.declared.lines.quoting.WordsFault.TheVariants.{BadUnquoted, NoClosingQuote, NoSpaceAfterQuote, TooMany}
-use Rattle.mpd_text.specs.declared.lines.quoting.Place.{Place}
-use Rattle.mpd_text.specs.declared.lines.quoting.Place.TheVariants.{Between, Bare, Quoted, Escaped, Closed}
+use Rattle.mpd_text.specs.declared.lines.quoting.QuotingState.{QuotingState}
+use Rattle.mpd_text.specs.declared.lines.quoting.QuotingState.TheVariants.{Between, Bare, Quoted, Escaped, Closed}
 use Rattle.std.specs.Result.{MatchResult}
 use Rattle.mpd_text.specs.Lines.Scan.{is_blank, is_bare, after, scan, words_of}
 use Rattle.mpd_text.specs.Lines.Grammar.{AreBlanks, AreBare, IsInside, IsBareWord, IsQuotedWord, EndsWord, Begins, Spells, GoesWrong, IsFaulty}
@@ -16,7 +16,7 @@ Reads count line (Ok words) = Spells line words × (count + length words ≤ 65)
 Reads count line (Err fault) = IsFaulty count line fault
 
 -- the text of the present word, up to a place in it
-At : Place → ℕ → List ℕ → List ℕ → Type 0
+At : QuotingState → ℕ → List ℕ → List ℕ → Type 0
 At Between count word front = AreBlanks front × (word ≡ []) × (count ≤ 65)
 At Bare count word front = (front ≡ word) × (0 < length word) × AreBare word × (count < 65)
 At Quoted count word front = (inside : List ℕ) × (front ≡ 34 ∷ inside) × IsInside inside word × (count < 65)
@@ -80,7 +80,7 @@ few_from count few other = omega arith
 some_front : (front word : List ℕ) → front ≡ word → 0 < length word → front ≡ [] → ⊥
 some_front front word e some none = let h = ap length (sym e ∙ none) in omega (arith, h)
 
-scan_reads : (rest : List ℕ) (place : Place) (count : ℕ) (word front : List ℕ) → At place count word front → Reads count (front ++ rest) (scan place count word rest)
+scan_reads : (rest : List ℕ) (state : QuotingState) (count : ℕ) (word front : List ℕ) → At state count word front → Reads count (front ++ rest) (scan state count word rest)
 unfolding scan At Reads
 scan_reads [] Between count word front at = blanks_read count front [] (Ok []) at.0 (([], refl, tt), omega (arith, at.2))
 scan_reads (b ∷ rest) Between count word front at = elim (either (is_blank b)) [

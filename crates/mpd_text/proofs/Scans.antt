@@ -3,8 +3,8 @@ use Rattle.std.proofs.Common.{◌≡◌, ℕ, ◌+◌, ◌<◌, get_or, drop, tr
 use Rattle.std.proofs.lemmas.List.{map-append, length_push, drop_more}
 use Rattle.mpd_text.specs.declared.lines.quoting.WordsFault.{WordsFault}
 use Rattle.mpd_text.specs.declared.lines.quoting.Reading.{Reading}
-use Rattle.mpd_text.specs.declared.lines.quoting.Place.{Place}
-use Rattle.mpd_text.specs.declared.lines.quoting.Place.TheVariants.{Between, Bare, Closed}
+use Rattle.mpd_text.specs.declared.lines.quoting.QuotingState.{QuotingState}
+use Rattle.mpd_text.specs.declared.lines.quoting.QuotingState.TheVariants.{Between, Bare, Closed}
 use Rattle.mpd_text.specs.Lines.Scan.{after, scan, is_blank}
 use Rattle.mpd_text.specs.Lines.Words.{outcome, bytes_of, Refuses}
 
@@ -17,20 +17,20 @@ after_after words more (Ok last) = ap Ok (sym (append_assoc words more last))
 after_after words more (Err fault) = refl
 
 -- a word ends at a blank
-pub word_ends : (old new : Reading) (b : ℕ) (rest : List ℕ) → (scan old.place (length old.words.items) old.word.items (b ∷ rest) ≡ after (old.word.items ∷ []) (scan Between (length old.words.items + 1) [] rest))
-    → new.words.items ≡ old.words.items ++ old.word ∷ [] → new.word.items ≡ [] → new.place ≡ Between → outcome old (b ∷ rest) ≡ outcome new rest
+pub word_ends : (old new : Reading) (b : ℕ) (rest : List ℕ) → (scan old.state (length old.words.items) old.word.items (b ∷ rest) ≡ after (old.word.items ∷ []) (scan Between (length old.words.items + 1) [] rest))
+    → new.words.items ≡ old.words.items ++ old.word ∷ [] → new.word.items ≡ [] → new.state ≡ Between → outcome old (b ∷ rest) ≡ outcome new rest
 unfolding outcome
-word_ends old new b rest ends words word place =
+word_ends old new b rest ends words word state =
     ap (after (bytes_of old.words)) ends ∙ after_after (bytes_of old.words) (old.word.items ∷ []) _
-    ∙ rw (words, word, place, length_push, map-append) refl
+    ∙ rw (words, word, state, length_push, map-append) refl
 
-pub closed_ends : (place : Place) (count : ℕ) (word : List ℕ) (b : ℕ) (rest : List ℕ) → place ≡ Closed → is_blank b ≡ true → scan place count word (b ∷ rest) ≡ after (word ∷ []) (scan Between (count + 1) [] rest)
+pub closed_ends : (state : QuotingState) (count : ℕ) (word : List ℕ) (b : ℕ) (rest : List ℕ) → state ≡ Closed → is_blank b ≡ true → scan state count word (b ∷ rest) ≡ after (word ∷ []) (scan Between (count + 1) [] rest)
 unfolding scan
-closed_ends place count word b rest at blank = rw (at, blank) refl
+closed_ends state count word b rest at blank = rw (at, blank) refl
 
-pub bare_ends : (place : Place) (count : ℕ) (word : List ℕ) (b : ℕ) (rest : List ℕ) → place ≡ Bare → is_blank b ≡ true → scan place count word (b ∷ rest) ≡ after (word ∷ []) (scan Between (count + 1) [] rest)
+pub bare_ends : (state : QuotingState) (count : ℕ) (word : List ℕ) (b : ℕ) (rest : List ℕ) → state ≡ Bare → is_blank b ≡ true → scan state count word (b ∷ rest) ≡ after (word ∷ []) (scan Between (count + 1) [] rest)
 unfolding scan
-bare_ends place count word b rest at blank = rw (at, blank) refl
+bare_ends state count word b rest at blank = rw (at, blank) refl
 
 -- the fault at a byte is the line's
 pub refuses_at : (reading : Reading) (line : List ℕ) (i : ℕ) (fault : WordsFault) (whole : Result (List (List ℕ)) WordsFault) → i < length line

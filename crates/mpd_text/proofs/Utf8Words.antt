@@ -6,8 +6,8 @@ use Rattle.std.specs.Str.{IsUtf8}
 use Rattle.std.proofs.lemmas.List.{append-nil}
 use Rattle.std.proofs.lemmas.Bool.Decides.{nat_tests}
 use Rattle.mpd_text.specs.declared.lines.quoting.WordsFault.{WordsFault}
-use Rattle.mpd_text.specs.declared.lines.quoting.Place.{Place}
-use Rattle.mpd_text.specs.declared.lines.quoting.Place.TheVariants.{Between, Bare, Quoted, Escaped, Closed}
+use Rattle.mpd_text.specs.declared.lines.quoting.QuotingState.{QuotingState}
+use Rattle.mpd_text.specs.declared.lines.quoting.QuotingState.TheVariants.{Between, Bare, Quoted, Escaped, Closed}
 use Rattle.mpd_text.specs.Lines.Scan.{is_blank, is_bare, after, scan, words_of}
 use Rattle.mpd_text.proofs.AsciiCuts.{cut_at, without, one_more}
 
@@ -30,7 +30,7 @@ is_equal a b = grind (arith, nat_tests)
 blank_small : (b : ℕ) → is_blank b ≡ true → b < 128
 blank_small b e = grind (arith, nat_tests)
 
-all_utf8 : (rest : List ℕ) (place : Place) (count : ℕ) (word : List ℕ) → IsUtf8 (word ++ rest) → AllUtf8 (scan place count word rest)
+all_utf8 : (rest : List ℕ) (state : QuotingState) (count : ℕ) (word : List ℕ) → IsUtf8 (word ++ rest) → AllUtf8 (scan state count word rest)
 unfolding scan AllUtf8
 all_utf8 [] Between count word utf8 = tt
 all_utf8 (b ∷ rest) Between count word utf8 = elim (either (is_blank b)) [

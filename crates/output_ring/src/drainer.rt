@@ -40,7 +40,7 @@ impl Drainer {
     ghost use mathlib.Core.List.{IsPrefix};
     ghost use Rattle.std.specs.Prelude.{◌≡◌, ◌+◌, ◌-◌, ◌^◌, ◌<◌, ◌≤◌, [], ◌++◌, IfOk, IfSome, IsSome, MatchResult, ◌||◌, ◌↔◌, is_err, OnErr, length, true, false};
     ghost use Rattle.std.specs.Io.KnownBytes.{Appends};
-    ghost use Rattle.counted_devices.specs.Tally.{HasFailed};
+    ghost use Rattle.counted_devices.specs.CallCounts.{HasFailed};
     ghost use Rattle.output_ring.specs.Frames.{heard, bytes_of, StopsInside, fates, no_fates, no_totals, both, counted, totals_after, fates_in};
     ghost use Rattle.output_ring.specs.Rings.{taken_of, owed_of, fates_of, popped_of, came_of, hand_of, most_of, ring_of, totals_of, unreported_of, has_failed, AreEnds, AreEndsAfter, EndTook, end_owed, SameFeeder, SameDrainer};
 
@@ -109,7 +109,7 @@ impl Drainer {
             (λ e. (e.fates ≡ fates e.fates.written (length (hand_of self.old) - e.fates.written)) × StopsInside (W.contents writer.old) (W.contents writer.new) live (hand_of self.old) e.fates.written e.torn) }
 
         // Only a failure of this writer during this call is a fault.
-        ensures fault { OnErr result (HasFailed (W.tally writer.old) (W.tally writer.new)) }
+        ensures fault { OnErr result (HasFailed (W.call_counts writer.old) (W.call_counts writer.new)) }
         ensures failed { has_failed self.new ≡ (has_failed self.old || is_err result) }
 
         ensures totals { totals_of self.new ≡ totals_after (totals_of self.old) result }

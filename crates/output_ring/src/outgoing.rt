@@ -1,7 +1,7 @@
 //! The bytes of a hand on their way to a writer.
 ghost use Rattle.std.specs.Prelude.{◌≡◌, ◌+◌, ◌*◌, ◌<◌, ◌≤◌, ◌++◌, length, take, vec_len, vec_capacity};
 ghost use Rattle.std.specs.Io.KnownBytes.{Appends};
-ghost use Rattle.counted_devices.specs.Tally.{HasFailed, NoFewer};
+ghost use Rattle.counted_devices.specs.CallCounts.{HasFailed, NoFewer};
 ghost use Rattle.output_ring.specs.Frames.{heard, is_heard, bytes_of};
 
 use crate::frames::{CutFrame, Live};
@@ -26,7 +26,7 @@ pub(crate) struct Outgoing {
 impl Outgoing {
     ghost use Rattle.std.specs.Prelude.{◌≡◌, ◌*◌, ◌≤◌, IfOk, OnErr, MatchResult, length, take};
     ghost use Rattle.std.specs.Io.KnownBytes.{Appends};
-    ghost use Rattle.counted_devices.specs.Tally.{HasFailed};
+    ghost use Rattle.counted_devices.specs.CallCounts.{HasFailed};
     ghost use Rattle.output_ring.specs.Frames.{bytes_of, heard, StopsInside};
     ghost use Rattle.output_ring.specs.Sending.{HasRoom, KeepsRoom};
 
@@ -68,7 +68,7 @@ impl Outgoing {
             (λ n. (n ≡ length (heard live hand.now)) × Appends (W.contents writer.old) (W.contents writer.new) (bytes_of (heard live hand.now)))
             (λ t. StopsInside (W.contents writer.old) (W.contents writer.new) live hand.now t.written t.bytes) }
         ensures most { MatchResult result (λ n. n ≤ length hand.now) (λ t. t.written ≤ length hand.now) }
-        ensures fault { OnErr result (HasFailed (W.tally writer.old) (W.tally writer.new)) }
+        ensures fault { OnErr result (HasFailed (W.call_counts writer.old) (W.call_counts writer.new)) }
         ensures room { KeepsRoom self.old self.new }
     {
         let frames = self.lay_out(hand, live);
@@ -117,8 +117,8 @@ fn is_heard(item: CutFrame, live: Live) -> bool
 pub(crate) fn write_bytes<W: Sink>(writer: &mut W, bytes: &[u8]) -> usize
     ensures most { result ≤ length bytes.now }
     ensures bytes { Appends (W.contents writer.old) (W.contents writer.new) (take result bytes.now) }
-    ensures fault { result < length bytes.now → HasFailed (W.tally writer.old) (W.tally writer.new) }
-    ensures calm { NoFewer (W.tally writer.old) (W.tally writer.new) }
+    ensures fault { result < length bytes.now → HasFailed (W.call_counts writer.old) (W.call_counts writer.new) }
+    ensures calm { NoFewer (W.call_counts writer.old) (W.call_counts writer.new) }
 {
     let mut done = 0;
     while done < bytes.len() {

@@ -34,7 +34,7 @@ use Rattle.idle_clients.specs.Clients.{client_of}
 use Rattle.player_state.specs.Libraries.{library_after}
 use Rattle.partition.specs.Step.{transition, transition_of, transition_line, written_transition, speaker, mover, raised_by, after_transition, told_by}
 use Rattle.transitions.specs.Transitions.{report_of}
-use Rattle.partition.specs.World.{Listener, WorldTransition, Trace, Differs, IsPending, parts_in, raised_at, is_there, is_learning, is_told, begins_anew, pending_for, client_in, listener_of, image_of, past_after, world_after_transition}
+use Rattle.partition.specs.World.{Listener, WorldTransition, Trace, Differs, IsPending, watched_in, raised_at, is_there, is_learning, is_told, begins_anew, pending_for, client_in, listener_of, image_of, past_after, world_after_transition}
 use Rattle.partition.specs.Notices.{Raises, IsIn, WaitsFor, HasChanged, Meets, HasNews, IsSent, IsClear, Asks, IsToldNews, Tells}
 use Rattle.partition.proofs.Asking.{wish_is, transition_idle, Quiet, quiet_unheard, quiet_unwaiting, IsAsking, kind_of, is_found, of_any, notified_some, does_some, of_moved}
 use Rattle.partition.proofs.Members.{in_map, of_map, any_in, same_sets, has_meet, has_some, is_some}
@@ -104,7 +104,7 @@ module _ (trace : Trace) (done : List LogEntry) (event : Event) (above : 1 ≤ t
   change = change_of i.shared.library.rate i.part t.effect
 
   is_raised : (λ (n : ℕ). raised_at n m) ≡ r
-  is_raised = same_raised t.written trace.world.limits trace.world.past change (parts_in m.before) (parts_in m.after) above some (keeps i.shared.library.rate i.part t.effect)
+  is_raised = same_raised t.written trace.world.limits trace.world.past change (watched_in m.before) (watched_in m.after) above some (keeps i.shared.library.rate i.part t.effect)
 
   pub raises : Raises m
   raises = record { each = λ number x. raised_differ number m x; all = λ none. agree trace.world i event t m.notices m.report refl none }

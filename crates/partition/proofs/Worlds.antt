@@ -17,7 +17,7 @@ use Rattle.player_events.specs.declared.event.LogEntry.{LogEntry}
 use Rattle.player_state.specs.declared.state.Client.{Client}
 use Rattle.transitions.specs.declared.shelf_calls.ShelfWrite.{ShelfWrite}
 use Rattle.partition.specs.declared.state.Setup.{Setup}
-use Rattle.idle_clients.specs.Clients.{Parts, raised, notified, closes, Rising}
+use Rattle.idle_clients.specs.Clients.{Watched, raised, notified, closes, Rising}
 use Rattle.partition.specs.History.{made_of, replay}
 use Rattle.player_state.specs.Effects.{Change, ByEdit, ByStep, change_of, channels_after, outputs_after, player_after, queue_after, volume_after}
 use Rattle.partition.specs.Image.{Image, opening}
@@ -27,7 +27,7 @@ use Rattle.player_state.specs.Libraries.{library_after}
 use Rattle.partition.specs.Legal.{ReplaysWorlds}
 use Rattle.partition.specs.Step.{transition, mover, raised_by, after_transition, ended_after, told_by, next_image}
 use Rattle.transitions.specs.Transitions.{report_of}
-use Rattle.partition.specs.World.{Greatest, Listener, WorldTransition, Trace, raised_at, is_there, begins_anew, parts_in, pending_for, client_in, listener_of, books_of, image_of, past_after, world_after_transition, traced, trace_after_event, trace_from, limits_of, opening_trace}
+use Rattle.partition.specs.World.{Greatest, Listener, WorldTransition, Trace, raised_at, is_there, begins_anew, watched_in, pending_for, client_in, listener_of, books_of, image_of, past_after, world_after_transition, traced, trace_after_event, trace_from, limits_of, opening_trace}
 use Rattle.partition.proofs.Counts.{made_of-more}
 use Rattle.player_state.proofs.Frames.{Keeps, keeps}
 use Rattle.partition.proofs.Notified.{Each, flagged, all_stand}
@@ -55,7 +55,7 @@ follows limits past (ByStep (Some left)) above some kept =
     sym (edited-at_end limits.max_queue limits.max_version limits.max_id (omega arith) past left some (omega (arith, kept, same, low)))
 
 -- what an event raised by the worlds is what its transition raises
-pub same_raised : (written : ShelfWrite) (limits : Greatest) (past : List (List Entry)) (change : Change) (before after : Parts) → 1 ≤ limits.max_version → 0 < length past
+pub same_raised : (written : ShelfWrite) (limits : Greatest) (past : List (List Entry)) (change : Change) (before after : Watched) → 1 ≤ limits.max_version → 0 < length past
     → Keeps (queue_of (state_at limits past)) change
     → raised written (record before { queue = present past }) (record after { queue = present (past_after past change) })
     ≡ raised written (record before { queue = queue_of (state_at limits past) }) (record after { queue = queue_of (queue_after (state_at limits past) change) })
@@ -128,7 +128,7 @@ module _ (trace : Trace) (done : List LogEntry) (event : Event) (above : 1 ≤ t
   change = change_of rate i.part t.effect
 
   is_raised : (λ (n : ℕ). raised_at n m) ≡ r
-  is_raised = same_raised t.written trace.world.limits trace.world.past change (parts_in m.before) (parts_in m.after) above some (keeps rate i.part t.effect)
+  is_raised = same_raised t.written trace.world.limits trace.world.past change (watched_in m.before) (watched_in m.after) above some (keeps rate i.part t.effect)
 
   grows : (n : ℕ) → pending_for n (m ∷ trace.world_transitions) ≡ (if begins_anew n m then none else union (pending_for n trace.world_transitions) (r n))
   grows n =

@@ -21,7 +21,7 @@ use Rattle.player_state.specs.declared.state.Library.{Library}
 use Rattle.player_state.specs.declared.state.Part.{Part}
 use Rattle.player_events.specs.Outcomes.{OutcomeData}
 use Rattle.transitions.specs.Answers.{ResponseData, refused_by_shelf, refuses, shut, stays, tells}
-use Rattle.idle_clients.specs.Clients.{parts_of, raised, clients_after, notices_after}
+use Rattle.idle_clients.specs.Clients.{watched_of, raised, clients_after, notices_after}
 use Rattle.status_commands.specs.Connection.{result_of as connection_result}
 use Rattle.library_commands.specs.Database.{result_of as database_result}
 use Rattle.status_commands.specs.Options.{result_of as options_result}
@@ -167,7 +167,7 @@ mover event = unwrap_or (speaker event) 0
 
 -- what a transition raises for each client: what differs between the parts before and after it
 abbrev pub raised_by : Part → Library → TransitionData → ℕ → Subsystems
-raised_by part library t = raised t.written (parts_of part library) (parts_of (part_after library.rate part t.effect) (library_after library t.scan))
+raised_by part library t = raised t.written (watched_of part library) (watched_of (part_after library.rate part t.effect) (library_after library t.scan))
 
 -- whether the daemon has ended, after an event
 abbrev pub ended_after : Bool → Event → Bool

@@ -18,7 +18,7 @@ use Rattle.idle_clients.specs.declared.notices.Notice.{Notice}
 use Rattle.player_state.specs.declared.state.Client.{Client}
 use Rattle.player_state.specs.declared.state.Library.{Library}
 use Rattle.player_state.specs.declared.report.Report.{Report}
-use Rattle.idle_clients.specs.Clients.{Parts, raised, move_of, options, playing}
+use Rattle.idle_clients.specs.Clients.{Watched, raised, move_of, options, playing}
 use Rattle.partition.specs.History.{made_of}
 use Rattle.player_state.specs.Outputs.{FrameBooks, OutputsData, decoded_by, discarded_by, written_by}
 use Rattle.player_state.specs.Effects.{Change, ByEdit, ByStep, change_of, channels_after, outputs_after, player_after, volume_after}
@@ -71,8 +71,8 @@ pub record Trace : Type 0 where
   pub world : World
   pub world_transitions : List WorldTransition
 
-abbrev pub parts_in : World → Parts
-parts_in w = record { library = w.library; queue = present w.past; player = w.player; volume = w.volume; outputs = w.outputs; channels = w.channels }
+abbrev pub watched_in : World → Watched
+watched_in w = record { library = w.library; queue = present w.past; player = w.player; volume = w.volume; outputs = w.outputs; channels = w.channels }
 
 -- no message waited for a client, and one does
 abbrev pub BeginsToHave : ℕ → World → World → Type 0
@@ -95,7 +95,7 @@ Differs number Message m = BeginsToHave number m.before m.after
 
 -- what an event raised for a client: the subsystems whose parts differ between the worlds before and after it
 abbrev pub raised_at : ℕ → WorldTransition → Subsystems
-raised_at number m = raised m.transition.written (parts_in m.before) (parts_in m.after) number
+raised_at number m = raised m.transition.written (watched_in m.before) (watched_in m.after) number
 
 abbrev pub is_there : ℕ → World → Bool
 is_there number w = list_any (λ k. k.number == number) w.clients

@@ -26,7 +26,7 @@ use idle_clients::find_client;
 use mpd_command::{Request, Volume};
 use player_core::{Player, PlayerFault};
 use player_events::{Event, LogEntry, Outcome, event_bytes};
-use player_state::{Books, Client, Library, Outputs};
+use player_state::{Client, FrameCounts, Library, Outputs};
 use shelf::Shelf;
 use song_queue::Queue;
 use std::alloc::{AllocError, Global};
@@ -480,7 +480,7 @@ impl Partition {
     }
 
     /// The frames that each output was given, wrote and discarded.
-    pub fn books(&self) -> &Books
+    pub fn books(&self) -> &FrameCounts
         ensures { result.now ≡ self.now.present.shared.books }
     {
         &self.state.books

@@ -14,7 +14,7 @@ use crate::partition::PartitionFault;
 use idle_clients::{Fingerprint, Notices, waiting};
 use mpd_command::{Name, Request};
 use player_events::Event;
-use player_state::{Books, Client, Library, Part};
+use player_state::{Client, FrameCounts, Library, Part};
 use std::alloc::{AllocError, Global};
 use transitions::{Refusals, Stand, Transition};
 
@@ -59,9 +59,9 @@ pub(crate) fn prepare_step(
     part: &Part,
     library: &Library,
     clients: &[Client],
-    books: &Books,
+    books: &FrameCounts,
     transition: &Transition,
-) -> Result<(Prepared, Books), PartitionFault>
+) -> Result<(Prepared, FrameCounts), PartitionFault>
     requires { is_written transition.now.written ≡ false }
     ensures given { IfOk result (λ made. listed made.0.given ≡ []) }
     ensures kept { IfOk result (λ made. listed made.0.kept ≡ []) }

@@ -5,7 +5,7 @@ ghost use Rattle.partition.specs.Image.{image_of_state, opening};
 use idle_notes::Channels;
 use mpd_command::Volume;
 use player_core::Player;
-use player_state::{Books, Client, Library, Outputs, Part};
+use player_state::{Client, FrameCounts, Library, Outputs, Part};
 use song_queue::Queue;
 use std::alloc::{AllocError, Global};
 
@@ -44,7 +44,7 @@ pub(crate) struct State {
     pub(crate) part: Part,
     pub(crate) library: Library,
     pub(crate) made: [u64; 16],
-    pub(crate) books: Books,
+    pub(crate) books: FrameCounts,
     /// Whether the daemon has ended.
     pub(crate) ended: bool,
     /// By rising number.
@@ -89,7 +89,7 @@ impl State {
             },
             library,
             made: [0; 16],
-            books: Books::empty(),
+            books: FrameCounts::empty(),
             ended: false,
             clients: Vec::new(alloc),
         }

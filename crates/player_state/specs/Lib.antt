@@ -1,4 +1,4 @@
-pub mod Books
+pub mod FrameCounts
 pub mod Effects
 pub mod Libraries
 pub mod Outputs

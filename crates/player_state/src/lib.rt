@@ -1,15 +1,15 @@
 //! The state of one player, and what an event does to it.
 #![tactic(auto)]
 
-mod books;
 mod effect;
+mod frame_counts;
 mod outputs;
 mod report;
 mod scan;
 mod state;
 
-pub use books::Books;
 pub use effect::{AudioStep, CommandEffect, Effect, carry_out, done};
+pub use frame_counts::FrameCounts;
 pub use outputs::{MAX_OUTPUTS, Outputs};
 pub use report::{Feed, Report};
 pub use scan::{Scan, ScanMove};

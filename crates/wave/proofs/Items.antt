@@ -7,7 +7,7 @@ use Rattle.std.proofs.lemmas.Slice.Eq.{bytes_eq-Decides}
 use Rattle.mpd_text.specs.declared.songs.song.TagName.{TagName}
 use Rattle.mpd_text.specs.declared.songs.song.TagName.TheVariants.{Title, Artist, Album, Date, Genre, Comment}
 use Rattle.wave.specs.declared.tag.Texts.{Texts}
-use Rattle.wave.specs.declared.part.Part.{Part}
+use Rattle.wave.specs.declared.found_chunk.FoundChunk.{FoundChunk}
 use Rattle.wave.specs.Chunks.{Chunk, chunks}
 use Rattle.wave.specs.Parts.{content_of, chunk_of, chunks_within, StartsWith}
 use Rattle.wave.specs.Texts.{is_whole, is_info, items, identifier, text_of, counts, gives, first_text}
@@ -68,13 +68,13 @@ puts name texts item text more e w k =
     ∙ puts_named name texts item.name item.content item.size more ((bytes_eq-Decides item.name (identifier name)).0 e) w (counted_in item.content text _ k)
 
 -- a list of texts
-within_list : (bytes : List ℕ) (part : Part) → chunks_within bytes (part.place + 4) (part.place + part.len) ≡ chunks (drop 4 (content_of bytes part))
+within_list : (bytes : List ℕ) (part : FoundChunk) → chunks_within bytes (part.place + 4) (part.place + part.len) ≡ chunks (drop 4 (content_of bytes part))
 within_list bytes part = ap chunks (sym (drop-drop 4 part.place (take (part.place + part.len) bytes)) ∙ ap (drop 4) (drop-take part.place part.len bytes))
 
 items_of_list : (chunk : Chunk) (more : List Chunk) → is_info chunk ≡ true → items (chunk ∷ more) ≡ chunks (drop 4 chunk.content) ++ items more
 items_of_list chunk more e = ap (λ b. cond b (chunks (drop 4 chunk.content)) [] ++ items more) e
 
-pub list_taken : (bytes : List ℕ) (at end : ℕ) (part : Part) (found : Option Part) (b : Bool) (texts next meaning : Texts) → joined texts (items (chunks_within bytes at end)) ≡ meaning
+pub list_taken : (bytes : List ℕ) (at end : ℕ) (part : FoundChunk) (found : Option FoundChunk) (b : Bool) (texts next meaning : Texts) → joined texts (items (chunks_within bytes at end)) ≡ meaning
     → StartsWith bytes at end found → found ≡ Some part → b ≡ is_info (chunk_of bytes part) → b ≡ true
     → ((more : List Chunk) → joined next more ≡ joined texts (chunks_within bytes (part.place + 4) (part.place + part.len) ++ more))
     → joined next (items (chunks_within bytes part.next end)) ≡ meaning

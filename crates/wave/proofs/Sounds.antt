@@ -6,7 +6,7 @@ use Rattle.wave.specs.Chunks.{Chunk}
 use Rattle.wave.specs.Formats.{layout_of}
 use Rattle.wave.specs.Waves.{Sound, is_data, is_format, sound_of}
 use Rattle.wave.specs.Heads.{sound_after, missing, Refuses}
-use Rattle.wave.specs.declared.part.Part.{Part}
+use Rattle.wave.specs.declared.found_chunk.FoundChunk.{FoundChunk}
 use Rattle.wave.specs.declared.fault.WaveFault.{WaveFault}
 use Rattle.wave.specs.Parts.{StartsWith, chunks_within}
 
@@ -43,10 +43,10 @@ unfolding sound_after sound_of
 none_formed rate layout = refl
 
 -- no chunk is left
-pub at_end : (bytes : List ℕ) (at end : ℕ) (found : Option Part) → found ≡ None → StartsWith bytes at end found → chunks_within bytes at end ≡ []
+pub at_end : (bytes : List ℕ) (at end : ℕ) (found : Option FoundChunk) → found ≡ None → StartsWith bytes at end found → chunks_within bytes at end ≡ []
 at_end bytes at end found e h = subst (StartsWith bytes at end) e h
 
-pub ends : (bytes : List ℕ) (rate at end : ℕ) (layout : Option Layout) (found : Option Part) (meaning : Result Sound WaveFault) → meaning ≡ sound_after rate layout (chunks_within bytes at end)
+pub ends : (bytes : List ℕ) (rate at end : ℕ) (layout : Option Layout) (found : Option FoundChunk) (meaning : Result Sound WaveFault) → meaning ≡ sound_after rate layout (chunks_within bytes at end)
     → StartsWith bytes at end found → found ≡ None → Refuses (missing layout) meaning
 ends bytes rate at end None found meaning m h e = m ∙ ap (sound_after rate None) (at_end bytes at end found e h) ∙ none_unformed rate
 ends bytes rate at end (Some layout) found meaning m h e = m ∙ ap (sound_after rate (Some layout)) (at_end bytes at end found e h) ∙ none_formed rate layout

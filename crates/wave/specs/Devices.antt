@@ -1,7 +1,7 @@
 -- What calls ask of a device (this profile's).
 use Rattle.std.specs.Prelude.{◌≡◌, ℕ, ◌+◌, ◌-◌, ◌^◌, ◌≤◌, ◌⊎◌, List, length, take, drop}
-use Rattle.counted_devices.specs.declared.tally.Tally.{Tally}
-use Rattle.counted_devices.specs.Tally.{HasFailed}
+use Rattle.counted_devices.specs.declared.call_counts.CallCounts.{CallCounts}
+use Rattle.counted_devices.specs.CallCounts.{HasFailed}
 use Rattle.wave.specs.declared.fault.WaveFault.{WaveFault}
 use Rattle.wave.specs.declared.fault.WaveFault.TheVariants.{NotRiff, NoFormat, Unsupported, NoData, ReadFault, NoMemory}
 
@@ -10,19 +10,19 @@ abbrev pub FillsFrom : List ℕ → ℕ → ℕ → List ℕ → Type 0
 FillsFrom bytes at n buf = take n buf ≡ take (length buf) (drop at bytes)
 
 -- the device was called 2 ^ 32 times since, or its count is at its greatest value
-abbrev pub CalledTooOften : Tally → Tally → Type 0
+abbrev pub CalledTooOften : CallCounts → CallCounts → Type 0
 CalledTooOften old new = (old.calls + 2 ^ 32 ≤ new.calls) ⊎ (new.calls ≡ 2 ^ 64 - 1)
 
 -- the device failed since, or its count of calls has come to a limit
-abbrev pub Ends : ℕ → Tally → Tally → Type 0
+abbrev pub Ends : ℕ → CallCounts → CallCounts → Type 0
 Ends limit old new = HasFailed old new ⊎ ((limit ≤ new.calls) × (new.calls ≤ 2 ^ 64 - 1))
 
 -- no count of calls passes the limit
-abbrev pub KeepsTo : ℕ → Tally → Tally → Type 0
+abbrev pub KeepsTo : ℕ → CallCounts → CallCounts → Type 0
 KeepsTo limit old new = old.calls ≤ limit → new.calls ≤ limit
 
 -- a fault of the device or of memory, and none of the file
-abbrev pub IsOutside : ℕ → Tally → Tally → WaveFault → Type 0
+abbrev pub IsOutside : ℕ → CallCounts → CallCounts → WaveFault → Type 0
 IsOutside limit old new NotRiff = ⊥
 IsOutside limit old new NoFormat = ⊥
 IsOutside limit old new Unsupported = ⊥

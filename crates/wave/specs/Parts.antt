@@ -1,7 +1,7 @@
 -- Where chunks lie in the bytes of a file.
 use Rattle.std.specs.Prelude.{◌≡◌, ℕ, ◌<◌, ◌≤◌, List, [], ◌∷◌, length, take, drop, Option, Some, None, MatchOption}
-use Rattle.wave.specs.declared.part.Header.{Header}
-use Rattle.wave.specs.declared.part.Part.{Part}
+use Rattle.wave.specs.declared.found_chunk.Header.{Header}
+use Rattle.wave.specs.declared.found_chunk.FoundChunk.{FoundChunk}
 use Rattle.wave.specs.Chunks.{Chunk, chunks, first_size}
 
 -- the header at the start of the bytes, or there is none
@@ -9,10 +9,10 @@ abbrev pub IsHeader : List ℕ → Option Header → Type 0
 IsHeader bytes found = MatchOption found (length bytes < 8) (λ header. (8 ≤ length bytes) × (header.name ≡ take 4 bytes) × (header.size ≡ first_size bytes))
 
 -- what is there of a chunk's content
-abbrev pub content_of : List ℕ → Part → List ℕ
+abbrev pub content_of : List ℕ → FoundChunk → List ℕ
 content_of bytes part = take part.len (drop part.place bytes)
 
-abbrev pub chunk_of : List ℕ → Part → Chunk
+abbrev pub chunk_of : List ℕ → FoundChunk → Chunk
 chunk_of bytes part = record { name = part.name; size = part.size; content = content_of bytes part }
 
 -- the chunks from a place up to an end
@@ -20,7 +20,7 @@ abbrev pub chunks_within : List ℕ → ℕ → ℕ → List Chunk
 chunks_within bytes at end = chunks (drop at (take end bytes))
 
 -- this is the first of the chunks from a place up to an end, or there is none
-abbrev pub StartsWith : List ℕ → ℕ → ℕ → Option Part → Type 0
+abbrev pub StartsWith : List ℕ → ℕ → ℕ → Option FoundChunk → Type 0
 StartsWith bytes at end None = chunks_within bytes at end ≡ []
 StartsWith bytes at end (Some part) =
     (chunks_within bytes at end ≡ chunk_of bytes part ∷ chunks_within bytes part.next end) × (length (content_of bytes part) ≡ part.len)

@@ -1,7 +1,7 @@
 //! Reads of a device at a place, with an end to how often it is called.
 ghost use Rattle.std.specs.Prelude.{◌≡◌, ℕ, ◌+◌, ◌-◌, ◌^◌, ◌≤◌, ◌<◌, List, Some, length, min, take, drop, IfSome, IfOk, OnErr};
 ghost use Rattle.std.specs.Io.KnownBytes.{Consumes, IsAtEnd};
-ghost use Rattle.counted_devices.specs.Tally.{NoFewer};
+ghost use Rattle.counted_devices.specs.CallCounts.{NoFewer};
 ghost use Rattle.wave.specs.Devices.{FillsFrom, Ends, KeepsTo};
 
 use crate::fault::Unread;
@@ -12,8 +12,8 @@ pub const MAX_CALLS: u64 = 1 << 32;
 
 /// The device's count of calls at which a call that begins now gives up.
 pub(crate) fn last_call<M: Media>(media: &M) -> u64
-    ensures limit { result ≡ min ((M.tally media.now).calls + 2 ^ 32) (2 ^ 64 - 1) }
-    ensures room { (M.tally media.now).calls ≤ result }
+    ensures limit { result ≡ min ((M.call_counts media.now).calls + 2 ^ 32) (2 ^ 64 - 1) }
+    ensures room { (M.call_counts media.now).calls ≤ result }
 {
     media.calls().saturating_add(MAX_CALLS)
 }
@@ -22,9 +22,9 @@ pub(crate) fn last_call<M: Media>(media: &M) -> u64
 pub(crate) fn size<M: Media>(media: &mut M, limit: u64) -> Result<u64, Unread>
     ensures value { IfSome (M.all_bytes media.old) (λ bytes. IfOk result (λ n. n ≡ length bytes)) }
     ensures stays { M.all_bytes media.new ≡ M.all_bytes media.old }
-    ensures ends { OnErr result (Ends limit (M.tally media.old) (M.tally media.new)) }
-    ensures keeps { KeepsTo limit (M.tally media.old) (M.tally media.new) }
-    ensures calm { NoFewer (M.tally media.old) (M.tally media.new) }
+    ensures ends { OnErr result (Ends limit (M.call_counts media.old) (M.call_counts media.new)) }
+    ensures keeps { KeepsTo limit (M.call_counts media.old) (M.call_counts media.new) }
+    ensures calm { NoFewer (M.call_counts media.old) (M.call_counts media.new) }
 {
     if media.calls() >= limit {
         return Err(Unread);
@@ -45,9 +45,9 @@ pub(crate) fn read_at<M: Media>(
     ensures bound { IfOk result (λ n. n ≤ length buf.new) }
     ensures value { IfSome (M.all_bytes media.old) (λ bytes. IfOk result (λ n. FillsFrom bytes at n buf.new)) }
     ensures stays { M.all_bytes media.new ≡ M.all_bytes media.old }
-    ensures ends { OnErr result (Ends limit (M.tally media.old) (M.tally media.new)) }
-    ensures keeps { KeepsTo limit (M.tally media.old) (M.tally media.new) }
-    ensures calm { NoFewer (M.tally media.old) (M.tally media.new) }
+    ensures ends { OnErr result (Ends limit (M.call_counts media.old) (M.call_counts media.new)) }
+    ensures keeps { KeepsTo limit (M.call_counts media.old) (M.call_counts media.new) }
+    ensures calm { NoFewer (M.call_counts media.old) (M.call_counts media.new) }
 {
     seek(media, limit, at)?;
     fill(media, limit, buf)
@@ -56,9 +56,9 @@ pub(crate) fn read_at<M: Media>(
 fn seek<M: Media>(media: &mut M, limit: u64, at: u64) -> Result<(), Unread>
     ensures value { IfSome (M.all_bytes media.old) (λ bytes. IfOk result (λ _. M.remaining media.new ≡ Some (drop at bytes))) }
     ensures stays { M.all_bytes media.new ≡ M.all_bytes media.old }
-    ensures ends { OnErr result (Ends limit (M.tally media.old) (M.tally media.new)) }
-    ensures keeps { KeepsTo limit (M.tally media.old) (M.tally media.new) }
-    ensures calm { NoFewer (M.tally media.old) (M.tally media.new) }
+    ensures ends { OnErr result (Ends limit (M.call_counts media.old) (M.call_counts media.new)) }
+    ensures keeps { KeepsTo limit (M.call_counts media.old) (M.call_counts media.new) }
+    ensures calm { NoFewer (M.call_counts media.old) (M.call_counts media.new) }
 {
     if media.calls() >= limit {
         return Err(Unread);
@@ -75,9 +75,9 @@ fn fill<M: Media>(media: &mut M, limit: u64, buf: &mut [u8]) -> Result<usize, Un
     ensures bytes { IfOk result (λ n. Consumes (M.remaining media.old) (M.remaining media.new) (take n buf.new)) }
     ensures whole { IfOk result (λ n. n < length buf.new → IsAtEnd (M.remaining media.new)) }
     ensures stays { M.all_bytes media.new ≡ M.all_bytes media.old }
-    ensures ends { OnErr result (Ends limit (M.tally media.old) (M.tally media.new)) }
-    ensures keeps { KeepsTo limit (M.tally media.old) (M.tally media.new) }
-    ensures calm { NoFewer (M.tally media.old) (M.tally media.new) }
+    ensures ends { OnErr result (Ends limit (M.call_counts media.old) (M.call_counts media.new)) }
+    ensures keeps { KeepsTo limit (M.call_counts media.old) (M.call_counts media.new) }
+    ensures calm { NoFewer (M.call_counts media.old) (M.call_counts media.new) }
 {
     let mut got = 0;
     while got < buf.len() {

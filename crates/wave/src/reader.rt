@@ -1,6 +1,6 @@
 //! Frames of a file.
 ghost use Rattle.std.specs.Prelude.{◌≡◌, ◌⊎◌, ◌≤◌, ◌<◌, ◌+◌, ◌*◌, ◌^◌, length, take, drop, IfSome, IfOk, IfErr, IsErrOf};
-ghost use Rattle.counted_devices.specs.Tally.{NoFewer, HasFailed};
+ghost use Rattle.counted_devices.specs.CallCounts.{NoFewer, HasFailed};
 ghost use Rattle.wave.specs.Devices.{CalledTooOften};
 ghost use Rattle.wave.specs.Formats.{frames_of};
 ghost use Rattle.wave.specs.Meanings.{frames_in};
@@ -53,11 +53,11 @@ impl<R: Media> Reader<R> {
         ensures fault { IfErr result (λ fault. (fault ≡ WaveFault.ReadFault) ⊎ (fault ≡ WaveFault.NoMemory)) }
         // A fault of the device comes only where it failed, or was called too often, or its count is at its
         // greatest value.
-        ensures read_fault { IsErrOf result WaveFault.ReadFault → HasFailed (R.tally self.old.media) (R.tally self.new.media) ⊎ CalledTooOften (R.tally self.old.media) (R.tally self.new.media) }
-        ensures few_calls { (R.tally self.new.media).calls ≤ (R.tally self.old.media).calls + 2 ^ 32 }
+        ensures read_fault { IsErrOf result WaveFault.ReadFault → HasFailed (R.call_counts self.old.media) (R.call_counts self.new.media) ⊎ CalledTooOften (R.call_counts self.old.media) (R.call_counts self.new.media) }
+        ensures few_calls { (R.call_counts self.new.media).calls ≤ (R.call_counts self.old.media).calls + 2 ^ 32 }
         ensures head { self.new.head ≡ self.old.head }
         ensures stays { R.all_bytes self.new.media ≡ R.all_bytes self.old.media }
-        ensures calm { NoFewer (R.tally self.old.media) (R.tally self.new.media) }
+        ensures calm { NoFewer (R.call_counts self.old.media) (R.call_counts self.new.media) }
     {
         let limit = last_call(&self.media);
         let Layout { depth, channels } = self.head.layout;

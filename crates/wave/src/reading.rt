@@ -1,6 +1,6 @@
 //! Heads, read from files.
 ghost use Rattle.std.specs.Prelude.{length, ◌≡◌, ◌⊎◌, ◌≤◌, ◌+◌, ◌/◌, ◌^◌, ◌<◌, take, IfSome, IfOk, OnErr, IsErrOf};
-ghost use Rattle.counted_devices.specs.Tally.{NoFewer, HasFailed};
+ghost use Rattle.counted_devices.specs.CallCounts.{NoFewer, HasFailed};
 ghost use Rattle.wave.specs.Devices.{Ends, KeepsTo, CalledTooOften};
 ghost use Rattle.wave.specs.Formats.{block};
 ghost use Rattle.wave.specs.Waves.{is_riff, wave_of};
@@ -25,10 +25,10 @@ pub fn read_head<M: Media>(alloc: Global, media: &mut M, rate: u32) -> Result<He
     ensures value { IfSome (M.all_bytes media.old) (λ bytes. MeansWave bytes result (wave_of rate bytes)) }
     // A fault of the device comes only where it failed, or was called too often, or its count is at its
     // greatest value.
-    ensures read_fault { IsErrOf result WaveFault.ReadFault → HasFailed (M.tally media.old) (M.tally media.new) ⊎ CalledTooOften (M.tally media.old) (M.tally media.new) }
-    ensures few_calls { (M.tally media.new).calls ≤ (M.tally media.old).calls + 2 ^ 32 }
+    ensures read_fault { IsErrOf result WaveFault.ReadFault → HasFailed (M.call_counts media.old) (M.call_counts media.new) ⊎ CalledTooOften (M.call_counts media.old) (M.call_counts media.new) }
+    ensures few_calls { (M.call_counts media.new).calls ≤ (M.call_counts media.old).calls + 2 ^ 32 }
     ensures stays { M.all_bytes media.new ≡ M.all_bytes media.old }
-    ensures calm { NoFewer (M.tally media.old) (M.tally media.new) }
+    ensures calm { NoFewer (M.call_counts media.old) (M.call_counts media.new) }
 {
     let limit = last_call(media);
     let end = size(media, limit)?;
@@ -48,10 +48,10 @@ fn head_of_chunks<M: Media>(
 ) -> Result<Head, WaveFault>
     requires { IfSome (M.all_bytes media.old) (λ bytes. end ≤ length bytes) }
     ensures value { IfSome (M.all_bytes media.old) (λ bytes. MeansChunks rate bytes (chunks_within bytes 12 end) result) }
-    ensures ends { IsErrOf result WaveFault.ReadFault → Ends limit (M.tally media.old) (M.tally media.new) }
+    ensures ends { IsErrOf result WaveFault.ReadFault → Ends limit (M.call_counts media.old) (M.call_counts media.new) }
     ensures stays { M.all_bytes media.new ≡ M.all_bytes media.old }
-    ensures keeps { KeepsTo limit (M.tally media.old) (M.tally media.new) }
-    ensures calm { NoFewer (M.tally media.old) (M.tally media.new) }
+    ensures keeps { KeepsTo limit (M.call_counts media.old) (M.call_counts media.new) }
+    ensures calm { NoFewer (M.call_counts media.old) (M.call_counts media.new) }
 {
     let samples = find_samples(media, limit, end, rate)?;
     let texts = read_texts(alloc, media, limit, end)?;
@@ -63,9 +63,9 @@ fn head_of_chunks<M: Media>(
 fn is_riff_at<M: Media>(media: &mut M, limit: u64) -> Result<bool, Unread>
     ensures value { IfSome (M.all_bytes media.old) (λ bytes. IfOk result (λ found. found ≡ is_riff (take 12 bytes))) }
     ensures stays { M.all_bytes media.new ≡ M.all_bytes media.old }
-    ensures ends { OnErr result (Ends limit (M.tally media.old) (M.tally media.new)) }
-    ensures keeps { KeepsTo limit (M.tally media.old) (M.tally media.new) }
-    ensures calm { NoFewer (M.tally media.old) (M.tally media.new) }
+    ensures ends { OnErr result (Ends limit (M.call_counts media.old) (M.call_counts media.new)) }
+    ensures keeps { KeepsTo limit (M.call_counts media.old) (M.call_counts media.new) }
+    ensures calm { NoFewer (M.call_counts media.old) (M.call_counts media.new) }
 {
     let mut start = [0u8; 12];
     let n = read_at(media, limit, 0, &mut start)?;

@@ -1,7 +1,7 @@
 //! Where the samples of a file lie.
 ghost use Rattle.std.specs.Prelude.{◌≡◌, ◌==◌, ◌&&◌, ℕ, ◌≤◌, ◌+◌, List, ◌∷◌, length, take, true, false, IfErr, IfSome, IfOk, OnErr, IsErrOf, MatchResult, codes, is_none};
 ghost use Rattle.std.specs.Str.{bytes_eq};
-ghost use Rattle.counted_devices.specs.Tally.{NoFewer};
+ghost use Rattle.counted_devices.specs.CallCounts.{NoFewer};
 ghost use Rattle.wave.specs.Chunks.{Chunk};
 ghost use Rattle.wave.specs.Formats.{layout_of};
 ghost use Rattle.wave.specs.Waves.{sound_of};
@@ -12,7 +12,7 @@ ghost use Rattle.wave.specs.Heads.{Refuses, MeansSound, sound_after, missing};
 use crate::device::read_at;
 use crate::fault::{Unread, WaveFault};
 use crate::format::{Layout, layout_of};
-use crate::part::{Part, chunk_at};
+use crate::found_chunk::{FoundChunk, chunk_at};
 use counted_devices::Media;
 
 /// How samples lie in the data, and where the data lies.
@@ -34,10 +34,10 @@ pub(crate) fn find_samples<M: Media>(
     ensures value { IfSome (M.all_bytes media.old) (λ bytes. MeansSound bytes result (sound_of rate (chunks_within bytes 12 end))) }
     ensures within { IfOk result (λ found. found.place + found.len ≤ end) }
     ensures fault { IsErrOf result WaveFault.NoMemory → ⊥ }
-    ensures ends { IsErrOf result WaveFault.ReadFault → Ends limit (M.tally media.old) (M.tally media.new) }
+    ensures ends { IsErrOf result WaveFault.ReadFault → Ends limit (M.call_counts media.old) (M.call_counts media.new) }
     ensures stays { M.all_bytes media.new ≡ M.all_bytes media.old }
-    ensures keeps { KeepsTo limit (M.tally media.old) (M.tally media.new) }
-    ensures calm { NoFewer (M.tally media.old) (M.tally media.new) }
+    ensures keeps { KeepsTo limit (M.call_counts media.old) (M.call_counts media.new) }
+    ensures calm { NoFewer (M.call_counts media.old) (M.call_counts media.new) }
 {
     let mut at = 12;
     let mut layout: Option<Layout> = None;
@@ -62,7 +62,7 @@ fn missing(layout: Option<Layout>) -> WaveFault
 }
 
 /// The samples of the first data, after the chunks that gave a layout or none.
-fn samples_in(part: Part, layout: Option<Layout>) -> Result<Samples, WaveFault>
+fn samples_in(part: FoundChunk, layout: Option<Layout>) -> Result<Samples, WaveFault>
     requires { bytes_eq part.name (codes "data") ≡ true }
     ensures value { (bytes : List ℕ) (rate : ℕ) (more : List Chunk) → length (content_of bytes part) ≡ part.len
         → MeansSound bytes result (sound_after rate layout (chunk_of bytes part ∷ more)) }
@@ -80,7 +80,7 @@ fn samples_in(part: Part, layout: Option<Layout>) -> Result<Samples, WaveFault>
 }
 
 /// Whether a chunk is a whole format, with none before it.
-fn is_first_format(part: Part, layout: Option<Layout>) -> bool
+fn is_first_format(part: FoundChunk, layout: Option<Layout>) -> bool
     ensures { result ≡ (is_none layout && (bytes_eq part.name (codes "fmt ") && (part.len == part.size))) }
 {
     layout.is_none() && part.name == *b"fmt " && part.is_whole()
@@ -90,7 +90,7 @@ fn is_first_format(part: Part, layout: Option<Layout>) -> bool
 fn layout_after<M: Media>(
     media: &mut M,
     limit: u64,
-    part: Part,
+    part: FoundChunk,
     layout: Option<Layout>,
     rate: u32,
 ) -> Result<Option<Layout>, WaveFault>
@@ -100,10 +100,10 @@ fn layout_after<M: Media>(
         (λ next. sound_after rate layout (chunk_of bytes part ∷ more) ≡ sound_after rate next more)
         (λ fault. Refuses fault (sound_after rate layout (chunk_of bytes part ∷ more)))) }
     ensures fault { IsErrOf result WaveFault.NoMemory → ⊥ }
-    ensures ends { IsErrOf result WaveFault.ReadFault → Ends limit (M.tally media.old) (M.tally media.new) }
+    ensures ends { IsErrOf result WaveFault.ReadFault → Ends limit (M.call_counts media.old) (M.call_counts media.new) }
     ensures stays { M.all_bytes media.new ≡ M.all_bytes media.old }
-    ensures keeps { KeepsTo limit (M.tally media.old) (M.tally media.new) }
-    ensures calm { NoFewer (M.tally media.old) (M.tally media.new) }
+    ensures keeps { KeepsTo limit (M.call_counts media.old) (M.call_counts media.new) }
+    ensures calm { NoFewer (M.call_counts media.old) (M.call_counts media.new) }
 {
     if !is_first_format(part, layout) {
         return Ok(layout);
@@ -118,14 +118,14 @@ fn layout_after<M: Media>(
 fn layout_at<M: Media>(
     media: &mut M,
     limit: u64,
-    part: Part,
+    part: FoundChunk,
     rate: u32,
 ) -> Result<Option<Layout>, Unread>
     ensures value { IfSome (M.all_bytes media.old) (λ bytes. IfOk result (λ found. found ≡ layout_of rate (take 40 (content_of bytes part)))) }
     ensures stays { M.all_bytes media.new ≡ M.all_bytes media.old }
-    ensures ends { OnErr result (Ends limit (M.tally media.old) (M.tally media.new)) }
-    ensures keeps { KeepsTo limit (M.tally media.old) (M.tally media.new) }
-    ensures calm { NoFewer (M.tally media.old) (M.tally media.new) }
+    ensures ends { OnErr result (Ends limit (M.call_counts media.old) (M.call_counts media.new)) }
+    ensures keeps { KeepsTo limit (M.call_counts media.old) (M.call_counts media.new) }
+    ensures calm { NoFewer (M.call_counts media.old) (M.call_counts media.new) }
 {
     let mut content = [0u8; 40];
     let n = read_at(media, limit, part.place, &mut content)?;

@@ -1,7 +1,7 @@
 //! The texts in the lists of a file.
 ghost use Rattle.std.specs.Prelude.{◌≡◌, ◌==◌, ◌&&◌, nat_le, codes, ◌≤◌, ◌<◌, ◌^◌, ◌+◌, List, ◌∷◌, ◌++◌, true, length, IfSome, IfOk, IfErr, OnErr};
 ghost use Rattle.std.specs.Str.{bytes_eq};
-ghost use Rattle.counted_devices.specs.Tally.{NoFewer};
+ghost use Rattle.counted_devices.specs.CallCounts.{NoFewer};
 ghost use Rattle.wave.specs.Chunks.{Chunk};
 ghost use Rattle.wave.specs.Texts.{is_info, items};
 ghost use Rattle.wave.specs.Devices.{Ends, KeepsTo, IsOutside};
@@ -10,7 +10,7 @@ ghost use Rattle.wave.specs.Found.{text_in, no_texts, joined};
 
 use crate::device::read_at;
 use crate::fault::{Unread, WaveFault};
-use crate::part::{Part, chunk_at};
+use crate::found_chunk::{FoundChunk, chunk_at};
 use crate::tag::{MAX_TEXT, Texts, tag_of, text_in};
 use counted_devices::Media;
 use mpd_text::Text;
@@ -25,10 +25,10 @@ pub(crate) fn read_texts<M: Media>(
 ) -> Result<Texts, WaveFault>
     requires { IfSome (M.all_bytes media.old) (λ bytes. end ≤ length bytes) }
     ensures value { IfSome (M.all_bytes media.old) (λ bytes. IfOk result (λ texts. texts ≡ joined no_texts (items (chunks_within bytes 12 end)))) }
-    ensures fault { IfErr result (IsOutside limit (M.tally media.old) (M.tally media.new)) }
+    ensures fault { IfErr result (IsOutside limit (M.call_counts media.old) (M.call_counts media.new)) }
     ensures stays { M.all_bytes media.new ≡ M.all_bytes media.old }
-    ensures keeps { KeepsTo limit (M.tally media.old) (M.tally media.new) }
-    ensures calm { NoFewer (M.tally media.old) (M.tally media.new) }
+    ensures keeps { KeepsTo limit (M.call_counts media.old) (M.call_counts media.new) }
+    ensures calm { NoFewer (M.call_counts media.old) (M.call_counts media.new) }
 {
     let mut texts = Texts::none();
     let mut at = 12;
@@ -42,21 +42,21 @@ pub(crate) fn read_texts<M: Media>(
 }
 
 /// Whether a chunk is a whole list with room for its kind.
-fn may_be_list(part: Part) -> bool
+fn may_be_list(part: FoundChunk) -> bool
     ensures { result ≡ (bytes_eq part.name (codes "LIST") && (part.len == part.size) && nat_le 4 part.len) }
 {
     part.name == *b"LIST" && part.is_whole() && part.len >= 4
 }
 
 /// Whether a chunk is a whole list of texts.
-fn is_list<M: Media>(media: &mut M, limit: u64, part: Part) -> Result<bool, Unread>
+fn is_list<M: Media>(media: &mut M, limit: u64, part: FoundChunk) -> Result<bool, Unread>
     requires { IfSome (M.all_bytes media.old) (λ bytes. length (content_of bytes part) ≡ part.len) }
     ensures value { IfSome (M.all_bytes media.old) (λ bytes. IfOk result (λ found. found ≡ is_info (chunk_of bytes part))) }
     ensures long { IfOk result (λ found. found ≡ true → 4 ≤ part.len) }
     ensures stays { M.all_bytes media.new ≡ M.all_bytes media.old }
-    ensures ends { OnErr result (Ends limit (M.tally media.old) (M.tally media.new)) }
-    ensures keeps { KeepsTo limit (M.tally media.old) (M.tally media.new) }
-    ensures calm { NoFewer (M.tally media.old) (M.tally media.new) }
+    ensures ends { OnErr result (Ends limit (M.call_counts media.old) (M.call_counts media.new)) }
+    ensures keeps { KeepsTo limit (M.call_counts media.old) (M.call_counts media.new) }
+    ensures calm { NoFewer (M.call_counts media.old) (M.call_counts media.new) }
 {
     if !may_be_list(part) {
         return Ok(false);
@@ -71,7 +71,7 @@ fn read_list<M: Media>(
     alloc: Global,
     media: &mut M,
     limit: u64,
-    list: Part,
+    list: FoundChunk,
     mut texts: Texts,
 ) -> Result<Texts, WaveFault>
     requires long { 4 ≤ list.len }
@@ -79,10 +79,10 @@ fn read_list<M: Media>(
     requires fits { list.place + list.len < 2 ^ 64 }
     ensures value { IfSome (M.all_bytes media.old) (λ bytes. IfOk result (λ next. (more : List Chunk) →
         joined next more ≡ joined texts (chunks_within bytes (list.place + 4) (list.place + list.len) ++ more))) }
-    ensures fault { IfErr result (IsOutside limit (M.tally media.old) (M.tally media.new)) }
+    ensures fault { IfErr result (IsOutside limit (M.call_counts media.old) (M.call_counts media.new)) }
     ensures stays { M.all_bytes media.new ≡ M.all_bytes media.old }
-    ensures keeps { KeepsTo limit (M.tally media.old) (M.tally media.new) }
-    ensures calm { NoFewer (M.tally media.old) (M.tally media.new) }
+    ensures keeps { KeepsTo limit (M.call_counts media.old) (M.call_counts media.new) }
+    ensures calm { NoFewer (M.call_counts media.old) (M.call_counts media.new) }
 {
     let end = list.place + list.len;
     let mut at = list.place + 4;
@@ -98,15 +98,15 @@ fn take_item<M: Media>(
     alloc: Global,
     media: &mut M,
     limit: u64,
-    item: Part,
+    item: FoundChunk,
     texts: Texts,
 ) -> Result<Texts, WaveFault>
     requires { IfSome (M.all_bytes media.old) (λ bytes. length (content_of bytes item) ≡ item.len) }
     ensures value { IfSome (M.all_bytes media.old) (λ bytes. IfOk result (λ next. (more : List Chunk) → joined next more ≡ joined texts (chunk_of bytes item ∷ more))) }
-    ensures fault { IfErr result (IsOutside limit (M.tally media.old) (M.tally media.new)) }
+    ensures fault { IfErr result (IsOutside limit (M.call_counts media.old) (M.call_counts media.new)) }
     ensures stays { M.all_bytes media.new ≡ M.all_bytes media.old }
-    ensures keeps { KeepsTo limit (M.tally media.old) (M.tally media.new) }
-    ensures calm { NoFewer (M.tally media.old) (M.tally media.new) }
+    ensures keeps { KeepsTo limit (M.call_counts media.old) (M.call_counts media.new) }
+    ensures calm { NoFewer (M.call_counts media.old) (M.call_counts media.new) }
 {
     let Some(tag) = tag_of(item.name) else {
         return Ok(texts);
@@ -125,13 +125,13 @@ fn text_at<M: Media>(
     alloc: Global,
     media: &mut M,
     limit: u64,
-    item: Part,
+    item: FoundChunk,
 ) -> Result<Option<Text>, WaveFault>
     ensures value { IfSome (M.all_bytes media.old) (λ bytes. IfOk result (λ found. found ≡ text_in (content_of bytes item))) }
-    ensures fault { IfErr result (IsOutside limit (M.tally media.old) (M.tally media.new)) }
+    ensures fault { IfErr result (IsOutside limit (M.call_counts media.old) (M.call_counts media.new)) }
     ensures stays { M.all_bytes media.new ≡ M.all_bytes media.old }
-    ensures keeps { KeepsTo limit (M.tally media.old) (M.tally media.new) }
-    ensures calm { NoFewer (M.tally media.old) (M.tally media.new) }
+    ensures keeps { KeepsTo limit (M.call_counts media.old) (M.call_counts media.new) }
+    ensures calm { NoFewer (M.call_counts media.old) (M.call_counts media.new) }
 {
     let mut content = [0u8; MAX_TEXT + 1];
     let n = read_at(media, limit, item.place, &mut content)?;

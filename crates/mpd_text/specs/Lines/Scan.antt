@@ -2,8 +2,8 @@
 use Rattle.std.specs.Prelude.{ℕ, ◌+◌, List, [], ◌∷◌, ◌++◌, Bool, not, ◌||◌, ◌&&◌, ◌==◌, nat_lt, if◌then◌else◌, Result, Ok, Err}
 use Rattle.mpd_text.specs.declared.lines.quoting.WordsFault.{WordsFault}
 use Rattle.mpd_text.specs.declared.lines.quoting.WordsFault.TheVariants.{BadUnquoted, NoClosingQuote, NoSpaceAfterQuote, TooMany}
-use Rattle.mpd_text.specs.declared.lines.quoting.Place.{Place}
-use Rattle.mpd_text.specs.declared.lines.quoting.Place.TheVariants.{Between, Bare, Quoted, Escaped, Closed}
+use Rattle.mpd_text.specs.declared.lines.quoting.QuotingState.{QuotingState}
+use Rattle.mpd_text.specs.declared.lines.quoting.QuotingState.TheVariants.{Between, Bare, Quoted, Escaped, Closed}
 
 -- a space or a tab
 abbrev pub is_blank : ℕ → Bool
@@ -18,7 +18,7 @@ after words (Ok more) = Ok (words ++ more)
 after words (Err fault) = Err fault
 
 -- what the rest of a line gives at a place, after so many words and the start of one
-unfoldable pub scan : Place → ℕ → List ℕ → List ℕ → Result (List (List ℕ)) WordsFault
+unfoldable pub scan : QuotingState → ℕ → List ℕ → List ℕ → Result (List (List ℕ)) WordsFault
 scan Between count word [] = Ok []
 scan Between count word (b ∷ bs) =
     if is_blank b then scan Between count word bs

@@ -14,7 +14,7 @@ texts_of words = map string_bytes words.items
 
 -- what a line gives that is read so far and has this rest
 unfoldable pub outcome : Reading → List ℕ → Result (List (List ℕ)) WordsFault
-outcome reading rest = after (bytes_of reading.words) (scan reading.place (length reading.words.items) reading.word.items rest)
+outcome reading rest = after (bytes_of reading.words) (scan reading.state (length reading.words.items) reading.word.items rest)
 
 -- the fault is the one that comes, unless memory ran out
 abbrev pub Refuses : WordsFault → Result (List (List ℕ)) WordsFault → Type 0

@@ -47,7 +47,7 @@ impl<T: Drop> From<AllocFailed<T>> for WordsFault {
 
 /// What the next byte of a line is part of.
 #[derive(Clone, Copy)]
-enum Place {
+enum QuotingState {
     Between,
     Bare,
     Quoted,
@@ -60,7 +60,7 @@ enum Place {
 struct Reading {
     words: Vec<Vec<u8>>,
     word: Vec<u8>,
-    place: Place,
+    state: QuotingState,
 }
 
 impl Reading {
@@ -70,8 +70,8 @@ impl Reading {
         ensures ok { OnOk result ((rest : List ℕ) → outcome self.old (b ∷ rest) ≡ outcome self.new rest) }
         ensures err { IfErr result (λ fault. (rest : List ℕ) → Refuses fault (outcome self.old (b ∷ rest))) }
     {
-        match self.place {
-            Place::Between => {
+        match self.state {
+            QuotingState::Between => {
                 if is_blank(b) {
                     return Ok(());
                 }
@@ -79,15 +79,15 @@ impl Reading {
                     return Err(WordsFault::TooMany);
                 }
                 if b == b'"' {
-                    self.place = Place::Quoted;
+                    self.state = QuotingState::Quoted;
                 } else if is_bare(b) {
                     self.word.push(b)?;
-                    self.place = Place::Bare;
+                    self.state = QuotingState::Bare;
                 } else {
                     return Err(WordsFault::BadUnquoted);
                 }
             }
-            Place::Bare => {
+            QuotingState::Bare => {
                 if is_blank(b) {
                     self.end_word(alloc)?;
                 } else if is_bare(b) {
@@ -96,20 +96,20 @@ impl Reading {
                     return Err(WordsFault::BadUnquoted);
                 }
             }
-            Place::Quoted => {
+            QuotingState::Quoted => {
                 if b == b'"' {
-                    self.place = Place::Closed;
+                    self.state = QuotingState::Closed;
                 } else if b == b'\\' {
-                    self.place = Place::Escaped;
+                    self.state = QuotingState::Escaped;
                 } else {
                     self.word.push(b)?;
                 }
             }
-            Place::Escaped => {
+            QuotingState::Escaped => {
                 self.word.push(b)?;
-                self.place = Place::Quoted;
+                self.state = QuotingState::Quoted;
             }
-            Place::Closed => {
+            QuotingState::Closed => {
                 if !is_blank(b) {
                     return Err(WordsFault::NoSpaceAfterQuote);
                 }
@@ -123,11 +123,11 @@ impl Reading {
     fn end_word(&mut self, alloc: Global) -> Result<(), AllocError>
         ensures words { OnOk result (self.new.words.items ≡ self.old.words.items ++ self.old.word ∷ []) }
         ensures word { OnOk result (self.new.word.items ≡ []) }
-        ensures place { OnOk result (self.new.place ≡ Place.Between) }
+        ensures state { OnOk result (self.new.state ≡ QuotingState.Between) }
     {
         let word = mem::replace(&mut self.word, Vec::new(alloc));
         self.words.push(word)?;
-        self.place = Place::Between;
+        self.state = QuotingState::Between;
         Ok(())
     }
 
@@ -136,13 +136,13 @@ impl Reading {
     fn finish(mut self, alloc: Global) -> Result<Vec<Vec<u8>>, WordsFault>
         ensures { Gives bytes_of result (outcome self []) }
     {
-        match self.place {
-            Place::Between => Ok(self.words),
-            Place::Bare | Place::Closed => {
+        match self.state {
+            QuotingState::Between => Ok(self.words),
+            QuotingState::Bare | QuotingState::Closed => {
                 self.end_word(alloc)?;
                 Ok(self.words)
             }
-            Place::Quoted | Place::Escaped => Err(WordsFault::NoClosingQuote),
+            QuotingState::Quoted | QuotingState::Escaped => Err(WordsFault::NoClosingQuote),
         }
     }
 }
@@ -204,7 +204,7 @@ fn raw_words(alloc: Global, line: &[u8]) -> Result<Vec<Vec<u8>>, WordsFault>
     let mut reading = Reading {
         words: Vec::new(alloc),
         word: Vec::new(alloc),
-        place: Place::Between,
+        state: QuotingState::Between,
     };
     for b in line {
         reading.take(alloc, *b)?;

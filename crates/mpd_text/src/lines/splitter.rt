@@ -128,7 +128,7 @@ fn split_after(alloc: Global, partial: &mut Vec<u8>, piece: &[u8]) -> Result<Vec
         return Ok(Vec::new(alloc));
     }
     let first = joined_line(alloc, partial.as_slice(), &piece[..end])?;
-    let Parts { lines, next } = split_lines(alloc, first, &piece[end + 1..])?;
+    let SplitLines { lines, next } = split_lines(alloc, first, &piece[end + 1..])?;
     match next {
         Some(next) => {
             *partial = next;
@@ -140,13 +140,13 @@ fn split_after(alloc: Global, partial: &mut Vec<u8>, piece: &[u8]) -> Result<Vec
 
 /// The lines of a stream, up to one that is too long, and what has come of the next.
 #[derive(Drop)]
-struct Parts {
+struct SplitLines {
     lines: Vec<Line>,
     next: Option<Vec<u8>>,
 }
 
 /// A line, and after it those of a stream, which begins with a line.
-fn split_lines(alloc: Global, first: Line, stream: &[u8]) -> Result<Parts, AllocError>
+fn split_lines(alloc: Global, first: Line, stream: &[u8]) -> Result<SplitLines, AllocError>
     ensures lines { IfOk result (λ parts. views parts.lines.items ≡ view first ∷ map line_of (split stream.now).lines) }
     ensures next { IfOk result (λ parts. next_of parts.next ≡ (split stream.now).next) }
     ensures start { IfOk result (λ parts. AreStart (next_of parts.next)) }
@@ -157,16 +157,16 @@ fn split_lines(alloc: Global, first: Line, stream: &[u8]) -> Result<Parts, Alloc
     let mut end = newline_from(stream, 0);
     while end < stream.len() {
         if end - start > MAX_LINE {
-            return Ok(Parts { lines, next: None });
+            return Ok(SplitLines { lines, next: None });
         }
         lines.push(line_from(alloc, &stream[start..end])?)?;
         start = end + 1;
         end = newline_from(stream, start);
     }
     if end - start > MAX_LINE {
-        return Ok(Parts { lines, next: None });
+        return Ok(SplitLines { lines, next: None });
     }
-    Ok(Parts {
+    Ok(SplitLines {
         lines,
         next: Some(Vec::from_slice(alloc, &stream[start..])?),
     })

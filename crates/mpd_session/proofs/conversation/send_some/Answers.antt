@@ -21,16 +21,16 @@ loop-count-preserved g c =
 pub returns-in-Ok-eq0-clause-failed : goal.returns-in-Ok-eq0-clause-failed
 returns-in-Ok-eq0-clause-failed g c = λ e.
     let none : c.in-Ok-eq0.field-0 ≡ 0 = search rules in
-    later (g.O.Failing.tally c.args.writer.now) (g.O.Failing.tally c.loop-count.writer) (g.O.Failing.tally c.write_some.new.self) c.loop-count.invariant.2
-    (one_failed (g.O.Failing.tally c.loop-count.writer) (g.O.Failing.tally c.write_some.new.self) (c.in-Ok-eq0.ensures.counts.1 (none, rest_some c.args.bytes.now c.loop-count.count c.loop-count-test.true)))
+    later (g.O.Failing.call_counts c.args.writer.now) (g.O.Failing.call_counts c.loop-count.writer) (g.O.Failing.call_counts c.write_some.new.self) c.loop-count.invariant.2
+    (one_failed (g.O.Failing.call_counts c.loop-count.writer) (g.O.Failing.call_counts c.write_some.new.self) (c.in-Ok-eq0.ensures.counts.1 (none, rest_some c.args.bytes.now c.loop-count.count c.loop-count-test.true)))
 
 pub returns-in-Ok-eq0-clause-calm : goal.returns-in-Ok-eq0-clause-calm
 returns-in-Ok-eq0-clause-calm g c = grows c.loop-count.invariant.2 c.in-Ok-eq0.ensures.calm.0
 
 pub returns-in-Err-clause-failed : goal.returns-in-Err-clause-failed
 returns-in-Err-clause-failed g c = λ e.
-    later (g.O.Failing.tally c.args.writer.now) (g.O.Failing.tally c.loop-count.writer) (g.O.Failing.tally c.write_some.new.self) c.loop-count.invariant.2
-    (one_failed (g.O.Failing.tally c.loop-count.writer) (g.O.Failing.tally c.write_some.new.self) (c.in-Err.ensures.counts.1 (λ w. c.is_failure-failed.ensures e (c.kind.ensures ∙ w))))
+    later (g.O.Failing.call_counts c.args.writer.now) (g.O.Failing.call_counts c.loop-count.writer) (g.O.Failing.call_counts c.write_some.new.self) c.loop-count.invariant.2
+    (one_failed (g.O.Failing.call_counts c.loop-count.writer) (g.O.Failing.call_counts c.write_some.new.self) (c.in-Err.ensures.counts.1 (λ w. c.is_failure-failed.ensures e (c.kind.ensures ∙ w))))
 
 pub returns-in-Err-clause-calm : goal.returns-in-Err-clause-calm
 returns-in-Err-clause-calm g c = grows c.loop-count.invariant.2 c.in-Err.ensures.calm.0

@@ -39,16 +39,16 @@ returns-clause-turns g c =
     c.run.ensures.runs
 
 pub returns-in_err-settle-clause-blamed : goal.returns-in_err-settle-clause-blamed
-returns-in_err-settle-clause-blamed g c = open_blames_none _ (g.I.Failing.tally c.args.reader.now) (g.I.Failing.tally c.args.reader.now) (g.O.Failing.tally c.args.writer.now) (g.O.Failing.tally c.args.writer.now) (ap (λ (h : Held). h.ended) c.settle.ensures.held ∙ c.requires.goes)
+returns-in_err-settle-clause-blamed g c = open_blames_none _ (g.I.Failing.call_counts c.args.reader.now) (g.I.Failing.call_counts c.args.reader.now) (g.O.Failing.call_counts c.args.writer.now) (g.O.Failing.call_counts c.args.writer.now) (ap (λ (h : Held). h.ended) c.settle.ensures.held ∙ c.requires.goes)
 
 pub returns-in_err-tell-clause-blamed : goal.returns-in_err-tell-clause-blamed
-returns-in_err-tell-clause-blamed g c = open_blames_none _ (g.I.Failing.tally c.args.reader.now) (g.I.Failing.tally c.args.reader.now) (g.O.Failing.tally c.args.writer.now) (g.O.Failing.tally c.args.writer.now) (ap (λ s. (held_of s).ended) c.tell.ensures.frame ∙ ap (λ (h : Held). h.ended) c.settle.ensures.held ∙ c.requires.goes)
+returns-in_err-tell-clause-blamed g c = open_blames_none _ (g.I.Failing.call_counts c.args.reader.now) (g.I.Failing.call_counts c.args.reader.now) (g.O.Failing.call_counts c.args.writer.now) (g.O.Failing.call_counts c.args.writer.now) (ap (λ s. (held_of s).ended) c.tell.ensures.frame ∙ ap (λ (h : Held). h.ended) c.settle.ensures.held ∙ c.requires.goes)
 
 pub returns-in_err-take_in-clause-blamed : goal.returns-in_err-take_in-clause-blamed
-returns-in_err-take_in-clause-blamed g c = reader_blames _ (g.I.Failing.tally c.args.reader.now) (g.I.Failing.tally c.take_in.new.reader) (g.O.Failing.tally c.args.writer.now) (g.O.Failing.tally c.args.writer.now) c.take_in.ensures.blamed
+returns-in_err-take_in-clause-blamed g c = reader_blames _ (g.I.Failing.call_counts c.args.reader.now) (g.I.Failing.call_counts c.take_in.new.reader) (g.O.Failing.call_counts c.args.writer.now) (g.O.Failing.call_counts c.args.writer.now) c.take_in.ensures.blamed
 
 pub returns-then-is_some-clause-blamed : goal.returns-then-is_some-clause-blamed
-returns-then-is_some-clause-blamed g c = reader_blames _ (g.I.Failing.tally c.args.reader.now) (g.I.Failing.tally c.take_in.new.reader) (g.O.Failing.tally c.args.writer.now) (g.O.Failing.tally c.args.writer.now) c.take_in.ensures.blamed
+returns-then-is_some-clause-blamed g c = reader_blames _ (g.I.Failing.call_counts c.args.reader.now) (g.I.Failing.call_counts c.take_in.new.reader) (g.O.Failing.call_counts c.args.writer.now) (g.O.Failing.call_counts c.args.writer.now) c.take_in.ensures.blamed
 
 pub returns-clause-blamed : goal.returns-clause-blamed
-returns-clause-blamed g c = writer_blames _ (g.I.Failing.tally c.args.reader.now) (g.I.Failing.tally c.take_in.new.reader) (g.O.Failing.tally c.args.writer.now) (g.O.Failing.tally c.run.new.writer) c.run.ensures.blamed
+returns-clause-blamed g c = writer_blames _ (g.I.Failing.call_counts c.args.reader.now) (g.I.Failing.call_counts c.take_in.new.reader) (g.O.Failing.call_counts c.args.writer.now) (g.O.Failing.call_counts c.run.new.writer) c.run.ensures.blamed

@@ -33,7 +33,7 @@ loop-self-preserved-then-as_slice-gt-MAX_UNSENT g c =
       search rules,
       ap (λ s. s.asker) c.send.ensures.frame ∙ c.step.ensures.asker ∙ c.loop-self.invariant.2,
       grows c.loop-self.invariant.3 c.send.ensures.calm,
-      sent_blames _ _ (held_of c.step.new.self).unsent (held_of c.send.new.self).unsent (g.O.Failing.tally c.args.writer.now) (g.O.Failing.tally c.loop-self.writer) (g.O.Failing.tally c.send.new.writer) c.step.ensures.blameless c.send.ensures.sends.2 c.send.ensures.failed c.loop-self.invariant.3,
+      sent_blames _ _ (held_of c.step.new.self).unsent (held_of c.send.new.self).unsent (g.O.Failing.call_counts c.args.writer.now) (g.O.Failing.call_counts c.loop-self.writer) (g.O.Failing.call_counts c.send.new.writer) c.step.ensures.blameless c.send.ensures.sends.2 c.send.ensures.failed c.loop-self.invariant.3,
       λ none. ap (λ s. is_over s.gatherer) c.send.ensures.frame ∙ c.step.ensures.open (c.send.ensures.stays none),
     )
 

@@ -10,8 +10,8 @@ invariant-loop-self g l =
     Runs (Answers g.S.Shelf.standing g.S.Shelf.failed l.initial.self.asker) (held_of l.initial.self) (caller l.initial.seat l.initial.shelf) (g.O.Write.contents l.initial.writer) (held_of l.self) (caller l.seat l.shelf) (g.O.Write.contents l.writer)
     × (owed_bytes l.self.owed ≡ [])
     × (l.self.asker ≡ l.initial.self.asker)
-    × ((g.O.Failing.tally l.initial.writer).failures ≤ (g.O.Failing.tally l.writer).failures)
-    × BlamesWriter l.self.ended (g.O.Failing.tally l.initial.writer) (g.O.Failing.tally l.writer)
+    × ((g.O.Failing.call_counts l.initial.writer).failures ≤ (g.O.Failing.call_counts l.writer).failures)
+    × BlamesWriter l.self.ended (g.O.Failing.call_counts l.initial.writer) (g.O.Failing.call_counts l.writer)
     × (l.self.ended ≡ None → is_over l.self.gatherer ≡ false)
 
 abbrev pub decreases-loop-self : goal.decreases-loop-self

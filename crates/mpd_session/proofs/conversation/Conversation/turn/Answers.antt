@@ -15,7 +15,7 @@ returns-clause-turns g c =
 
 pub returns-clause-blamed : goal.returns-clause-blamed
 returns-clause-blamed g c = λ e.
-    turn_blames _ _ (held_of c.hear-heard.new.self).unsent (held_of c.send-2.new.self).unsent (g.I.Failing.tally c.args.reader.now) (g.I.Failing.tally c.hear-heard.new.reader) (g.O.Failing.tally c.args.writer.now) (g.O.Failing.tally c.hear-heard.new.writer) (g.O.Failing.tally c.send-2.new.writer) c.hear-heard.ensures.blamed c.send-2.ensures.sends.2 c.send-2.ensures.failed c.hear-heard.ensures.calm c.send-2.ensures.calm
+    turn_blames _ _ (held_of c.hear-heard.new.self).unsent (held_of c.send-2.new.self).unsent (g.I.Failing.call_counts c.args.reader.now) (g.I.Failing.call_counts c.hear-heard.new.reader) (g.O.Failing.call_counts c.args.writer.now) (g.O.Failing.call_counts c.hear-heard.new.writer) (g.O.Failing.call_counts c.send-2.new.writer) c.hear-heard.ensures.blamed c.send-2.ensures.sends.2 c.send-2.ensures.failed c.hear-heard.ensures.calm c.send-2.ensures.calm
 
 pub returns-clause-within : goal.returns-clause-within
 returns-clause-within g c = λ on.

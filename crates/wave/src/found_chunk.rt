@@ -1,6 +1,6 @@
 //! Chunks, and where they lie.
 ghost use Rattle.std.specs.Prelude.{◌≡◌, ◌==◌, ℕ, ◌+◌, ◌≤◌, ◌<◌, List, Some, length, take, drop, IfSome, IfOk, OnErr};
-ghost use Rattle.counted_devices.specs.Tally.{NoFewer};
+ghost use Rattle.counted_devices.specs.CallCounts.{NoFewer};
 ghost use Rattle.wave.specs.Chunks.{Chunk, AreChunks, chunks};
 ghost use Rattle.wave.specs.Devices.{Ends, KeepsTo};
 ghost use Rattle.wave.specs.Parts.{IsHeader, StartsWith};
@@ -18,7 +18,7 @@ pub(crate) struct Header {
 
 /// A chunk, and where it lies in the bytes of its file.
 #[derive(Clone, Copy)]
-pub(crate) struct Part {
+pub(crate) struct FoundChunk {
     pub(crate) name: [u8; 4],
     /// The size of its content as it is written.
     pub(crate) size: u32,
@@ -30,7 +30,7 @@ pub(crate) struct Part {
     pub(crate) next: u64,
 }
 
-impl Part {
+impl FoundChunk {
     /// Whether nothing of its content is cut off.
     pub(crate) fn is_whole(self) -> bool
         ensures { result ≡ (self.len == self.size) }
@@ -54,7 +54,7 @@ fn header_of(bytes: &[u8]) -> Option<Header>
 }
 
 /// The chunk that begins at a place, of bytes that go up to an end.
-fn part_of(header: Header, at: u64, end: u64) -> Part
+fn part_of(header: Header, at: u64, end: u64) -> FoundChunk
     requires { at + 8 ≤ end }
     ensures starts { (bytes : List ℕ) → end ≤ length bytes → IsHeader (take 8 (drop at bytes)) (Some header) → StartsWith bytes at end (Some result) }
     ensures within { result.place + result.len ≤ end }
@@ -63,7 +63,7 @@ fn part_of(header: Header, at: u64, end: u64) -> Part
     let Header { name, size } = header;
     let place = at + 8;
     let long = u64::from(size);
-    Part {
+    FoundChunk {
         name,
         size,
         place,
@@ -78,15 +78,15 @@ pub(crate) fn chunk_at<M: Media>(
     limit: u64,
     at: u64,
     end: u64,
-) -> Result<Option<Part>, Unread>
+) -> Result<Option<FoundChunk>, Unread>
     requires { IfSome (M.all_bytes media.old) (λ bytes. end ≤ length bytes) }
     ensures value { IfSome (M.all_bytes media.old) (λ bytes. IfOk result (StartsWith bytes at end)) }
     ensures within { IfOk result (λ found. IfSome found (λ part. part.place + part.len ≤ end)) }
     ensures onward { IfOk result (λ found. IfSome found (λ part. (at < part.next) × (at < end))) }
     ensures stays { M.all_bytes media.new ≡ M.all_bytes media.old }
-    ensures ends { OnErr result (Ends limit (M.tally media.old) (M.tally media.new)) }
-    ensures keeps { KeepsTo limit (M.tally media.old) (M.tally media.new) }
-    ensures calm { NoFewer (M.tally media.old) (M.tally media.new) }
+    ensures ends { OnErr result (Ends limit (M.call_counts media.old) (M.call_counts media.new)) }
+    ensures keeps { KeepsTo limit (M.call_counts media.old) (M.call_counts media.new) }
+    ensures calm { NoFewer (M.call_counts media.old) (M.call_counts media.new) }
 {
     if end.saturating_sub(at) < 8 {
         return Ok(None);

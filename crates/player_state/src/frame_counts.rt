@@ -5,7 +5,7 @@ ghost use Rattle.player_state.specs.declared.report.Report.TheVariants.{Nothing}
 ghost use Rattle.std.specs.Prelude.{◌≡◌, ◌+◌, ◌==◌, true, ℕ, if◌then◌else◌, length, map, slice_index_or};
 ghost use Rattle.std.specs.List.{range_with_len};
 ghost use Rattle.player_state.specs.declared.report.Report.{Report};
-ghost use Rattle.player_state.specs.Books.{IsBooked, IsCounted};
+ghost use Rattle.player_state.specs.FrameCounts.{IsBooked, IsCounted};
 ghost use Rattle.player_state.specs.Effects.{report_after};
 ghost use Rattle.player_state.specs.Outputs.{OutputsData, can_count_all, books_after as books_after_lem, discarded_by, empty_books, frames_fed as frames_fed_lem, is_enabled, total as total_lem, written_by};
 
@@ -22,13 +22,13 @@ type Numbers = [u64; 8];
 
 /// How many frames each of eight outputs was given, wrote and discarded. A clause sees the numbers.
 #[derive(Drop)]
-pub struct Books {
+pub struct FrameCounts {
     decoded: Numbers,
     written: Numbers,
     discarded: Numbers,
 }
 
-impl Model for Books {
+impl Model for FrameCounts {
     ghost use Rattle.std.specs.Prelude.{◌≡◌, length, true};
     ghost use Rattle.player_state.specs.Outputs.{FrameBooks, can_count};
 
@@ -40,21 +40,21 @@ impl Model for Books {
         × (can_count b.decoded ≡ true) × (can_count b.written ≡ true) × (can_count b.discarded ≡ true) };
 }
 
-impl Books {
-    pub fn empty() -> Books
+impl FrameCounts {
+    pub fn empty() -> FrameCounts
         ensures { result ≡ empty_books }
     {
-        Books {
+        FrameCounts {
             decoded: [0; 8],
             written: [0; 8],
             discarded: [0; 8],
         }
     }
 
-    pub fn copied(&self) -> Books
+    pub fn copied(&self) -> FrameCounts
         ensures { result ≡ self.now }
     {
-        Books {
+        FrameCounts {
             decoded: self.decoded,
             written: self.written,
             discarded: self.discarded,
@@ -97,11 +97,11 @@ impl Books {
     }
 
     /// The books after an event, if the frames of all outputs together can be counted then.
-    pub fn after(&self, part: &Part, effect: &Effect) -> Option<Books>
+    pub fn after(&self, part: &Part, effect: &Effect) -> Option<FrameCounts>
         ensures { (rate : ℕ) (report : Report) → IsBooked result (books_after_lem self.now part.now.outputs effect.now (report_after rate part.now effect.now report)) }
     {
         let fed = frames_fed(part, effect);
-        Some(Books {
+        Some(FrameCounts {
             decoded: grown(&self.decoded, &shares(&part.outputs, fed))?,
             written: grown(&self.written, &written(effect))?,
             discarded: grown(&self.discarded, &discarded(effect))?,

@@ -1,7 +1,7 @@
 use Rattle.std.proofs.Common.{arith}
 use Rattle.wave.proofs.Known.{known_map}
 use Rattle.wave.proofs.Starts.{nothing_within}
-use Rattle.wave.proofs.part.chunk_at.Goals as goal
+use Rattle.wave.proofs.found_chunk.chunk_at.Goals as goal
 
 pub returns-then-saturating_sub-lt8-clause-value : goal.returns-then-saturating_sub-lt8-clause-value
 returns-then-saturating_sub-lt8-clause-value g c =

@@ -3,7 +3,7 @@ ghost use Rattle.std.specs.Prelude.{◌≡◌, Some, None, Ok, Err, true, if◌t
 ghost use Rattle.std.specs.Str.{IsUtf8};
 ghost use Rattle.filters.specs.Words.{is_letter as is_letter_lem, same_word as same_word_lem, field_named as field_named_lem};
 ghost use Rattle.filters.specs.Machine.{named_of, step as step_lem, opened, closed, after_word as after_word_lem, sign as sign_lem, Steps, StepsAlone, contains_letter as contains_letter_lem, and_letter as and_letter_lem, filter_for, CanTake};
-ghost use Rattle.filters.specs.declared.place.Stop.TheVariants.{Syntax, NoMemory};
+ghost use Rattle.filters.specs.declared.state.Stop.TheVariants.{Syntax, NoMemory};
 
 use crate::expression::{Field, Filter, Test};
 use crate::stack::Stack;
@@ -75,7 +75,7 @@ pub enum Named {
 
 /// What comes before the next byte. Numbers are how many letters of a word were read.
 #[derive(Drop)]
-pub enum Place {
+pub enum State {
     Start,
     Opened,
     Bang,
@@ -99,57 +99,57 @@ pub enum Place {
 #[tactic(auto, unfolding(crate::specs::Machine::step))]
 pub fn step(
     alloc: Global,
-    place: Place,
+    state: State,
     purposes: &mut Stack<Purpose>,
     b: u8,
-) -> Result<Place, Stop>
-    requires { CanTake place b }
-    ensures { Steps result purposes.new (step_lem true place purposes.old b) }
+) -> Result<State, Stop>
+    requires { CanTake state b }
+    ensures { Steps result purposes.new (step_lem true state purposes.old b) }
 {
-    match place {
-        Place::Start => open(purposes, Purpose::Whole, b),
-        Place::Opened => after_open(alloc, purposes, b),
-        Place::Bang => open(purposes, Purpose::Negated, b),
-        Place::Word(word) => in_word(word, b),
-        Place::AfterField(field) => sign(field, b),
-        Place::Sign(field, test) => only_at(b'=', b, Goal::Compared(field, test)),
-        Place::Contains(field, read) => contains_letter(field, read, b),
-        Place::NeedsSpace(goal) => only_at(b' ', b, goal),
-        Place::BeforeText(goal) => before_text(alloc, goal, b),
-        Place::InText(goal, quote, text) => in_text(alloc, goal, quote, text, b),
-        Place::Escaped(goal, quote, mut text) => {
+    match state {
+        State::Start => open(purposes, Purpose::Whole, b),
+        State::Opened => after_open(alloc, purposes, b),
+        State::Bang => open(purposes, Purpose::Negated, b),
+        State::Word(word) => in_word(word, b),
+        State::AfterField(field) => sign(field, b),
+        State::Sign(field, test) => only_at(b'=', b, Goal::Compared(field, test)),
+        State::Contains(field, read) => contains_letter(field, read, b),
+        State::NeedsSpace(goal) => only_at(b' ', b, goal),
+        State::BeforeText(goal) => before_text(alloc, goal, b),
+        State::InText(goal, quote, text) => in_text(alloc, goal, quote, text, b),
+        State::Escaped(goal, quote, mut text) => {
             text.push(b)?;
-            Ok(Place::InText(goal, quote, text))
+            Ok(State::InText(goal, quote, text))
         }
-        Place::Done(filter) => done(alloc, purposes, filter, b),
-        Place::Joined(filter) => joined(alloc, purposes, filter, b),
-        Place::AfterJoined(filter) => after_joined(alloc, purposes, filter, b),
-        Place::And(filter, read) => and_letter(filter, read, b),
-        Place::AfterAnd(filter) => after_and(purposes, filter, b),
-        Place::Finished(_) => Err(Stop::Syntax),
+        State::Done(filter) => done(alloc, purposes, filter, b),
+        State::Joined(filter) => joined(alloc, purposes, filter, b),
+        State::AfterJoined(filter) => after_joined(alloc, purposes, filter, b),
+        State::And(filter, read) => and_letter(filter, read, b),
+        State::AfterAnd(filter) => after_and(purposes, filter, b),
+        State::Finished(_) => Err(Stop::Syntax),
     }
 }
 
 /// After an open parenthesis and perhaps spaces.
 #[tactic(auto, unfolding(crate::specs::Machine::step))]
-fn after_open(alloc: Global, purposes: &mut Stack<Purpose>, b: u8) -> Result<Place, Stop>
-    ensures { Steps result purposes.new (step_lem true Place.Opened purposes.old b) }
+fn after_open(alloc: Global, purposes: &mut Stack<Purpose>, b: u8) -> Result<State, Stop>
+    ensures { Steps result purposes.new (step_lem true State.Opened purposes.old b) }
 {
     if b == b' ' {
-        Ok(Place::Opened)
+        Ok(State::Opened)
     } else if b == b'!' {
-        Ok(Place::Bang)
+        Ok(State::Bang)
     } else if is_letter(b) {
         let mut word = Sequence::new(alloc);
         word.push(b)?;
-        Ok(Place::Word(word))
+        Ok(State::Word(word))
     } else {
         open(purposes, Purpose::First, b)
     }
 }
 
 /// An open parenthesis, if it is one and there may be one more.
-fn open(purposes: &mut Stack<Purpose>, purpose: Purpose, b: u8) -> Result<Place, Stop>
+fn open(purposes: &mut Stack<Purpose>, purpose: Purpose, b: u8) -> Result<State, Stop>
     ensures { Steps result purposes.new (if b == 40 then opened true purpose purposes.old else Err Syntax) }
 {
     if b != b'(' {
@@ -159,16 +159,16 @@ fn open(purposes: &mut Stack<Purpose>, purpose: Purpose, b: u8) -> Result<Place,
         return Err(Stop::TooDeep);
     }
     purposes.push(purpose)?;
-    Ok(Place::Opened)
+    Ok(State::Opened)
 }
 
 /// After what is alone in its parenthesis.
 #[tactic(auto, unfolding(crate::specs::Machine::step))]
-fn done(alloc: Global, purposes: &mut Stack<Purpose>, filter: Filter, b: u8) -> Result<Place, Stop>
-    ensures { Steps result purposes.new (step_lem true (Place.Done filter) purposes.old b) }
+fn done(alloc: Global, purposes: &mut Stack<Purpose>, filter: Filter, b: u8) -> Result<State, Stop>
+    ensures { Steps result purposes.new (step_lem true (State.Done filter) purposes.old b) }
 {
     if b == b' ' {
-        return Ok(Place::Done(filter));
+        return Ok(State::Done(filter));
     }
     close(alloc, purposes, filter, b)
 }
@@ -180,11 +180,11 @@ fn joined(
     purposes: &mut Stack<Purpose>,
     filter: Filter,
     b: u8,
-) -> Result<Place, Stop>
-    ensures { Steps result purposes.new (step_lem true (Place.Joined filter) purposes.old b) }
+) -> Result<State, Stop>
+    ensures { Steps result purposes.new (step_lem true (State.Joined filter) purposes.old b) }
 {
     if b == b' ' {
-        return Ok(Place::AfterJoined(filter));
+        return Ok(State::AfterJoined(filter));
     }
     close(alloc, purposes, filter, b)
 }
@@ -196,31 +196,31 @@ fn after_joined(
     purposes: &mut Stack<Purpose>,
     filter: Filter,
     b: u8,
-) -> Result<Place, Stop>
-    ensures { Steps result purposes.new (step_lem true (Place.AfterJoined filter) purposes.old b) }
+) -> Result<State, Stop>
+    ensures { Steps result purposes.new (step_lem true (State.AfterJoined filter) purposes.old b) }
 {
     if b == b' ' {
-        return Ok(Place::AfterJoined(filter));
+        return Ok(State::AfterJoined(filter));
     }
     if b == b'A' {
-        return Ok(Place::And(filter, 1));
+        return Ok(State::And(filter, 1));
     }
     close(alloc, purposes, filter, b)
 }
 
 /// After AND and spaces.
 #[tactic(auto, unfolding(crate::specs::Machine::step))]
-fn after_and(purposes: &mut Stack<Purpose>, filter: Filter, b: u8) -> Result<Place, Stop>
-    ensures { Steps result purposes.new (step_lem true (Place.AfterAnd filter) purposes.old b) }
+fn after_and(purposes: &mut Stack<Purpose>, filter: Filter, b: u8) -> Result<State, Stop>
+    ensures { Steps result purposes.new (step_lem true (State.AfterAnd filter) purposes.old b) }
 {
     if b == b' ' {
-        return Ok(Place::AfterAnd(filter));
+        return Ok(State::AfterAnd(filter));
     }
     open(purposes, Purpose::Next(filter), b)
 }
 
 /// A closed parenthesis, if it is one: what it closes is the innermost that is open.
-fn close(alloc: Global, purposes: &mut Stack<Purpose>, filter: Filter, b: u8) -> Result<Place, Stop>
+fn close(alloc: Global, purposes: &mut Stack<Purpose>, filter: Filter, b: u8) -> Result<State, Stop>
     ensures { Steps result purposes.new (if b == 41 then closed filter purposes.old else Err Syntax) }
 {
     if b != b')' {
@@ -228,21 +228,21 @@ fn close(alloc: Global, purposes: &mut Stack<Purpose>, filter: Filter, b: u8) ->
     }
     match purposes.pop() {
         None => Err(Stop::Syntax),
-        Some(Purpose::Whole) => Ok(Place::Finished(filter)),
-        Some(Purpose::Negated) => Ok(Place::Done(Filter::negation(alloc, filter)?)),
-        Some(Purpose::First) => Ok(Place::Joined(filter)),
-        Some(Purpose::Next(first)) => Ok(Place::Joined(Filter::both(alloc, first, filter)?)),
+        Some(Purpose::Whole) => Ok(State::Finished(filter)),
+        Some(Purpose::Negated) => Ok(State::Done(Filter::negation(alloc, filter)?)),
+        Some(Purpose::First) => Ok(State::Joined(filter)),
+        Some(Purpose::Next(first)) => Ok(State::Joined(Filter::both(alloc, first, filter)?)),
     }
 }
 
 /// In a word, or after it.
-fn in_word(mut word: Sequence<u8>, b: u8) -> Result<Place, Stop>
+fn in_word(mut word: Sequence<u8>, b: u8) -> Result<State, Stop>
     requires { IsUtf8 word }
-    ensures { StepsAlone result (if is_letter_lem b then Ok (Place.Word (word ++ b ∷ [])) else after_word_lem (named_of word) word b) }
+    ensures { StepsAlone result (if is_letter_lem b then Ok (State.Word (word ++ b ∷ [])) else after_word_lem (named_of word) word b) }
 {
     if is_letter(b) {
         word.push(b)?;
-        return Ok(Place::Word(word));
+        return Ok(State::Word(word));
     }
     match name_of(word.items()) {
         None => Err(Stop::UnknownTag(text_of(word))),
@@ -260,24 +260,24 @@ pub fn text_of(bytes: Sequence<u8>) -> Text
 }
 
 /// Before a text in quotes, if the byte is this one.
-fn only_at(wanted: u8, b: u8, goal: Goal) -> Result<Place, Stop>
-    ensures { StepsAlone result (if b == wanted then Ok (Place.BeforeText goal) else Err Syntax) }
+fn only_at(wanted: u8, b: u8, goal: Goal) -> Result<State, Stop>
+    ensures { StepsAlone result (if b == wanted then Ok (State.BeforeText goal) else Err Syntax) }
 {
     if b == wanted {
-        Ok(Place::BeforeText(goal))
+        Ok(State::BeforeText(goal))
     } else {
         Err(Stop::Syntax)
     }
 }
 
 /// Before a text in quotes.
-fn before_text(alloc: Global, goal: Goal, b: u8) -> Result<Place, Stop>
-    ensures { StepsAlone result (if b == 32 then Ok (Place.BeforeText goal) else (if (b == 34) || (b == 39) then Ok (Place.InText goal b []) else Err Syntax)) }
+fn before_text(alloc: Global, goal: Goal, b: u8) -> Result<State, Stop>
+    ensures { StepsAlone result (if b == 32 then Ok (State.BeforeText goal) else (if (b == 34) || (b == 39) then Ok (State.InText goal b []) else Err Syntax)) }
 {
     if b == b' ' {
-        Ok(Place::BeforeText(goal))
+        Ok(State::BeforeText(goal))
     } else if b == b'"' || b == b'\'' {
-        Ok(Place::InText(goal, b, Sequence::new(alloc)))
+        Ok(State::InText(goal, b, Sequence::new(alloc)))
     } else {
         Err(Stop::Syntax)
     }
@@ -290,17 +290,17 @@ fn in_text(
     quote: u8,
     mut text: Sequence<u8>,
     b: u8,
-) -> Result<Place, Stop>
+) -> Result<State, Stop>
     requires { b ≡ quote → IsUtf8 text }
-    ensures { StepsAlone result (if b == quote then Ok (Place.Done (filter_for goal text)) else (if b == 92 then Ok (Place.Escaped goal quote text) else Ok (Place.InText goal quote (text ++ b ∷ [])))) }
+    ensures { StepsAlone result (if b == quote then Ok (State.Done (filter_for goal text)) else (if b == 92 then Ok (State.Escaped goal quote text) else Ok (State.InText goal quote (text ++ b ∷ [])))) }
 {
     if b == quote {
-        Ok(Place::Done(filter_of(alloc, goal, text_of(text))))
+        Ok(State::Done(filter_of(alloc, goal, text_of(text))))
     } else if b == b'\\' {
-        Ok(Place::Escaped(goal, quote, text))
+        Ok(State::Escaped(goal, quote, text))
     } else {
         text.push(b)?;
-        Ok(Place::InText(goal, quote, text))
+        Ok(State::InText(goal, quote, text))
     }
 }
 
@@ -320,17 +320,17 @@ fn is_letter(b: u8) -> bool
 }
 
 /// After what is compared.
-fn sign(field: Field, b: u8) -> Result<Place, Stop>
+fn sign(field: Field, b: u8) -> Result<State, Stop>
     ensures { StepsAlone result (sign_lem field b) }
 {
     if b == b' ' {
-        Ok(Place::AfterField(field))
+        Ok(State::AfterField(field))
     } else if b == b'=' {
-        Ok(Place::Sign(field, Test::Equals))
+        Ok(State::Sign(field, Test::Equals))
     } else if b == b'!' {
-        Ok(Place::Sign(field, Test::Differs))
+        Ok(State::Sign(field, Test::Differs))
     } else if b == b'c' {
-        Ok(Place::Contains(field, 1))
+        Ok(State::Contains(field, 1))
     } else {
         Err(Stop::Syntax)
     }
@@ -339,27 +339,27 @@ fn sign(field: Field, b: u8) -> Result<Place, Stop>
 /// The bytes of the word `contains`.
 const CONTAINS: [u8; 8] = *b"contains";
 
-fn contains_letter(field: Field, read: u8, b: u8) -> Result<Place, Stop>
+fn contains_letter(field: Field, read: u8, b: u8) -> Result<State, Stop>
     ensures { StepsAlone result (contains_letter_lem field read b) }
 {
     if read < 7 && b == CONTAINS[read as usize] {
-        Ok(Place::Contains(field, read + 1))
+        Ok(State::Contains(field, read + 1))
     } else if read == 7 && b == b's' {
-        Ok(Place::NeedsSpace(Goal::Compared(field, Test::Contains)))
+        Ok(State::NeedsSpace(Goal::Compared(field, Test::Contains)))
     } else {
         Err(Stop::Syntax)
     }
 }
 
-fn and_letter(filter: Filter, read: u8, b: u8) -> Result<Place, Stop>
+fn and_letter(filter: Filter, read: u8, b: u8) -> Result<State, Stop>
     ensures { StepsAlone result (and_letter_lem filter read b) }
 {
     if read == 1 && b == b'N' {
-        Ok(Place::And(filter, 2))
+        Ok(State::And(filter, 2))
     } else if read == 2 && b == b'D' {
-        Ok(Place::And(filter, 3))
+        Ok(State::And(filter, 3))
     } else if read == 3 && b == b' ' {
-        Ok(Place::AfterAnd(filter))
+        Ok(State::AfterAnd(filter))
     } else {
         Err(Stop::Syntax)
     }

@@ -1,7 +1,7 @@
 use Rattle.std.proofs.Common.{◌∙◌, ap, sym}
 use Rattle.player_state.specs.Outputs.{can_count_all}
 use Rattle.player_state.proofs.Booked.{all_counted, rests_same}
-use Rattle.player_state.proofs.books.Books.rest.Goals as goal
+use Rattle.player_state.proofs.frame_counts.FrameCounts.rest.Goals as goal
 
 pub returns-clause-counted : goal.returns-clause-counted
 returns-clause-counted c =

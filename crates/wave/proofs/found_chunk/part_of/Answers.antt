@@ -1,6 +1,6 @@
 use Rattle.std.proofs.Common.{arith}
 use Rattle.wave.proofs.Starts.{starts}
-use Rattle.wave.proofs.part.part_of.Goals as goal
+use Rattle.wave.proofs.found_chunk.part_of.Goals as goal
 
 pub returns-clause-starts : goal.returns-clause-starts
 returns-clause-starts c = λ bytes inside header.

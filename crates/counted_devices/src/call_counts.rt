@@ -1,13 +1,13 @@
 //! Counts of how the calls of a device ended.
 ghost use Rattle.std.specs.Prelude.{◌≡◌, ◌≢◌, OnErr};
-ghost use Rattle.counted_devices.specs.Tally.{NoFewer, HasFailed, CountsCall, CountsWrite, one_call, one_failure, one_blocked, no_calls};
+ghost use Rattle.counted_devices.specs.CallCounts.{NoFewer, HasFailed, CountsCall, CountsWrite, one_call, one_failure, one_blocked, no_calls};
 
 use std::io;
 use std::io::ErrorKind;
 
 /// How the calls of a device ended so far. A count stops at its greatest value, 2^64-1.
 #[derive(Clone, Copy, Debug, PartialEq, Eq)]
-pub struct Tally {
+pub struct CallCounts {
     /// Errors, without those of calls that would block, and writes that took no byte of some.
     pub failures: u64,
     /// Calls that would have blocked.
@@ -16,12 +16,12 @@ pub struct Tally {
     pub calls: u64,
 }
 
-impl Tally {
+impl CallCounts {
     /// The counts of a device that was not called yet.
-    pub fn new() -> Tally
+    pub fn new() -> CallCounts
         ensures { result ≡ no_calls }
     {
-        Tally {
+        CallCounts {
             failures: 0,
             blocked: 0,
             calls: 0,
@@ -44,7 +44,7 @@ impl Tally {
         ensures calm { NoFewer self.old self.new }
     {
         // Read once, so that the proof has the range of each count.
-        let Tally {
+        let CallCounts {
             failures: _failures,
             blocked: _blocked,
             calls: _calls,
@@ -73,7 +73,7 @@ impl Tally {
         ensures calm { NoFewer self.old self.new }
     {
         // Read once, so that the proof has the range of each count.
-        let Tally {
+        let CallCounts {
             failures: _failures,
             blocked: _blocked,
             calls: _calls,
@@ -91,7 +91,7 @@ impl Tally {
         ensures calm { NoFewer self.old self.new }
     {
         // Read once, so that the proof has the range of each count.
-        let Tally {
+        let CallCounts {
             failures: _failures,
             blocked: _blocked,
             calls: _calls,
