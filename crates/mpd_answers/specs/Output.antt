@@ -1,12 +1,9 @@
 -- What a session writes for what its client asks (MPD protocol reference, Responses and Command lists).
-use Rattle.std.specs.Prelude.{◌≡◌, ℕ, List, [], ◌∷◌, ◌++◌, codes}
+use Rattle.std.specs.Prelude.{◌≡◌, ℕ, List, [], ◌∷◌, ◌++◌}
 use Rattle.mpd_answers.specs.declared.asker.Sequel.{Sequel}
 use Rattle.mpd_answers.specs.declared.asker.Sequel.TheVariants.{Stays}
 use Rattle.mpd_answers.specs.Notices.{AreNotices}
 use Rattle.mpd_answers.specs.Requests.{Asking}
-
-abbrev pub greeting : List ℕ
-greeting = codes "OK MPD 0.23.0\n"
 
 -- `P` is what the caller has, and changes with each answer.
 module _ {P : Type 0} (Answers : P → Asking → List ℕ → Sequel → P → Type 0) where

@@ -113,7 +113,7 @@ impl Slot {
             client: self.client,
             may_kill,
         };
-        let tenant = match Session::new(alloc, asker) {
+        let tenant = match Session::new(alloc, asker, told.reply()) {
             Ok(session) => Tenant::Client(Connection::new(stream, session)),
             Err(_) => Tenant::Gone,
         };

@@ -12,7 +12,7 @@ use Rattle.mpd_session.specs.declared.conversation.Conversation.{Conversation}
 use Rattle.mpd_session.specs.declared.end.End.{End}
 use Rattle.mpd_session.specs.declared.end.End.TheVariants.{Left, Killed, LongLine, LargeList, Unsent, NoPeer, ReadFault, WriteFault}
 use Rattle.mpd_answers.specs.Notices.{AreNotices}
-use Rattle.mpd_answers.specs.Output.{IsOutput, IsLastOutput, greeting}
+use Rattle.mpd_answers.specs.Output.{IsOutput, IsLastOutput}
 use Rattle.mpd_answers.specs.Owing.{owed_bytes}
 use Rattle.mpd_answers.specs.Requests.{Asking, ListState, Within, Over, gather, is_over}
 
@@ -144,9 +144,9 @@ StaysClosed old written new written' = (new.pending ≡ old.pending) × (new.end
 abbrev pub IsWithinLimits : Held → Type 0
 IsWithinLimits held = (held.pending.next ≢ None) × (is_over held.pending.list ≡ false) × (length held.unsent ≤ 16777216)
 
--- a session that greets its client, of which nothing came
-abbrev pub opening : Held
-opening = record { pending = record { list = Within None; lines = []; next = Some []; piece = [] }; unsent = greeting; ended = None }
+-- a session that greets its client so, of which nothing came
+abbrev pub opening : List ℕ → Held
+opening greeting = record { pending = record { list = Within None; lines = []; next = Some []; piece = [] }; unsent = greeting; ended = None }
 
 -- the unsent bytes grow by notices, or by none
 abbrev pub TellsOf : List ℕ → List ℕ → Type 0

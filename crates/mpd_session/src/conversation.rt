@@ -5,7 +5,6 @@ ghost use Rattle.mpd_text.specs.Lines.Split.{views, line_of};
 ghost use Rattle.mpd_text.specs.Lines.Cut.{split_from};
 ghost use Rattle.counted_devices.specs.CallCounts.{NoFewer};
 ghost use Rattle.mpd_answers.specs.Answers.{Answers, caller};
-ghost use Rattle.mpd_answers.specs.Output.{greeting};
 ghost use Rattle.mpd_answers.specs.Owing.{owed_bytes};
 ghost use Rattle.mpd_answers.specs.Requests.{is_over};
 ghost use Rattle.mpd_session.specs.declared.end.End.{End};
@@ -23,6 +22,7 @@ use std::alloc::{AllocError, Global};
 use std::collections::VecDeque;
 use std::io::ErrorKind;
 use std::sync::Wait;
+use transitions::Reply;
 
 /// The most bytes that are held unsent after a turn (this profile's).
 const MAX_UNSENT: usize = 16_777_216;
@@ -30,8 +30,6 @@ const MAX_UNSENT: usize = 16_777_216;
 /// How many bytes a turn reads at most. What the lines in so many bytes ask for is what others may have to
 /// wait for.
 const PIECE: usize = 4_096;
-
-const GREETING: &str = "OK MPD 0.23.0\n";
 
 /// What a session has: of its client's bytes what is not answered, and of its answers what is not written.
 pub(crate) struct Conversation {
@@ -69,9 +67,13 @@ impl Drop for Conversation {
 }
 
 impl Conversation {
-    /// That of a client that has connected. The greeting is not written yet.
-    pub(crate) fn new(alloc: Global, asker: Asker) -> Result<Conversation, AllocError>
-        ensures held { IfOk result (λ c. held_of c ≡ opening) }
+    /// That of a client that has connected. What the player greets it with is not written yet.
+    pub(crate) fn new(
+        alloc: Global,
+        asker: Asker,
+        greeting: &Reply,
+    ) -> Result<Conversation, AllocError>
+        ensures held { IfOk result (λ c. held_of c ≡ opening greeting.now.text) }
         ensures asker { IfOk result (λ c. c.asker ≡ asker) }
     {
         Ok(Conversation {
@@ -82,7 +84,7 @@ impl Conversation {
             lines: VecDeque::new(alloc),
             gatherer: Gatherer::new(),
             owed: Owed::Nothing,
-            unsent: Unsent::of(alloc, GREETING.as_bytes())?,
+            unsent: Unsent::of(alloc, greeting.text().as_bytes())?,
             ended: None,
             waits: false,
         })

@@ -11,6 +11,7 @@ use shelf::Shelf;
 use std::alloc::{AllocError, Global};
 use std::marker::Model;
 use std::sync::Wait;
+use transitions::Reply;
 
 /// One client's session. A clause sees whose it is, what came that is not answered, what is not written, and
 /// why it is closed.
@@ -37,11 +38,12 @@ impl Session {
     ghost use Rattle.mpd_session.specs.Sessions.{Blames, IsWithinLimits, StaysClosed, Turns, opening};
     ghost use Rattle.mpd_session.specs.declared.end.End.{End};
 
-    /// The session of a client that the player let in. Nothing was read, and its greeting is not written yet.
-    pub fn new(alloc: Global, asker: Asker) -> Result<Session, AllocError>
-        ensures { IfOk result (λ s. s ≡ record { asker = asker; held = opening }) }
+    /// The session of a client that the player let in, and what it was greeted with. Nothing was read, and the
+    /// greeting is not written yet.
+    pub fn new(alloc: Global, asker: Asker, greeting: &Reply) -> Result<Session, AllocError>
+        ensures { IfOk result (λ s. s ≡ record { asker = asker; held = opening greeting.now.text }) }
     {
-        let conversation = Conversation::new(alloc, asker)?;
+        let conversation = Conversation::new(alloc, asker, greeting)?;
         Ok(Session { conversation })
     }
 

@@ -48,8 +48,8 @@ fn comes<L: Ledgers>(
     takes: Takes,
     may_kill: bool,
 ) -> Result<Guest, PartitionFault> {
-    let _greeted = house.notice(rt, seat, News::Comes(client))?;
-    let session = Session::new(alloc, Asker { client, may_kill })?;
+    let greeted = house.notice(rt, seat, News::Comes(client))?;
+    let session = Session::new(alloc, Asker { client, may_kill }, greeted.reply())?;
     Ok(Guest {
         client,
         session,
