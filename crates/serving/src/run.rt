@@ -9,14 +9,15 @@ use counted_devices::{Media, Sink};
 use counted_player::{Ledgers, Seat};
 use crew::{Crew, Scanner, close, let_go, start_decoder, start_outputs, start_scanner};
 use crew_steps::{Open, SongSource, output_setups};
-use held_player::CrewShares;
+use held_player::{CrewShares, Settlement};
 use house::House;
 use mpd_server::{ServeFault, Server, start_waker};
+use partition::PartitionFault;
 use shelf::Shelf;
 use std::alloc::{AllocError, Global};
 use std::sync::{Arc, Wait};
-use std::thread::{JoinHandle, Threads};
-use std::time::Clock;
+use std::thread::{self, JoinHandle, Threads};
+use std::time::{Clock, Duration};
 
 /// How a daemon plays and serves.
 #[derive(Clone, Copy)]
@@ -28,6 +29,11 @@ pub(crate) struct Manner {
     /// Whether a client may end the daemon.
     pub(crate) may_kill: bool,
 }
+
+/// How often the end is asked for again where there is no memory for it, and how many milliseconds after.
+const TRIES: u32 = 100;
+
+const PAUSE: u64 = 50;
 
 /// Starts the threads, serves until a client ends the daemon, and prints what became of each output's frames.
 pub(crate) fn run<
@@ -108,7 +114,7 @@ fn start_crew<
 }
 
 /// Ends the threads, and prints what became of each output's frames.
-fn end<L: Ledgers, R: Threads + Wait>(
+fn end<L: Ledgers, R: Threads + Wait + Clock>(
     rt: &R,
     host: &HostRuntime,
     house: &House<L>,
@@ -117,7 +123,7 @@ fn end<L: Ledgers, R: Threads + Wait>(
     waking: Option<JoinHandle<()>>,
     served: Result<(), ServeFault>,
 ) -> Result<(), DaemonFault> {
-    match close(rt, house, seat, crew) {
+    match close_at_last(rt, house, seat, crew) {
         Ok(settled) => {
             if let Some(waking) = waking {
                 waking.join(rt);
@@ -130,6 +136,25 @@ fn end<L: Ledgers, R: Threads + Wait>(
             Err(DaemonFault::Player(fault))
         }
     }
+}
+
+/// Ends the threads. Where there is no memory for the end, it is asked for again: what others hold may be let
+/// go meanwhile.
+fn close_at_last<L: Ledgers, R: Threads + Wait + Clock>(
+    rt: &R,
+    house: &House<L>,
+    seat: &mut Seat<L>,
+    crew: Crew<L>,
+) -> Result<Vec<Settlement<L>>, (Crew<L>, PartitionFault)> {
+    let mut crew = crew;
+    for _ in 0..TRIES {
+        match close(rt, house, seat, crew) {
+            Err((kept, PartitionFault::NoMemory | PartitionFault::HistoryFull)) => crew = kept,
+            closed => return closed,
+        }
+        thread::sleep(rt, Duration::from_millis(PAUSE));
+    }
+    close(rt, house, seat, crew)
 }
 
 /// What became of the serving, and then of the summary.
