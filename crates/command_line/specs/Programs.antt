@@ -1,7 +1,7 @@
 -- Which program the words ask for (this profile's).
 use Rattle.std.specs.Prelude.{◌≡◌, ⊤, ℕ, List, Some, codes, option_map}
 use Rattle.std.specs.Str.Parse.{digits_value, without_leading_plus}
-use Rattle.clap.specs.Words.{IsAmong, Kinds, Row, Text, first_of, kind_of, one_of, subcommand_of}
+use Rattle.clap.specs.Words.{IsAmong, Kinds, Row, Text, fault_of, first_of, kind_of, one_of, subcommand_of}
 use Rattle.clap.specs.declared.error.kind.ErrorKind.{ErrorKind}
 use Rattle.clap.specs.declared.error.kind.ErrorKind.TheVariants.{DisplayHelp, DisplayVersion}
 use Rattle.command_line.specs.Arguments.{daemon}
@@ -31,6 +31,10 @@ Says p Script = p.0 ≡ codes "script"
 -- clap's definition reads this program in the words, of which the first is the program's name
 abbrev pub Asks : List Text → Program → Type 0
 Asks words program = (p : Text × List Row) × (subcommand_of daemon words ≡ Some p) × Says p program
+
+-- the kinds by which clap's definition refuses the words; none where it takes them
+abbrev pub refusals_of : List Text → Kinds
+refusals_of words = fault_of daemon words
 
 -- words that are refused are refused by one of these kinds
 abbrev pub IsRefusedBy : Kinds → LineFault → Type 0

@@ -1,8 +1,7 @@
 //! Words as a program.
 ghost use Rattle.std.specs.Prelude.{◌≡◌, [], IfErr, IfOk, IfSome, codes, map, string_bytes};
-ghost use Rattle.clap.specs.Words.{HasKind, Kinds, Text, fault_of, found_of, rows_of, subcommand_rows_of};
-ghost use Rattle.command_line.specs.Arguments as arguments;
-ghost use Rattle.command_line.specs.Programs.{Asks, IsRefusedBy, Says};
+ghost use Rattle.clap.specs.Words.{HasKind, Kinds, Text, found_of, rows_of, subcommand_rows_of};
+ghost use Rattle.command_line.specs.Programs.{Asks, IsRefusedBy, Says, refusals_of};
 ghost use Rattle.command_line.specs.Known.{HasProgram, HasScan, HasServe};
 
 use crate::arguments::daemon;
@@ -16,8 +15,8 @@ use std::alloc::Global;
 pub fn command_line<'a>(alloc: Global, words: &'a [String]) -> Result<Program<'a>, LineFault>
     // Words are refused where clap's definition for simple commands refuses them, by its kind, and only
     // there.
-    ensures taken { IfOk result (λ program. fault_of arguments.daemon (map string_bytes words.now) ≡ []) }
-    ensures refused { IfErr result (λ fault. IsRefusedBy (fault_of arguments.daemon (map string_bytes words.now)) fault) }
+    ensures taken { IfOk result (λ program. refusals_of (map string_bytes words.now) ≡ []) }
+    ensures refused { IfErr result (λ fault. IsRefusedBy (refusals_of (map string_bytes words.now)) fault) }
     // The program and its values are what that definition reads in the words.
     ensures asks { IfOk result (λ program. Asks (map string_bytes words.now) program) }
 {

@@ -1,6 +1,6 @@
 -- Command lists as they stand among a client's lines (MPD protocol reference, Command lists; the limit is
 -- this profile's).
-use Rattle.std.specs.Prelude.{ℕ, ◌+◌, List, [], ◌∷◌, ◌++◌, length, sum_by, Bool, false, true, nat_le, if◌then◌else◌, Option, Some, None}
+use Rattle.std.specs.Prelude.{◌≡◌, ℕ, ◌+◌, List, [], ◌∷◌, ◌++◌, length, sum_by, Bool, false, true, nat_le, if◌then◌else◌, Option, Some, None}
 use Rattle.command_lists.specs.declared.collector.Taken.{Taken}
 use Rattle.command_lists.specs.declared.collector.Taken.TheVariants.{Alone, Begun, Collected, Ended, TooLarge}
 use Rattle.command_lists.specs.declared.list.CommandList.{CommandList}
@@ -79,6 +79,10 @@ outcome_inside list line None = outcome_with (with_line list line)
 abbrev pub outcome_of : Option CommandList → LineData → Outcome
 outcome_of None line = outcome_outside (list_word line)
 outcome_of (Some list) line = outcome_inside list line (list_word line)
+
+-- a line is taken as this, and leaves this list open
+abbrev pub TakesLine : Option CommandList → Option CommandList → LineData → Taken → Type 0
+TakesLine old new line t = record { open_list = new; taken = t } ≡ outcome_of old line
 
 -- the list that is open after some lines, and what each of them was taken as
 pub record Outcomes : Type 0 where

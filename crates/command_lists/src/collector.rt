@@ -44,7 +44,7 @@ impl ListCollector {
     ghost use Rattle.std.specs.Prelude.{◌≡◌, None, IfOk, OnErr, is_some};
     ghost use Rattle.std.specs.Option.{option_copied};
     ghost use Rattle.command_lists.specs.declared.collector.Taken.TheVariants.{Collected};
-    ghost use Rattle.command_lists.specs.Lists.{outcome_of, is_too_large};
+    ghost use Rattle.command_lists.specs.Lists.{TakesLine, outcome_of, is_too_large};
 
     /// A collector without an open list.
     pub fn new() -> ListCollector
@@ -56,7 +56,7 @@ impl ListCollector {
     /// Takes a client's next line; `None` is a line that is not UTF-8. Only a line that is collected takes
     /// memory; without memory nothing changes, as if the line had not come.
     pub fn take(&mut self, alloc: Global, line: Option<&str>) -> Result<Taken, AllocError>
-        ensures ok { IfOk result (λ t. record { open_list = self.new; taken = t } ≡ outcome_of self.old (option_copied line.entry)) }
+        ensures ok { IfOk result (λ t. TakesLine self.old self.new (option_copied line.entry) t) }
         ensures err { OnErr result (self.new ≡ self.old) }
         ensures memory { OnErr result ((outcome_of self.old (option_copied line.entry)).taken ≡ Collected) }
     {

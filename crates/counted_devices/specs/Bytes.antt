@@ -1,13 +1,17 @@
 -- Where a device is, and where it fails (this profile's).
-use Rattle.std.specs.Prelude.{◌≡◌, ℕ, ◌-◌, ◌^◌, List, drop, Result, Option, Some, IfSome, MatchResult, ◌==◌, if◌then◌else◌}
+use Rattle.std.specs.Prelude.{◌≡◌, ℕ, ◌-◌, ◌^◌, List, drop, length, Result, Option, Some, IfSome, MatchResult, ◌==◌, if◌then◌else◌}
 use Rattle.counted_devices.specs.CallCounts.{count_up}
 use Rattle.counted_devices.specs.declared.fail_at.FailurePoint.{FailurePoint}
 use Rattle.counted_devices.specs.declared.fail_at.FailurePoint.TheVariants.{Never, Call, Byte}
 
 -- A seek to a place, where all bytes are known: at Ok those from the place on remain, and at Err what
 -- remained before.
-abbrev pub SeeksTo : {X E : Type 0} → Option (List ℕ) → ℕ → Option (List ℕ) → Option (List ℕ) → Result X E → Type 0
-SeeksTo bytes place old new r = IfSome bytes (λ all. MatchResult r (λ _. new ≡ Some (drop place all)) (λ _. new ≡ old))
+abbrev pub Seeks : {X E : Type 0} → Option (List ℕ) → ℕ → Option (List ℕ) → Option (List ℕ) → Result X E → Type 0
+Seeks bytes place old new r = IfSome bytes (λ all. MatchResult r (λ _. new ≡ Some (drop place all)) (λ _. new ≡ old))
+
+-- a seek after the last byte, where all bytes are known
+abbrev pub SeeksToEnd : {X E : Type 0} → Option (List ℕ) → Option (List ℕ) → Option (List ℕ) → Result X E → Type 0
+SeeksToEnd bytes old new r = IfSome bytes (λ all. Seeks bytes (length all) old new r)
 
 -- how many bytes a call lets through that comes after so many calls and bytes; none where it is to fail
 abbrev pub room_after : FailurePoint → ℕ → ℕ → ℕ

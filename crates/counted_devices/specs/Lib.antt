@@ -1,2 +1,3 @@
 pub mod CallCounts
 pub mod Bytes
+pub mod Failures

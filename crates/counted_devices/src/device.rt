@@ -4,7 +4,7 @@ ghost use Rattle.counted_devices.specs.declared.call_counts.CallCounts.{CallCoun
 ghost use Rattle.std.specs.Io.{ReadsAtMost, WritesAtMost};
 ghost use Rattle.std.specs.Io.KnownBytes.{ReadConsumes, WriteAppends, Keeps};
 ghost use Rattle.counted_devices.specs.CallCounts.{NoFewer, HasFailed, CountsCall, CountsWrite, one_call};
-ghost use Rattle.counted_devices.specs.Bytes.{SeeksTo};
+ghost use Rattle.counted_devices.specs.Bytes.{Seeks, SeeksToEnd};
 
 use std::io;
 use std::io::{Read, Write};
@@ -64,7 +64,7 @@ pub trait Media: Source {
 
     /// Sets the reader to a place, counted in bytes from the first. After the last byte nothing remains.
     fn seek_to(&mut self, place: u64) -> io::Result<()>
-        ensures moves { SeeksTo (all_bytes self.old) place (Self.remaining self.old) (Self.remaining self.new) result }
+        ensures moves { Seeks (all_bytes self.old) place (Self.remaining self.old) (Self.remaining self.new) result }
         ensures stays { all_bytes self.new ≡ all_bytes self.old }
         ensures counts { CountsCall (Self.call_counts self.old) (Self.call_counts self.new) result }
         ensures calls { (Self.call_counts self.new).calls ≡ (one_call (Self.call_counts self.old)).calls }
@@ -74,7 +74,7 @@ pub trait Media: Source {
     /// Sets the reader after its last byte, and gives how many bytes there are.
     fn seek_to_end(&mut self) -> io::Result<u64>
         ensures size { IfSome (all_bytes self.old) (λ bytes. IfOk result (λ n. n ≡ length bytes)) }
-        ensures moves { IfSome (all_bytes self.old) (λ bytes. SeeksTo (all_bytes self.old) (length bytes) (Self.remaining self.old) (Self.remaining self.new) result) }
+        ensures moves { SeeksToEnd (all_bytes self.old) (Self.remaining self.old) (Self.remaining self.new) result }
         ensures stays { all_bytes self.new ≡ all_bytes self.old }
         ensures counts { CountsCall (Self.call_counts self.old) (Self.call_counts self.new) result }
         ensures calls { (Self.call_counts self.new).calls ≡ (one_call (Self.call_counts self.old)).calls }

@@ -1,11 +1,10 @@
 //! A device over memory that fails at a given call or byte.
-ghost use Rattle.std.specs.Prelude.{◌≡◌, ◌≢◌, ◌↔◌, ℕ, Some, length, drop, min, IsOk, IsErr, IfOk, IfErr, OnErr};
+ghost use Rattle.std.specs.Prelude.{◌≡◌, ◌≢◌, ◌↔◌, ℕ, Some, length, drop, min, IsOk, IsErr, IfOk, OnErr};
 ghost use Rattle.std.specs.Io.{ReadsAtMost, WritesAtMost};
 ghost use Rattle.std.specs.Io.KnownBytes.{ReadConsumes, WriteAppends, Keeps};
-ghost use Rattle.std.specs.Io.Seek.{SeekMoves};
 ghost use Rattle.std.specs.IoError.{error_kind};
-ghost use Rattle.counted_devices.specs.CallCounts.{CountsCall, CountsError, CountsWrite, HasFailed, NoFewer, one_call, no_calls};
-ghost use Rattle.counted_devices.specs.Bytes.{room_after};
+ghost use Rattle.counted_devices.specs.CallCounts.{CountsCall, CountsError, CountsWrite, HasFailed, NoFewer, one_call};
+ghost use Rattle.counted_devices.specs.Failures.{fresh_device, left_to_read, room_for_call, room_to_read, room_to_write, read_count, AnyErrorIs, FailsWith, PlaceMoves};
 
 use crate::{CallCounts, Failing, Media, ReadSeek, Sink, Source};
 use std::io;
@@ -36,7 +35,7 @@ pub struct FailAt {
 impl FailAt {
     /// A device that holds these bytes, is at the first, and returns `ErrorKind::Other` at the point.
     pub fn new(bytes: Vec<u8>, point: FailurePoint) -> FailAt
-        ensures { result ≡ record { bytes = bytes; position = 0; call_counts = no_calls; point = point; kind = ErrorKind.Other } }
+        ensures { result ≡ fresh_device bytes point ErrorKind.Other }
     {
         FailAt {
             bytes,
@@ -49,7 +48,7 @@ impl FailAt {
 
     /// A device as `new` makes it, that returns `ErrorKind::WouldBlock` at the point.
     pub fn would_block(bytes: Vec<u8>, point: FailurePoint) -> FailAt
-        ensures { result ≡ record { bytes = bytes; position = 0; call_counts = no_calls; point = point; kind = ErrorKind.WouldBlock } }
+        ensures { result ≡ fresh_device bytes point ErrorKind.WouldBlock }
     {
         FailAt {
             bytes,
@@ -69,7 +68,7 @@ impl FailAt {
 
     /// What is left to read.
     fn rest(&self) -> &[u8]
-        ensures { result.now ≡ drop self.now.position self.now.bytes.items }
+        ensures { result.now ≡ left_to_read self.now }
     {
         let start = (self.position as usize).min(self.bytes.len());
         &self.bytes.as_slice()[start..]
@@ -77,7 +76,7 @@ impl FailAt {
 
     /// How many bytes the next call may let through after so many: none where it is to fail.
     fn room(&self, before: u64) -> usize
-        ensures { result ≡ room_after self.now.point self.now.call_counts.calls before }
+        ensures { result ≡ room_for_call self.now before }
     {
         match self.point {
             FailurePoint::Never => usize::MAX,
@@ -128,15 +127,15 @@ impl Read for FailAt {
 
     fn read(&mut self, buf: &mut [u8]) -> io::Result<usize>
         ensures bound { ReadsAtMost result buf.new }
-        ensures bytes { ReadConsumes (Some (drop self.old.position self.old.bytes.items)) (Some (drop self.new.position self.new.bytes.items)) result buf.new }
+        ensures bytes { ReadConsumes (Some (left_to_read self.old)) (Some (left_to_read self.new)) result buf.new }
         ensures stays { self.new.bytes ≡ self.old.bytes }
         ensures counts { CountsCall self.old.call_counts self.new.call_counts result }
         ensures calls { self.new.call_counts.calls ≡ (one_call self.old.call_counts).calls }
         ensures failed { OnErr result (HasFailed self.old.call_counts self.new.call_counts) }
         ensures calm { NoFewer self.old.call_counts self.new.call_counts }
-        ensures count { IfOk result (λ n. n ≡ min (min (room_after self.old.point self.old.call_counts.calls self.old.position) (length (drop self.old.position self.old.bytes.items))) (length buf.new)) }
-        ensures fails { IsErr result ↔ (room_after self.old.point self.old.call_counts.calls self.old.position ≡ 0) }
-        ensures kind { IfErr result (λ e. error_kind e ≡ self.old.kind) }
+        ensures count { IfOk result (λ n. n ≡ read_count self.old buf.new) }
+        ensures fails { IsErr result ↔ (room_to_read self.old ≡ 0) }
+        ensures kind { AnyErrorIs self.old.kind result }
     {
         // Read once, so that the proof has the range of each count.
         let CallCounts {
@@ -172,10 +171,10 @@ impl Write for FailAt {
         ensures counts { CountsWrite self.old.call_counts self.new.call_counts result buf.now }
         ensures failed { OnErr result (HasFailed self.old.call_counts self.new.call_counts) }
         ensures calm { NoFewer self.old.call_counts self.new.call_counts }
-        ensures count { IfOk result (λ n. n ≡ min (room_after self.old.point self.old.call_counts.calls (length self.old.bytes.items)) (length buf.now)) }
-        ensures fails { room_after self.old.point self.old.call_counts.calls (length self.old.bytes.items) ≡ 0 → IsErr result × IfErr result (λ e. error_kind e ≡ self.old.kind) }
+        ensures count { IfOk result (λ n. n ≡ min (room_to_write self.old) (length buf.now)) }
+        ensures fails { room_to_write self.old ≡ 0 → FailsWith self.old.kind result }
         // An error elsewhere is want of memory.
-        ensures memory { room_after self.old.point self.old.call_counts.calls (length self.old.bytes.items) ≢ 0 → IfErr result (λ e. error_kind e ≡ ErrorKind.OutOfMemory) }
+        ensures memory { room_to_write self.old ≢ 0 → AnyErrorIs ErrorKind.OutOfMemory result }
     {
         // Read once, so that the proof has the range of each count.
         let CallCounts {
@@ -202,8 +201,8 @@ impl Write for FailAt {
         ensures counts { CountsCall self.old.call_counts self.new.call_counts result }
         ensures failed { OnErr result (HasFailed self.old.call_counts self.new.call_counts) }
         ensures calm { NoFewer self.old.call_counts self.new.call_counts }
-        ensures fails { IsErr result ↔ (room_after self.old.point self.old.call_counts.calls 0 ≡ 0) }
-        ensures kind { IfErr result (λ e. error_kind e ≡ self.old.kind) }
+        ensures fails { IsErr result ↔ (room_for_call self.old 0 ≡ 0) }
+        ensures kind { AnyErrorIs self.old.kind result }
     {
         // Read once, so that the proof has the range of each count.
         let CallCounts {
@@ -235,7 +234,7 @@ impl Seek for FailAt {
     ghost stream_bytes = { λ d. Some d.bytes.items };
 
     fn seek(&mut self, to: SeekFrom) -> io::Result<u64>
-        ensures moves { SeekMoves (Some self.old.position) (Some self.new.position) (Some self.old.bytes.items) to result }
+        ensures moves { PlaceMoves self.old self.new to result }
         ensures place { IfOk result (λ place. self.new.position ≡ place) }
         ensures stays_there { OnErr result (self.new.position ≡ self.old.position) }
         ensures bytes { Keeps (Some self.old.bytes.items) (Some self.new.bytes.items) }
@@ -244,10 +243,10 @@ impl Seek for FailAt {
         ensures calls { self.new.call_counts.calls ≡ (one_call self.old.call_counts).calls }
         ensures failed { OnErr result (HasFailed self.old.call_counts self.new.call_counts) }
         ensures calm { NoFewer self.old.call_counts self.new.call_counts }
-        ensures fails { room_after self.old.point self.old.call_counts.calls 0 ≡ 0 → IsErr result × IfErr result (λ e. error_kind e ≡ self.old.kind) }
+        ensures fails { room_for_call self.old 0 ≡ 0 → FailsWith self.old.kind result }
         // An error elsewhere is a place before the first byte or past 2^64-1.
-        ensures place_wrong { room_after self.old.point self.old.call_counts.calls 0 ≢ 0 → IfErr result (λ e. error_kind e ≡ ErrorKind.InvalidInput) }
-        ensures start { room_after self.old.point self.old.call_counts.calls 0 ≢ 0 → (n : ℕ) → to ≡ SeekFrom.Start n → IsOk result }
+        ensures place_wrong { room_for_call self.old 0 ≢ 0 → AnyErrorIs ErrorKind.InvalidInput result }
+        ensures start { room_for_call self.old 0 ≢ 0 → (n : ℕ) → to ≡ SeekFrom.Start n → IsOk result }
     {
         // Read once, so that the proof has the range of each count.
         let CallCounts {

@@ -3,7 +3,7 @@ ghost use Rattle.std.specs.Prelude.{◌≡◌, ℕ, List, Option, None, length, 
 ghost use Rattle.std.specs.Io.{ReadsAtMost};
 ghost use Rattle.std.specs.Io.KnownBytes.{ReadConsumes};
 ghost use Rattle.std.specs.Io.Cursor.{cursor_inner};
-ghost use Rattle.counted_devices.specs.Bytes.{SeeksTo};
+ghost use Rattle.counted_devices.specs.Bytes.{Seeks, SeeksToEnd};
 
 use std::fs::File;
 use std::io;
@@ -17,13 +17,13 @@ pub trait ReadSeek: Read + Seek {
 
     /// Sets the reader to a place, counted in bytes from the first. After the last byte nothing remains.
     fn move_to(&mut self, place: u64) -> io::Result<()>
-        ensures moves { SeeksTo (known_bytes self.old) place (Self.remaining self.old) (Self.remaining self.new) result }
+        ensures moves { Seeks (known_bytes self.old) place (Self.remaining self.old) (Self.remaining self.new) result }
         ensures stays { known_bytes self.new ≡ known_bytes self.old };
 
     /// Sets the reader after its last byte, and gives how many bytes there are.
     fn move_to_end(&mut self) -> io::Result<u64>
         ensures size { IfSome (known_bytes self.old) (λ bytes. IfOk result (λ n. n ≡ length bytes)) }
-        ensures moves { IfSome (known_bytes self.old) (λ bytes. SeeksTo (known_bytes self.old) (length bytes) (Self.remaining self.old) (Self.remaining self.new) result) }
+        ensures moves { SeeksToEnd (known_bytes self.old) (Self.remaining self.old) (Self.remaining self.new) result }
         ensures stays { known_bytes self.new ≡ known_bytes self.old };
 
     /// Reads as `Read::read` does, from where the reader is, and leaves all bytes as they were.

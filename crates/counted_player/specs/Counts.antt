@@ -1,5 +1,5 @@
 -- What contracts see of a player whose events are counted.
-use Rattle.std.specs.Prelude.{ℕ, ◌≡◌, List, [], ◌∷◌, Option, Some, None, ◌==◌, if◌then◌else◌, slice_index_or, length, Result, Ok, Err}
+use Rattle.std.specs.Prelude.{ℕ, ◌≡◌, ◌<◌, Bool, false, List, [], ◌∷◌, Option, Some, None, ◌==◌, if◌then◌else◌, slice_index_or, length, Result, Ok, Err}
 use Rattle.mpd_text.specs.Songs.Song.{SongData}
 use Rattle.shelf.specs.Calls.{Call}
 use Rattle.shelf.specs.Maps.{Standing}
@@ -11,10 +11,12 @@ use Rattle.partition.specs.History.{Chronicle}
 use Rattle.partition.specs.Image.{Image, no_events}
 use Rattle.partition.specs.Legal.{IsPast}
 use Rattle.partition.specs.Lent.{question, writing}
-use Rattle.player_state.specs.Outputs.{empty_books}
+use Rattle.player_state.specs.Outputs.{empty_books, is_enabled}
 use Rattle.transitions.specs.Shelves.{Serves}
 use Rattle.player_events.specs.Events.{with_store_reply}
 use Rattle.partition.specs.Step.{told}
+use Rattle.counted_player.specs.Seats.{SeatCount}
+use Rattle.song_queue.specs.State.{queue_of}
 use Rattle.song_queue.specs.declared.entry.Entry.{Entry}
 use Rattle.partition.specs.Lists.{Stop}
 
@@ -31,6 +33,10 @@ abbrev pub song_of : ℕ → List Entry → Option SongData
 song_of id [] = None
 song_of id (e ∷ es) = if e.id == id then Some e.song else song_of id es
 
+-- the song of the entry of the queue that has this id, after some past
+abbrev pub IsSongSomewhere : ℕ → Option SongData → Type 0
+IsSongSomewhere id song = (past : Chronicle) × IsPast past × (song ≡ song_of id (queue_of past.present.part.queue))
+
 -- a player of which no seat made an event, and whose outputs have no frames
 abbrev pub IsFresh : Image → Type 0
 IsFresh i = (i.shared.made ≡ no_events) × (i.shared.books ≡ empty_books)
@@ -40,6 +46,10 @@ abbrev pub done_in : Result (List OutcomeData) Stop → ℕ
 done_in (Ok tolds) = length tolds
 done_in (Err stop) = stop.done
 
+-- which of eight outputs are enabled
+abbrev pub AreEnabled : List Bool → Image → Type 0
+AreEnabled outputs i = (output : ℕ) → output < 8 → slice_index_or outputs output false ≡ is_enabled i.part.outputs output
+
 module _ {S : Type 0} (standing : S → Standing) (failed : S → S → Call → Type 0) where
   -- An answer that the player of one thread gives to the event after some past in which the seat made so many
   -- events, by what the lent shelf answered, which answered and changed as that past and the event say.
@@ -48,3 +58,7 @@ module _ {S : Type 0} (standing : S → Standing) (failed : S → S → Call →
       (past : Chronicle) × IsPast past × (own_in seat past.present ≡ made)
       × ((heard : StoreReply) × (answer ≡ (told past.present (with_store_reply event heard)).answer)
       × Serves standing failed old new (question past.present event) (writing past.present event heard) heard)
+
+  -- the same for the seat of a caller; of a thread of the house nothing is said
+  abbrev pub AnswersSeat : S → S → SeatCount → Event → OutcomeData → Type 0
+  AnswersSeat old new seat event told = seat.number < 4 → AnswersSomewhere old new seat.number seat.made event told.answer

@@ -48,16 +48,15 @@ impl<L: Ledgers> Model for Counted<L> {
 }
 
 impl<L: Ledgers> Counted<L> {
-    ghost use Rattle.std.specs.Prelude.{◌≡◌, ◌⊎◌, ◌+◌, ◌<◌, [], ◌∷◌, ◌++◌, ℕ, None, false, length, IfErr, IfOk, OnErr, OnOk, slice_index_or};
+    ghost use Rattle.std.specs.Prelude.{◌≡◌, ◌⊎◌, ◌+◌, ◌<◌, [], ◌∷◌, ◌++◌, None, false, IfErr, IfOk, OnErr, OnOk};
     ghost use Rattle.partition.specs.History.{folded, joined_by, with_room};
     ghost use Rattle.partition.specs.Legal.{IsPast};
-    ghost use Rattle.partition.specs.Lent.{Records, Refuses};
+    ghost use Rattle.partition.specs.Lent.{Refuses, RecordsOnce};
     ghost use Rattle.partition.specs.Lists.{RunsList, StopsList};
     ghost use Rattle.partition.specs.Step.{limit_of, told as told_of};
     ghost use Rattle.partition.specs.Steps.{RefusesStep, entry};
     ghost use Rattle.player_events.specs.Events.{is_line};
-    ghost use Rattle.player_state.specs.Outputs.{is_enabled};
-    ghost use Rattle.counted_player.specs.Counts.{done_in, AnswersSomewhere, IsFresh, own_in, song_of};
+    ghost use Rattle.counted_player.specs.Counts.{done_in, AnswersSeat, AreEnabled, IsFresh, own_in, song_of};
     ghost use Rattle.counted_player.specs.Seats.{after_events};
     ghost use Rattle.song_queue.specs.State.{queue_of};
 
@@ -93,11 +92,11 @@ impl<L: Ledgers> Counted<L> {
         ensures legal { IsPast self.old }
         ensures base { OnOk result (self.new.base ≡ (with_room self.old).base) }
         ensures limit { self.new.limit ≡ self.old.limit }
-        ensures ok { IfOk result (λ outcome. Records S.standing S.failed self.old.present self.new.present (with_room self.old).window self.new.window shelf.old shelf.new seat.old.number event outcome) }
+        ensures ok { IfOk result (RecordsOnce S.standing S.failed self.old self.new shelf.old shelf.new seat.old.number event) }
         ensures made { OnOk result (seat.new ≡ after_events seat.old 1) }
         ensures seat { OnErr result (seat.new ≡ seat.old) }
-        ensures refused { IfErr result (λ fault. Refuses S.standing S.failed self.old self.new shelf.old shelf.new seat.old.number event fault) }
-        ensures somewhere { IfOk result (λ outcome. seat.old.number < 4 → AnswersSomewhere S.standing S.failed shelf.old shelf.new seat.old.number seat.old.made event outcome.answer) }
+        ensures refused { IfErr result (Refuses S.standing S.failed self.old self.new shelf.old shelf.new seat.old.number event) }
+        ensures somewhere { IfOk result (AnswersSeat S.standing S.failed shelf.old shelf.new seat.old event) }
     {
         let Counted { partition, seats } = self;
         let _past = partition.history();
@@ -231,7 +230,7 @@ impl<L: Ledgers> Counted<L> {
 
     /// Which outputs are enabled.
     pub fn enabled(&self) -> [bool; 8]
-        ensures { (output : ℕ) → output < 8 → slice_index_or result output false ≡ is_enabled self.now.present.part.outputs output }
+        ensures { AreEnabled result self.now.present }
     {
         enabled_in(self.partition.outputs())
     }

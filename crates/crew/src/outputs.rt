@@ -1,5 +1,6 @@
 //! The threads of all outputs.
 ghost use Rattle.std.specs.Prelude.{◌≡◌, ◌<◌, map, IfOk, vec_len};
+ghost use Rattle.frame_ledger.specs.Shares.{HasPartsFor};
 ghost use Rattle.crew.specs.Rows.{first_of_run, drainer_of_run};
 ghost use Rattle.crew_steps.specs.OutputSetups.{feeder_of_setup, drainer_of_setup};
 
@@ -30,7 +31,7 @@ pub fn start_outputs<
     output_setups: Vec<OutputSetup<O>>,
     shares: OutputShares<Written<L>, Discarded<L>>,
 ) -> Result<(Vec<OutputRun<L>>, Vec<Feeder>), AllocError>
-    requires parts { (vec_len output_setups < shares.written.parts) × (vec_len output_setups < shares.discarded.parts) × (shares.written.amount ≡ 0) × (shares.discarded.amount ≡ 0) }
+    requires parts { HasPartsFor (vec_len output_setups) shares }
     ensures runs { IfOk result (λ r. map first_of_run r.0.items ≡ map feeder_of_setup output_setups.items) }
     ensures drainers { IfOk result (λ r. map drainer_of_run r.0.items ≡ map drainer_of_setup output_setups.items) }
     ensures feeders { IfOk result (λ r. r.1.items ≡ map feeder_of_setup output_setups.items) }

@@ -2,8 +2,7 @@
 ghost use Rattle.std.specs.Prelude.{◌≡◌, ◌<◌, ◌||◌, List, IfSome};
 ghost use Rattle.output_ring.specs.Rings.{SameDrainer, hand_of, has_failed, popped_of};
 ghost use Rattle.output_ring.specs.declared.frames.CutFrame.{CutFrame};
-ghost use Rattle.player_events.specs.declared.event.Event.TheVariants.{OutputTurn};
-ghost use Rattle.held_player.specs.Views.{TellsSomewhere};
+ghost use Rattle.held_player.specs.Views.{TellsSomewhere, turn_of};
 ghost use Rattle.crew_steps.specs.Turns.{Drains, Plays, Pops};
 
 use crate::output::{Gate, OutputEnd};
@@ -56,8 +55,7 @@ impl<'h, L: Ledgers, O: Sink + Drop, G: Gate, R: Wait + Clock> Draining<'h, L, O
     ghost use Rattle.std.specs.Prelude.{◌≡◌, ◌<◌, ◌||◌, List, IfSome};
     ghost use Rattle.output_ring.specs.Rings.{SameDrainer, hand_of, has_failed, popped_of};
     ghost use Rattle.output_ring.specs.declared.frames.CutFrame.{CutFrame};
-    ghost use Rattle.player_events.specs.declared.event.Event.TheVariants.{OutputTurn};
-    ghost use Rattle.held_player.specs.Views.{TellsSomewhere};
+    ghost use Rattle.held_player.specs.Views.{TellsSomewhere, turn_of};
     ghost use Rattle.crew_steps.specs.Turns.{Drains, Plays, Pops};
 
     /// The output of this number.
@@ -149,7 +147,7 @@ impl<'h, L: Ledgers, O: Sink + Drop, G: Gate, R: Wait + Clock> Draining<'h, L, O
     /// Tells which fates frames got since the last turn. `None` where the turn was refused.
     fn tell(&mut self, fates: Fates) -> Option<Reported>
         ensures writer { (self.new.writer ≡ self.old.writer) × (self.new.failed ≡ self.old.failed) }
-        ensures told { IfSome result (λ told. TellsSomewhere self.old.seat (OutputTurn self.old.output fates.written fates.discarded self.old.failed) told) }
+        ensures told { IfSome result (TellsSomewhere self.old.seat (turn_of self.old.output fates self.old.failed)) }
     {
         let turn = self.house.turn(
             self.rt,

@@ -5,3 +5,4 @@ pub mod Script
 pub mod Output
 pub mod Pieces
 pub mod Invariant
+pub mod Printing

@@ -1,11 +1,9 @@
 //! Client lines, and the lines that they print.
-ghost use Rattle.std.specs.Prelude.{◌≡◌, ◌++◌, ℕ, List, None, Some, is_none, false, unwrap_or, IfErr, IfOk, OnErr, OnOk};
-ghost use Rattle.command_lists.specs.Lists.{outcome_of};
-ghost use Rattle.mpd_command.specs.Requests.{request_of};
-ghost use Rattle.partition.specs.Image.{Image};
-ghost use Rattle.daemon_script.specs.Kinds.{Shelved, images};
+ghost use Rattle.daemon_script.specs.Printing.{IsFoundByRefused, LeavesList, LeavesPlayer, PrintsRun, WasConnected, asking, closing_list, connecting, run_of};
+ghost use Rattle.std.specs.Prelude.{◌≡◌, ◌++◌, None, Some, is_none, false, IfOk, OnOk};
+ghost use Rattle.daemon_script.specs.Kinds.{images};
 ghost use Rattle.daemon_script.specs.Pieces.{found_by, found_in};
-ghost use Rattle.daemon_script.specs.Script.{Enough, alone_run, asked_run, connect_run, fault_for, found_first, found_then, label, client_run, line_run, lines_for, notice_lines, notices_for, refusal, reply_for, told_for, too_large_run};
+ghost use Rattle.daemon_script.specs.Script.{Enough, alone_run, fault_for, found_first, found_then, label, client_run, line_run, lines_for, notice_lines, notices_for, reply_for, told_for};
 
 use crate::lists::run_commands;
 use crate::memory::Memory;
@@ -36,10 +34,10 @@ pub(crate) fn run_line(
     line: &str,
     shown: &mut Vec<u8>,
 ) -> Result<LineRun, AllocError>
-    ensures player { IfOk result (λ ran. player.new ≡ (client_run images player.old list.old number line.now ran.memory).player) }
-    ensures list { IfOk result (λ ran. list.new ≡ (client_run images player.old list.old number line.now ran.memory).list) }
-    ensures text { IfOk result (λ ran. shown.new.items ≡ shown.old.items ++ (client_run images player.old list.old number line.now ran.memory).text) }
-    ensures connected { IfOk result (λ ran. ran.connected ≡ (client_run images player.old list.old number line.now ran.memory).connected) }
+    ensures player { IfOk result (LeavesPlayer (run_of player.old list.old number line.now) player.new) }
+    ensures list { IfOk result (LeavesList (run_of player.old list.old number line.now) list.new) }
+    ensures text { IfOk result (PrintsRun (run_of player.old list.old number line.now) shown.old shown.new) }
+    ensures connected { IfOk result (WasConnected (run_of player.old list.old number line.now)) }
     // Where its client's connect is refused, an open list stays.
     ensures kept { IfOk result (λ ran. ran.connected ≡ false → list.new ≡ list.old) }
 {
@@ -66,9 +64,9 @@ fn connect(
     number: u32,
     shown: &mut Vec<u8>,
 ) -> Result<Option<Memory>, AllocError>
-    ensures player { IfOk result (λ refused. player.new ≡ (connect_run images player.old None number (refusal images player.old (Event.Connect number) (found_first (unwrap_or refused Memory.Ample)))).player) }
-    ensures text { IfOk result (λ refused. shown.new.items ≡ shown.old.items ++ (connect_run images player.old None number (refusal images player.old (Event.Connect number) (found_first (unwrap_or refused Memory.Ample)))).text) }
-    ensures connected { IfOk result (λ refused. is_none refused ≡ (connect_run images player.old None number (refusal images player.old (Event.Connect number) (found_first (unwrap_or refused Memory.Ample)))).connected) }
+    ensures player { IfOk result (LeavesPlayer (connecting player.old number) player.new) }
+    ensures text { IfOk result (PrintsRun (connecting player.old number) shown.old shown.new) }
+    ensures connected { IfOk result (λ refused. is_none refused ≡ (connecting player.old number refused).connected) }
 {
     match player.apply(Event::Connect(number)) {
         Ok(greeting) => {
@@ -102,9 +100,9 @@ fn run_connected_line(
     line: &str,
     shown: &mut Vec<u8>,
 ) -> Result<Memory, AllocError>
-    ensures player { IfOk result (λ memory. player.new ≡ (line_run images player.old list.old number line.now memory).player) }
-    ensures list { IfOk result (λ memory. list.new ≡ (line_run images player.old list.old number line.now memory).list) }
-    ensures text { IfOk result (λ memory. shown.new.items ≡ shown.old.items ++ (line_run images player.old list.old number line.now memory).text) }
+    ensures player { IfOk result (LeavesPlayer (line_run images player.old list.old number line.now) player.new) }
+    ensures list { IfOk result (LeavesList (line_run images player.old list.old number line.now) list.new) }
+    ensures text { IfOk result (PrintsRun (line_run images player.old list.old number line.now) shown.old shown.new) }
     ensures connects { IfOk result (λ memory. found_first memory ≡ Enough) }
 {
     if list.is_too_large_with(Some(line)) {
@@ -131,9 +129,9 @@ fn close_with_list(
     number: u32,
     shown: &mut Vec<u8>,
 ) -> Result<Memory, AllocError>
-    ensures player { IfOk result (λ memory. player.new ≡ (too_large_run images player.old list.old number (refusal images player.old (Event.Disconnect number) (found_then memory))).player) }
-    ensures list { IfOk result (λ memory. list.new ≡ (too_large_run images player.old list.old number (refusal images player.old (Event.Disconnect number) (found_then memory))).list) }
-    ensures text { IfOk result (λ memory. shown.new.items ≡ shown.old.items ++ (too_large_run images player.old list.old number (refusal images player.old (Event.Disconnect number) (found_then memory))).text) }
+    ensures player { IfOk result (LeavesPlayer (closing_list player.old list.old number) player.new) }
+    ensures list { IfOk result (LeavesList (closing_list player.old list.old number) list.new) }
+    ensures text { IfOk result (PrintsRun (closing_list player.old list.old number) shown.old shown.new) }
     ensures connects { IfOk result (λ memory. found_first memory ≡ Enough) }
 {
     match player.apply(Event::Disconnect(number)) {
@@ -153,7 +151,7 @@ fn close_with_list(
 fn memory_to_run(refused: Option<PartitionFault>) -> Memory
     ensures found { found_then result ≡ found_in refused }
     ensures connects { found_first result ≡ Enough }
-    ensures read { (player : Shelved Image) (number : ℕ) (line : List ℕ) → alone_run images player number line result ≡ asked_run images player number (request_of line false) (found_in refused) }
+    ensures read { IsFoundByRefused result refused }
 {
     match refused {
         None | Some(PartitionFault::CutsAtLimit | PartitionFault::AtLimit) => Memory::Ample,
@@ -170,8 +168,8 @@ fn run_line_alone(
     line: &str,
     shown: &mut Vec<u8>,
 ) -> Result<Memory, AllocError>
-    ensures player { IfOk result (λ memory. player.new ≡ (alone_run images player.old number line.now memory).player) }
-    ensures text { IfOk result (λ memory. shown.new.items ≡ shown.old.items ++ (alone_run images player.old number line.now memory).text) }
+    ensures player { IfOk result (LeavesPlayer (alone_run images player.old number line.now) player.new) }
+    ensures text { IfOk result (PrintsRun (alone_run images player.old number line.now) shown.old shown.new) }
     ensures connects { IfOk result (λ memory. found_first memory ≡ Enough) }
 {
     let Ok(request) = Request::of_line(alloc, line, false) else {
@@ -190,8 +188,8 @@ fn run_request(
     request: Request,
     shown: &mut Vec<u8>,
 ) -> Result<Option<PartitionFault>, AllocError>
-    ensures player { IfOk result (λ refused. player.new ≡ (asked_run images player.old number request (found_in refused)).player) }
-    ensures text { IfOk result (λ refused. shown.new.items ≡ shown.old.items ++ (asked_run images player.old number request (found_in refused)).text) }
+    ensures player { IfOk result (LeavesPlayer (asking player.old number request) player.new) }
+    ensures text { IfOk result (PrintsRun (asking player.old number request) shown.old shown.new) }
 {
     let name = request.name();
     match player.apply(Event::line(number, Stand::Alone, request)) {

@@ -1,10 +1,10 @@
 //! Command lists that have ended, and the lines that they print.
+ghost use Rattle.daemon_script.specs.Printing.{LeavesPlayer, Prints, PrintsRun, list_lines, notices_in_turn, stopped_lines, whole_answer_of};
 ghost use Rattle.std.specs.Prelude.{◌≡◌, ℕ, ◌++◌, ◌∷◌, [], map, string_bytes, IfOk, OnErr, OnOk};
 ghost use Rattle.std.specs.List.{flat_map};
-ghost use Rattle.partition.specs.Lists.{stop_text};
 ghost use Rattle.daemon_script.specs.Kinds.{images};
 ghost use Rattle.daemon_script.specs.Pieces.{stopped_at as stopped_at_lem};
-ghost use Rattle.daemon_script.specs.Script.{commands_run, end_of as end_of_lem, ending_of, lines_for, notices_by_number, client_numbers, notices_to, Enough, found_at, found_first, read_of, request_in as request_in_lem};
+ghost use Rattle.daemon_script.specs.Script.{commands_run, end_of as end_of_lem, notices_by_number, notices_to, Enough, found_at, found_first, read_of, request_in as request_in_lem};
 
 use crate::client_lines::{push_lines, push_notice};
 use crate::memory::Memory;
@@ -29,8 +29,8 @@ pub(crate) fn run_commands(
     commands: &CommandList,
     shown: &mut Vec<u8>,
 ) -> Result<Memory, AllocError>
-    ensures player { IfOk result (λ memory. player.new ≡ (commands_run images player.old number commands.now memory).player) }
-    ensures text { IfOk result (λ memory. shown.new.items ≡ shown.old.items ++ (commands_run images player.old number commands.now memory).text) }
+    ensures player { IfOk result (LeavesPlayer (commands_run images player.old number commands.now) player.new) }
+    ensures text { IfOk result (PrintsRun (commands_run images player.old number commands.now) shown.old shown.new) }
     ensures connects { IfOk result (λ memory. found_first memory ≡ Enough) }
 {
     let (requests, memory) = read_all(alloc, commands.lines.items());
@@ -125,7 +125,7 @@ fn push_list_outcome(
     outcome: &ListOutcome,
     end: &str,
 ) -> Result<(), AllocError>
-    ensures { OnOk result (shown.new.items ≡ shown.old.items ++ (lines_for number (flat_map (λ t. t.answer.text) outcome.now ++ ending_of end.now outcome.now) ++ notices_by_number outcome.now)) }
+    ensures { OnOk result (Prints shown.old shown.new (list_lines number end.now outcome.now)) }
 {
     let answer = whole_answer(alloc, outcome, end)?;
     push_lines(alloc, shown, number, &answer)?;
@@ -134,7 +134,7 @@ fn push_list_outcome(
 
 /// The whole answer of a list that ran.
 fn whole_answer(alloc: Global, outcome: &ListOutcome, end: &str) -> Result<Vec<u8>, AllocError>
-    ensures { IfOk result (λ answer. answer.items ≡ flat_map (λ t. t.answer.text) outcome.now ++ ending_of end.now outcome.now) }
+    ensures { IfOk result (λ answer. answer.items ≡ whole_answer_of end.now outcome.now) }
 {
     let mut answer = Vec::new(alloc);
     if outcome.closes() {
@@ -153,7 +153,7 @@ fn push_list_fault(
     number: u32,
     fault: &ListFault,
 ) -> Result<(), AllocError>
-    ensures { OnOk result (shown.new.items ≡ shown.old.items ++ (lines_for number (stop_text fault.now) ++ notices_by_number fault.now.tolds)) }
+    ensures { OnOk result (Prints shown.old shown.new (stopped_lines number fault.now)) }
 {
     let mut answer = Vec::new(alloc);
     fault.push_text(alloc, &mut answer)?;
@@ -192,7 +192,7 @@ fn push_notices_in_turn(
     numbers: &[u32],
     notices: &[Notice],
 ) -> Result<(), AllocError>
-    ensures { OnOk result (shown.new.items ≡ shown.old.items ++ flat_map (λ number. notices_to number notices.now) numbers.now) }
+    ensures { OnOk result (Prints shown.old shown.new (notices_in_turn notices.now numbers.now)) }
 {
     for number in numbers {
         push_notices_to(alloc, shown, *number, notices)?;

@@ -1,8 +1,7 @@
 //! A script's player: a partition, and the shelf in memory that it is lent at each event.
 ghost use Rattle.std.specs.Prelude.{◌≡◌, ◌≤◌, ◌<◌, None, Some, IfErr, IfOk, OnOk};
-ghost use Rattle.partition.specs.Image.{opening};
-ghost use Rattle.daemon_script.specs.Contents.{no_contents};
 ghost use Rattle.daemon_script.specs.Kinds.{images};
+ghost use Rattle.daemon_script.specs.Printing.{opened_player};
 ghost use Rattle.daemon_script.specs.Pieces.{RunsWhole, StopsWhole, found_by};
 ghost use Rattle.daemon_script.specs.Script.{Enough, refusal};
 
@@ -58,7 +57,7 @@ impl Player {
         requires version { 1 ≤ setup.limits.max_version }
         requires max_cut { setup.limits.max_cut < 9223372036854775808 }
         requires history { 1 ≤ setup.limits.history }
-        ensures { IfOk result (λ player. player ≡ record { player = opening setup library; shelf = no_contents; window = 0; most = setup.limits.history }) }
+        ensures { IfOk result (λ player. player ≡ opened_player setup library) }
     {
         Ok(Player {
             partition: Partition::open(alloc, setup, library)?,

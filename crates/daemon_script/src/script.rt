@@ -1,11 +1,12 @@
 //! A script: what it collects, and its player.
+ghost use Rattle.daemon_script.specs.Printing.{IsRead, Leaves, LeavesLists, LeavesPlayer, Prints, PrintsBy, PrintsRun, WasConnected, run_in};
 ghost use Rattle.std.specs.Prelude.{◌≡◌, ◌<◌, ◌≤◌, ◌++◌, length, false, codes, None, Some, IfOk, OnOk, if◌then◌else◌};
 ghost use Rattle.mpd_text.specs.Lines.Split.{view as view_of_line};
 ghost use Rattle.song_db.specs.Library.{in_byte_order, is_twice_named};
 ghost use Rattle.daemon_script.specs.Kinds.{Shelved, images, one_output as one_output_lem};
 ghost use Rattle.partition.specs.Image.{Image};
 ghost use Rattle.daemon_script.specs.Pieces.{found_by};
-ghost use Rattle.daemon_script.specs.Script.{no_lists as no_lists_lem, client_run, list_of, with_list, opening_script, shown_of, step_line, collect_line, gone_line, event_line, found_then, once_read, scan_result, lowers, shown_client, shows_window, Shown, ScriptData, refusal_text, has_uri as has_uri_lem};
+ghost use Rattle.daemon_script.specs.Script.{no_lists as no_lists_lem, client_run, with_list, opening_script, shown_of, step_line, collect_line, gone_line, event_line, found_then, scan_result, lowers, shown_client, shows_window, ScriptData, refusal_text, has_uri as has_uri_lem};
 
 use crate::client_lines::{LineRun, push_fault, push_notices, run_line};
 use crate::memory::Memory;
@@ -89,8 +90,8 @@ impl Script {
     /// Runs a line, and appends what it prints. An `Err` says that there was no room to append.
     #[tactic(auto, unfolding(crate::specs::Script::shown_of))]
     pub(crate) fn show(&mut self, line: &Line, shown: &mut Vec<u8>) -> Result<Memory, AllocError>
-        ensures script { IfOk result (λ memory. self.new ≡ (shown_of images self.old (view_of_line line.now) memory).script) }
-        ensures text { IfOk result (λ memory. shown.new.items ≡ shown.old.items ++ (shown_of images self.old (view_of_line line.now) memory).text) }
+        ensures script { IfOk result (Leaves (shown_of images self.old (view_of_line line.now)) self.new) }
+        ensures text { IfOk result (PrintsBy (shown_of images self.old (view_of_line line.now)) shown.old shown.new) }
     {
         let Line::Text(text) = line else {
             return push_bad(shown);
@@ -103,8 +104,8 @@ impl Script {
     }
 
     fn run_step(&mut self, rest: &str, shown: &mut Vec<u8>) -> Result<Memory, AllocError>
-        ensures script { IfOk result (λ memory. self.new ≡ (step_line images self.old rest.now memory).script) }
-        ensures text { IfOk result (λ memory. shown.new.items ≡ shown.old.items ++ (step_line images self.old rest.now memory).text) }
+        ensures script { IfOk result (Leaves (step_line images self.old rest.now) self.new) }
+        ensures text { IfOk result (PrintsBy (step_line images self.old rest.now) shown.old shown.new) }
     {
         match Step::of_line(self.alloc, rest) {
             Ok(Some(Step::Song(song))) => self.collect(song, shown),
@@ -129,8 +130,8 @@ impl Script {
     }
 
     fn collect(&mut self, song: Song, shown: &mut Vec<u8>) -> Result<Memory, AllocError>
-        ensures script { IfOk result (λ memory. self.new ≡ (collect_line self.old song memory).script) }
-        ensures text { IfOk result (λ memory. shown.new.items ≡ shown.old.items ++ (collect_line self.old song memory).text) }
+        ensures script { IfOk result (Leaves (collect_line self.old song) self.new) }
+        ensures text { IfOk result (PrintsBy (collect_line self.old song) shown.old shown.new) }
     {
         if self.songs.len() >= MAX_SONGS || has_uri(&self.songs, song.uri()) {
             return push_bad(shown);
@@ -162,8 +163,8 @@ impl Script {
 
     /// A client goes, once the player is there.
     fn send_off(&mut self, number: u32, shown: &mut Vec<u8>) -> Result<Memory, AllocError>
-        ensures script { IfOk result (λ memory. self.new ≡ (gone_line images self.old number memory).script) }
-        ensures text { IfOk result (λ memory. shown.new.items ≡ shown.old.items ++ (gone_line images self.old number memory).text) }
+        ensures script { IfOk result (Leaves (gone_line images self.old number) self.new) }
+        ensures text { IfOk result (PrintsBy (gone_line images self.old number) shown.old shown.new) }
     {
         let Some(player) = &mut self.player else {
             return push_bad(shown);
@@ -180,8 +181,8 @@ impl Script {
 
     /// The scan that runs ends, once the player is there, with all songs that were collected.
     fn end_scan(&mut self, shown: &mut Vec<u8>) -> Result<Memory, AllocError>
-        ensures script { IfOk result (λ memory. self.new ≡ (event_line images self.old (scan_result self.old) memory).script) }
-        ensures text { IfOk result (λ memory. shown.new.items ≡ shown.old.items ++ (event_line images self.old (scan_result self.old) memory).text) }
+        ensures script { IfOk result (Leaves (event_line images self.old (scan_result self.old)) self.new) }
+        ensures text { IfOk result (PrintsBy (event_line images self.old (scan_result self.old)) shown.old shown.new) }
     {
         if self.player.is_none() {
             return push_bad(shown);
@@ -195,8 +196,8 @@ impl Script {
     /// A step that is one event, once the player is there. Appends what the event tells, and then the notices
     /// to clients.
     fn happen(&mut self, event: Event, shown: &mut Vec<u8>) -> Result<Memory, AllocError>
-        ensures script { IfOk result (λ memory. self.new ≡ (event_line images self.old event memory).script) }
-        ensures text { IfOk result (λ memory. shown.new.items ≡ shown.old.items ++ (event_line images self.old event memory).text) }
+        ensures script { IfOk result (Leaves (event_line images self.old event) self.new) }
+        ensures text { IfOk result (PrintsBy (event_line images self.old event) shown.old shown.new) }
     {
         let Some(player) = &mut self.player else {
             return push_bad(shown);
@@ -214,7 +215,7 @@ impl Script {
     /// Appends what the history holds, once the player is there.
     fn show_window(&self, shown: &mut Vec<u8>) -> Result<Memory, AllocError>
         ensures script { (shows_window images self.now self.now.player).script ≡ self.now }
-        ensures text { OnOk result (shown.new.items ≡ shown.old.items ++ (shows_window images self.now self.now.player).text) }
+        ensures text { OnOk result (Prints shown.old shown.new (shows_window images self.now self.now.player).text) }
         ensures memory { IfOk result (λ memory. memory ≡ Memory.Ample) }
     {
         let Some(player) = &self.player else {
@@ -231,8 +232,8 @@ impl Script {
         shown: &mut Vec<u8>,
     ) -> Result<Memory, AllocError>
         requires { number < 10 }
-        ensures script { IfOk result (λ memory. self.new ≡ (shown_client images self.old self.old.player number line.now memory).script) }
-        ensures text { IfOk result (λ memory. shown.new.items ≡ shown.old.items ++ (shown_client images self.old self.old.player number line.now memory).text) }
+        ensures script { IfOk result (Leaves (shown_client images self.old self.old.player number line.now) self.new) }
+        ensures text { IfOk result (PrintsBy (shown_client images self.old self.old.player number line.now) shown.old shown.new) }
     {
         let Some(player) = &mut self.player else {
             return self.run_first_line(number, line, shown);
@@ -252,8 +253,8 @@ impl Script {
     ) -> Result<Memory, AllocError>
         requires client { number < 10 }
         requires first { self.old.player ≡ None }
-        ensures script { IfOk result (λ memory. self.new ≡ (shown_client images self.old None number line.now memory).script) }
-        ensures text { IfOk result (λ memory. shown.new.items ≡ shown.old.items ++ (shown_client images self.old None number line.now memory).text) }
+        ensures script { IfOk result (Leaves (shown_client images self.old None number line.now) self.new) }
+        ensures text { IfOk result (PrintsBy (shown_client images self.old None number line.now) shown.old shown.new) }
     {
         let Ok(mut player) = self.opened() else {
             push_fault(self.alloc, shown, number, "", PartitionFault::NoMemory)?;
@@ -329,10 +330,10 @@ fn run_listed_line(
     shown: &mut Vec<u8>,
 ) -> Result<LineRun, AllocError>
     requires { number < 10 }
-    ensures player { IfOk result (λ ran. player.new ≡ (client_run images player.old (list_of number lists.old) number line.now ran.memory).player) }
-    ensures lists { IfOk result (λ ran. lists.new ≡ with_list number (client_run images player.old (list_of number lists.old) number line.now ran.memory).list lists.old) }
-    ensures text { IfOk result (λ ran. shown.new.items ≡ shown.old.items ++ (client_run images player.old (list_of number lists.old) number line.now ran.memory).text) }
-    ensures connected { IfOk result (λ ran. ran.connected ≡ (client_run images player.old (list_of number lists.old) number line.now ran.memory).connected) }
+    ensures player { IfOk result (LeavesPlayer (run_in player.old lists.old number line.now) player.new) }
+    ensures lists { IfOk result (LeavesLists (run_in player.old lists.old number line.now) number lists.old lists.new) }
+    ensures text { IfOk result (PrintsRun (run_in player.old lists.old number line.now) shown.old shown.new) }
+    ensures connected { IfOk result (WasConnected (run_in player.old lists.old number line.now)) }
     ensures kept { IfOk result (λ ran. ran.connected ≡ false → lists.new ≡ lists.old) }
 {
     run_line(
@@ -394,7 +395,7 @@ fn push_unread(shown: &mut Vec<u8>) -> Result<Memory, AllocError>
 fn push_refusal(shown: &mut Vec<u8>, fault: PartitionFault) -> Result<Memory, AllocError>
     ensures text { OnOk result (shown.new.items ≡ shown.old.items ++ refusal_text fault) }
     ensures found { IfOk result (λ memory. found_then memory ≡ found_by fault) }
-    ensures read { IfOk result (λ memory. (script : ScriptData (Shelved Image)) (shown : Shown (Shelved Image)) → once_read script memory shown ≡ shown) }
+    ensures read { IfOk result IsRead }
 {
     match fault {
         PartitionFault::CutsAtLimit | PartitionFault::AtLimit => {

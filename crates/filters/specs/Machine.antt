@@ -62,6 +62,23 @@ after_word None word b = Err (UnknownTag word)
 after_word (Some (NamedField field)) word b = sign field b
 after_word (Some NamedBase) word b = if b == 32 then Ok (BeforeText BaseGoal) else Err Syntax
 
+-- in a word: it goes on with a letter, or another byte comes after it
+abbrev pub in_word : List ℕ → ℕ → Result State Stop
+in_word word b = if is_letter b then Ok (Word (word ++ b ∷ [])) else after_word (named_of word) word b
+
+-- before a text in quotes: one more space, or the quote that it begins with
+abbrev pub before_text : Goal → ℕ → Result State Stop
+before_text goal b =
+    if b == 32 then Ok (BeforeText goal)
+    else (if (b == 34) || (b == 39) then Ok (InText goal b []) else Err Syntax)
+
+-- between quotes: the quote that ends the text, a backslash, or one more byte of it
+abbrev pub in_text : Goal → ℕ → List ℕ → ℕ → Result State Stop
+in_text goal quote text b =
+    if b == quote then Ok (Done (filter_for goal text))
+    else (if b == 92 then Ok (Escaped goal quote text)
+    else Ok (InText goal quote (text ++ b ∷ [])))
+
 abbrev pub contains_letter : Field → ℕ → ℕ → Result State Stop
 contains_letter field read b =
     if nat_lt read 7 && (b == slice_index (codes "contains") read) then Ok (Contains field (read + 1))

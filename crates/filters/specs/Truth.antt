@@ -1,6 +1,6 @@
 -- When a song meets a filter (MPD protocol reference, Filters; that an absent tag is the empty text is this
 -- profile's).
-use Rattle.std.specs.Prelude.{◌≡◌, ℕ, List, [], ◌∷◌, ◌++◌, ◌⊎◌, ◌==◌, if◌then◌else◌, chars, encode_utf8_all}
+use Rattle.std.specs.Prelude.{◌≡◌, ◌≢◌, ℕ, List, [], ◌∷◌, ◌++◌, ◌⊎◌, ◌==◌, if◌then◌else◌, chars, encode_utf8_all}
 use Rattle.std.specs.Str.Iter.{HasSubslice}
 use Rattle.caseless.specs.Caseless.{default_case_fold}
 use Rattle.mpd_text.specs.Songs.Song.{SongData, TagData}
@@ -43,6 +43,14 @@ abbrev pub IsRelated : Relation → List ℕ → List ℕ → Type 0
 IsRelated Same text wanted = text ≡ wanted
 IsRelated IncludesIt text wanted = HasSubslice text wanted
 
+-- what is compared has this relation to a wanted text that is folded already
+abbrev pub Relates : Case → Relation → List ℕ → Field → SongData → Type 0
+Relates case relation wanted field song = HasIt (λ text. IsRelated relation (folded case text) wanted) field song
+
+-- some tag of these names has a text with this relation to it
+abbrev pub SomeTagRelates : Case → Relation → List ℕ → List TagName → List TagData → Type 0
+SomeTagRelates case relation wanted names tags = SomeTag (λ text. IsRelated relation (folded case text) wanted) names tags
+
 abbrev pub IsSame : Case → List ℕ → List ℕ → Type 0
 IsSame case wanted text = folded case text ≡ folded case wanted
 
@@ -53,6 +61,10 @@ abbrev pub Compares : Case → Test → List ℕ → Field → SongData → Type
 Compares case Equals wanted field song = HasIt (IsSame case wanted) field song
 Compares case Differs wanted field song = HasIt (IsSame case wanted) field song → ⊥
 Compares case Contains wanted field song = HasIt (Includes case wanted) field song
+
+-- bytes do not begin with a prefix: nothing after it gives them
+abbrev pub LacksPrefix : List ℕ → List ℕ → Type 0
+LacksPrefix prefix bytes = (rest : List ℕ) → bytes ≢ prefix ++ rest
 
 -- the URI goes on after the folder and a slash; each URI lies under the empty folder
 abbrev pub IsUnder : List ℕ → List ℕ → Type 0

@@ -1,6 +1,6 @@
 //! Whether a song meets a filter (MPD protocol reference, Filters).
-ghost use Rattle.std.specs.Prelude.{◌≡◌, ◌≢◌, ◌↔◌, ◌++◌, ◌∷◌, List, ℕ, IfOk, IsOk, IsTrue, MatchOption};
-ghost use Rattle.filters.specs.Truth.{Holds, HasIt, Compares, IsUnder, SomeTag, IsRelated, folded, text_of_tag as text_of_tag_lem};
+ghost use Rattle.std.specs.Prelude.{◌≡◌, ◌↔◌, ◌++◌, ◌∷◌, List, ℕ, IfOk, IsOk, IsTrue, MatchOption};
+ghost use Rattle.filters.specs.Truth.{Holds, Compares, Relates, IsUnder, LacksPrefix, SomeTagRelates, IsRelated, folded, text_of_tag as text_of_tag_lem};
 ghost use Rattle.std.specs.Str.Iter.{HasSubslice};
 ghost use Rattle.filters.specs.declared.matching.Case.TheVariants.{Heeded};
 
@@ -84,7 +84,7 @@ fn relates(
     wanted: &str,
     case: Case,
 ) -> Result<bool, AllocError>
-    ensures truth { IfOk result (λ yes. IsTrue yes ↔ HasIt (λ text. IsRelated relation (folded case text) (folded case wanted.now)) field song.now) }
+    ensures truth { IfOk result (λ yes. IsTrue yes ↔ Relates case relation (folded case wanted.now) field song.now) }
     ensures answers { case ≡ Heeded → IsOk result }
 {
     match case {
@@ -105,7 +105,7 @@ fn has_it(
     wanted: &str,
     case: Case,
 ) -> Result<bool, AllocError>
-    ensures truth { IfOk result (λ yes. IsTrue yes ↔ HasIt (λ text. IsRelated relation (folded case text) wanted.now) field song.now) }
+    ensures truth { IfOk result (λ yes. IsTrue yes ↔ Relates case relation wanted.now field song.now) }
     ensures answers { case ≡ Heeded → IsOk result }
 {
     match field {
@@ -131,7 +131,7 @@ fn some_tag(
     wanted: &str,
     case: Case,
 ) -> Result<bool, AllocError>
-    ensures truth { IfOk result (λ yes. IsTrue yes ↔ SomeTag (λ text. IsRelated relation (folded case text) wanted.now) names.now tags.now) }
+    ensures truth { IfOk result (λ yes. IsTrue yes ↔ SomeTagRelates case relation wanted.now names.now tags.now) }
     ensures answers { case ≡ Heeded → IsOk result }
 {
     for name in names {
@@ -205,7 +205,7 @@ fn is_under(uri: &str, folder: &str) -> bool
 
 /// The bytes after a prefix, if they begin with it.
 fn after_prefix<'a>(bytes: &'a [u8], prefix: &[u8]) -> Option<&'a [u8]>
-    ensures { MatchOption result ((rest : List ℕ) → bytes.now ≢ prefix.now ++ rest) (λ rest. bytes.now ≡ prefix.now ++ rest.now) }
+    ensures { MatchOption result (LacksPrefix prefix.now bytes.now) (λ rest. bytes.now ≡ prefix.now ++ rest.now) }
 {
     bytes.strip_prefix(prefix)
 }

@@ -1,8 +1,8 @@
 //! What comes before each byte of a filter's text.
-ghost use Rattle.std.specs.Prelude.{◌≡◌, Some, None, Ok, Err, true, if◌then◌else◌, ◌==◌, ◌||◌, ◌++◌, ◌∷◌, []};
+ghost use Rattle.std.specs.Prelude.{◌≡◌, Ok, Err, true, if◌then◌else◌, ◌==◌};
 ghost use Rattle.std.specs.Str.{IsUtf8};
 ghost use Rattle.filters.specs.Words.{is_letter as is_letter_lem, same_word as same_word_lem, field_named as field_named_lem};
-ghost use Rattle.filters.specs.Machine.{named_of, step as step_lem, opened, closed, after_word as after_word_lem, sign as sign_lem, Steps, StepsAlone, contains_letter as contains_letter_lem, and_letter as and_letter_lem, filter_for, CanTake};
+ghost use Rattle.filters.specs.Machine.{named_of, step as step_lem, opened, closed, in_word as in_word_lem, before_text as before_text_lem, in_text as in_text_lem, sign as sign_lem, Steps, StepsAlone, contains_letter as contains_letter_lem, and_letter as and_letter_lem, filter_for, CanTake};
 ghost use Rattle.filters.specs.declared.state.Stop.TheVariants.{Syntax, NoMemory};
 
 use crate::expression::{Field, Filter, Test};
@@ -238,7 +238,7 @@ fn close(alloc: Global, purposes: &mut Stack<Purpose>, filter: Filter, b: u8) ->
 /// In a word, or after it.
 fn in_word(mut word: Sequence<u8>, b: u8) -> Result<State, Stop>
     requires { IsUtf8 word }
-    ensures { StepsAlone result (if is_letter_lem b then Ok (State.Word (word ++ b ∷ [])) else after_word_lem (named_of word) word b) }
+    ensures { StepsAlone result (in_word_lem word b) }
 {
     if is_letter(b) {
         word.push(b)?;
@@ -272,7 +272,7 @@ fn only_at(wanted: u8, b: u8, goal: Goal) -> Result<State, Stop>
 
 /// Before a text in quotes.
 fn before_text(alloc: Global, goal: Goal, b: u8) -> Result<State, Stop>
-    ensures { StepsAlone result (if b == 32 then Ok (State.BeforeText goal) else (if (b == 34) || (b == 39) then Ok (State.InText goal b []) else Err Syntax)) }
+    ensures { StepsAlone result (before_text_lem goal b) }
 {
     if b == b' ' {
         Ok(State::BeforeText(goal))
@@ -292,7 +292,7 @@ fn in_text(
     b: u8,
 ) -> Result<State, Stop>
     requires { b ≡ quote → IsUtf8 text }
-    ensures { StepsAlone result (if b == quote then Ok (State.Done (filter_for goal text)) else (if b == 92 then Ok (State.Escaped goal quote text) else Ok (State.InText goal quote (text ++ b ∷ [])))) }
+    ensures { StepsAlone result (in_text_lem goal quote text b) }
 {
     if b == quote {
         Ok(State::Done(filter_of(alloc, goal, text_of(text))))

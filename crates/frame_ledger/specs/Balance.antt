@@ -1,6 +1,7 @@
 -- The numbers of one output, and what is left of its ring (this profile's).
 use Rattle.std.specs.Prelude.{ℕ, ◌≡◌, ◌+◌, ◌<◌, ◌^◌, Bool, ◌&&◌, nat_lt, List, ◌++◌, length, sum, slice_index, slice_set}
 use Rattle.std.specs.declared.sync.ledger.Blank.{Blank}
+use Rattle.std.specs.declared.sync.ledger.Share.{Share}
 use Rattle.output_ring.specs.declared.frames.CutFrame.{CutFrame}
 use Rattle.output_ring.specs.declared.frames.Fates.{Fates}
 use Rattle.output_ring.specs.declared.feeder.FeederEnd.{FeederEnd}
@@ -15,6 +16,11 @@ IsBlankOf blank name parts = (blank.name ≡ name) × (blank.parts ≡ parts)
 -- an output's number grows
 abbrev pub raised : List ℕ → ℕ → ℕ → List ℕ
 raised numbers output n = slice_set numbers output (slice_index numbers output + n)
+
+-- an output's number and the share grew by n, and all outputs together stay below 2^63
+abbrev pub Raises : {L : Type 0} → List ℕ → List ℕ → ℕ → Share L → Share L → ℕ → Type 0
+Raises old new output before after n =
+    (new ≡ raised old output n) × (after.amount ≡ before.amount + n) × (sum new < 2 ^ 63)
 
 -- whether what was written and what was discarded stay at or below 2^63-1 with these fates, all outputs
 -- together

@@ -31,8 +31,9 @@ pub struct OutputShares<W: Ledger, X: Ledger> {
 }
 
 impl<E: Ledger, W: Ledger, X: Ledger> Books<E, W, X> {
-    ghost use Rattle.std.specs.Prelude.{◌≡◌, ◌+◌, ◌<◌, length, replicate, is_ok, IfOk, OnOk, OnErr};
-    ghost use Rattle.frame_ledger.specs.Balance.{raised, has_room, IsBlankOf};
+    ghost use Rattle.std.specs.Prelude.{◌≡◌, ◌<◌, length, is_ok, IfOk, OnOk, OnErr};
+    ghost use Rattle.frame_ledger.specs.Balance.{has_room, IsBlankOf};
+    ghost use Rattle.frame_ledger.specs.Books.{AreEmptyFor, HaveParts, CountFates, GrowByFates, KeepParts};
 
     /// Books with a number of 0 for each output, and the shares that have all parts.
     pub fn open(
@@ -43,8 +44,8 @@ impl<E: Ledger, W: Ledger, X: Ledger> Books<E, W, X> {
         requires decoded { IsBlankOf blanks.decoded E.name E.parts }
         requires written { IsBlankOf blanks.written W.name W.parts }
         requires discarded { IsBlankOf blanks.discarded X.name X.parts }
-        ensures books { IfOk result (λ r. (r.0.decoded ≡ replicate outputs 0) × (r.0.written ≡ replicate outputs 0) × (r.0.discarded ≡ replicate outputs 0)) }
-        ensures parts { IfOk result (λ r. (r.1.parts ≡ E.parts) × (r.2.written.parts ≡ W.parts) × (r.2.discarded.parts ≡ X.parts)) }
+        ensures books { IfOk result (λ r. AreEmptyFor r.0 outputs) }
+        ensures parts { IfOk result (λ r. HaveParts r.1 r.2 E.parts W.parts X.parts) }
         ensures amounts { IfOk result (λ r. (r.1.amount ≡ 0) × (r.2.written.amount ≡ 0) × (r.2.discarded.amount ≡ 0)) }
     {
         let (decoded, share) = Tally::<E>::open(alloc, blanks.decoded, outputs)?;
@@ -72,11 +73,11 @@ impl<E: Ledger, W: Ledger, X: Ledger> Books<E, W, X> {
         requires output { (output < length self.old.written) × (output < length self.old.discarded) }
         requires parts { (0 < shares.old.written.parts) × (0 < shares.old.discarded.parts) }
         ensures room { is_ok result ≡ has_room self.old.written self.old.discarded fates }
-        ensures books { OnOk result ((self.new.written ≡ raised self.old.written output fates.written) × (self.new.discarded ≡ raised self.old.discarded output fates.discarded)) }
-        ensures amounts { OnOk result ((shares.new.written.amount ≡ shares.old.written.amount + fates.written) × (shares.new.discarded.amount ≡ shares.old.discarded.amount + fates.discarded)) }
+        ensures books { OnOk result (CountFates self.old self.new output fates) }
+        ensures amounts { OnOk result (GrowByFates shares.old shares.new fates) }
         ensures err { OnErr result ((self.new ≡ self.old) × (shares.new ≡ shares.old)) }
         ensures decoded { self.new.decoded ≡ self.old.decoded }
-        ensures parts { (shares.new.written.parts ≡ shares.old.written.parts) × (shares.new.discarded.parts ≡ shares.old.discarded.parts) }
+        ensures parts { KeepParts shares.old shares.new }
     {
         if !self.written.has_room(fates.written) || !self.discarded.has_room(fates.discarded) {
             return Err(AtLimit);

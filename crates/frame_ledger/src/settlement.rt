@@ -1,9 +1,9 @@
 //! The books against the rings.
-ghost use Rattle.std.specs.Prelude.{◌≡◌, ◌+◌, ◌^◌, ◌<◌, ◌↔◌, if◌then◌else◌, List, length, slice_index, IfOk, IfSome, IsNone, IsSome, IsOk};
-ghost use Rattle.output_ring.specs.Rings.{AreEndsAfter, end_owed, hand_of, unreported_of};
-ghost use Rattle.output_ring.specs.declared.frames.CutFrame.{CutFrame};
+ghost use Rattle.std.specs.Prelude.{◌≡◌, ◌+◌, ◌^◌, ◌<◌, ◌↔◌, length, IfOk, IfSome, IsNone, IsSome};
+ghost use Rattle.output_ring.specs.Rings.{AreEndsAfter, end_owed, hand_of};
 ghost use Rattle.frame_ledger.specs.declared.settlement.SettleFault.TheVariants.{Unsettled};
-ghost use Rattle.frame_ledger.specs.Balance.{raised, has_room, Balances, Agrees};
+ghost use Rattle.frame_ledger.specs.Balance.{Balances};
+ghost use Rattle.frame_ledger.specs.Books.{HaveOutput, HaveNumbers, IsSettledIfBooksAgree, written_after, discarded_after, GrowByUnreported, KeepParts, AgreesWithTotals, settled_numbers};
 
 use crate::books::{Books, OutputShares};
 use output_ring::{Drainer, FeederEnd, Totals};
@@ -41,24 +41,23 @@ pub fn settle<E: Ledger, W: Ledger, X: Ledger>(
     shares: &mut OutputShares<W, X>,
 ) -> Result<Settled, SettleFault>
     requires ends { AreEndsAfter end drainer }
-    requires output { (output < length books.old.decoded) × (output < length books.old.written) × (output < length books.old.discarded) }
+    requires output { HaveOutput books.old output }
     requires parts { (0 < shares.old.written.parts) × (0 < shares.old.discarded.parts) }
 
     // At `Ok` the numbers are the ring's and the books'.
     ensures balances { IfOk result (λ s. Balances end drainer s) }
-    ensures books { IfOk result (λ s. (slice_index books.new.decoded output ≡ s.decoded) × (slice_index books.new.written output ≡ s.written) × (slice_index books.new.discarded output ≡ s.discarded)) }
+    ensures books { IfOk result (λ s. HaveNumbers books.new output s) }
 
     // It fails only for want of the token, or where the books differ.
     ensures unsettled { (result ≡ Err Unsettled) ↔ IsNone end.finished }
-    ensures agrees { (taken : List CutFrame) → IsSome end.finished → Agrees end drainer books.old.decoded books.old.written books.old.discarded output taken → IsOk result }
+    ensures agrees { IsSettledIfBooksAgree end drainer books.old output result }
 
     // The unreported fates are counted, in both books or in none.
     ensures decoded { books.new.decoded ≡ books.old.decoded }
-    ensures written { books.new.written ≡ (if has_room books.old.written books.old.discarded (unreported_of drainer) then raised books.old.written output (unreported_of drainer).written else books.old.written) }
-    ensures discarded { books.new.discarded ≡ (if has_room books.old.written books.old.discarded (unreported_of drainer) then raised books.old.discarded output (unreported_of drainer).discarded else books.old.discarded) }
-    ensures amounts { (shares.new.written.amount ≡ shares.old.written.amount + (if has_room books.old.written books.old.discarded (unreported_of drainer) then (unreported_of drainer).written else 0))
-        × (shares.new.discarded.amount ≡ shares.old.discarded.amount + (if has_room books.old.written books.old.discarded (unreported_of drainer) then (unreported_of drainer).discarded else 0)) }
-    ensures parts { (shares.new.written.parts ≡ shares.old.written.parts) × (shares.new.discarded.parts ≡ shares.old.discarded.parts) }
+    ensures written { books.new.written ≡ written_after books.old drainer output }
+    ensures discarded { books.new.discarded ≡ discarded_after books.old drainer output }
+    ensures amounts { GrowByUnreported books.old drainer shares.old shares.new }
+    ensures parts { KeepParts shares.old shares.new }
 {
     let mut end = end;
     let mut drainer = drainer;
@@ -100,8 +99,8 @@ fn left_of(end: &FeederEnd, drainer: &Drainer, ring: usize) -> u64
 // The settled numbers, if the books agree with the drainer's totals and what is left.
 fn compare(totals: Totals, left: u64, booked: Booked) -> Option<Settled>
     requires { totals.written + totals.discarded < 2 ^ 64 }
-    ensures agrees { IsSome result ↔ (((totals.written + totals.discarded) + left ≡ booked.decoded) × (totals.written ≡ booked.written) × (totals.discarded ≡ booked.discarded)) }
-    ensures numbers { IfSome result (λ s. s ≡ record { decoded = (totals.written + totals.discarded) + left; written = totals.written; discarded = totals.discarded; left = left; torn = totals.torn }) }
+    ensures agrees { IsSome result ↔ AgreesWithTotals booked totals left }
+    ensures numbers { IfSome result (λ s. s ≡ settled_numbers totals left) }
 {
     let decoded = (totals.written + totals.discarded).checked_add(left)?;
     if decoded != booked.decoded

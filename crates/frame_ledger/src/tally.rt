@@ -1,6 +1,6 @@
 //! One quantity of all outputs.
 ghost use Rattle.std.specs.Prelude.{◌≡◌, ◌+◌, ◌^◌, ◌<◌, ◌≤◌, ◌↔◌, length, sum, slice_index, replicate, IfOk, OnOk, OnErr, IsTrue};
-ghost use Rattle.frame_ledger.specs.Balance.{raised};
+ghost use Rattle.frame_ledger.specs.Balance.{Raises};
 
 use std::alloc::{AllocError, Global};
 use std::marker::Model;
@@ -65,7 +65,7 @@ impl<L: Ledger> Tally<L> {
     pub fn raise(&mut self, output: usize, share: &mut Share<L>, n: u64) -> Result<(), AtLimit>
         requires output { output < length self.old }
         requires part { 0 < share.old.parts }
-        ensures ok { OnOk result ((self.new ≡ raised self.old output n) × (share.new.amount ≡ share.old.amount + n) × (sum self.new < 2 ^ 63)) }
+        ensures ok { OnOk result (Raises self.old self.new output share.old share.new n) }
         ensures err { OnErr result ((self.new ≡ self.old) × (share.new ≡ share.old) × (2 ^ 63 ≤ sum self.old + n)) }
         ensures parts { share.new.parts ≡ share.old.parts }
     {

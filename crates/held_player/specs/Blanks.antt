@@ -1,5 +1,5 @@
 -- The blanks of the seven ledgers of a house.
-use Rattle.std.specs.Prelude.{ℕ, [], ◌∷◌, slice_index_or}
+use Rattle.std.specs.Prelude.{ℕ, ◌≡◌, [], ◌∷◌, slice_index_or}
 use Rattle.held_player.specs.declared.held.Blanks.{Blanks}
 use Rattle.counted_player.specs.Ledgers.{IsAt}
 
@@ -13,3 +13,11 @@ AreFor names b =
 abbrev pub names_in : Blanks → ℕ → ℕ
 names_in b place =
     slice_index_or (b.first.name ∷ b.second.name ∷ b.third.name ∷ b.fourth.name ∷ b.frames.decoded.name ∷ b.frames.written.name ∷ b.frames.discarded.name ∷ []) place 0
+
+-- blanks of four seats have one part each
+abbrev pub HasSeatsOfOnePart : Blanks → Type 0
+HasSeatsOfOnePart b = (b.first.parts ≡ 1) × (b.second.parts ≡ 1) × (b.third.parts ≡ 1) × (b.fourth.parts ≡ 1)
+
+-- those of frames have one part for the decoder; and a part for each of eight outputs, and one more
+abbrev pub HasPartsOfFrames : Blanks → Type 0
+HasPartsOfFrames b = (b.frames.decoded.parts ≡ 1) × (b.frames.written.parts ≡ 9) × (b.frames.discarded.parts ≡ 9)

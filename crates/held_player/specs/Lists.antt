@@ -1,5 +1,6 @@
 -- Command lists under one taking of the lock.
-use Rattle.std.specs.Prelude.{ℕ, ◌≡◌, ◌⊎◌, List, [], Option, map, slice_index_or}
+use Rattle.std.specs.Prelude.{ℕ, ◌≡◌, ◌⊎◌, ◌<◌, List, [], Option, map, slice_index_or}
+use Rattle.std.specs.Global.{Vec}
 use Rattle.std.specs.List.{flat_map}
 use Rattle.command_lists.specs.declared.word.ListForm.{ListForm}
 use Rattle.mpd_command.specs.Requests.{name_in}
@@ -13,6 +14,7 @@ use Rattle.partition.specs.History.{Chronicle}
 use Rattle.partition.specs.Legal.{IsPast}
 use Rattle.partition.specs.Lists.{RunsList, Stop, StopsList}
 use Rattle.counted_player.specs.Counts.{own_in}
+use Rattle.counted_player.specs.Seats.{SeatCount}
 
 -- what a command list is answered with: its client's waiting notice, and what each of its events told
 pub record HandedList : Type 0 where
@@ -46,3 +48,11 @@ module _ {S : Type 0} (standing : S → Standing) (failed : S → S → Call →
   StopsListSomewhere old new seat made client form requests stop =
       (past : Chronicle) × IsPast past × (own_in seat past.present ≡ made)
       × ((after : Chronicle) × StopsHere past after old new seat client form requests stop)
+
+  -- the same for the seat of a caller; of a thread of the house nothing is said
+  abbrev pub TellsList : S → S → SeatCount → ℕ → ListForm → Vec Request → List OutcomeData → Type 0
+  TellsList old new seat client form requests tolds =
+      seat.number < 4 → TellsListSomewhere old new seat.number seat.made client form requests.items tolds
+
+  abbrev pub StopsIn : S → S → SeatCount → ℕ → ListForm → Vec Request → Stop → Type 0
+  StopsIn old new seat client form requests stop = seat.number < 4 → StopsListSomewhere old new seat.number seat.made client form requests.items stop

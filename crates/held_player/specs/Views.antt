@@ -1,23 +1,27 @@
 -- What contracts see of what the lock holds, and what a caller learns who cannot see it.
-use Rattle.std.specs.Prelude.{ℕ, ◌≡◌, ◌⊎◌, ◌+◌, ◌<◌, Bool, true, false, List, Option, slice_index_or, sum}
+use Rattle.std.specs.Prelude.{ℕ, ◌≡◌, ◌⊎◌, ◌+◌, ◌<◌, ◌≤◌, ◌^◌, Bool, true, false, List, [], Option, None, slice_index_or, sum, if◌then◌else◌}
 use Rattle.shelf.specs.Calls.{Call}
 use Rattle.shelf.specs.Maps.{Standing}
 use Rattle.player_events.specs.declared.event.Event.{Event}
-use Rattle.player_events.specs.declared.event.Event.TheVariants.{Have}
+use Rattle.player_events.specs.declared.event.Event.TheVariants.{Have, Line, OutputTurn}
 use Rattle.player_events.specs.declared.event.LogEntry.{LogEntry}
 use Rattle.idle_clients.specs.declared.notices.Notice.{Notice}
 use Rattle.partition.specs.declared.partition.PartitionFault.{PartitionFault}
 use Rattle.partition.specs.declared.partition.PartitionFault.TheVariants.{HistoryFull, NoMemory}
 use Rattle.player_events.specs.Outcomes.{OutcomeData}
-use Rattle.partition.specs.History.{Chronicle, is_full, with_room}
+use Rattle.partition.specs.History.{Chronicle, is_full, joined_by, with_room}
 use Rattle.partition.specs.Legal.{IsPast}
-use Rattle.partition.specs.Lent.{Refuses}
-use Rattle.player_state.specs.Outputs.{FrameBooks, is_enabled}
+use Rattle.partition.specs.Lent.{RecordsOnce, Refuses}
+use Rattle.player_state.specs.Outputs.{FrameBooks, empty_books}
 use Rattle.partition.specs.Refusals.{MayRefuse}
-use Rattle.transitions.specs.Shelves.{LeavesUnchanged}
+use Rattle.transitions.specs.Shelves.{LeavesUnchanged, no_store_reply}
 use Rattle.partition.specs.Step.{limit_of, next_image, told}
 use Rattle.counted_player.specs.Seats.{SeatCount}
-use Rattle.counted_player.specs.Counts.{own_in}
+use Rattle.counted_player.specs.Counts.{AnswersSeat, AreEnabled, own_in}
+use Rattle.frame_ledger.specs.declared.books.OutputShares.{OutputShares}
+use Rattle.mpd_command.specs.declared.request.Request.{Request}
+use Rattle.output_ring.specs.declared.frames.Fates.{Fates}
+use Rattle.transitions.specs.declared.asked.Stand.TheVariants.{Alone}
 
 -- the player with its history; the notices that wait to be handed out; the books of frames; whether an output
 -- was settled, whose last fates then stand in the books of written and discarded frames, though no event told
@@ -43,6 +47,81 @@ pub record FedData : Type 0 where
 abbrev pub entry : ℕ → Event → OutcomeData → LogEntry
 entry seat event outcome = record { seat = seat; event = event; told = outcome }
 
+-- a line of a client that stands alone, of which the shelf answered nothing yet
+abbrev pub line_of : ℕ → Request → Event
+line_of client request = Line client Alone request no_store_reply
+
+-- the turn of an output, which tells of these fates
+abbrev pub turn_of : ℕ → Fates → Bool → Event
+turn_of output fates failed = OutputTurn output fates.written fates.discarded failed
+
+-- an event of a seat, which was told so, joined the history
+abbrev pub Joins : Chronicle → Chronicle → ℕ → Event → OutcomeData → Type 0
+Joins before after seat event outcome = after ≡ joined_by before (entry seat event outcome)
+
+-- the same, told what the player of one thread tells
+abbrev pub JoinsAs : Chronicle → Chronicle → ℕ → Event → Type 0
+JoinsAs before after seat event = Joins before after seat event (told before.present event)
+
+-- the notices that the player of one thread makes at an event
+abbrev pub notices_at : Chronicle → Event → List Notice
+notices_at player event = (told player.present event).notices
+
+-- the frames that were written, and those that were discarded, are no fewer than before
+abbrev pub CountsOn : FrameBooks → FrameBooks → Type 0
+CountsOn old new = (sum old.written ≤ sum new.written) × (sum old.discarded ≤ sum new.discarded)
+
+-- the frames that were written and discarded by these numbers are no fewer than in the books
+abbrev pub AreNoFewer : FrameBooks → List ℕ → List ℕ → Type 0
+AreNoFewer books written discarded = (sum books.written ≤ sum written) × (sum books.discarded ≤ sum discarded)
+
+-- the frames that were written can be counted, and those that were discarded
+abbrev pub CanCount : FrameBooks → Type 0
+CanCount books = (sum books.written < 2 ^ 63) × (sum books.discarded < 2 ^ 63)
+
+-- frames that were decoded joined the history, and the decoder was told so
+abbrev pub JoinsFed : View → View → SeatCount → Event → FedData → Type 0
+JoinsFed before after seat event fed = Joins before.player after.player seat.number event fed.told
+
+-- the turn of an output joined the history, which was told so
+abbrev pub JoinsTurn : View → View → SeatCount → ℕ → Fates → Bool → OutcomeData → Type 0
+JoinsTurn before after seat output fates failed told = Joins before.player after.player seat.number (turn_of output fates failed) told
+
+-- an event of a seat passes no limit
+abbrev pub IsWithinLimits : View → SeatCount → Event → Type 0
+IsWithinLimits view seat event = limit_of seat.number view.player.present event ≡ None
+
+-- the same books, settled or not, and as many free seats
+abbrev pub KeepsBooks : View → View → Type 0
+KeepsBooks old new = (new.books ≡ old.books) × (new.is_settled ≡ old.is_settled) × (new.free ≡ old.free)
+
+-- all of the books but the decoded frames are as before
+abbrev pub KeepsFates : View → View → Type 0
+KeepsFates old new =
+    (new.books.written ≡ old.books.written) × (new.books.discarded ≡ old.books.discarded) × (new.is_settled ≡ old.is_settled) × (new.free ≡ old.free)
+
+-- the decoded frames are as before, and whether an output was settled
+abbrev pub KeepsDecoded : View → View → Type 0
+KeepsDecoded old new = (new.books.decoded ≡ old.books.decoded) × (new.is_settled ≡ old.is_settled) × (new.free ≡ old.free)
+
+-- nothing happened to a player: no notice waits, no frame was booked, and all seats are free
+abbrev pub opened : Chronicle → View
+opened player = record { player = player; waiting = []; books = empty_books; is_settled = false; free = 4 }
+
+-- the books of written and discarded frames after a turn: those of the player, unless an output was settled
+abbrev pub books_now : View → Chronicle → FrameBooks
+books_now view player = record {
+  decoded = view.books.decoded;
+  written = if view.is_settled then view.books.written else player.present.shared.books.written;
+  discarded = if view.is_settled then view.books.discarded else player.present.shared.books.discarded;
+}
+
+-- shares of outputs grow by as much as their books
+abbrev pub GrowAsBooks : {W X : Type 0} → OutputShares W X → OutputShares W X → FrameBooks → FrameBooks → Type 0
+GrowAsBooks old new books books' =
+    (new.written.amount + sum books.written ≡ old.written.amount + sum books'.written)
+    × (new.discarded.amount + sum books.discarded ≡ old.discarded.amount + sum books'.discarded)
+
 -- all is as it was, but that a full window may have been folded
 abbrev pub IsUnchangedOrFolded : Chronicle → Chronicle → Type 0
 IsUnchangedOrFolded before after = (after ≡ before) ⊎ (after ≡ with_room before)
@@ -51,6 +130,10 @@ IsUnchangedOrFolded before after = (after ≡ before) ⊎ (after ≡ with_room b
 -- would pass, or want of memory.
 abbrev pub IsRefusedFor : Chronicle → ℕ → Event → PartitionFault → Type 0
 IsRefusedFor before seat event fault = ((fault ≡ HistoryFull) × (is_full before ≡ true)) ⊎ MayRefuse (limit_of seat before.present event) fault
+
+-- the same of the turn of an output
+abbrev pub IsTurnRefused : View → SeatCount → Event → PartitionFault → Type 0
+IsTurnRefused view seat event fault = IsRefusedFor view.player seat.number event fault
 
 -- A past that a caller may find, who made so many events: one in which its seat made just these. Events of
 -- the house's own threads are not counted in their seats.
@@ -70,8 +153,11 @@ RefusesSomewhere seat event fault = (past : Chronicle) × MayFind seat past × I
 abbrev pub FeedsSomewhere : SeatCount → ℕ → ℕ → FedData → ℕ → ℕ → Type 0
 FeedsSomewhere seat number frames fed share_before share_after =
     (past : Chronicle) × MayFind seat past × (fed.told ≡ told past.present (Have number frames))
-    × ((output : ℕ) → output < 8 → slice_index_or fed.outputs output false ≡ is_enabled past.present.part.outputs output)
+    × AreEnabled fed.outputs past.present
     × (share_after + sum past.present.shared.books.decoded ≡ share_before + sum (next_image seat.number past.present (Have number frames)).shared.books.decoded)
+
+abbrev pub FeedsShare : SeatCount → ℕ → ℕ → ℕ → ℕ → FedData → Type 0
+FeedsShare seat number frames share_before share_after fed = FeedsSomewhere seat number frames fed share_before share_after
 
 module _ {S : Type 0} (standing : S → Standing) (failed : S → S → Call → Type 0) where
   -- What an event leaves that was refused: before it was begun, for want of memory, all is as it was; else
@@ -89,3 +175,23 @@ module _ {S : Type 0} (standing : S → Standing) (failed : S → S → Call →
   -- nothing was written to the lent shelf
   abbrev pub IsUnwritten : S → S → Type 0
   IsUnwritten old new = (new ≡ old) ⊎ LeavesUnchanged standing failed old new
+
+  -- a line of a client, by the seat of a caller, is refused or answered so; of a thread of the house nothing is said
+  abbrev pub StopsClient : S → S → SeatCount → ℕ → Request → PartitionFault → Type 0
+  StopsClient old new seat client request fault =
+      seat.number < 4 → StopsSomewhere old new seat.number seat.made (line_of client request) fault
+
+  abbrev pub HandsOut : S → S → SeatCount → ℕ → Request → Handed → Type 0
+  HandsOut old new seat client request handed = AnswersSeat standing failed old new seat (line_of client request) handed.told
+
+  -- a line of a client joined the history, which is folded first where it is full, or was refused
+  abbrev pub AnswersLine : View → View → S → S → SeatCount → ℕ → Request → OutcomeData → Type 0
+  AnswersLine before after old new seat client request outcome =
+      RecordsOnce standing failed before.player after.player old new seat.number (line_of client request) outcome
+
+  abbrev pub StopsLine : View → View → S → S → SeatCount → ℕ → Request → PartitionFault → Type 0
+  StopsLine before after old new seat client request fault = Stops before.player after.player old new seat.number (line_of client request) fault
+
+  -- a line of a client, by the seat of a caller, is told so
+  abbrev pub TellsClient : S → S → SeatCount → ℕ → Request → OutcomeData → Type 0
+  TellsClient old new seat client request told = AnswersSeat standing failed old new seat (line_of client request) told

@@ -1,7 +1,9 @@
 -- The notices that wait to be handed out.
-use Rattle.std.specs.Prelude.{ℕ, Bool, not, ◌==◌, List, [], ◌∷◌, Option, Some, None, if◌then◌else◌}
-use Rattle.std.specs.List.{filter}
+use Rattle.std.specs.Prelude.{ℕ, ◌+◌, ◌≤◌, Bool, not, ◌==◌, List, [], ◌∷◌, ◌++◌, length, vec_len, vec_capacity, Option, Some, None, if◌then◌else◌}
+use Rattle.std.specs.Global.{Vec}
+use Rattle.std.specs.List.{filter, flat_map}
 use Rattle.idle_clients.specs.declared.notices.Notice.{Notice}
+use Rattle.player_events.specs.Outcomes.{OutcomeData}
 
 abbrev pub is_for : ℕ → Notice → Bool
 is_for client notice = notice.client == client
@@ -22,3 +24,14 @@ without_first client (n ∷ ns) = if is_for client n then ns else n ∷ without_
 -- the notices of the others
 abbrev pub of_others : ℕ → List Notice → List Notice
 of_others client notices = filter (is_for_another client) notices
+
+-- the notices that wait once the client's first was handed out, and an event, or each of some, made others
+abbrev pub waiting_after : ℕ → List Notice → OutcomeData → List Notice
+waiting_after client waiting told = without_first client waiting ++ told.notices
+
+abbrev pub waiting_after_all : ℕ → List Notice → List OutcomeData → List Notice
+waiting_after_all client waiting tolds = without_first client waiting ++ flat_map (λ t. t.notices) tolds
+
+-- there is room for more notices
+abbrev pub HasRoomFor : Vec Notice → List Notice → Type 0
+HasRoomFor waiting notices = vec_len waiting + length notices ≤ vec_capacity waiting

@@ -1,4 +1,7 @@
 //! The fates of frames, as the ledgers keep them.
+ghost use Rattle.held_player.specs.Settling.{numbers_in};
+ghost use Rattle.held_player.specs.Views.{GrowAsBooks, AreNoFewer};
+ghost use Rattle.frame_ledger.specs.Shares.{KeepsParts};
 ghost use Rattle.std.specs.Prelude.{◌≡◌, ◌+◌, ◌<◌, ◌≤◌, ◌^◌, false, if◌then◌else◌, length, sum};
 
 use counted_player::{Decoded, Discarded, Ledgers, Written};
@@ -13,15 +16,14 @@ pub(crate) fn book_fates<L: Ledgers>(
     discarded: [u64; 8],
 )
     requires outputs { (length books.old.written ≡ 8) × (length books.old.discarded ≡ 8) }
-    requires grown { is_settled ≡ false → (sum books.old.written ≤ sum written) × (sum books.old.discarded ≤ sum discarded) }
+    requires grown { is_settled ≡ false → AreNoFewer (numbers_in books.old) written discarded }
     requires room { (sum written < 2 ^ 63) × (sum discarded < 2 ^ 63) }
     requires parts { (0 < shares.old.written.parts) × (0 < shares.old.discarded.parts) }
     ensures decoded { books.new.decoded ≡ books.old.decoded }
     ensures written { books.new.written ≡ (if is_settled then books.old.written else written) }
     ensures discarded { books.new.discarded ≡ (if is_settled then books.old.discarded else discarded) }
-    ensures shares { (shares.new.written.amount + sum books.old.written ≡ shares.old.written.amount + sum books.new.written)
-        × (shares.new.discarded.amount + sum books.old.discarded ≡ shares.old.discarded.amount + sum books.new.discarded) }
-    ensures parts { (shares.new.written.parts ≡ shares.old.written.parts) × (shares.new.discarded.parts ≡ shares.old.discarded.parts) }
+    ensures shares { GrowAsBooks shares.old shares.new (numbers_in books.old) (numbers_in books.new) }
+    ensures parts { KeepsParts shares.old shares.new }
 {
     if is_settled {
         return;

@@ -2,16 +2,15 @@
 ghost use Rattle.std.specs.Prelude.{◌≡◌, ◌+◌, ◌<◌, ◌≤◌, ◌^◌, [], ◌∷◌, ◌++◌, None, false, IfErr, IfOk, OnErr, OnOk, length, sum, vec_len, vec_capacity};
 ghost use Rattle.partition.specs.History.{joined_by, with_room};
 ghost use Rattle.partition.specs.Legal.{IsPast};
-ghost use Rattle.partition.specs.Lent.{Records};
-ghost use Rattle.transitions.specs.Shelves.{no_store_reply};
+ghost use Rattle.partition.specs.Lent.{RecordsOnce};
 ghost use Rattle.partition.specs.Step.{limit_of, told as told_of};
 ghost use Rattle.player_events.specs.Events.{is_line};
 ghost use Rattle.player_events.specs.declared.event.Event.TheVariants.{End, Line, Have, OutputTurn};
 ghost use Rattle.transitions.specs.declared.asked.Stand.TheVariants.{Alone};
 ghost use Rattle.held_player.specs.News.{event_of};
 ghost use Rattle.counted_player.specs.Seats.{after_events};
-ghost use Rattle.counted_player.specs.Counts.{AnswersSomewhere, own_in};
-ghost use Rattle.held_player.specs.Views.{IsRefusedFor, IsUnchangedOrFolded, IsUnwritten, Stops, TellsSomewhere, entry};
+ghost use Rattle.counted_player.specs.Counts.{own_in, AnswersSeat};
+ghost use Rattle.held_player.specs.Views.{IsRefusedFor, IsUnchangedOrFolded, IsUnwritten, Stops, TellsSomewhere, entry, CanCount, CountsOn, Joins, line_of, turn_of, TellsClient};
 
 use crate::news::News;
 use counted_player::{Counted, Ledgers, Seat};
@@ -35,13 +34,13 @@ pub(crate) fn happen<L: Ledgers, S: Shelf>(
     ensures legal { IsPast counted.old }
     ensures base { OnOk result (counted.new.base ≡ (with_room counted.old).base) }
     ensures limit { counted.new.limit ≡ counted.old.limit }
-    ensures ok { IfOk result (λ outcome. Records S.standing S.failed counted.old.present counted.new.present (with_room counted.old).window counted.new.window shelf.old shelf.new seat.old.number event outcome) }
+    ensures ok { IfOk result (RecordsOnce S.standing S.failed counted.old counted.new shelf.old shelf.new seat.old.number event) }
     ensures made { OnOk result (seat.new ≡ after_events seat.old 1) }
     ensures seat { OnErr result (seat.new ≡ seat.old) }
-    ensures refused { IfErr result (λ fault. Stops S.standing S.failed counted.old counted.new shelf.old shelf.new seat.old.number event fault) }
+    ensures refused { IfErr result (Stops S.standing S.failed counted.old counted.new shelf.old shelf.new seat.old.number event) }
     ensures waiting { waiting.new.items ≡ waiting.old.items }
     ensures room { IfOk result (λ outcome. vec_len waiting.new + length outcome.notices ≤ vec_capacity waiting.new) }
-    ensures somewhere { IfOk result (λ outcome. seat.old.number < 4 → AnswersSomewhere S.standing S.failed shelf.old shelf.new seat.old.number seat.old.made event outcome.answer) }
+    ensures somewhere { IfOk result (AnswersSeat S.standing S.failed shelf.old shelf.new seat.old event) }
 {
     counted.check(seat);
     if waiting.reserve(counted.clients().len()).is_err() {
@@ -61,7 +60,7 @@ fn take_step<L: Ledgers>(
     ensures found { seat.old.number < 4 → own_in seat.old.number counted.old.present ≡ seat.old.made }
     ensures legal { IsPast counted.old }
     ensures told { IfOk result (λ outcome. outcome ≡ told_of counted.old.present event) }
-    ensures player { IfOk result (λ outcome. counted.new ≡ joined_by counted.old (entry seat.old.number event outcome)) }
+    ensures player { IfOk result (Joins counted.old counted.new seat.old.number event) }
     ensures within { OnOk result (limit_of seat.old.number counted.old.present event ≡ None) }
     ensures made { OnOk result (seat.new ≡ after_events seat.old 1) }
     ensures seat { OnErr result (seat.new ≡ seat.old) }
@@ -91,16 +90,16 @@ pub(crate) fn hear_line<L: Ledgers, S: Shelf>(
     ensures legal { IsPast counted.old }
     ensures base { OnOk result (counted.new.base ≡ (with_room counted.old).base) }
     ensures limit { counted.new.limit ≡ counted.old.limit }
-    ensures ok { IfOk result (λ outcome. Records S.standing S.failed counted.old.present counted.new.present (with_room counted.old).window counted.new.window shelf.old shelf.new seat.old.number (Line client Alone request no_store_reply) outcome) }
+    ensures ok { IfOk result (RecordsOnce S.standing S.failed counted.old counted.new shelf.old shelf.new seat.old.number (line_of client request)) }
     ensures made { OnOk result (seat.new ≡ after_events seat.old 1) }
     ensures seat { OnErr result (seat.new ≡ seat.old) }
-    ensures refused { IfErr result (λ fault. Stops S.standing S.failed counted.old counted.new shelf.old shelf.new seat.old.number (Line client Alone request no_store_reply) fault) }
+    ensures refused { IfErr result (Stops S.standing S.failed counted.old counted.new shelf.old shelf.new seat.old.number (line_of client request)) }
     ensures unchanged { OnErr result (IsUnchangedOrFolded counted.old counted.new) }
     ensures unwritten { OnErr result (IsUnwritten S.standing S.failed shelf.old shelf.new) }
     ensures books { counted.new.present.shared.books ≡ counted.old.present.shared.books }
     ensures waiting { waiting.new.items ≡ waiting.old.items }
     ensures room { IfOk result (λ outcome. vec_len waiting.new + length outcome.notices ≤ vec_capacity waiting.new) }
-    ensures somewhere { IfOk result (λ outcome. seat.old.number < 4 → AnswersSomewhere S.standing S.failed shelf.old shelf.new seat.old.number seat.old.made (Line client Alone request no_store_reply) outcome.answer) }
+    ensures somewhere { IfOk result (TellsClient S.standing S.failed shelf.old shelf.new seat.old client request) }
 {
     let heard = StoreReply {
         read: Read::Nothing,
@@ -120,7 +119,7 @@ pub(crate) fn hear_news<L: Ledgers>(
     ensures found { seat.old.number < 4 → own_in seat.old.number counted.old.present ≡ seat.old.made }
     ensures legal { IsPast counted.old }
     ensures told { IfOk result (λ outcome. outcome ≡ told_of counted.old.present (event_of news)) }
-    ensures player { IfOk result (λ outcome. counted.new ≡ joined_by counted.old (entry seat.old.number (event_of news) outcome)) }
+    ensures player { IfOk result (Joins counted.old counted.new seat.old.number (event_of news)) }
     ensures within { OnOk result (limit_of seat.old.number counted.old.present (event_of news) ≡ None) }
     ensures made { OnOk result (seat.new ≡ after_events seat.old 1) }
     ensures seat { OnErr result (seat.new ≡ seat.old) }
@@ -167,7 +166,7 @@ pub(crate) fn hear_frames<L: Ledgers>(
     ensures found { seat.old.number < 4 → own_in seat.old.number counted.old.present ≡ seat.old.made }
     ensures legal { IsPast counted.old }
     ensures told { IfOk result (λ outcome. outcome ≡ told_of counted.old.present (Have number frames)) }
-    ensures player { IfOk result (λ outcome. counted.new ≡ joined_by counted.old (entry seat.old.number (Have number frames) outcome)) }
+    ensures player { IfOk result (Joins counted.old counted.new seat.old.number (Have number frames)) }
     ensures within { OnOk result (limit_of seat.old.number counted.old.present (Have number frames) ≡ None) }
     ensures made { OnOk result (seat.new ≡ after_events seat.old 1) }
     ensures seat { OnErr result (seat.new ≡ seat.old) }
@@ -197,16 +196,16 @@ pub(crate) fn hear_turn<L: Ledgers>(
 ) -> Result<Outcome, PartitionFault>
     ensures found { seat.old.number < 4 → own_in seat.old.number counted.old.present ≡ seat.old.made }
     ensures legal { IsPast counted.old }
-    ensures told { IfOk result (λ outcome. outcome ≡ told_of counted.old.present (OutputTurn output fates.written fates.discarded failed)) }
-    ensures player { IfOk result (λ outcome. counted.new ≡ joined_by counted.old (entry seat.old.number (OutputTurn output fates.written fates.discarded failed) outcome)) }
-    ensures within { OnOk result (limit_of seat.old.number counted.old.present (OutputTurn output fates.written fates.discarded failed) ≡ None) }
+    ensures told { IfOk result (λ outcome. outcome ≡ told_of counted.old.present (turn_of output fates failed)) }
+    ensures player { IfOk result (Joins counted.old counted.new seat.old.number (turn_of output fates failed)) }
+    ensures within { OnOk result (limit_of seat.old.number counted.old.present (turn_of output fates failed) ≡ None) }
     ensures made { OnOk result (seat.new ≡ after_events seat.old 1) }
     ensures seat { OnErr result (seat.new ≡ seat.old) }
-    ensures refused { IfErr result (λ fault. IsRefusedFor counted.old seat.old.number (OutputTurn output fates.written fates.discarded failed) fault) }
+    ensures refused { IfErr result (IsRefusedFor counted.old seat.old.number (turn_of output fates failed)) }
     ensures unchanged { OnErr result (IsUnchangedOrFolded counted.old counted.new) }
     ensures same { OnErr result (counted.new.present.shared.books ≡ counted.old.present.shared.books) }
-    ensures grown { (sum counted.old.present.shared.books.written ≤ sum counted.new.present.shared.books.written) × (sum counted.old.present.shared.books.discarded ≤ sum counted.new.present.shared.books.discarded) }
-    ensures fits { OnOk result ((sum counted.new.present.shared.books.written < 2 ^ 63) × (sum counted.new.present.shared.books.discarded < 2 ^ 63)) }
+    ensures grown { CountsOn counted.old.present.shared.books counted.new.present.shared.books }
+    ensures fits { OnOk result (CanCount counted.new.present.shared.books) }
     ensures decoded { counted.new.present.shared.books.decoded ≡ counted.old.present.shared.books.decoded }
     ensures waiting { waiting.new.items ≡ waiting.old.items }
     ensures room { IfOk result (λ outcome. vec_len waiting.new + length outcome.notices ≤ vec_capacity waiting.new) }

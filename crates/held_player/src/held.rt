@@ -65,6 +65,7 @@ impl<L: Ledgers> Drop for Held<L> {
 
 impl<L: Ledgers> Model for Held<L> {
     ghost use Rattle.std.specs.Prelude.{◌≡◌, ◌<◌, All, false, length, vec_len};
+    ghost use Rattle.held_player.specs.Settling.{numbers_in};
     ghost use Rattle.held_player.specs.Views.{View};
 
     ghost Value = { View };
@@ -75,7 +76,7 @@ impl<L: Ledgers> Model for Held<L> {
 
     ghost coded = { Prim.hlevel (codes, filter.the_row.coded) };
 
-    ghost view = { λ h. record { player = h.counted; waiting = h.waiting.items; books = record { decoded = h.books.decoded; written = h.books.written; discarded = h.books.discarded }; is_settled = h.is_settled; free = vec_len h.free } };
+    ghost view = { λ h. record { player = h.counted; waiting = h.waiting.items; books = numbers_in h.books; is_settled = h.is_settled; free = vec_len h.free } };
 
     ghost invariant = { λ h. (h.books.decoded ≡ h.counted.present.shared.books.decoded)
         × (h.is_settled ≡ false → h.books.written ≡ h.counted.present.shared.books.written)
@@ -86,21 +87,18 @@ impl<L: Ledgers> Model for Held<L> {
 
 impl<L: Ledgers> Held<L> {
     ghost use Rattle.std.specs.Prelude.{◌≡◌, ◌⊎◌, ◌+◌, ◌-◌, ◌<◌, ◌↔◌, [], ◌∷◌, ◌++◌, None, false, IfErr, IfOk, IfSome, IsErr, OnErr, OnOk};
+    ghost use Rattle.frame_ledger.specs.Shares.{HasAllParts, HasNoFrames};
+    ghost use Rattle.held_player.specs.Views.{HandsOut, AnswersLine, IsRefusedFor, IsUnchangedOrFolded, IsUnwritten, Joins, JoinsAs, KeepsBooks, StopsLine, TellsSomewhere, notices_at, opened};
     ghost use Rattle.held_player.specs.Blanks.{AreFor};
-    ghost use Rattle.partition.specs.History.{folded, joined_by, with_room};
+    ghost use Rattle.partition.specs.History.{folded, with_room};
     ghost use Rattle.partition.specs.Legal.{IsPast};
-    ghost use Rattle.partition.specs.Lent.{Records};
-    ghost use Rattle.player_state.specs.Outputs.{empty_books};
-    ghost use Rattle.transitions.specs.Shelves.{no_store_reply};
     ghost use Rattle.partition.specs.Step.{limit_of, told as told_of};
-    ghost use Rattle.player_events.specs.declared.event.Event.TheVariants.{End, Line};
-    ghost use Rattle.transitions.specs.declared.asked.Stand.TheVariants.{Alone};
+    ghost use Rattle.player_events.specs.declared.event.Event.TheVariants.{End};
     ghost use Rattle.held_player.specs.News.{event_of, kept_at};
     ghost use Rattle.counted_player.specs.Seats.{after_events};
-    ghost use Rattle.counted_player.specs.Counts.{AnswersSomewhere, IsFresh, own_in, song_of};
-    ghost use Rattle.held_player.specs.Views.{IsRefusedFor, IsUnchangedOrFolded, IsUnwritten, Stops, TellsSomewhere, entry};
+    ghost use Rattle.counted_player.specs.Counts.{IsFresh, own_in, song_of};
     ghost use Rattle.song_queue.specs.State.{queue_of};
-    ghost use Rattle.held_player.specs.Waiting.{first_for, without_first};
+    ghost use Rattle.held_player.specs.Waiting.{first_for, without_first, waiting_after};
 
     /// A player of which no seat made an event yet, with the four seats that callers are given.
     pub fn open(
@@ -110,9 +108,9 @@ impl<L: Ledgers> Held<L> {
     ) -> Result<(Self, CrewShares<L>), AllocError>
         requires fresh { IsFresh partition.present }
         requires blanks { AreFor L.names blanks }
-        ensures held { IfOk result (λ r. r.0 ≡ record { player = partition; waiting = []; books = empty_books; is_settled = false; free = 4 }) }
-        ensures parts { IfOk result (λ r. (r.1.decoded.parts ≡ 1) × (r.1.outputs.written.parts ≡ 9) × (r.1.outputs.discarded.parts ≡ 9)) }
-        ensures amounts { IfOk result (λ r. (r.1.decoded.amount ≡ 0) × (r.1.outputs.written.amount ≡ 0) × (r.1.outputs.discarded.amount ≡ 0)) }
+        ensures held { IfOk result (λ r. r.0 ≡ opened partition) }
+        ensures parts { IfOk result (λ r. HasAllParts r.1.decoded.parts r.1.outputs) }
+        ensures amounts { IfOk result (λ r. HasNoFrames r.1.decoded.amount r.1.outputs) }
     {
         let opened = match new_books::<L>(alloc, blanks) {
             Ok(opened) => opened,
@@ -186,25 +184,25 @@ impl<L: Ledgers> Held<L> {
         // The reply, the world after it and what became of the lent shelf are the one-thread player's.
         ensures base { OnOk result (self.new.player.base ≡ (with_room self.old.player).base) }
         ensures limit { self.new.player.limit ≡ self.old.player.limit }
-        ensures ok { IfOk result (λ a. Records S.standing S.failed self.old.player.present self.new.player.present (with_room self.old.player).window self.new.player.window shelf.old shelf.new seat.old.number (Line client Alone request no_store_reply) a.told) }
+        ensures ok { IfOk result (λ a. AnswersLine S.standing S.failed self.old self.new shelf.old shelf.new seat.old client request a.told) }
 
         // The client's notice is handed out, and those that the event made wait.
         ensures front { IfOk result (λ a. a.front ≡ first_for client self.old.waiting) }
         ensures own { IfOk result (λ a. IfSome a.front (λ notice. notice.client ≡ client)) }
-        ensures waiting { IfOk result (λ a. self.new.waiting ≡ without_first client self.old.waiting ++ a.told.notices) }
+        ensures waiting { IfOk result (λ a. self.new.waiting ≡ waiting_after client self.old.waiting a.told) }
         ensures kept { OnErr result (self.new.waiting ≡ self.old.waiting) }
 
         // It is one event more of the seat, and brings no frames.
         ensures made { OnOk result (seat.new ≡ after_events seat.old 1) }
         ensures seat { OnErr result (seat.new ≡ seat.old) }
-        ensures books { (self.new.books ≡ self.old.books) × (self.new.is_settled ≡ self.old.is_settled) × (self.new.free ≡ self.old.free) }
+        ensures books { KeepsBooks self.old self.new }
 
         // A fault changes nothing but a fold.
-        ensures refused { IfErr result (λ fault. Stops S.standing S.failed self.old.player self.new.player shelf.old shelf.new seat.old.number (Line client Alone request no_store_reply) fault) }
+        ensures refused { IfErr result (StopsLine S.standing S.failed self.old self.new shelf.old shelf.new seat.old client request) }
         ensures unchanged { OnErr result (IsUnchangedOrFolded self.old.player self.new.player) }
         ensures unwritten { OnErr result (IsUnwritten S.standing S.failed shelf.old shelf.new) }
 
-        ensures somewhere { IfOk result (λ a. seat.old.number < 4 → AnswersSomewhere S.standing S.failed shelf.old shelf.new seat.old.number seat.old.made (Line client Alone request no_store_reply) a.told.answer) }
+        ensures somewhere { IfOk result (HandsOut S.standing S.failed shelf.old shelf.new seat.old client request) }
     {
         let Held {
             alloc: _alloc,
@@ -232,13 +230,13 @@ impl<L: Ledgers> Held<L> {
         ensures found { seat.old.number < 4 → own_in seat.old.number self.old.player.present ≡ seat.old.made }
         ensures legal { IsPast self.old.player }
         ensures told { IfOk result (λ told. told ≡ told_of self.old.player.present (event_of news)) }
-        ensures player { IfOk result (λ told. self.new.player ≡ joined_by self.old.player (entry seat.old.number (event_of news) told)) }
+        ensures player { IfOk result (Joins self.old.player self.new.player seat.old.number (event_of news)) }
         ensures within { OnOk result (limit_of seat.old.number self.old.player.present (event_of news) ≡ None) }
         ensures waiting { IfOk result (λ told. self.new.waiting ≡ kept_at news self.old.waiting ++ told.notices) }
         ensures kept { OnErr result (self.new.waiting ≡ self.old.waiting) }
         ensures made { OnOk result (seat.new ≡ after_events seat.old 1) }
         ensures seat { OnErr result (seat.new ≡ seat.old) }
-        ensures books { (self.new.books ≡ self.old.books) × (self.new.is_settled ≡ self.old.is_settled) × (self.new.free ≡ self.old.free) }
+        ensures books { KeepsBooks self.old self.new }
         ensures refused { IfErr result (λ fault. IsRefusedFor self.old.player seat.old.number (event_of news) fault) }
         ensures unchanged { OnErr result (IsUnchangedOrFolded self.old.player self.new.player) }
         ensures somewhere { IfOk result (λ told. TellsSomewhere seat.old (event_of news) told) }
@@ -272,13 +270,13 @@ impl<L: Ledgers> Held<L> {
     pub fn end(&mut self, seat: &mut Seat<L>) -> Result<(), PartitionFault>
         ensures found { seat.old.number < 4 → own_in seat.old.number self.old.player.present ≡ seat.old.made }
         ensures legal { IsPast self.old.player }
-        ensures player { OnOk result (self.new.player ≡ joined_by self.old.player (entry seat.old.number End (told_of self.old.player.present End))) }
+        ensures player { OnOk result (JoinsAs self.old.player self.new.player seat.old.number End) }
         ensures within { OnOk result (limit_of seat.old.number self.old.player.present End ≡ None) }
-        ensures waiting { OnOk result (self.new.waiting ≡ self.old.waiting ++ (told_of self.old.player.present End).notices) }
+        ensures waiting { OnOk result (self.new.waiting ≡ self.old.waiting ++ notices_at self.old.player End) }
         ensures kept { OnErr result (self.new.waiting ≡ self.old.waiting) }
         ensures made { OnOk result (seat.new ≡ after_events seat.old 1) }
         ensures seat { OnErr result (seat.new ≡ seat.old) }
-        ensures books { (self.new.books ≡ self.old.books) × (self.new.is_settled ≡ self.old.is_settled) × (self.new.free ≡ self.old.free) }
+        ensures books { KeepsBooks self.old self.new }
         ensures refused { IfErr result (λ fault. IsRefusedFor self.old.player seat.old.number End fault) }
         ensures unchanged { OnErr result (IsUnchangedOrFolded self.old.player self.new.player) }
     {
@@ -302,7 +300,7 @@ impl<L: Ledgers> Held<L> {
     pub fn compact_if_large(&mut self)
         ensures player { (self.new.player ≡ self.old.player) ⊎ (self.new.player ≡ folded self.old.player) }
         ensures waiting { self.new.waiting ≡ self.old.waiting }
-        ensures books { (self.new.books ≡ self.old.books) × (self.new.is_settled ≡ self.old.is_settled) × (self.new.free ≡ self.old.free) }
+        ensures books { KeepsBooks self.old self.new }
     {
         let Held {
             alloc: _alloc,
@@ -355,7 +353,7 @@ impl<L: Ledgers> Held<L> {
         ensures own { IfSome result (λ notice. notice.client ≡ client) }
         ensures waiting { self.new.waiting ≡ without_first client self.old.waiting }
         ensures player { self.new.player ≡ self.old.player }
-        ensures books { (self.new.books ≡ self.old.books) × (self.new.is_settled ≡ self.old.is_settled) × (self.new.free ≡ self.old.free) }
+        ensures books { KeepsBooks self.old self.new }
     {
         take_first(&mut self.waiting, client)
     }

@@ -11,13 +11,14 @@ use partition::ListFault;
 use shelf::Shelf;
 
 impl<L: Ledgers> Held<L> {
+    ghost use Rattle.held_player.specs.Views.{KeepsBooks};
     ghost use Rattle.std.specs.Prelude.{◌≡◌, ◌<◌, ◌++◌, length, IfErr, IfOk, IfSome};
     ghost use Rattle.partition.specs.Legal.{IsPast};
     ghost use Rattle.partition.specs.Lists.{RunsList};
-    ghost use Rattle.held_player.specs.Lists.{StopsHere, StopsListSomewhere, TellsListSomewhere, notices_in};
+    ghost use Rattle.held_player.specs.Lists.{StopsHere, notices_in, StopsIn, TellsList};
     ghost use Rattle.counted_player.specs.Seats.{after_events};
     ghost use Rattle.counted_player.specs.Counts.{own_in};
-    ghost use Rattle.held_player.specs.Waiting.{first_for, without_first};
+    ghost use Rattle.held_player.specs.Waiting.{first_for, waiting_after_all};
 
     /// The commands of a client's list, side by side in the history, up to the first that ends the list. The
     /// client's waiting notice is handed out in front of the answers.
@@ -40,13 +41,13 @@ impl<L: Ledgers> Held<L> {
         ensures err { IfErr result (λ stop. StopsHere S.standing S.failed self.old.player self.new.player shelf.old shelf.new seat.old.number client form requests.items stop) }
         ensures front { IfOk result (λ a. a.front ≡ first_for client self.old.waiting) }
         ensures own { IfOk result (λ a. IfSome a.front (λ notice. notice.client ≡ client)) }
-        ensures waiting { IfOk result (λ a. self.new.waiting ≡ without_first client self.old.waiting ++ notices_in a.tolds) }
+        ensures waiting { IfOk result (λ a. self.new.waiting ≡ waiting_after_all client self.old.waiting a.tolds) }
         ensures kept { IfErr result (λ stop. self.new.waiting ≡ self.old.waiting ++ notices_in stop.tolds) }
         ensures made { IfOk result (λ a. seat.new ≡ after_events seat.old (length a.tolds)) }
         ensures done { IfErr result (λ stop. seat.new ≡ after_events seat.old stop.done) }
-        ensures books { (self.new.books ≡ self.old.books) × (self.new.is_settled ≡ self.old.is_settled) × (self.new.free ≡ self.old.free) }
-        ensures somewhere { IfOk result (λ a. seat.old.number < 4 → TellsListSomewhere S.standing S.failed shelf.old shelf.new seat.old.number seat.old.made client form requests.items a.tolds) }
-        ensures stopped { IfErr result (λ stop. seat.old.number < 4 → StopsListSomewhere S.standing S.failed shelf.old shelf.new seat.old.number seat.old.made client form requests.items stop) }
+        ensures books { KeepsBooks self.old self.new }
+        ensures somewhere { IfOk result (λ a. TellsList S.standing S.failed shelf.old shelf.new seat.old client form requests a.tolds) }
+        ensures stopped { IfErr result (StopsIn S.standing S.failed shelf.old shelf.new seat.old client form requests) }
     {
         let Held {
             alloc,

@@ -1,9 +1,10 @@
 //! A command list under the lock, with room for the notices that it gives.
+ghost use Rattle.held_player.specs.Waiting.{HasRoomFor};
 ghost use Rattle.std.specs.Prelude.{◌≡◌, ◌+◌, ◌<◌, ◌≤◌, IfErr, IfOk, length, map, slice_index_or, vec_len, vec_capacity, []};
 ghost use Rattle.mpd_command.specs.Requests.{name_in};
 ghost use Rattle.partition.specs.Legal.{IsPast};
 ghost use Rattle.partition.specs.Lists.{RunsList};
-ghost use Rattle.held_player.specs.Lists.{StopsHere, StopsListSomewhere, TellsListSomewhere, notices_in, unbegun as unbegun_lem};
+ghost use Rattle.held_player.specs.Lists.{StopsHere, notices_in, unbegun as unbegun_lem, StopsIn, TellsList};
 ghost use Rattle.counted_player.specs.Counts.{done_in, own_in};
 ghost use Rattle.counted_player.specs.Seats.{after_events};
 
@@ -35,9 +36,9 @@ pub(crate) fn hear_list<L: Ledgers, S: Shelf>(
     ensures books { counted.new.present.shared.books ≡ counted.old.present.shared.books }
     ensures waiting { waiting.new.items ≡ waiting.old.items }
     ensures room { IfOk result (λ tolds. vec_len waiting.new + length (notices_in tolds) ≤ vec_capacity waiting.new) }
-    ensures room_then { IfErr result (λ stop. vec_len waiting.new + length (notices_in stop.tolds) ≤ vec_capacity waiting.new) }
-    ensures somewhere { IfOk result (λ tolds. seat.old.number < 4 → TellsListSomewhere S.standing S.failed shelf.old shelf.new seat.old.number seat.old.made client form requests.items tolds) }
-    ensures stopped { IfErr result (λ stop. seat.old.number < 4 → StopsListSomewhere S.standing S.failed shelf.old shelf.new seat.old.number seat.old.made client form requests.items stop) }
+    ensures room_then { IfErr result (λ stop. HasRoomFor waiting.new (notices_in stop.tolds)) }
+    ensures somewhere { IfOk result (TellsList S.standing S.failed shelf.old shelf.new seat.old client form requests) }
+    ensures stopped { IfErr result (StopsIn S.standing S.failed shelf.old shelf.new seat.old client form requests) }
 {
     counted.check(seat);
     if waiting.reserve(counted.clients().len()).is_err() {

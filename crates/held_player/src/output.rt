@@ -15,20 +15,18 @@ use std::snapshot::Snapshot;
 use std::sync::ledger::Share;
 
 impl<L: Ledgers> Held<L> {
-    ghost use Rattle.std.specs.Prelude.{◌≡◌, ◌+◌, ◌<◌, ◌++◌, ◌↔◌, Err, None, List, ℕ, true, false, length, sum, slice_index, slice_index_or, IfErr, IfOk, IsNone, IsOk, IsSome, OnErr, OnOk, if◌then◌else◌};
-    ghost use Rattle.frame_ledger.specs.Balance.{Agrees, Balances, has_room, raised};
+    ghost use Rattle.frame_ledger.specs.Shares.{KeepsParts};
+    ghost use Rattle.std.specs.Prelude.{◌≡◌, ◌+◌, ◌<◌, ◌++◌, ◌↔◌, Err, None, true, false, sum, IfErr, IfOk, IsNone, OnErr, OnOk, if◌then◌else◌};
+    ghost use Rattle.frame_ledger.specs.Balance.{Balances};
     ghost use Rattle.frame_ledger.specs.declared.settlement.SettleFault.TheVariants.{Unsettled};
-    ghost use Rattle.output_ring.specs.Rings.{AreEndsAfter, unreported_of};
-    ghost use Rattle.output_ring.specs.declared.frames.CutFrame.{CutFrame};
-    ghost use Rattle.partition.specs.History.{joined_by};
+    ghost use Rattle.output_ring.specs.Rings.{AreEndsAfter};
     ghost use Rattle.partition.specs.Legal.{IsPast};
-    ghost use Rattle.player_state.specs.Outputs.{is_enabled};
     ghost use Rattle.partition.specs.Step.{limit_of, told as told_of};
-    ghost use Rattle.player_events.specs.declared.event.Event.TheVariants.{Have, OutputTurn};
+    ghost use Rattle.player_events.specs.declared.event.Event.TheVariants.{Have};
     ghost use Rattle.counted_player.specs.Seats.{after_events};
-    ghost use Rattle.held_player.specs.Settling.{AreOfSomePast, Settles, numbers_in};
-    ghost use Rattle.held_player.specs.Views.{IsRefusedFor, IsUnchangedOrFolded, entry};
-    ghost use Rattle.counted_player.specs.Counts.{own_in};
+    ghost use Rattle.held_player.specs.Settling.{AreOfSomePast, Settles, numbers_in, AreNumbers, GrowByFates, SettlesWhereAgreed, with_fates};
+    ghost use Rattle.held_player.specs.Views.{IsRefusedFor, IsUnchangedOrFolded, GrowAsBooks, KeepsDecoded, KeepsFates, books_now, turn_of, JoinsFed, JoinsTurn, IsWithinLimits, IsTurnRefused};
+    ghost use Rattle.counted_player.specs.Counts.{own_in, AreEnabled};
 
     /// Frames of a job were decoded. Where they are not stale, they are for each output that is enabled: its
     /// book and the share grow by them.
@@ -47,8 +45,8 @@ impl<L: Ledgers> Held<L> {
         ensures found { seat.old.number < 4 → own_in seat.old.number self.old.player.present ≡ seat.old.made }
         ensures legal { IsPast self.old.player }
         ensures told { IfOk result (λ fed. fed.told ≡ told_of self.old.player.present (Have number frames)) }
-        ensures outputs { IfOk result (λ fed. (output : ℕ) → output < 8 → slice_index_or fed.outputs output false ≡ is_enabled self.old.player.present.part.outputs output) }
-        ensures player { IfOk result (λ fed. self.new.player ≡ joined_by self.old.player (entry seat.old.number (Have number frames) fed.told)) }
+        ensures outputs { IfOk result (λ fed. AreEnabled fed.outputs self.old.player.present) }
+        ensures player { IfOk result (JoinsFed self.old self.new seat.old (Have number frames)) }
         ensures within { OnOk result (limit_of seat.old.number self.old.player.present (Have number frames) ≡ None) }
         ensures waiting { IfOk result (λ fed. self.new.waiting ≡ self.old.waiting ++ fed.told.notices) }
         ensures kept { OnErr result (self.new.waiting ≡ self.old.waiting) }
@@ -57,11 +55,11 @@ impl<L: Ledgers> Held<L> {
         // The book of frames given is the player's, and what it grew by is in the share.
         ensures given { self.old.books.decoded ≡ self.old.player.present.shared.books.decoded }
         ensures decoded { self.new.books.decoded ≡ self.new.player.present.shared.books.decoded }
-        ensures fates { (self.new.books.written ≡ self.old.books.written) × (self.new.books.discarded ≡ self.old.books.discarded) × (self.new.is_settled ≡ self.old.is_settled) × (self.new.free ≡ self.old.free) }
+        ensures fates { KeepsFates self.old self.new }
         ensures share { share.new.amount + sum self.old.books.decoded ≡ share.old.amount + sum self.new.books.decoded }
         ensures parts { share.new.parts ≡ share.old.parts }
         ensures same { OnErr result ((self.new.books ≡ self.old.books) × (share.new ≡ share.old)) }
-        ensures refused { IfErr result (λ fault. IsRefusedFor self.old.player seat.old.number (Have number frames) fault) }
+        ensures refused { IfErr result (IsRefusedFor self.old.player seat.old.number (Have number frames)) }
         ensures unchanged { OnErr result (IsUnchangedOrFolded self.old.player self.new.player) }
     {
         let Held {
@@ -104,22 +102,21 @@ impl<L: Ledgers> Held<L> {
         requires { (0 < shares.old.written.parts) × (0 < shares.old.discarded.parts) }
         ensures found { seat.old.number < 4 → own_in seat.old.number self.old.player.present ≡ seat.old.made }
         ensures legal { IsPast self.old.player }
-        ensures told { IfOk result (λ told. told ≡ told_of self.old.player.present (OutputTurn output told_fates.written told_fates.discarded failed)) }
-        ensures player { IfOk result (λ told. self.new.player ≡ joined_by self.old.player (entry seat.old.number (OutputTurn output told_fates.written told_fates.discarded failed) told)) }
-        ensures within { OnOk result (limit_of seat.old.number self.old.player.present (OutputTurn output told_fates.written told_fates.discarded failed) ≡ None) }
+        ensures told { IfOk result (λ told. told ≡ told_of self.old.player.present (turn_of output told_fates failed)) }
+        ensures player { IfOk result (JoinsTurn self.old self.new seat.old output told_fates failed) }
+        ensures within { OnOk result (IsWithinLimits self.old seat.old (turn_of output told_fates failed)) }
         ensures waiting { IfOk result (λ told. self.new.waiting ≡ self.old.waiting ++ told.notices) }
         ensures kept { OnErr result (self.new.waiting ≡ self.old.waiting) }
         ensures made { OnOk result (seat.new ≡ after_events seat.old 1) }
         ensures seat { OnErr result (seat.new ≡ seat.old) }
         // The books of written and discarded frames are the player's, until an output is settled.
-        ensures decoded { (self.new.books.decoded ≡ self.old.books.decoded) × (self.new.is_settled ≡ self.old.is_settled) × (self.new.free ≡ self.old.free) }
-        ensures written { OnOk result (self.new.books.written ≡ (if self.old.is_settled then self.old.books.written else self.new.player.present.shared.books.written)) }
-        ensures discarded { OnOk result (self.new.books.discarded ≡ (if self.old.is_settled then self.old.books.discarded else self.new.player.present.shared.books.discarded)) }
-        ensures shares { (shares.new.written.amount + sum self.old.books.written ≡ shares.old.written.amount + sum self.new.books.written)
-            × (shares.new.discarded.amount + sum self.old.books.discarded ≡ shares.old.discarded.amount + sum self.new.books.discarded) }
-        ensures parts { (shares.new.written.parts ≡ shares.old.written.parts) × (shares.new.discarded.parts ≡ shares.old.discarded.parts) }
+        ensures decoded { KeepsDecoded self.old self.new }
+        ensures written { OnOk result (self.new.books.written ≡ (books_now self.old self.new.player).written) }
+        ensures discarded { OnOk result (self.new.books.discarded ≡ (books_now self.old self.new.player).discarded) }
+        ensures shares { GrowAsBooks shares.old shares.new self.old.books self.new.books }
+        ensures parts { KeepsParts shares.old shares.new }
         ensures same { OnErr result ((self.new.books ≡ self.old.books) × (shares.new ≡ shares.old)) }
-        ensures refused { IfErr result (λ fault. IsRefusedFor self.old.player seat.old.number (OutputTurn output told_fates.written told_fates.discarded failed) fault) }
+        ensures refused { IfErr result (IsTurnRefused self.old seat.old (turn_of output told_fates failed)) }
         ensures unchanged { OnErr result (IsUnchangedOrFolded self.old.player self.new.player) }
     {
         let Held {
@@ -169,17 +166,16 @@ impl<L: Ledgers> Held<L> {
         ensures settled { (self.new.is_settled ≡ true) × (self.new.free ≡ self.old.free) }
         // At `Ok` the numbers are the ring's and the books'.
         ensures balances { IfOk result (λ s. Balances end drainer s) }
-        ensures books { IfOk result (λ s. (slice_index self.new.books.decoded output ≡ s.decoded) × (slice_index self.new.books.written output ≡ s.written) × (slice_index self.new.books.discarded output ≡ s.discarded)) }
+        ensures books { IfOk result (AreNumbers self.new.books output) }
         // It fails only for want of the token, or where the books differ.
         ensures unsettled { (result ≡ Err Unsettled) ↔ IsNone end.finished }
-        ensures agrees { (taken : List CutFrame) → IsSome end.finished → Agrees end drainer self.old.books.decoded self.old.books.written self.old.books.discarded output taken → IsOk result }
+        ensures agrees { SettlesWhereAgreed end drainer self.old.books output result }
         // The unreported fates are counted, in both books or in none.
         ensures decoded { self.new.books.decoded ≡ self.old.books.decoded }
-        ensures written { self.new.books.written ≡ (if has_room self.old.books.written self.old.books.discarded (unreported_of drainer) then raised self.old.books.written output (unreported_of drainer).written else self.old.books.written) }
-        ensures discarded { self.new.books.discarded ≡ (if has_room self.old.books.written self.old.books.discarded (unreported_of drainer) then raised self.old.books.discarded output (unreported_of drainer).discarded else self.old.books.discarded) }
-        ensures amounts { (shares.new.written.amount ≡ shares.old.written.amount + (if has_room self.old.books.written self.old.books.discarded (unreported_of drainer) then (unreported_of drainer).written else 0))
-            × (shares.new.discarded.amount ≡ shares.old.discarded.amount + (if has_room self.old.books.written self.old.books.discarded (unreported_of drainer) then (unreported_of drainer).discarded else 0)) }
-        ensures kept { (shares.new.written.parts ≡ shares.old.written.parts) × (shares.new.discarded.parts ≡ shares.old.discarded.parts) }
+        ensures written { self.new.books.written ≡ (with_fates drainer output self.old.books).written }
+        ensures discarded { self.new.books.discarded ≡ (with_fates drainer output self.old.books).discarded }
+        ensures amounts { GrowByFates shares.old shares.new drainer self.old.books }
+        ensures kept { KeepsParts shares.old shares.new }
     {
         // What the lock found is a past's, with its numbers.
         let _window = self.history();
@@ -210,7 +206,7 @@ impl<L: Ledgers> Held<L> {
         ensures ends { (result.end.value ≡ end) × (result.drainer.value ≡ drainer) }
         ensures settles { Settles end drainer output (numbers_in result.books.value) result.result }
         ensures given { AreOfSomePast (numbers_in result.books.value) }
-        ensures kept { (shares.new.written.parts ≡ shares.old.written.parts) × (shares.new.discarded.parts ≡ shares.old.discarded.parts) }
+        ensures kept { KeepsParts shares.old shares.new }
     {
         let books = Snapshot::of(&self.books);
         let (seen_end, seen_drainer) = (Snapshot::of(&end), Snapshot::of(&drainer));

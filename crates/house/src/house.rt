@@ -1,19 +1,17 @@
 //! The house: one lock, which any thread with a seat takes.
-ghost use Rattle.std.specs.Prelude.{◌≡◌, ◌+◌, ◌<◌, IfErr, IfOk, IfSome, OnErr, OnOk, length, ℕ};
+ghost use Rattle.frame_ledger.specs.Shares.{HasAllParts, HasNoFrames, KeepsParts};
+ghost use Rattle.std.specs.Prelude.{◌≡◌, ◌+◌, ◌<◌, IfErr, IfOk, IfSome, OnErr, OnOk, length};
 ghost use Rattle.held_player.specs.Blanks.{AreFor};
 ghost use Rattle.output_ring.specs.Rings.{AreEndsAfter};
 ghost use Rattle.partition.specs.History.{Chronicle};
 ghost use Rattle.partition.specs.Legal.{IsPast};
-ghost use Rattle.transitions.specs.Shelves.{no_store_reply};
-ghost use Rattle.player_events.specs.declared.event.Event.TheVariants.{End, Have, Line, OutputTurn};
-ghost use Rattle.transitions.specs.declared.asked.Stand.TheVariants.{Alone};
-ghost use Rattle.held_player.specs.Lists.{StopsListSomewhere, TellsListSomewhere};
+ghost use Rattle.player_events.specs.declared.event.Event.TheVariants.{End, Have};
+ghost use Rattle.held_player.specs.Lists.{StopsIn, TellsList};
 ghost use Rattle.held_player.specs.News.{event_of};
 ghost use Rattle.counted_player.specs.Seats.{after_events};
 ghost use Rattle.held_player.specs.Settling.{AreOfSomePast, Settles, numbers_in};
-ghost use Rattle.counted_player.specs.Counts.{AnswersSomewhere, IsFresh, song_of};
-ghost use Rattle.held_player.specs.Views.{FeedsSomewhere, IsUnwritten, RefusesSomewhere, StopsSomewhere, TellsSomewhere};
-ghost use Rattle.song_queue.specs.State.{queue_of};
+ghost use Rattle.counted_player.specs.Counts.{IsFresh, IsSongSomewhere};
+ghost use Rattle.held_player.specs.Views.{IsUnwritten, RefusesSomewhere, TellsSomewhere, HandsOut, StopsClient, turn_of, FeedsShare};
 
 use command_lists::ListForm;
 use counted_player::{Decoded, Discarded, Ledgers, NoSeat, Seat, Written};
@@ -71,8 +69,8 @@ impl<L: Ledgers> House<L> {
     ) -> Result<(Self, CrewShares<L>), AllocError>
         requires fresh { IsFresh partition.present }
         requires blanks { AreFor L.names blanks }
-        ensures parts { IfOk result (λ r. (r.1.decoded.parts ≡ 1) × (r.1.outputs.written.parts ≡ 9) × (r.1.outputs.discarded.parts ≡ 9)) }
-        ensures amounts { IfOk result (λ r. (r.1.decoded.amount ≡ 0) × (r.1.outputs.written.amount ≡ 0) × (r.1.outputs.discarded.amount ≡ 0)) }
+        ensures parts { IfOk result (λ r. HasAllParts r.1.decoded.parts r.1.outputs) }
+        ensures amounts { IfOk result (λ r. HasNoFrames r.1.decoded.amount r.1.outputs) }
     {
         let (held, shares) = Held::open(alloc, blanks, partition)?;
         Ok((
@@ -113,8 +111,8 @@ impl<L: Ledgers> House<L> {
     ) -> Result<Answered, PartitionFault>
         ensures made { OnOk result (seat.new ≡ after_events seat.old 1) }
         ensures fault { OnErr result ((seat.new ≡ seat.old) × IsUnwritten S.standing S.failed shelf.old shelf.new) }
-        ensures refused { IfErr result (λ fault. seat.old.number < 4 → StopsSomewhere S.standing S.failed shelf.old shelf.new seat.old.number seat.old.made (Line client Alone request no_store_reply) fault) }
-        ensures somewhere { IfOk result (λ a. seat.old.number < 4 → AnswersSomewhere S.standing S.failed shelf.old shelf.new seat.old.number seat.old.made (Line client Alone request no_store_reply) a.told.answer) }
+        ensures refused { IfErr result (StopsClient S.standing S.failed shelf.old shelf.new seat.old client request) }
+        ensures somewhere { IfOk result (HandsOut S.standing S.failed shelf.old shelf.new seat.old client request) }
         ensures front { IfOk result (λ a. IfSome a.front (λ notice. notice.client ≡ client)) }
     {
         let (told, rung) = {
@@ -144,9 +142,9 @@ impl<L: Ledgers> House<L> {
     ) -> Result<AnsweredList, ListFault>
         ensures made { IfOk result (λ a. seat.new ≡ after_events seat.old (length a.tolds)) }
         ensures done { IfErr result (λ stop. seat.new ≡ after_events seat.old stop.done) }
-        ensures somewhere { IfOk result (λ a. seat.old.number < 4 → TellsListSomewhere S.standing S.failed shelf.old shelf.new seat.old.number seat.old.made client form requests.items a.tolds) }
+        ensures somewhere { IfOk result (λ a. TellsList S.standing S.failed shelf.old shelf.new seat.old client form requests a.tolds) }
         ensures front { IfOk result (λ a. IfSome a.front (λ notice. notice.client ≡ client)) }
-        ensures stopped { IfErr result (λ stop. seat.old.number < 4 → StopsListSomewhere S.standing S.failed shelf.old shelf.new seat.old.number seat.old.made client form requests.items stop) }
+        ensures stopped { IfErr result (StopsIn S.standing S.failed shelf.old shelf.new seat.old client form requests) }
     {
         let (told, rung) = {
             let mut held = self.held.lock(rt);
@@ -209,7 +207,7 @@ impl<L: Ledgers> House<L> {
         requires { 0 < share.old.parts }
         ensures made { OnOk result (seat.new ≡ after_events seat.old 1) }
         ensures refused { IfErr result (λ fault. RefusesSomewhere seat.old (Have number frames) fault) }
-        ensures somewhere { IfOk result (λ fed. FeedsSomewhere seat.old number frames fed share.old.amount share.new.amount) }
+        ensures somewhere { IfOk result (FeedsShare seat.old number frames share.old.amount share.new.amount) }
         ensures parts { share.new.parts ≡ share.old.parts }
         ensures fault { OnErr result ((seat.new ≡ seat.old) × (share.new ≡ share.old)) }
     {
@@ -240,9 +238,9 @@ impl<L: Ledgers> House<L> {
     ) -> Result<Reported, PartitionFault>
         requires { (0 < shares.old.written.parts) × (0 < shares.old.discarded.parts) }
         ensures made { OnOk result (seat.new ≡ after_events seat.old 1) }
-        ensures refused { IfErr result (λ fault. RefusesSomewhere seat.old (OutputTurn output fates.written fates.discarded failed) fault) }
-        ensures somewhere { IfOk result (λ told. TellsSomewhere seat.old (OutputTurn output fates.written fates.discarded failed) told) }
-        ensures parts { (shares.new.written.parts ≡ shares.old.written.parts) × (shares.new.discarded.parts ≡ shares.old.discarded.parts) }
+        ensures refused { IfErr result (RefusesSomewhere seat.old (turn_of output fates failed)) }
+        ensures somewhere { IfOk result (TellsSomewhere seat.old (turn_of output fates failed)) }
+        ensures parts { KeepsParts shares.old shares.new }
         ensures fault { OnErr result ((seat.new ≡ seat.old) × (shares.new ≡ shares.old)) }
     {
         let (told, rung) = {
@@ -271,7 +269,7 @@ impl<L: Ledgers> House<L> {
         ensures ends { (result.end.value ≡ end) × (result.drainer.value ≡ drainer) }
         ensures settles { Settles end drainer output (numbers_in result.books.value) result.result }
         ensures given { AreOfSomePast (numbers_in result.books.value) }
-        ensures kept { (shares.new.written.parts ≡ shares.old.written.parts) × (shares.new.discarded.parts ≡ shares.old.discarded.parts) }
+        ensures kept { KeepsParts shares.old shares.new }
     {
         self.held.lock(rt).settlement(end, drainer, output, shares)
     }
@@ -295,7 +293,7 @@ impl<L: Ledgers> House<L> {
 
     /// The song of the entry of the present queue that has this id. It is no event.
     pub fn song(&self, rt: &impl Wait, id: u32) -> Result<Option<SharedSong>, AllocError>
-        ensures { IfOk result (λ song. (past : Chronicle) × IsPast past × (song ≡ song_of id (queue_of past.present.part.queue))) }
+        ensures { IfOk result (IsSongSomewhere id) }
     {
         self.held.lock(rt).song(id)
     }

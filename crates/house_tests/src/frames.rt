@@ -1,4 +1,5 @@
 //! Frames of a job under the lock: fed, written, and settled.
+ghost use Rattle.frame_ledger.specs.Shares.{KeepsParts};
 ghost use Rattle.std.specs.Prelude.{◌≡◌, ◌<◌, IfOk};
 ghost use Rattle.held_player.specs.Blanks.{AreFor};
 ghost use Rattle.output_ring.specs.Rings.{AreEndsAfter, SameDrainer};
@@ -92,7 +93,7 @@ fn turns<L: Ledgers>(
     fates: Fates,
 ) -> Result<String, PartitionFault>
     requires { (0 < shares.old.written.parts) × (0 < shares.old.discarded.parts) }
-    ensures { (shares.new.written.parts ≡ shares.old.written.parts) × (shares.new.discarded.parts ≡ shares.old.discarded.parts) }
+    ensures { KeepsParts shares.old shares.new }
 {
     let told = house.turn(rt, seat, output, fates, false, shares)?;
     live_told(alloc, told.report())
@@ -122,7 +123,7 @@ fn ends_told<L: Ledgers>(
 ) -> Result<(FeederEnd, Drainer), PartitionFault>
     requires { (0 < shares.old.written.parts) × (0 < shares.old.discarded.parts) }
     ensures ends { IfOk result (λ r. AreEndsAfter r.0 r.1) }
-    ensures parts { (shares.new.written.parts ≡ shares.old.written.parts) × (shares.new.discarded.parts ≡ shares.old.discarded.parts) }
+    ensures parts { KeepsParts shares.old shares.new }
 {
     let mut out = FailAt::new(Vec::new(alloc), FailurePoint::Never);
     let (mut feeder, mut drainer) = ring(alloc, 8192, 512)?;

@@ -1,6 +1,7 @@
 //! A house over a few songs, and what is said in it.
+ghost use Rattle.frame_ledger.specs.Shares.{HasAllParts};
 ghost use Rattle.std.specs.Prelude.{◌≡◌, ◌+◌, ◌<◌, IfOk, OnOk};
-ghost use Rattle.held_player.specs.Blanks.{AreFor};
+ghost use Rattle.held_player.specs.Blanks.{AreFor, HasPartsOfFrames, HasSeatsOfOnePart};
 ghost use Rattle.counted_player.specs.Seats.{place};
 ghost use Rattle.counted_player.specs.Counts.{IsFresh};
 
@@ -21,8 +22,8 @@ use std::sync::ledger::Blank;
 
 /// Seven new ledgers.
 pub fn blanks() -> Blanks
-    ensures first { (result.first.parts ≡ 1) × (result.second.parts ≡ 1) × (result.third.parts ≡ 1) × (result.fourth.parts ≡ 1) }
-    ensures frames { (result.frames.decoded.parts ≡ 1) × (result.frames.written.parts ≡ 9) × (result.frames.discarded.parts ≡ 9) }
+    ensures first { HasSeatsOfOnePart result }
+    ensures frames { HasPartsOfFrames result }
 {
     Blanks {
         first: Blank::new(1),
@@ -188,7 +189,7 @@ pub fn opened<L: Ledgers>(
     history: u32,
 ) -> Result<(House<L>, CrewShares<L>), PartitionFault>
     requires blanks { AreFor L.names blanks }
-    ensures { IfOk result (λ r. (r.1.decoded.parts ≡ 1) × (r.1.outputs.written.parts ≡ 9) × (r.1.outputs.discarded.parts ≡ 9)) }
+    ensures { IfOk result (λ r. HasAllParts r.1.decoded.parts r.1.outputs) }
 {
     let player = player(alloc, history)?;
     Ok(House::open(alloc, blanks, player)?)

@@ -1,9 +1,10 @@
 -- Who is told of what changed, and what becomes of the clients (MPD protocol reference, Querying MPD's
 -- status, `idle`).
-use Rattle.std.specs.Prelude.{ℕ, ◌+◌, ◌<◌, ◌==◌, nat_eq, nat_lt, Bool, true, false, not, ◌&&◌, List, [], ◌∷◌, Option, Some, None, is_some, map, filter, insert, length, if◌then◌else◌}
+use Rattle.std.specs.Prelude.{ℕ, ◌+◌, ◌<◌, ◌==◌, nat_eq, nat_lt, Bool, true, false, not, ◌&&◌, List, [], ◌∷◌, Option, Some, None, is_some, option_map, map, filter, insert, length, string_bytes, if◌then◌else◌}
 use Rattle.std.specs.Bool.{beq}
 use Rattle.std.specs.List.{flat_map, position_or_len}
 use Rattle.std.specs.Str.{bytes_eq}
+use Rattle.std.specs.declared.string.String.{String}
 use lib.Pointwise.{pointwise}
 use Rattle.mpd_text.specs.Songs.Song.{SongData}
 use Rattle.idle_notes.specs.declared.pending.Pending.{Pending}
@@ -72,6 +73,10 @@ abbrev pub id_number : Option ℕ → ℕ
 id_number None = 0
 id_number (Some id) = id + 1
 
+-- the bytes of a text, if there is one
+abbrev pub bytes_of : {A : Type 0} → Option (String A) → Option (List ℕ)
+bytes_of text = option_map string_bytes text
+
 abbrev pub same_error : Option (List ℕ) → Option (List ℕ) → Bool
 same_error None None = true
 same_error None (Some b) = false
@@ -86,6 +91,11 @@ pub record Playing : Type 0 where
   pub starts : ℕ
   pub cuts : ℕ
   pub error : Option (List ℕ)
+
+-- these together are what is played
+abbrev pub playing_from : Playback → Option ℕ → ℕ → ℕ → Option (List ℕ) → Playing
+playing_from playback current starts cuts error =
+    record { playback = playback; current = current; starts = starts; cuts = cuts; error = error }
 
 abbrev pub playing : PlayerState → Playing
 playing p = record { playback = p.playback; current = p.current; starts = p.starts; cuts = p.cuts; error = p.error }

@@ -1,5 +1,5 @@
 -- By which readings it is told whether a part of the player changed.
-use Rattle.std.specs.Prelude.{ℕ, Bool, true, false, not, nat_eq, ◌&&◌, ◌==◌, List}
+use Rattle.std.specs.Prelude.{◌≡◌, ℕ, Bool, true, false, not, nat_eq, ◌&&◌, ◌==◌, List}
 use Rattle.std.specs.List.{list_any}
 use Rattle.idle_notes.specs.Channels.{clients_with_messages, is_listening, listens, MemberData}
 use Rattle.idle_notes.specs.declared.sets.Subsystems.{Subsystems}
@@ -25,6 +25,18 @@ pub record FingerprintData : Type 0 where
   pub enabled : List Bool
   pub options : Options
   pub having : List ℕ
+
+-- these readings together are a fingerprint
+abbrev pub fingerprint_from : Bool → Bool → Playing → ℕ → List Bool → Options → List ℕ → FingerprintData
+fingerprint_from scans parity playing volume enabled options having = record {
+  scans = scans;
+  parity = parity;
+  playing = playing;
+  volume = volume;
+  enabled = enabled;
+  options = options;
+  having = having;
+}
 
 -- whether an event makes other clients listen, or to other channels
 abbrev pub changes_subscriptions : List MemberData → Effect → Bool
@@ -74,7 +86,17 @@ common_by_fingerprint database subscription written before after = record none {
   subscription = subscription;
 }
 
+-- the same, by the fingerprint before and the player now
+abbrev pub common_by_player : Bool → Bool → ShelfWrite → FingerprintData → Part → Library → Subsystems
+common_by_player database subscription written before part library =
+    common_by_fingerprint database subscription written before (fingerprint part library)
+
 -- what is raised for a client, by the fingerprints before and the player now
 abbrev pub told_by_fingerprint : Bool → Bool → ShelfWrite → FingerprintData → Part → Library → ℕ → Subsystems
 told_by_fingerprint database subscription written before part library number =
-    raised_in (record { common = common_by_fingerprint database subscription written before (fingerprint part library); having = before.having; channels = part.channels }) number
+    raised_in (record { common = common_by_player database subscription written before part library; having = before.having; channels = part.channels }) number
+
+-- for each client it was raised what these tell
+abbrev pub RaisesWhatDiffers : RaisedData → Bool → Bool → ShelfWrite → FingerprintData → Part → Library → Type 0
+RaisesWhatDiffers raised database subscription written before part library =
+    raised_in raised ≡ told_by_fingerprint database subscription written before part library

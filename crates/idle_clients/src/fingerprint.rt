@@ -1,10 +1,10 @@
 //! What tells, before an event and after it, whether a part of the player changed.
 ghost use Rattle.idle_notes.specs.Sets.{is_nonempty};
-ghost use Rattle.std.specs.Prelude.{◌≡◌, ◌↔◌, ◌&&◌, not, false, IfOk, IsTrue, option_map, string_bytes};
+ghost use Rattle.std.specs.Prelude.{◌≡◌, ◌↔◌, ◌&&◌, not, IfOk, IsTrue};
 ghost use Rattle.std.specs.Option.{option_copied};
-ghost use Rattle.idle_clients.specs.Clients.{consume_number as consume_number_lem, id_number as id_number_lem, options as options_lem, playback_number as playback_number_lem, playing as playing_lem, same_enabled as same_enabled_lem, same_error as same_error_lem, same_playing as same_playing_lem, same_options as same_options_lem, single_number as single_number_lem};
+ghost use Rattle.idle_clients.specs.Clients.{bytes_of, consume_number as consume_number_lem, id_number as id_number_lem, options as options_lem, playback_number as playback_number_lem, playing as playing_lem, same_enabled as same_enabled_lem, same_error as same_error_lem, same_playing as same_playing_lem, same_options as same_options_lem, single_number as single_number_lem};
 ghost use Rattle.idle_clients.specs.Settled.{nothing};
-ghost use Rattle.idle_clients.specs.Fingerprint.{changes_subscriptions as changes_subscriptions_lem, common_by_fingerprint, is_among as is_among_lem, raised_in, fingerprint, told_by_fingerprint};
+ghost use Rattle.idle_clients.specs.Fingerprint.{RaisesWhatDiffers, changes_subscriptions as changes_subscriptions_lem, common_by_player, is_among as is_among_lem, raised_in, fingerprint};
 
 use idle_notes::{Channels, Subsystems};
 use play_order::{Consume, Modes, Single};
@@ -42,11 +42,11 @@ impl Drop for Fingerprint {
 }
 
 impl Model for Fingerprint {
-    ghost use Rattle.idle_clients.specs.Fingerprint.{FingerprintData};
+    ghost use Rattle.idle_clients.specs.Fingerprint.{FingerprintData, fingerprint_from};
 
     ghost Value = { FingerprintData };
 
-    ghost view = { λ s. record { scans = s.scans; parity = s.parity; playing = s.playing; volume = s.volume; enabled = s.enabled; options = s.options; having = s.having.items } };
+    ghost view = { λ s. fingerprint_from s.scans s.parity s.playing s.volume s.enabled s.options s.having.items };
 }
 
 /// What tells whether what is played changed.
@@ -60,12 +60,11 @@ struct PlayingFingerprint {
 }
 
 impl Model for PlayingFingerprint {
-    ghost use Rattle.std.specs.Prelude.{option_map, string_bytes};
-    ghost use Rattle.idle_clients.specs.Clients.{Playing};
+    ghost use Rattle.idle_clients.specs.Clients.{Playing, bytes_of, playing_from};
 
     ghost Value = { Playing };
 
-    ghost view = { λ p. record { playback = p.playback; current = p.current; starts = p.starts; cuts = p.cuts; error = option_map string_bytes p.error } };
+    ghost view = { λ p. playing_from p.playback p.current p.starts p.cuts (bytes_of p.error) };
 }
 
 /// The modes of a player, and the seconds of a fade.
@@ -100,7 +99,7 @@ impl Fingerprint {
         part: &'a Part,
         library: &Library,
     ) -> Raised<'a>
-        ensures { raised_in result ≡ told_by_fingerprint database subscription written.now self.now part.now library.now }
+        ensures { RaisesWhatDiffers result database subscription written.now self.now part.now library.now }
     {
         Raised {
             common: self.changed_for_all(database, subscription, written, part, library),
@@ -117,7 +116,7 @@ impl Fingerprint {
         part: &Part,
         library: &Library,
     ) -> Subsystems
-        ensures { result ≡ common_by_fingerprint database subscription written.now self.now (fingerprint part.now library.now) }
+        ensures { result ≡ common_by_player database subscription written.now self.now part.now library.now }
     {
         Subsystems {
             database,
@@ -252,7 +251,7 @@ fn id_number(id: Option<u32>) -> u64
 }
 
 fn same_error(first: Option<&String>, second: Option<&str>) -> bool
-    ensures { result ≡ same_error_lem (option_map string_bytes (option_copied first.entry)) (option_copied second.entry) }
+    ensures { result ≡ same_error_lem (bytes_of (option_copied first.entry)) (option_copied second.entry) }
 {
     match (first, second) {
         (None, None) => true,

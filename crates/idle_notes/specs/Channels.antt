@@ -1,13 +1,13 @@
 -- The channels by which clients send one another messages (MPD protocol reference, Client to client; that a
 -- client listens to at most 16 channels, that at most 64 messages wait for it, and that a listener with so
 -- many misses the further ones is this profile's).
-use Rattle.std.specs.Prelude.{◌≡◌, ℕ, ◌<◌, ◌==◌, nat_lt, nat_le, Bool, true, not, ◌&&◌, ◌||◌, List, [], ◌∷◌, ◌++◌, Option, Some, None, is_some, find, filter, map, length, vec_len, vec_capacity, if◌then◌else◌}
+use Rattle.std.specs.Prelude.{◌≡◌, ◌↔◌, ℕ, ◌<◌, ◌==◌, nat_lt, nat_le, Bool, true, not, ◌&&◌, ◌||◌, List, [], ◌∷◌, ◌++◌, Option, Some, None, Result, IfErr, is_some, unwrap_or, find, filter, map, length, count_by, Contains, vec_len, vec_capacity, if◌then◌else◌}
 use Rattle.std.specs.List.{flat_map, list_any, list_all}
 use Rattle.std.specs.Str.{bytes_eq}
 use Rattle.idle_notes.specs.declared.channels.Message.{Message}
 use Rattle.idle_notes.specs.declared.channels.Member.{Member}
 use Rattle.idle_notes.specs.declared.channels.ChannelFault.{ChannelFault}
-use Rattle.idle_notes.specs.declared.channels.ChannelFault.TheVariants.{Already, TooMany, NotSubscribed, Nobody, NoRoom}
+use Rattle.idle_notes.specs.declared.channels.ChannelFault.TheVariants.{Already, TooMany, NotSubscribed, Nobody, NoRoom, NoMemory}
 use Rattle.idle_notes.specs.Texts.{ascending}
 
 -- a client that came to listen: the channels that it listens to, in the order in which it subscribed, and the
@@ -151,3 +151,31 @@ send_refusal name members =
 abbrev pub ClientsDiffer : List MemberData → Type 0
 ClientsDiffer [] = Unit {0}
 ClientsDiffer (m ∷ members) = (member_of m.client members ≡ None) × ClientsDiffer members
+
+-- where it is refused, it is for this; where there is no such refusal, for want of memory
+abbrev pub AnyFaultIs : {X : Type 0} → Option ChannelFault → Result X ChannelFault → Type 0
+AnyFaultIs refusal r = IfErr r (λ fault. fault ≡ unwrap_or refusal NoMemory)
+
+-- the change makes no client be there twice
+abbrev pub KeepsClientsApart : (List MemberData → List MemberData) → Type 0
+KeepsClientsApart change = (members : List MemberData) → ClientsDiffer members → ClientsDiffer (change members)
+
+-- a channel is named just where somebody listens to it
+abbrev pub IsNamedWhereHeard : List ℕ → List MemberData → Type 0
+IsNamedWhereHeard name members = Contains (channel_names members) name ↔ (hears name members ≡ true)
+
+-- somebody listens to a channel just where a client does
+abbrev pub HearsWhereOneListens : List ℕ → List MemberData → Type 0
+HearsWhereOneListens name members = (hears name members ≡ true) ↔ ((client : ℕ) × (listens client name members ≡ true))
+
+-- a client listens to one more channel
+abbrev pub Subscribes : List Member → List Member → ℕ → List ℕ → Type 0
+Subscribes old new client name = map data_of new ≡ subscribed client name (map data_of old)
+
+-- how many clients receive a message to a channel
+abbrev pub receiver_count : List ℕ → List Member → ℕ
+receiver_count name members = count_by (λ member. receives name (data_of member)) members
+
+-- how many copies of a message to a channel a client takes: one where it receives it
+abbrev pub copies_taken : List ℕ → Member → ℕ
+copies_taken name member = if receives name (data_of member) then 1 else 0

@@ -18,6 +18,22 @@ has s Sticker = s.sticker
 has s Subscription = s.subscription
 has s Message = s.message
 
+-- the set that has each subsystem, or none
+abbrev pub each_alike : Bool → Subsystems
+each_alike held = record {
+  database = held;
+  update = held;
+  stored_playlist = held;
+  playlist = held;
+  player = held;
+  mixer = held;
+  output = held;
+  options = held;
+  sticker = held;
+  subscription = held;
+  message = held;
+}
+
 abbrev pub none : Subsystems
 none = record { database = false; update = false; stored_playlist = false; playlist = false; player = false; mixer = false; output = false; options = false; sticker = false; subscription = false; message = false }
 

@@ -1,11 +1,11 @@
 //! The channels by which clients send one another messages (MPD protocol reference, Client to client).
-ghost use Rattle.std.specs.Prelude.{◌≡◌, ◌↔◌, ℕ, ◌+◌, ◌<◌, ◌≤◌, ◌==◌, true, [], ◌++◌, ◌∷◌, List, None, Some, IfOk, IfErr, OnOk, OnErr, All, Contains, if◌then◌else◌, unwrap_or, length, map, filter, not, count_by, option_copied, vec_len, vec_capacity};
+ghost use Rattle.std.specs.Prelude.{◌≡◌, ℕ, ◌+◌, ◌<◌, ◌≤◌, ◌==◌, [], ◌++◌, ◌∷◌, List, None, Some, IfOk, IfErr, OnOk, OnErr, All, length, map, filter, not, option_copied, vec_len, vec_capacity};
 ghost use Rattle.std.specs.List.{flat_map, list_all, list_any, position_or_len};
 ghost use Rattle.std.specs.List.Sorted.{IsStrictlySortedBy};
 ghost use Rattle.std.specs.Option.{option_map};
 ghost use Rattle.std.specs.Str.{bytes_eq};
 ghost use Rattle.idle_notes.specs.Texts.{by_bytes, ascending};
-ghost use Rattle.idle_notes.specs.Channels.{MemberData, data_of, is_name_byte as is_name_byte_lem, is_channel_name as is_channel_name_lem, has_name as has_name_lem, member_of, names_of, messages_of, clients_with_messages, is_listening, has_messages_beyond, listens, hears, receives as receives_lem, has_room, channel_names, with_name, without_name, without_messages, subscribed, unsubscribed, given, sent, emptied, left, subscribe_refusal, unsubscribe_refusal, send_refusal, IsReady, changed, ClientsDiffer};
+ghost use Rattle.idle_notes.specs.Channels.{MemberData, data_of, is_name_byte as is_name_byte_lem, is_channel_name as is_channel_name_lem, has_name as has_name_lem, member_of, names_of, messages_of, clients_with_messages, is_listening, has_messages_beyond, listens, hears, receives as receives_lem, has_room, channel_names, with_name, without_name, without_messages, subscribed, unsubscribed, given, sent, emptied, left, subscribe_refusal, unsubscribe_refusal, send_refusal, IsReady, changed, AnyFaultIs, KeepsClientsApart, IsNamedWhereHeard, HearsWhereOneListens, Subscribes, receiver_count, copies_taken, ClientsDiffer};
 
 use mpd_text::{SharedText, Text};
 use std::alloc::{AllocError, Global};
@@ -114,7 +114,7 @@ impl Channels {
     pub fn subscribe(&mut self, client: u32, name: &str) -> Result<(), ChannelFault>
         ensures ok { OnOk result (self.new ≡ subscribed client name.now self.old) }
         ensures within { OnOk result (subscribe_refusal client name.now self.old ≡ None) }
-        ensures refused { IfErr result (λ fault. fault ≡ unwrap_or (subscribe_refusal client name.now self.old) ChannelFault.NoMemory) }
+        ensures refused { AnyFaultIs (subscribe_refusal client name.now self.old) result }
         ensures err { OnErr result (self.new ≡ self.old) }
     {
         if self.listens(client, name) {
@@ -149,7 +149,7 @@ impl Channels {
     pub fn send(&mut self, name: &str, text: &str) -> Result<(), ChannelFault>
         ensures ok { OnOk result (self.new ≡ sent name.now text.now self.old) }
         ensures within { OnOk result (send_refusal name.now self.old ≡ None) }
-        ensures refused { IfErr result (λ fault. fault ≡ unwrap_or (send_refusal name.now self.old) ChannelFault.NoMemory) }
+        ensures refused { AnyFaultIs (send_refusal name.now self.old) result }
         ensures err { OnErr result (self.new ≡ self.old) }
     {
         if !self.hears(name) {
@@ -323,22 +323,22 @@ fn is_name_byte(byte: u8) -> bool
 /// follow it in byte order.
 pub fn channel_names_are_each_once()
     ensures order { (members : List MemberData) → IsStrictlySortedBy by_bytes (channel_names members) }
-    ensures names { (members : List MemberData) (name : List ℕ) → Contains (channel_names members) name ↔ (hears name members ≡ true) }
+    ensures names { (members : List MemberData) (name : List ℕ) → IsNamedWhereHeard name members }
 {}
 
 /// The law that no change makes a client be there twice. At the start nobody is there.
 pub fn clients_stay_apart()
-    ensures subscribed { (client : ℕ) (name : List ℕ) (members : List MemberData) → ClientsDiffer members → ClientsDiffer (subscribed client name members) }
-    ensures unsubscribed { (client : ℕ) (name : List ℕ) (members : List MemberData) → ClientsDiffer members → ClientsDiffer (unsubscribed client name members) }
-    ensures sent { (name text : List ℕ) (members : List MemberData) → ClientsDiffer members → ClientsDiffer (sent name text members) }
-    ensures emptied { (client : ℕ) (members : List MemberData) → ClientsDiffer members → ClientsDiffer (emptied client members) }
-    ensures left { (client : ℕ) (members : List MemberData) → ClientsDiffer members → ClientsDiffer (left client members) }
+    ensures subscribed { (client : ℕ) (name : List ℕ) → KeepsClientsApart (subscribed client name) }
+    ensures unsubscribed { (client : ℕ) (name : List ℕ) → KeepsClientsApart (unsubscribed client name) }
+    ensures sent { (name text : List ℕ) → KeepsClientsApart (sent name text) }
+    ensures emptied { (client : ℕ) → KeepsClientsApart (emptied client) }
+    ensures left { (client : ℕ) → KeepsClientsApart (left client) }
 {}
 
 /// The law that somebody listens to a channel exactly where a client does, as long as no client is there
 /// twice.
 pub fn hears_where_one_listens()
-    ensures { (name : List ℕ) (members : List MemberData) → ClientsDiffer members → (hears name members ≡ true) ↔ ((client : ℕ) × (listens client name members ≡ true)) }
+    ensures { (name : List ℕ) (members : List MemberData) → ClientsDiffer members → HearsWhereOneListens name members }
 {}
 
 fn is_among(clients: &[u32], client: u32) -> bool
@@ -389,7 +389,7 @@ fn place_of(members: &[Member], client: u32) -> usize
 /// A client that does not listen to a channel listens to it, as its last.
 #[tactic(auto, unfolding(crate::specs::Channels::subscribed))]
 fn add_name(members: &mut Vec<Member>, client: u32, name: &str) -> Result<(), AllocError>
-    ensures ok { OnOk result (map data_of members.new.items ≡ subscribed client name.now (map data_of members.old.items)) }
+    ensures ok { OnOk result (Subscribes members.old.items members.new.items client name.now) }
     ensures err { OnErr result (map data_of members.new.items ≡ map data_of members.old.items) }
 {
     let alloc = *members.allocator();
@@ -486,7 +486,7 @@ fn send_all(members: &mut [Member], alloc: Global, message: &Message) -> Result<
 }
 
 fn count_receivers(members: &[Member], name: &str) -> usize
-    ensures { result ≡ count_by (λ member. receives_lem name.now (data_of member)) members.now }
+    ensures { result ≡ receiver_count name.now members.now }
 {
     members
         .iter()
@@ -531,7 +531,7 @@ fn make_ready(member: &mut Member, name: &str) -> Result<(), AllocError>
 fn deliver(members: &mut [Member], message: &Message, copies: &mut Vec<Message>)
     requires room { All (IsReady message.now.channel) members.old }
     requires same { All (λ copy. copy ≡ message.now) copies.old.items }
-    requires enough { count_by (λ member. receives_lem message.now.channel (data_of member)) members.old ≤ vec_len copies.old }
+    requires enough { receiver_count message.now.channel members.old ≤ vec_len copies.old }
     ensures { map data_of members.new ≡ map (given message.now) (map data_of members.old) }
 {
     for member in members.iter_mut() {
@@ -542,10 +542,10 @@ fn deliver(members: &mut [Member], message: &Message, copies: &mut Vec<Message>)
 fn receive(member: &mut Member, message: &Message, copies: &mut Vec<Message>)
     requires room { IsReady message.now.channel member.old }
     requires same { All (λ copy. copy ≡ message.now) copies.old.items }
-    requires enough { (if receives_lem message.now.channel (data_of member.old) then 1 else 0) ≤ vec_len copies.old }
+    requires enough { copies_taken message.now.channel member.old ≤ vec_len copies.old }
     ensures after { data_of member.new ≡ given message.now (data_of member.old) }
     ensures rest { All (λ copy. copy ≡ message.now) copies.new.items }
-    ensures count { vec_len copies.new + (if receives_lem message.now.channel (data_of member.old) then 1 else 0) ≡ vec_len copies.old }
+    ensures count { vec_len copies.new + copies_taken message.now.channel member.old ≡ vec_len copies.old }
 {
     if !receives(member, message.channel.as_str()) {
         return;

@@ -2,7 +2,7 @@
 ghost use Rattle.std.specs.Prelude.{◌≡◌, ◌++◌, not, OnOk};
 ghost use Rattle.std.specs.List.{flat_map};
 ghost use Rattle.idle_notes.specs.Names.{line_in, changed_lines};
-ghost use Rattle.idle_notes.specs.Sets.{none, all, union, meet, with_one, has, is_nonempty};
+ghost use Rattle.idle_notes.specs.Sets.{each_alike, none, all, union, meet, with_one, has, is_nonempty};
 
 use crate::subsystem::{SUBSYSTEMS, Subsystem};
 use mpd_text::Answer;
@@ -40,7 +40,7 @@ impl Subsystems {
     }
 
     fn alike(held: bool) -> Subsystems
-        ensures { result ≡ record { database = held; update = held; stored_playlist = held; playlist = held; player = held; mixer = held; output = held; options = held; sticker = held; subscription = held; message = held } }
+        ensures { result ≡ each_alike held }
     {
         Subsystems {
             database: held,

@@ -32,6 +32,10 @@ use Rattle.mpd_command.specs.declared.database.DatabaseCommand.TheVariants as da
 unfoldable pub lines_of_songs : ℕ → List SongData → List ℕ
 lines_of_songs rate songs = flat_map (song_lines rate) songs
 
+-- the same, at the rate of a library
+abbrev pub lines_by_library : Library → List SongData → List ℕ
+lines_by_library library songs = lines_of_songs library.rate songs
+
 -- the URIs of songs, a line each
 unfoldable pub lines_of_uris : List SongData → List ℕ
 lines_of_uris songs = flat_map (λ (song : SongData). pair_line (codes "file") song.uri) songs
@@ -46,7 +50,7 @@ unreadable asked text = refusal asked Argument text
 
 -- the songs that meet a filter, in byte order of URI, or those of them that a window shows
 abbrev pub find : Asked → Library → Case → Wanted → Option Window → CommandResult
-find asked library case (Meeting e) window = shows asked (lines_of_songs library.rate (windowed window (found case e library.songs)))
+find asked library case (Meeting e) window = shows asked (lines_by_library library (windowed window (found case e library.songs)))
 find asked library case (Refused text) window = unreadable asked text
 
 -- the songs that meet a filter are added
@@ -89,7 +93,7 @@ lines_of_folders folders = flat_map (pair_line (codes "directory")) folders
 abbrev pub show_folder : Asked → Library → List ℕ → CommandResult
 show_folder asked library folder =
     if is_folder folder library.songs
-    then shows asked (lines_of_folders (direct_folders folder library.songs) ++ lines_of_songs library.rate (direct_songs folder library.songs))
+    then shows asked (lines_of_folders (direct_folders folder library.songs) ++ lines_by_library library (direct_songs folder library.songs))
     else no_such_directory asked
 
 abbrev pub show_song_or_folder : Asked → Library → Option SongData → List ℕ → CommandResult

@@ -1,6 +1,7 @@
 -- The commands of stickers, and what each asks the shelf (MPD protocol reference, Stickers; that songs and names
 -- are looked at before the shelf is asked is this profile's).
-use Rattle.std.specs.Prelude.{ℕ, Bool, true, not, ◌&&◌, ◌||◌, List, Option, Some, None, is_some, if◌then◌else◌}
+use Rattle.std.specs.Prelude.{ℕ, Bool, true, not, ◌&&◌, ◌||◌, List, Option, Some, None, is_some, if◌then◌else◌, Result}
+use Rattle.std.specs.declared.alloc.AllocError.{AllocError}
 use Rattle.std.specs.Str.{bytes_eq}
 use Rattle.shelf.specs.declared.faults.ShelfFault.TheVariants.{NoSticker}
 use Rattle.shelf.specs.Maps.{is_sticker_name}
@@ -18,7 +19,7 @@ use Rattle.transitions.specs.declared.shelf_calls.Read.{Read}
 use Rattle.transitions.specs.declared.shelf_calls.Read.TheVariants.{Value, Entries, Refused}
 use Rattle.transitions.specs.declared.shelf_calls.ShelfWrite.TheVariants.{SetSticker, DeleteSticker, DeleteStickers}
 use Rattle.player_state.specs.declared.state.Library.{Library}
-use Rattle.transitions.specs.Transitions.{CommandResult}
+use Rattle.transitions.specs.Transitions.{CommandResult, IsDecidedBy, TransitionData}
 use Rattle.library_commands.specs.Playlists.{refused, misread}
 
 -- the URI is a song's of the library
@@ -68,6 +69,10 @@ result_of asked library read (Delete uri name) = of_song asked library uri.0 (de
 result_of asked library read (ListStickers uri) = of_song asked library uri.0 (show_stickers asked read)
 result_of asked library read (Find uri name test) =
     if is_place library uri.0 then named_sticker asked name (show_found asked library read uri.0 name test) else no_such_song asked
+
+-- unless there is no memory, the transition is what this command makes of the player
+abbrev pub Runs : Result TransitionData AllocError → Asked → Library → Read → StickerCommand → Type 0
+Runs result asked library read command = IsDecidedBy result (result_of asked library read command)
 
 -- what each command asks the shelf, once its names and songs are in order
 abbrev pub asks_sticker : Library → List ℕ → List ℕ → Question

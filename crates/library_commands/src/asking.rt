@@ -1,8 +1,6 @@
 //! What is asked of the lent shelf.
-ghost use Rattle.std.specs.Prelude.{◌≡◌, IfOk};
-ghost use Rattle.shelf.specs.Maps.{Trusted, Turns};
 ghost use Rattle.library_commands.specs.Asking.{question_by};
-ghost use Rattle.transitions.specs.Shelves.{IsRead, is_ok_read};
+ghost use Rattle.transitions.specs.Shelves.{ReadsFor, TurnsByReading};
 
 use crate::{playlists, stickers};
 use mpd_command::Command;
@@ -17,8 +15,8 @@ pub fn ask<S: Shelf>(
     shelf: &mut S,
     command: &Command,
 ) -> Result<Read, AllocError>
-    ensures turns { Turns (S.standing shelf.old) (S.standing shelf.new) (is_ok_read result) (S.standing shelf.old).maps }
-    ensures read { Trusted (S.standing shelf.old) (S.standing shelf.new) → IfOk result (λ read. IsRead (S.failed shelf.old shelf.new) (S.standing shelf.old).maps (question_by library.now command.now) read) }
+    ensures turns { TurnsByReading S.standing shelf.old shelf.new result }
+    ensures read { ReadsFor S.standing S.failed shelf.old shelf.new (question_by library.now command.now) result }
 {
     match command {
         Command::Playlists(command) => playlists::ask(shelf, command),

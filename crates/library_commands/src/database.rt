@@ -6,8 +6,8 @@ ghost use Rattle.filters.specs.Expressions.{Under};
 ghost use Rattle.std.specs.List.{flat_map};
 ghost use Rattle.mpd_text.specs.Answers.Answer.{pair_line};
 ghost use Rattle.mpd_text.specs.Songs.Tags.{tag_text};
-ghost use Rattle.library_commands.specs.Database.{count_songs as count_songs_lem, find as find_lem, find_add as find_add_lem, lines_of_folders, lines_of_songs, lines_of_texts, lines_of_uris, list as list_lem, list_all as list_all_lem, list_info as list_info_lem, list_texts as list_texts_lem, no_such_directory as no_such_directory_lem, result_of, show_folder as show_folder_lem, unreadable as unreadable_lem, update as update_lem, uri_or_all as uri_or_all_lem, windowed as windowed_lem};
-ghost use Rattle.transitions.specs.Transitions.{transition_by};
+ghost use Rattle.library_commands.specs.Database.{count_songs as count_songs_lem, find as find_lem, find_add as find_add_lem, lines_by_library, lines_of_folders, lines_of_texts, lines_of_uris, list as list_lem, list_all as list_all_lem, list_info as list_info_lem, list_texts as list_texts_lem, no_such_directory as no_such_directory_lem, result_of, show_folder as show_folder_lem, unreadable as unreadable_lem, update as update_lem, uri_or_all as uri_or_all_lem, windowed as windowed_lem};
+ghost use Rattle.transitions.specs.Transitions.{IsDecidedBy};
 ghost use Rattle.player_state.specs.Fits.{Fits};
 
 use filters::{Case, Filter, Test};
@@ -24,7 +24,7 @@ use transitions::{Asked, Transition};
 #[rattlefmt::skip]
 #[tactic(auto, unfolding(crate::specs::Database::result_of))]
 pub fn run(alloc: Global, asked: Asked, part: &Part, library: &Library, command: &DatabaseCommand) -> Result<Transition, AllocError>
-    ensures transition { IfOk result (λ transition. transition ≡ transition_by (result_of asked part.now library.now command.now)) }
+    ensures transition { IsDecidedBy result (result_of asked part.now library.now command.now) }
     ensures fits { IfOk result (λ transition. Fits part.now transition.effect) }
 {
     match command {
@@ -49,7 +49,7 @@ fn find(
     wanted: &Wanted,
     window: Option<Window>,
 ) -> Result<Transition, AllocError>
-    ensures { IfOk result (λ transition. transition ≡ transition_by (find_lem asked library.now case wanted.now window)) }
+    ensures { IsDecidedBy result (find_lem asked library.now case wanted.now window) }
 {
     match wanted {
         Wanted::Meeting(filter) => {
@@ -64,7 +64,7 @@ fn find(
 
 /// A filter that cannot be read.
 fn unreadable(alloc: Global, asked: Asked, text: &str) -> Result<Transition, AllocError>
-    ensures { IfOk result (λ transition. transition ≡ transition_by (unreadable_lem asked text.now)) }
+    ensures { IsDecidedBy result (unreadable_lem asked text.now) }
 {
     Transition::refuses(alloc, asked, ErrorNumber::Argument, text)
 }
@@ -109,7 +109,7 @@ fn push_songs(
     library: &Library,
     songs: &[&SharedSong],
 ) -> Result<(), AllocError>
-    ensures { OnOk result (lines.new ≡ lines.old ++ lines_of_songs library.now.rate (map (λ song. song.now) songs.now)) }
+    ensures { OnOk result (lines.new ≡ lines.old ++ lines_by_library library.now (map (λ song. song.now) songs.now)) }
 {
     for song in songs {
         push_song(alloc, lines, song.song(), &library.rate)?;
@@ -125,7 +125,7 @@ fn find_add(
     case: Case,
     wanted: &Wanted,
 ) -> Result<Transition, AllocError>
-    ensures transition { IfOk result (λ transition. transition ≡ transition_by (find_add_lem asked part.now library.now case wanted.now)) }
+    ensures transition { IsDecidedBy result (find_add_lem asked part.now library.now case wanted.now) }
     ensures fits { IfOk result (λ transition. Fits part.now transition.effect) }
 {
     match wanted {
@@ -144,7 +144,7 @@ fn list(
     name: TagName,
     wanted: Option<&Wanted>,
 ) -> Result<Transition, AllocError>
-    ensures { IfOk result (λ transition. transition ≡ transition_by (list_lem asked library.now name (option_copied wanted.entry))) }
+    ensures { IsDecidedBy result (list_lem asked library.now name (option_copied wanted.entry)) }
 {
     match wanted {
         None => list_texts(alloc, asked, library, name, &all_songs(alloc)?),
@@ -171,7 +171,7 @@ fn list_texts(
     name: TagName,
     filter: &Filter,
 ) -> Result<Transition, AllocError>
-    ensures { IfOk result (λ transition. transition ≡ transition_by (list_texts_lem asked library.now name filter.now)) }
+    ensures { IsDecidedBy result (list_texts_lem asked library.now name filter.now) }
 {
     let texts = listed(alloc, library.songs.db(), name, filter)?;
     let lines = text_lines(alloc, name, &texts)?;
@@ -195,7 +195,7 @@ fn count(
     library: &Library,
     wanted: &Wanted,
 ) -> Result<Transition, AllocError>
-    ensures { IfOk result (λ transition. transition ≡ transition_by (count_songs_lem asked library.now wanted.now)) }
+    ensures { IsDecidedBy result (count_songs_lem asked library.now wanted.now) }
 {
     match wanted {
         Wanted::Meeting(filter) => {
@@ -215,7 +215,7 @@ fn list_info(
     library: &Library,
     uri: Option<&Uri>,
 ) -> Result<Transition, AllocError>
-    ensures { IfOk result (λ transition. transition ≡ transition_by (list_info_lem asked library.now (option_copied uri.entry))) }
+    ensures { IsDecidedBy result (list_info_lem asked library.now (option_copied uri.entry)) }
 {
     let uri = uri_or_all(uri);
     match library.songs.db().get(uri) {
@@ -245,7 +245,7 @@ fn show_folder(
     library: &Library,
     folder: &str,
 ) -> Result<Transition, AllocError>
-    ensures { IfOk result (λ transition. transition ≡ transition_by (show_folder_lem asked library.now folder.now)) }
+    ensures { IsDecidedBy result (show_folder_lem asked library.now folder.now) }
 {
     if !is_folder(library.songs.db(), folder) {
         return no_such_directory(alloc, asked);
@@ -257,7 +257,7 @@ fn show_folder(
 }
 
 fn no_such_directory(alloc: Global, asked: Asked) -> Result<Transition, AllocError>
-    ensures { IfOk result (λ transition. transition ≡ transition_by (no_such_directory_lem asked)) }
+    ensures { IsDecidedBy result (no_such_directory_lem asked) }
 {
     Transition::refuses(alloc, asked, ErrorNumber::NoExist, "no such directory")
 }
@@ -279,7 +279,7 @@ fn list_all(
     library: &Library,
     uri: Option<&Uri>,
 ) -> Result<Transition, AllocError>
-    ensures { IfOk result (λ transition. transition ≡ transition_by (list_all_lem asked library.now (option_copied uri.entry))) }
+    ensures { IsDecidedBy result (list_all_lem asked library.now (option_copied uri.entry)) }
 {
     let folder = uri_or_all(uri);
     if !is_folder(library.songs.db(), folder) {
@@ -301,7 +301,7 @@ fn uri_lines(alloc: Global, songs: &[SharedSong]) -> Result<Answer, AllocError>
 }
 
 fn update(alloc: Global, asked: Asked, library: &Library) -> Result<Transition, AllocError>
-    ensures { IfOk result (λ transition. transition ≡ transition_by (update_lem asked library.now)) }
+    ensures { IsDecidedBy result (update_lem asked library.now) }
 {
     if library.scan.running().is_some() {
         let text = "already updating";

@@ -2,13 +2,12 @@
 //! command's question is there; what is to be written is part of the transition.
 ghost use Rattle.std.specs.Prelude.{◌≡◌, IfOk, not};
 ghost use Rattle.std.specs.Option.{option_copied};
-ghost use Rattle.shelf.specs.Maps.{Trusted, Turns};
 ghost use Rattle.player_state.specs.declared.effect.Effect.TheVariants.{ByCommand};
 ghost use Rattle.player_state.specs.declared.effect.CommandEffect.TheVariants.{Rests};
 ghost use Rattle.library_commands.specs.Playlists.{asks_list, append as append_lem, append_folder as append_folder_lem, list_playlist as list_playlist_lem, list_playlist_info as list_playlist_info_lem, list_playlists as list_playlists_lem, load as load_lem, load_range as load_range_lem, misread as misread_lem, playlist_add as playlist_add_lem, playlist_clear as playlist_clear_lem, playlist_delete as playlist_delete_lem, playlist_move as playlist_move_lem, put_with as put_with_lem, question_of, refused as refused_lem, remove as remove_lem, rename as rename_lem, result_of, same_uris, save as save_lem};
 ghost use Rattle.transitions.specs.CommandResults.{writes as writes_lem};
-ghost use Rattle.transitions.specs.Shelves.{AskNames, IsRead, is_ok_read};
-ghost use Rattle.transitions.specs.Transitions.{transition_by};
+ghost use Rattle.transitions.specs.Shelves.{AskNames, ReadsFor, TurnsByReading};
+ghost use Rattle.transitions.specs.Transitions.{IsDecidedBy};
 ghost use Rattle.player_state.specs.Fits.{Fits};
 
 use mpd_command::{PlaylistCommand, Uri};
@@ -28,7 +27,7 @@ use transitions::{Asked, Names, Read, ShelfWrite, Transition, shelf_refuses};
 #[rattlefmt::skip]
 #[tactic(auto, unfolding(crate::specs::Playlists::result_of))]
 pub fn run(alloc: Global, asked: Asked, part: &Part, library: &Library, read: &Read, command: &PlaylistCommand) -> Result<Transition, AllocError>
-    ensures transition { IfOk result (λ transition. transition ≡ transition_by (result_of asked part.now library.now read.now command.now)) }
+    ensures transition { IsDecidedBy result (result_of asked part.now library.now read.now command.now) }
     ensures fits { IfOk result (λ transition. Fits part.now transition.effect) }
 {
     match command {
@@ -55,7 +54,7 @@ pub(crate) fn refused(
     asked: Asked,
     fault: ShelfFault,
 ) -> Result<Transition, AllocError>
-    ensures { IfOk result (λ transition. transition ≡ transition_by (refused_lem asked fault)) }
+    ensures { IsDecidedBy result (refused_lem asked fault) }
 {
     let name = Some(asked.name);
     Ok(Transition::only(shelf_refuses(alloc, asked.stand, name, fault)?))
@@ -63,7 +62,7 @@ pub(crate) fn refused(
 
 /// The shelf answered another question, which no shelf does that is as it should be.
 pub(crate) fn misread(alloc: Global, asked: Asked) -> Result<Transition, AllocError>
-    ensures { IfOk result (λ transition. transition ≡ transition_by (misread_lem asked)) }
+    ensures { IsDecidedBy result (misread_lem asked) }
 {
     refused(alloc, asked, ShelfFault::StoreFault)
 }
@@ -74,7 +73,7 @@ fn list_playlist(
     read: &Read,
     name: &Text,
 ) -> Result<Transition, AllocError>
-    ensures { IfOk result (λ transition. transition ≡ transition_by (list_playlist_lem asked read.now name.now)) }
+    ensures { IsDecidedBy result (list_playlist_lem asked read.now name.now) }
 {
     if !is_list_name(name.as_str()) {
         return Transition::bad_name(alloc, asked, name.as_str());
@@ -93,7 +92,7 @@ fn list_playlist_info(
     read: &Read,
     name: &Text,
 ) -> Result<Transition, AllocError>
-    ensures { IfOk result (λ transition. transition ≡ transition_by (list_playlist_info_lem asked library.now read.now name.now)) }
+    ensures { IsDecidedBy result (list_playlist_info_lem asked library.now read.now name.now) }
 {
     if !is_list_name(name.as_str()) {
         return Transition::bad_name(alloc, asked, name.as_str());
@@ -109,7 +108,7 @@ fn list_playlist_info(
 }
 
 fn list_playlists(alloc: Global, asked: Asked, read: &Read) -> Result<Transition, AllocError>
-    ensures { IfOk result (λ transition. transition ≡ transition_by (list_playlists_lem asked read.now)) }
+    ensures { IsDecidedBy result (list_playlists_lem asked read.now) }
 {
     match read {
         Read::Names(names) => Transition::shows(asked, name_lines(alloc, names.as_slice())?),
@@ -127,7 +126,7 @@ fn load(
     name: &Text,
     range: Option<Range>,
 ) -> Result<Transition, AllocError>
-    ensures transition { IfOk result (λ transition. transition ≡ transition_by (load_lem asked part.now library.now read.now name.now range)) }
+    ensures transition { IsDecidedBy result (load_lem asked part.now library.now read.now name.now range) }
     ensures fits { IfOk result (λ transition. Fits part.now transition.effect) }
 {
     if !is_list_name(name.as_str()) {
@@ -148,7 +147,7 @@ fn load_range(
     range: Option<Range>,
     uris: &UriList,
 ) -> Result<Transition, AllocError>
-    ensures transition { IfOk result (λ transition. transition ≡ transition_by (load_range_lem asked part.now library.now range uris.now)) }
+    ensures transition { IsDecidedBy result (load_range_lem asked part.now library.now range uris.now) }
     ensures fits { IfOk result (λ transition. Fits part.now transition.effect) }
 {
     let all = uris.len();
@@ -164,7 +163,7 @@ fn load_range(
 }
 
 fn save(alloc: Global, asked: Asked, part: &Part, name: &Text) -> Result<Transition, AllocError>
-    ensures { IfOk result (λ transition. transition ≡ transition_by (save_lem asked part.now name.now)) }
+    ensures { IsDecidedBy result (save_lem asked part.now name.now) }
 {
     if !is_list_name(name.as_str()) {
         return Transition::bad_name(alloc, asked, name.as_str());
@@ -175,7 +174,7 @@ fn save(alloc: Global, asked: Asked, part: &Part, name: &Text) -> Result<Transit
 }
 
 fn remove(alloc: Global, asked: Asked, name: &Text) -> Result<Transition, AllocError>
-    ensures { IfOk result (λ transition. transition ≡ transition_by (remove_lem asked name.now)) }
+    ensures { IsDecidedBy result (remove_lem asked name.now) }
 {
     if !is_list_name(name.as_str()) {
         return Transition::bad_name(alloc, asked, name.as_str());
@@ -185,7 +184,7 @@ fn remove(alloc: Global, asked: Asked, name: &Text) -> Result<Transition, AllocE
 }
 
 fn rename(alloc: Global, asked: Asked, name: &Text, new: &Text) -> Result<Transition, AllocError>
-    ensures { IfOk result (λ transition. transition ≡ transition_by (rename_lem asked name.now new.now)) }
+    ensures { IsDecidedBy result (rename_lem asked name.now new.now) }
 {
     if !is_list_name(name.as_str()) {
         return Transition::bad_name(alloc, asked, name.as_str());
@@ -206,7 +205,7 @@ fn playlist_add(
     name: &Text,
     uri: &Uri,
 ) -> Result<Transition, AllocError>
-    ensures transition { IfOk result (λ transition. transition ≡ transition_by (playlist_add_lem asked library.now read.now name.now uri.now.0)) }
+    ensures transition { IsDecidedBy result (playlist_add_lem asked library.now read.now name.now uri.now.0) }
     ensures rests { IfOk result (λ transition. transition.effect ≡ ByCommand Rests) }
 {
     if !is_list_name(name.as_str()) {
@@ -226,7 +225,7 @@ fn append_folder(
     name: &Text,
     folder: &str,
 ) -> Result<Transition, AllocError>
-    ensures transition { IfOk result (λ transition. transition ≡ transition_by (append_folder_lem asked library.now read.now name.now folder.now)) }
+    ensures transition { IsDecidedBy result (append_folder_lem asked library.now read.now name.now folder.now) }
     ensures rests { IfOk result (λ transition. transition.effect ≡ ByCommand Rests) }
 {
     if !is_folder(library.songs.db(), folder) {
@@ -243,7 +242,7 @@ fn append(
     name: &Text,
     songs: &[SharedSong],
 ) -> Result<Transition, AllocError>
-    ensures transition { IfOk result (λ transition. transition ≡ transition_by (append_lem asked read.now name.now songs.now)) }
+    ensures transition { IsDecidedBy result (append_lem asked read.now name.now songs.now) }
     ensures rests { IfOk result (λ transition. transition.effect ≡ ByCommand Rests) }
 {
     match read {
@@ -264,7 +263,7 @@ fn put_with(
     songs: &[SharedSong],
     changes: bool,
 ) -> Result<Transition, AllocError>
-    ensures transition { IfOk result (λ transition. transition ≡ transition_by (put_with_lem asked name.now uris.now songs.now changes)) }
+    ensures transition { IsDecidedBy result (put_with_lem asked name.now uris.now songs.now changes) }
     ensures rests { IfOk result (λ transition. transition.effect ≡ ByCommand Rests) }
 {
     if uris.len().saturating_add(songs.len()) > MAX_ENTRIES {
@@ -282,7 +281,7 @@ fn put(
     uris: UriList,
     changes: bool,
 ) -> Result<Transition, AllocError>
-    ensures { IfOk result (λ transition. transition ≡ transition_by (writes_lem asked (ShelfWrite.Put name.now uris changes))) }
+    ensures { IsDecidedBy result (writes_lem asked (ShelfWrite.Put name.now uris changes)) }
 {
     let name = Text::new(alloc, name.as_str())?;
     Transition::writes(alloc, asked, ShelfWrite::Put(name, uris, changes))
@@ -294,7 +293,7 @@ fn playlist_clear(
     read: &Read,
     name: &Text,
 ) -> Result<Transition, AllocError>
-    ensures { IfOk result (λ transition. transition ≡ transition_by (playlist_clear_lem asked read.now name.now)) }
+    ensures { IsDecidedBy result (playlist_clear_lem asked read.now name.now) }
 {
     if !is_list_name(name.as_str()) {
         return Transition::bad_name(alloc, asked, name.as_str());
@@ -313,7 +312,7 @@ fn playlist_delete(
     name: &Text,
     place: u32,
 ) -> Result<Transition, AllocError>
-    ensures { IfOk result (λ transition. transition ≡ transition_by (playlist_delete_lem asked read.now name.now place)) }
+    ensures { IsDecidedBy result (playlist_delete_lem asked read.now name.now place) }
 {
     if !is_list_name(name.as_str()) {
         return Transition::bad_name(alloc, asked, name.as_str());
@@ -339,7 +338,7 @@ fn playlist_move(
     from: u32,
     to: u32,
 ) -> Result<Transition, AllocError>
-    ensures { IfOk result (λ transition. transition ≡ transition_by (playlist_move_lem asked read.now name.now from to)) }
+    ensures { IsDecidedBy result (playlist_move_lem asked read.now name.now from to) }
 {
     if !is_list_name(name.as_str()) {
         return Transition::bad_name(alloc, asked, name.as_str());
@@ -367,8 +366,8 @@ fn differ(uris: &UriList, others: &UriList) -> bool
 
 /// Asks the shelf what a command asks of it.
 pub(crate) fn ask<S: Shelf>(shelf: &mut S, command: &PlaylistCommand) -> Result<Read, AllocError>
-    ensures turns { Turns (S.standing shelf.old) (S.standing shelf.new) (is_ok_read result) (S.standing shelf.old).maps }
-    ensures read { Trusted (S.standing shelf.old) (S.standing shelf.new) → IfOk result (λ read. IsRead (S.failed shelf.old shelf.new) (S.standing shelf.old).maps (question_of command.now) read) }
+    ensures turns { TurnsByReading S.standing shelf.old shelf.new result }
+    ensures read { ReadsFor S.standing S.failed shelf.old shelf.new (question_of command.now) result }
 {
     match command {
         PlaylistCommand::ListPlaylists => ask_names(shelf),
@@ -386,8 +385,8 @@ pub(crate) fn ask<S: Shelf>(shelf: &mut S, command: &PlaylistCommand) -> Result<
 }
 
 fn ask_names<S: Shelf>(shelf: &mut S) -> Result<Read, AllocError>
-    ensures turns { Turns (S.standing shelf.old) (S.standing shelf.new) (is_ok_read result) (S.standing shelf.old).maps }
-    ensures read { Trusted (S.standing shelf.old) (S.standing shelf.new) → IfOk result (λ read. IsRead (S.failed shelf.old shelf.new) (S.standing shelf.old).maps AskNames read) }
+    ensures turns { TurnsByReading S.standing shelf.old shelf.new result }
+    ensures read { ReadsFor S.standing S.failed shelf.old shelf.new AskNames result }
 {
     match shelf.lists() {
         Ok(names) => Ok(Read::Names(Names::of(names))),
@@ -398,8 +397,8 @@ fn ask_names<S: Shelf>(shelf: &mut S) -> Result<Read, AllocError>
 
 /// Asks for a list, if the name can be one's.
 fn ask_list<S: Shelf>(shelf: &mut S, name: &str) -> Result<Read, AllocError>
-    ensures turns { Turns (S.standing shelf.old) (S.standing shelf.new) (is_ok_read result) (S.standing shelf.old).maps }
-    ensures read { Trusted (S.standing shelf.old) (S.standing shelf.new) → IfOk result (λ read. IsRead (S.failed shelf.old shelf.new) (S.standing shelf.old).maps (asks_list name.now) read) }
+    ensures turns { TurnsByReading S.standing shelf.old shelf.new result }
+    ensures read { ReadsFor S.standing S.failed shelf.old shelf.new (asks_list name.now) result }
 {
     if !is_list_name(name) {
         return Ok(Read::Nothing);

@@ -2,13 +2,12 @@
 //! there; what is to be written is part of the transition.
 ghost use Rattle.std.specs.Prelude.{◌≡◌, IfOk, not};
 ghost use Rattle.std.specs.Option.{option_copied};
-ghost use Rattle.shelf.specs.Maps.{Trusted, Turns};
 ghost use Rattle.player_state.specs.declared.effect.Effect.TheVariants.{ByCommand};
 ghost use Rattle.player_state.specs.declared.effect.CommandEffect.TheVariants.{Rests};
-ghost use Rattle.library_commands.specs.Stickers.{asks_all, asks_found, asks_sticker, is_place as is_place_lem, is_song as is_song_lem, question_of, result_of};
+ghost use Rattle.mpd_command.specs.declared.sticker.StickerCommand.TheVariants.{Delete, Find, Get, List as ListStickers, Set};
+ghost use Rattle.library_commands.specs.Stickers.{Runs, asks_all, asks_found, asks_sticker, is_place as is_place_lem, is_song as is_song_lem, question_of};
 ghost use Rattle.transitions.specs.CommandResults.{writes as writes_lem};
-ghost use Rattle.transitions.specs.Shelves.{IsRead, is_ok_read};
-ghost use Rattle.transitions.specs.Transitions.{transition_by};
+ghost use Rattle.transitions.specs.Shelves.{ReadsFor, TurnsByReading};
 
 use crate::playlists::{misread, refused};
 use mpd_command::{Comparison, StickerCommand, Uri};
@@ -28,7 +27,7 @@ pub fn run(
     read: &Read,
     command: &StickerCommand,
 ) -> Result<Transition, AllocError>
-    ensures transition { IfOk result (λ transition. transition ≡ transition_by (result_of asked library.now read.now command.now)) }
+    ensures transition { Runs result asked library.now read.now command.now }
     ensures rests { IfOk result (λ transition. transition.effect ≡ ByCommand Rests) }
 {
     match command {
@@ -68,7 +67,7 @@ fn get_sticker(
     uri: &Uri,
     name: &Text,
 ) -> Result<Transition, AllocError>
-    ensures transition { IfOk result (λ transition. transition ≡ transition_by (result_of asked library.now read.now (StickerCommand.Get uri.now name.now))) }
+    ensures transition { Runs result asked library.now read.now (Get uri.now name.now) }
     ensures rests { IfOk result (λ transition. transition.effect ≡ ByCommand Rests) }
 {
     if !is_song(library, uri.0.as_str()) {
@@ -96,7 +95,7 @@ fn set_sticker(
     name: &Text,
     value: &Text,
 ) -> Result<Transition, AllocError>
-    ensures transition { IfOk result (λ transition. transition ≡ transition_by (result_of asked library.now read.now (StickerCommand.Set uri.now name.now value.now))) }
+    ensures transition { Runs result asked library.now read.now (Set uri.now name.now value.now) }
     ensures rests { IfOk result (λ transition. transition.effect ≡ ByCommand Rests) }
 {
     if !is_song(library, uri.0.as_str()) {
@@ -128,7 +127,7 @@ fn delete_stickers(
     uri: &Uri,
     name: Option<&Text>,
 ) -> Result<Transition, AllocError>
-    ensures transition { IfOk result (λ transition. transition ≡ transition_by (result_of asked library.now Read.Nothing (StickerCommand.Delete uri.now (option_copied name.entry)))) }
+    ensures transition { Runs result asked library.now Read.Nothing (Delete uri.now (option_copied name.entry)) }
     ensures rests { IfOk result (λ transition. transition.effect ≡ ByCommand Rests) }
 {
     if !is_song(library, uri.0.as_str()) {
@@ -152,7 +151,7 @@ fn list_stickers(
     read: &Read,
     uri: &Uri,
 ) -> Result<Transition, AllocError>
-    ensures transition { IfOk result (λ transition. transition ≡ transition_by (result_of asked library.now read.now (StickerCommand.List uri.now))) }
+    ensures transition { Runs result asked library.now read.now (ListStickers uri.now) }
     ensures rests { IfOk result (λ transition. transition.effect ≡ ByCommand Rests) }
 {
     if !is_song(library, uri.0.as_str()) {
@@ -177,7 +176,7 @@ fn find_stickers(
     name: &Text,
     test: Option<&Comparison>,
 ) -> Result<Transition, AllocError>
-    ensures transition { IfOk result (λ transition. transition ≡ transition_by (result_of asked library.now read.now (StickerCommand.Find uri.now name.now (option_copied test.entry)))) }
+    ensures transition { Runs result asked library.now read.now (Find uri.now name.now (option_copied test.entry)) }
     ensures rests { IfOk result (λ transition. transition.effect ≡ ByCommand Rests) }
 {
     if !is_place(library, uri.0.as_str()) {
@@ -211,8 +210,8 @@ pub(crate) fn ask<S: Shelf>(
     shelf: &mut S,
     command: &StickerCommand,
 ) -> Result<Read, AllocError>
-    ensures turns { Turns (S.standing shelf.old) (S.standing shelf.new) (is_ok_read result) (S.standing shelf.old).maps }
-    ensures read { Trusted (S.standing shelf.old) (S.standing shelf.new) → IfOk result (λ read. IsRead (S.failed shelf.old shelf.new) (S.standing shelf.old).maps (question_of library.now command.now) read) }
+    ensures turns { TurnsByReading S.standing shelf.old shelf.new result }
+    ensures read { ReadsFor S.standing S.failed shelf.old shelf.new (question_of library.now command.now) result }
 {
     match command {
         StickerCommand::Get(uri, name) => {
@@ -236,8 +235,8 @@ fn ask_sticker<S: Shelf>(
     uri: &str,
     name: &str,
 ) -> Result<Read, AllocError>
-    ensures turns { Turns (S.standing shelf.old) (S.standing shelf.new) (is_ok_read result) (S.standing shelf.old).maps }
-    ensures read { Trusted (S.standing shelf.old) (S.standing shelf.new) → IfOk result (λ read. IsRead (S.failed shelf.old shelf.new) (S.standing shelf.old).maps (asks_sticker library.now uri.now name.now) read) }
+    ensures turns { TurnsByReading S.standing shelf.old shelf.new result }
+    ensures read { ReadsFor S.standing S.failed shelf.old shelf.new (asks_sticker library.now uri.now name.now) result }
 {
     if !is_song(library, uri) || !is_sticker_name(name) {
         return Ok(Read::Nothing);
@@ -251,8 +250,8 @@ fn ask_sticker<S: Shelf>(
 
 /// Asks for all stickers of a song of the library.
 fn ask_all<S: Shelf>(library: &Library, shelf: &mut S, uri: &str) -> Result<Read, AllocError>
-    ensures turns { Turns (S.standing shelf.old) (S.standing shelf.new) (is_ok_read result) (S.standing shelf.old).maps }
-    ensures read { Trusted (S.standing shelf.old) (S.standing shelf.new) → IfOk result (λ read. IsRead (S.failed shelf.old shelf.new) (S.standing shelf.old).maps (asks_all library.now uri.now) read) }
+    ensures turns { TurnsByReading S.standing shelf.old shelf.new result }
+    ensures read { ReadsFor S.standing S.failed shelf.old shelf.new (asks_all library.now uri.now) result }
 {
     if !is_song(library, uri) {
         return Ok(Read::Nothing);
@@ -271,8 +270,8 @@ fn ask_found<S: Shelf>(
     uri: &str,
     name: &str,
 ) -> Result<Read, AllocError>
-    ensures turns { Turns (S.standing shelf.old) (S.standing shelf.new) (is_ok_read result) (S.standing shelf.old).maps }
-    ensures read { Trusted (S.standing shelf.old) (S.standing shelf.new) → IfOk result (λ read. IsRead (S.failed shelf.old shelf.new) (S.standing shelf.old).maps (asks_found library.now uri.now name.now) read) }
+    ensures turns { TurnsByReading S.standing shelf.old shelf.new result }
+    ensures read { ReadsFor S.standing S.failed shelf.old shelf.new (asks_found library.now uri.now name.now) result }
 {
     if !is_place(library, uri) || !is_sticker_name(name) {
         return Ok(Read::Nothing);

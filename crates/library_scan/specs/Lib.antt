@@ -4,3 +4,4 @@ pub mod Scans
 pub mod Windows
 pub mod Trees
 pub mod Seeing
+pub mod Views

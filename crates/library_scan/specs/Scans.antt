@@ -1,5 +1,6 @@
 -- What a scan finds (this profile's).
-use Rattle.std.specs.Prelude.{◌≡◌, ◌<◌, List, AllPairs, IsTrue}
+use Rattle.std.specs.Prelude.{◌≡◌, ◌<◌, ℕ, List, AllPairs, IsTrue}
+use Rattle.std.specs.List.{Any, Contains}
 use Rattle.std.specs.Ordering.{nat_cmp}
 use Rattle.std.specs.Cmp.Lexicographic.{slice_cmp}
 use Rattle.std.specs.declared.cmp.Ordering.{Ordering}
@@ -12,6 +13,10 @@ use Rattle.library_scan.specs.Steps.{is_song_uri}
 pub record IsFound (song : SongData) : Type 0 where
   pub uri : IsTrue (is_song_uri song.uri)
   pub frames : 0 < song.frames
+
+-- of each that was there one with its URI is kept
+abbrev pub KeepsEachUri : {X : Type 0} → (X → List ℕ) → List X → List X → Type 0
+KeepsEachUri {X} uri old new = (x : X) → Contains old x → Any (λ kept. uri kept ≡ uri x) new
 
 -- the order of two refused files: by the bytes of their URIs
 abbrev pub refused_by_uri : Refused → Refused → Ordering

@@ -24,6 +24,10 @@ StandAt file place bytes = (all : List ℕ) → file ≡ Some all → take (leng
 abbrev pub left : ℕ → ℕ → ℕ → ℕ
 left place start filled = if nat_le start place then start + filled - place else 0
 
+-- no byte stands from a place on
+abbrev pub IsPastEnd : Option (List ℕ) → ℕ → Type 0
+IsPastEnd file place = (all : List ℕ) → file ≡ Some all → drop place all ≡ []
+
 -- no byte stands from a place on, where the file is as long as was told
 abbrev pub IsEnd : Option (List ℕ) → ℕ → ℕ → Type 0
 IsEnd file len place = (all : List ℕ) → file ≡ Some all → length all ≡ len → drop place all ≡ []

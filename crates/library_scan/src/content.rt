@@ -1,7 +1,6 @@
 //! What a scan keeps of a file.
-ghost use Rattle.std.specs.Prelude.{◌≡◌, Ok, IfSome, IfOk, IfErr};
-ghost use Rattle.wave.specs.Waves.{wave_of};
-ghost use Rattle.library_scan.specs.Contents.{Keeps, KeepsBytes, UnreadOnFailure, name_of};
+ghost use Rattle.std.specs.Prelude.{◌≡◌, Ok, IfOk, IfErr};
+ghost use Rattle.library_scan.specs.Contents.{KeepsBytes, UnreadOnFailure, name_of};
 ghost use Rattle.library_scan.specs.Windows.{whole};
 
 use crate::window::Windowed;
@@ -60,7 +59,7 @@ pub fn content_of<M: Media>(
     rate: &Rate,
 ) -> Result<Content, AllocError>
     // It is what the whole bytes mean.
-    ensures value { IfSome (M.all_bytes media.old) (λ bytes. IfOk result (λ content. Keeps content (wave_of rate.now bytes))) }
+    ensures value { KeepsBytes rate.now (M.all_bytes media.old) result }
     // It is unread only where the device failed, or was called too often.
     ensures read_fault { UnreadOnFailure (M.call_counts media.old) (M.call_counts media.new) result }
 {
@@ -87,7 +86,7 @@ pub fn content_in<F: ReadSeek + Drop>(
     rate: &Rate,
 ) -> Result<Content, AllocError>
     // It is what the whole bytes mean, where there are as many.
-    ensures value { IfSome (whole (F.known_bytes file) len) (λ bytes. IfOk result (λ content. Keeps content (wave_of rate.now bytes))) }
+    ensures value { KeepsBytes rate.now (whole (F.known_bytes file) len) result }
 {
     let mut media = Windowed::new(Counting::new(file), len);
     content_of(alloc, &mut media, rate)

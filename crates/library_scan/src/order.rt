@@ -1,9 +1,9 @@
 //! Byte order of URIs, each once.
-ghost use Rattle.std.specs.Prelude.{◌≡◌, ◌≤◌, length, All};
-ghost use Rattle.std.specs.List.{Any, Contains};
+ghost use Rattle.std.specs.Prelude.{◌≤◌, length, All};
+ghost use Rattle.std.specs.List.{Contains};
 ghost use Rattle.mpd_text.specs.Songs.Song.{SongData};
 ghost use Rattle.song_db.specs.Library.{InByteOrder};
-ghost use Rattle.library_scan.specs.Scans.{RefusedInOrder};
+ghost use Rattle.library_scan.specs.Scans.{KeepsEachUri, RefusedInOrder};
 ghost use Rattle.library_scan.specs.declared.scanned.Refused.{Refused};
 
 use crate::scanned::Refused;
@@ -14,7 +14,7 @@ use mpd_text::Song;
 pub(crate) fn sort_songs(songs: &mut Vec<Song>)
     ensures order { InByteOrder songs.new.items }
     ensures among { All (Contains songs.old.items) songs.new.items }
-    ensures each { (song : SongData) → Contains songs.old.items song → Any (λ (kept : SongData). kept.uri ≡ song.uri) songs.new.items }
+    ensures each { KeepsEachUri (λ (song : SongData). song.uri) songs.old.items songs.new.items }
     ensures few { length songs.new.items ≤ length songs.old.items }
 {
     songs.sort_unstable_by(|a, b| a.uri().cmp(b.uri()));
@@ -25,7 +25,7 @@ pub(crate) fn sort_songs(songs: &mut Vec<Song>)
 pub(crate) fn sort_refused(refused: &mut Vec<Refused>)
     ensures order { RefusedInOrder refused.new.items }
     ensures among { All (Contains refused.old.items) refused.new.items }
-    ensures each { (file : Refused) → Contains refused.old.items file → Any (λ (kept : Refused). kept.uri ≡ file.uri) refused.new.items }
+    ensures each { KeepsEachUri (λ (file : Refused). file.uri) refused.old.items refused.new.items }
 {
     refused.sort_unstable_by(|a, b| a.uri.as_str().cmp(b.uri.as_str()));
     refused.dedup_by(|a, b| a.uri.as_str() == b.uri.as_str());

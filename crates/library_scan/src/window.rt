@@ -1,9 +1,9 @@
 //! A file that is read some kilobytes at a time.
-ghost use Rattle.std.specs.Prelude.{None, Some, List, ℕ, [], ◌≡◌, ◌≤◌, ◌<◌, ◌++◌, length, take, drop, min, ◌+◌, ◌-◌, ◌^◌, OnOk, OnErr};
+ghost use Rattle.std.specs.Prelude.{None, ◌≡◌, ◌≤◌, ◌<◌, ◌++◌, length, take, min, ◌+◌, ◌-◌, ◌^◌, OnOk, OnErr};
 ghost use Rattle.std.specs.Io.{ReadsAtMost};
 ghost use Rattle.std.specs.Io.KnownBytes.{ReadConsumes};
 ghost use Rattle.counted_devices.specs.CallCounts.{NoFewer, HasFailed, CountsCall, one_call, count_up};
-ghost use Rattle.library_scan.specs.Windows.{whole, from_place, left, StandAt, IsEnd, FailsAs, with_calls};
+ghost use Rattle.library_scan.specs.Windows.{whole, from_place, left, StandAt, IsPastEnd, FailsAs, with_calls};
 
 use counted_devices::{Failing, Media, Source};
 use std::io;
@@ -31,6 +31,8 @@ pub struct Windowed<M: Media> {
 }
 
 impl<M: Media> Windowed<M> {
+    ghost use Rattle.library_scan.specs.Views.{left_in, IsAtFileEnd};
+
     /// A file of this length, of which nothing was read yet.
     pub fn new(file: M, len: u64) -> Windowed<M>
         ensures file { result.file ≡ file }
@@ -83,7 +85,7 @@ impl<M: Media> Windowed<M> {
         ensures place { self.new.place ≡ self.old.place }
         ensures calls { self.new.calls ≡ self.old.calls }
         ensures read { OnOk result (self.new.start ≡ self.old.place) }
-        ensures ends { OnOk result (self.new.filled ≡ 0 → (all : List ℕ) → M.all_bytes self.old.file ≡ Some all → drop self.old.place all ≡ []) }
+        ensures ends { OnOk result (self.new.filled ≡ 0 → IsPastEnd (M.all_bytes self.old.file) self.old.place) }
         ensures fails { FailsAs (M.call_counts self.old.file) (M.call_counts self.new.file) result }
         ensures failed { OnErr result (HasFailed (M.call_counts self.old.file) (M.call_counts self.new.file)) }
         ensures calm { NoFewer (M.call_counts self.old.file) (M.call_counts self.new.file) }
@@ -102,7 +104,7 @@ impl<M: Media> Windowed<M> {
         ensures len { self.new.len ≡ self.old.len }
         ensures place { self.new.place ≡ self.old.place }
         ensures calls { self.new.calls ≡ self.old.calls }
-        ensures ends { OnOk result (left self.new.place self.new.start self.new.filled ≡ 0 → IsEnd (M.all_bytes self.old.file) self.old.len self.old.place) }
+        ensures ends { OnOk result (left_in self.new ≡ 0 → IsAtFileEnd self.old) }
         ensures fails { FailsAs (M.call_counts self.old.file) (M.call_counts self.new.file) result }
         ensures failed { OnErr result (HasFailed (M.call_counts self.old.file) (M.call_counts self.new.file)) }
         ensures calm { NoFewer (M.call_counts self.old.file) (M.call_counts self.new.file) }
@@ -152,12 +154,14 @@ impl<M: Media> Failing for Windowed<M> {
 }
 
 impl<M: Media> Read for Windowed<M> {
+    ghost use Rattle.library_scan.specs.Views.{rest_in, whole_in};
+
     ghost remaining = { λ w. from_place w.place (whole (M.all_bytes w.file) w.len) };
 
     fn read(&mut self, buf: &mut [u8]) -> io::Result<usize>
         ensures bound { ReadsAtMost result buf.new }
-        ensures bytes { ReadConsumes (from_place self.old.place (whole (M.all_bytes self.old.file) self.old.len)) (from_place self.new.place (whole (M.all_bytes self.new.file) self.new.len)) result buf.new }
-        ensures stays { whole (M.all_bytes self.new.file) self.new.len ≡ whole (M.all_bytes self.old.file) self.old.len }
+        ensures bytes { ReadConsumes (rest_in self.old) (rest_in self.new) result buf.new }
+        ensures stays { whole_in self.new ≡ whole_in self.old }
         ensures calls { self.new.calls ≡ count_up self.old.calls }
         ensures fails { FailsAs (M.call_counts self.old.file) (M.call_counts self.new.file) result }
         ensures failed { OnErr result (HasFailed (M.call_counts self.old.file) (M.call_counts self.new.file)) }

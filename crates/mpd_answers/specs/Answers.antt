@@ -55,6 +55,9 @@ abbrev pub line_of_list : ListLine → LineData
 line_of_list (Text text) = Some text
 line_of_list NotText = None
 
+abbrev pub read_list_line : Bool → ListLine → Request
+read_list_line may_kill line = read_line may_kill (line_of_list line)
+
 abbrev pub read_lines : Bool → List ListLine → List Request
 read_lines may_kill lines = map (λ line. read_line may_kill (line_of_list line)) lines
 
@@ -72,6 +75,10 @@ abbrev pub sequel : Bool → Bool → Sequel
 sequel false kills = Stays
 sequel true false = Leaves
 sequel true true = Kills
+
+-- what follows a list whose first request that would end the daemon stands at this place
+abbrev pub sequel_of_list : List OutcomeData → ℕ → Sequel
+sequel_of_list tolds kill = sequel (list_any (λ t. closes t.answer.next) tolds) (nat_eq (length tolds) (kill + 1))
 
 -- Whether the last of so many requests that were run ends the daemon. A list ends there, so that it is the
 -- first that would.

@@ -1,17 +1,38 @@
 -- The bytes of what a session owes its client.
-use Rattle.std.specs.Prelude.{ℕ, List, [], ◌++◌, codes}
+use Rattle.std.specs.Prelude.{ℕ, List, [], ◌++◌, Option, codes}
 use Rattle.mpd_text.specs.Answers.Answer.{ack_line}
 use Rattle.partition.specs.Lists.{fault_text, stop_text, text_with}
 use Rattle.mpd_answers.specs.declared.owed.Owed.{Owed}
 use Rattle.mpd_answers.specs.declared.owed.Owed.TheVariants as owed
-use Rattle.mpd_answers.specs.Answers.{list_end}
+use Rattle.mpd_answers.specs.Answers.{Answers, caller, list_end}
+use Rattle.mpd_answers.specs.Output.{IsOwed}
+use Rattle.mpd_answers.specs.Requests.{Asking}
+use Rattle.mpd_answers.specs.declared.asker.Asker.{Asker}
+use Rattle.mpd_answers.specs.declared.asker.Sequel.{Sequel}
+use Rattle.counted_player.specs.Seats.{SeatCount}
+use Rattle.held_player.specs.Lists.{HandedList}
+use Rattle.held_player.specs.Views.{Handed}
+use Rattle.shelf.specs.Calls.{Call}
+use Rattle.shelf.specs.Maps.{Standing}
 use Rattle.mpd_answers.specs.Notices.{notice_bytes, notice_text}
+
+-- the answer to a line, and that to a list, after the notice that waited
+abbrev pub line_bytes : Handed → List ℕ
+line_bytes answered = notice_bytes answered.front ++ answered.told.answer.text
+
+abbrev pub list_bytes : HandedList → Option ℕ → List ℕ
+list_bytes answered unread = notice_bytes answered.front ++ text_with (list_end unread) answered.tolds
 
 abbrev pub owed_bytes : Owed → List ℕ
 owed_bytes owed.Nothing = []
 owed_bytes (owed.Notice notice) = notice_text notice
-owed_bytes (owed.Line answered) = notice_bytes answered.front ++ answered.told.answer.text
-owed_bytes (owed.List answered unread) = notice_bytes answered.front ++ text_with (list_end unread) answered.tolds
+owed_bytes (owed.Line answered) = line_bytes answered
+owed_bytes (owed.List answered unread) = list_bytes answered unread
 owed_bytes owed.EmptyList = codes "OK\n"
 owed_bytes (owed.LineFault name fault) = ack_line 52 0 name.now (fault_text fault)
 owed_bytes (owed.ListFault stop) = stop_text stop
+
+-- what is owed for what was asked, and what follows: an answer that the player of one thread may give to it
+abbrev pub IsOwedFor : {S : Type 0} → (S → Standing) → (S → S → Call → Type 0) → Asker → SeatCount → S → Asking → Owed × Sequel → SeatCount → S → Type 0
+IsOwedFor standing failed asker seat shelf one owed seat' shelf' =
+    IsOwed (Answers standing failed asker) (caller seat shelf) one (owed_bytes owed.0) owed.1 (caller seat' shelf')

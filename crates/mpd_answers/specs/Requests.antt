@@ -95,6 +95,9 @@ abbrev pub Takes : ListState → List LineData → Option ClientRequest → List
 Takes old [] asked new left = Unit {0}
 Takes old (line ∷ lines) asked new left = (left ≡ lines) × (gather_line old line ≡ record { asked = askings_of asked; list = new })
 
+abbrev pub TakesFirst : ListState → List LineData → ListState → List LineData → Option ClientRequest → Type 0
+TakesFirst old lines new left asked = Takes old lines asked new left
+
 abbrev pub is_over : ListState → Bool
 is_over (Within list) = false
 is_over Over = true

@@ -1,12 +1,11 @@
 //! What a session asks the house.
-ghost use Rattle.std.specs.Prelude.{◌≡◌, ◌≤◌, ◌+◌, ◌++◌, ◌∷◌, [], IfOk, OnErr, OnOk, length, nat_eq};
-ghost use Rattle.std.specs.List.{list_any, position_or_len};
+ghost use Rattle.std.specs.Prelude.{◌≡◌, ◌≤◌, ◌+◌, ◌++◌, ◌∷◌, [], IfOk, OnErr, OnOk, length};
+ghost use Rattle.std.specs.List.{position_or_len};
 ghost use Rattle.std.specs.Option.{option_copied};
-ghost use Rattle.mpd_answers.specs.Answers.{Answers, caller, IsRead, is_kill as is_kill_in, line_of_list, list_end, read_line as read_line_of, sequel as sequel_of};
+ghost use Rattle.mpd_answers.specs.Answers.{IsRead, is_kill as is_kill_in, list_end, read_line as read_line_of, sequel as sequel_of, read_list_line, sequel_of_list};
 ghost use Rattle.mpd_answers.specs.Notices.{notice_bytes};
-ghost use Rattle.mpd_answers.specs.Owing.{owed_bytes};
+ghost use Rattle.mpd_answers.specs.Owing.{owed_bytes, IsOwedFor};
 ghost use Rattle.mpd_answers.specs.Requests.{Single, Whole, asking_of};
-ghost use Rattle.mpd_answers.specs.Output.{IsOwed};
 ghost use Rattle.idle_clients.specs.Clients.{closes};
 ghost use Rattle.partition.specs.Lists.{text_with};
 
@@ -35,7 +34,7 @@ pub fn ask<L: Ledgers, S: Shelf, R: Wait>(
     asker: Asker,
     asked: &ClientRequest,
 ) -> (Owed, Sequel)
-    ensures { IsOwed (Answers S.standing S.failed asker) (caller seat.old shelf.old) (asking_of asked.now) (owed_bytes result.0) result.1 (caller seat.new shelf.new) }
+    ensures { IsOwedFor S.standing S.failed asker seat.old shelf.old (asking_of asked.now) result seat.new shelf.new }
 {
     match asked {
         ClientRequest::Single(line) => ask_line(
@@ -62,7 +61,7 @@ fn ask_line<L: Ledgers, S: Shelf, R: Wait>(
     asker: Asker,
     line: Option<&str>,
 ) -> (Owed, Sequel)
-    ensures { IsOwed (Answers S.standing S.failed asker) (caller seat.old shelf.old) (Single (option_copied line.entry)) (owed_bytes result.0) result.1 (caller seat.new shelf.new) }
+    ensures { IsOwedFor S.standing S.failed asker seat.old shelf.old (Single (option_copied line.entry)) result seat.new shelf.new }
 {
     let Ok(request) = read_line(alloc, asker.may_kill, line) else {
         return (Owed::LineFault("", PartitionFault::NoMemory), Sequel::Stays);
@@ -84,7 +83,7 @@ fn ask_list<L: Ledgers, S: Shelf, R: Wait>(
     asker: Asker,
     list: &CommandList,
 ) -> (Owed, Sequel)
-    ensures { IsOwed (Answers S.standing S.failed asker) (caller seat.old shelf.old) (Whole list.now) (owed_bytes result.0) result.1 (caller seat.new shelf.new) }
+    ensures { IsOwedFor S.standing S.failed asker seat.old shelf.old (Whole list.now) result seat.new shelf.new }
 {
     let lines = list.lines.items();
     if lines.is_empty() {
@@ -132,7 +131,7 @@ fn push_request(
     requests: &mut Vec<Request>,
     line: &ListLine,
 ) -> Result<(), AllocError>
-    ensures ok { OnOk result (requests.new.items ≡ requests.old.items ++ read_line_of may_kill (line_of_list line.now) ∷ []) }
+    ensures ok { OnOk result (requests.new.items ≡ requests.old.items ++ read_list_line may_kill line.now ∷ []) }
     ensures err { OnErr result (requests.new.items ≡ requests.old.items) }
 {
     let text = match line {
@@ -180,7 +179,7 @@ fn of_line(answered: Answered, kills: bool) -> (Owed, Sequel)
 /// What is owed for a list that was run, whose first request that would end the daemon stands at this place.
 fn of_list(answered: AnsweredList, unread: Option<usize>, kill: usize) -> (Owed, Sequel)
     ensures owed { owed_bytes result.0 ≡ notice_bytes answered.front ++ text_with (list_end unread) answered.tolds }
-    ensures sequel { result.1 ≡ sequel_of (list_any (λ t. closes t.answer.next) answered.tolds) (nat_eq (length answered.tolds) (kill + 1)) }
+    ensures sequel { result.1 ≡ sequel_of_list answered.tolds kill }
 {
     let outcome = answered.answers();
     let closes = outcome.closes();

@@ -1,10 +1,10 @@
 //! What a session owes its client and has not yet put after its unsent bytes, for want of memory.
 ghost use Rattle.std.specs.Prelude.{◌≡◌, ◌++◌, [], true, IfOk, OnOk};
 ghost use Rattle.mpd_text.specs.Answers.Answer.{ack_line};
-ghost use Rattle.partition.specs.Lists.{fault_text, text_with};
+ghost use Rattle.partition.specs.Lists.{fault_text};
 ghost use Rattle.mpd_answers.specs.Answers.{list_end};
 ghost use Rattle.mpd_answers.specs.Notices.{notice_bytes, notice_text};
-ghost use Rattle.mpd_answers.specs.Owing.{owed_bytes};
+ghost use Rattle.mpd_answers.specs.Owing.{owed_bytes, line_bytes, list_bytes};
 
 use held_player::{Answered, AnsweredList};
 use idle_clients::Notice;
@@ -107,7 +107,7 @@ fn push_front(alloc: Global, front: Option<Notice>, bytes: &mut Vec<u8>) -> Resu
 
 /// The answer to a line, with the notice that waited in front.
 fn push_line(alloc: Global, answered: &Answered, bytes: &mut Vec<u8>) -> Result<(), AllocError>
-    ensures { OnOk result (bytes.new.items ≡ bytes.old.items ++ (notice_bytes answered.now.front ++ answered.now.told.answer.text)) }
+    ensures { OnOk result (bytes.new.items ≡ bytes.old.items ++ line_bytes answered.now) }
 {
     let front = answered.front();
     push_front(alloc, front, bytes)?;
@@ -121,7 +121,7 @@ fn push_list(
     unread: Option<usize>,
     bytes: &mut Vec<u8>,
 ) -> Result<(), AllocError>
-    ensures { OnOk result (bytes.new.items ≡ bytes.old.items ++ (notice_bytes answered.now.front ++ text_with (list_end unread) answered.now.tolds)) }
+    ensures { OnOk result (bytes.new.items ≡ bytes.old.items ++ list_bytes answered.now unread) }
 {
     let end = end_of(alloc, unread)?;
     push_front(alloc, answered.front(), bytes)?;

@@ -1,5 +1,6 @@
 -- The forms of arguments (MPD protocol reference, Requests).
-use Rattle.std.specs.Prelude.{ℕ, ◌-◌, nat_le, Bool, true, false, List, [], ◌∷◌, length, take, drop, ◌==◌, slice_index, Option, Some, None, option_map, if◌then◌else◌, codes, find}
+use Rattle.std.specs.Prelude.{ℕ, ◌-◌, nat_le, Bool, true, false, List, [], ◌∷◌, length, take, drop, ◌==◌, slice_index, Option, Some, None, option_map, if◌then◌else◌, codes, find, MatchOption, ◌≡◌}
+use Rattle.std.specs.Borrow.{Bor}
 use Rattle.std.specs.Str.{bytes_eq, str_eq_ignore_ascii_case}
 use Rattle.mpd_text.specs.Answers.Millis.{millis_of}
 use Rattle.mpd_text.specs.Answers.Number.{number_of}
@@ -61,6 +62,11 @@ byte_of word = up_to 255 (number_of word)
 abbrev pub first_is : ℕ → List ℕ → Bool
 first_is b [] = false
 first_is b (c ∷ cs) = c == b
+
+-- the rest of a word after a sign, if the word begins with that
+abbrev pub IsAfterSign : Option (Bor (List ℕ)) → ℕ → List ℕ → Type 0
+IsAfterSign result sign word =
+    MatchOption result (first_is sign word ≡ false) (λ rest. (first_is sign word ≡ true) × (rest.now ≡ drop 1 word))
 
 -- POS, +N or -N
 abbrev pub place_of : List ℕ → Option Place

@@ -1,6 +1,7 @@
 -- What a line asks for (MPD protocol reference, Requests and Failure responses; the texts and their order are
 -- this profile's).
-use Rattle.std.specs.Prelude.{◌≡◌, ℕ, Bool, List, [], ◌∷◌, ◌++◌, codes, Option, Some, None, Result, Ok, Err, if◌then◌else◌}
+use Rattle.std.specs.Prelude.{◌≡◌, ℕ, Bool, List, [], ◌∷◌, ◌++◌, codes, Option, Some, None, Result, Ok, Err, IfOk, if◌then◌else◌}
+use Rattle.std.specs.declared.alloc.AllocError.{AllocError}
 use Rattle.mpd_text.specs.Lines.Scan.{words_of}
 use Rattle.mpd_text.specs.declared.answers.answer.ErrorNumber.TheVariants.{Argument, Permission, Unknown}
 use Rattle.mpd_text.specs.declared.lines.quoting.WordsFault.{WordsFault}
@@ -34,11 +35,15 @@ read_as name word (Ok (Some command)) = Ok (name, command)
 read_as name word (Ok None) = Err (unknown word)
 read_as name word (Err misread) = Err (ack_of name misread)
 
+-- a command, by its name, the word that the name is, and the words after it
+abbrev pub with_arguments : Bool → Name → List ℕ → List (List ℕ) → Result (Name × Command) Ack
+with_arguments allow_kill name word words = read_as name word (command_of allow_kill word words)
+
 abbrev pub of_name : Option Name → List ℕ → List (List ℕ) → Bool → Result (Name × Command) Ack
 of_name None word words allow_kill = Err (unknown word)
 of_name (Some name) word words allow_kill =
     if is_forbidden word allow_kill then Err (record { number = Permission; command = Some name; text = codes "no permission for \"kill\"" })
-    else read_as name word (command_of allow_kill word words)
+    else with_arguments allow_kill name word words
 
 -- the command of words, under its name, or the first refusal: unknown, not allowed, wrong number, first
 -- argument of a wrong form
@@ -58,6 +63,10 @@ abbrev pub AnswersAs : {A : Type 0} → Result A CommandFault → Result A Ack �
 AnswersAs (Ok a) exact = exact ≡ Ok a
 AnswersAs (Err NoMemory) exact = Unit {0}
 AnswersAs (Err (RefusedFor ack)) exact = exact ≡ Err ack
+
+-- unless there is no memory, the fault is this refusal
+abbrev pub IsRefusal : Result CommandFault AllocError → Ack → Type 0
+IsRefusal result ack = IfOk result (λ fault. fault ≡ RefusedFor ack)
 
 abbrev pub fault_text : WordsFault → List ℕ
 fault_text BadUnquoted = codes "bad unquoted argument"

@@ -1,11 +1,11 @@
 //! The forms of arguments: what one word can be read as.
-ghost use Rattle.std.specs.Prelude.{◌≡◌, ℕ, List, Option, Some, None, IfOk, MatchOption, ◌<◌, true, false, drop, option_map};
+ghost use Rattle.std.specs.Prelude.{◌≡◌, ℕ, List, Option, Some, None, IfOk, ◌<◌, option_map};
 ghost use Rattle.std.specs.Str.{str_eq_ignore_ascii_case};
 ghost use Rattle.mpd_text.specs.Answers.Millis.{millis_of};
 ghost use Rattle.mpd_text.specs.Answers.Number.{number_of};
 ghost use Rattle.mpd_text.specs.Answers.Range.{range_of};
 ghost use Rattle.idle_notes.specs.Names.{subsystem_of};
-ghost use Rattle.mpd_command.specs.Forms.{first_is, any_text, uri_of, switch_of, single_of, volume_of, fade_of, byte_of, place_of, seeking_of, tag_of, window_of};
+ghost use Rattle.mpd_command.specs.Forms.{IsAfterSign, any_text, uri_of, switch_of, single_of, volume_of, fade_of, byte_of, place_of, seeking_of, tag_of, window_of};
 
 use crate::fade::FadeSeconds;
 use crate::volume::Volume;
@@ -251,7 +251,7 @@ impl Form for Seeking {
 
 pub(crate) fn after_sign(word: &str, sign: char) -> Option<&str>
     requires { sign < 128 }
-    ensures { MatchOption result (first_is sign word.now ≡ false) (λ rest. (first_is sign word.now ≡ true) × (rest.now ≡ drop 1 word.now)) }
+    ensures { IsAfterSign result sign word.now }
 {
     word.strip_prefix(sign)
 }

@@ -1,7 +1,6 @@
 //! What a line asks for, and the refusals that come before any effect.
 ghost use Rattle.std.specs.Prelude.{◌≡◌, ℕ, List, Option, Some, None, Ok, Err, IfOk, string_bytes, map};
-ghost use Rattle.mpd_command.specs.Requests.{AnswersAs, ack_of, read_as, answer_of, named_of, unknown, fault_text as fault_text_lem, request_of, request_from, name_in};
-ghost use Rattle.mpd_command.specs.Commands.{command_of};
+ghost use Rattle.mpd_command.specs.Requests.{AnswersAs, IsRefusal, ack_of, answer_of, named_of, unknown, fault_text as fault_text_lem, request_of, request_from, name_in, with_arguments as with_arguments_lem};
 ghost use Rattle.mpd_command.specs.declared.readers.Misread.TheVariants.{WrongNumber, Bad};
 
 use crate::command::{Command, read};
@@ -94,7 +93,7 @@ fn with_arguments(
     word: &str,
     arguments: &[String],
 ) -> Result<(Name, Command), CommandFault>
-    ensures { AnswersAs result (read_as name word.now (command_of allow_kill word.now (map string_bytes arguments.now))) }
+    ensures { AnswersAs result (with_arguments_lem allow_kill name word.now (map string_bytes arguments.now)) }
 {
     match read(alloc, allow_kill, word, arguments) {
         Ok(Some(command)) => Ok((name, command)),
@@ -106,21 +105,21 @@ fn with_arguments(
 }
 
 fn unknown_command(alloc: Global, word: &str) -> Result<CommandFault, AllocError>
-    ensures { IfOk result (λ fault. fault ≡ CommandFault.Refused (unknown word.now)) }
+    ensures { IsRefusal result (unknown word.now) }
 {
     let text = format!(in alloc; "unknown command \"{word}\"")?;
     refused(alloc, ErrorNumber::Unknown, None, text.as_str())
 }
 
 fn wrong_number(alloc: Global, name: Name) -> Result<CommandFault, AllocError>
-    ensures { IfOk result (λ fault. fault ≡ CommandFault.Refused (ack_of name WrongNumber)) }
+    ensures { IsRefusal result (ack_of name WrongNumber) }
 {
     let text = format!(in alloc; "wrong number of arguments for \"{}\"", name.text())?;
     refused(alloc, ErrorNumber::Argument, Some(name), text.as_str())
 }
 
 fn bad_argument(alloc: Global, name: Name, argument: &str) -> Result<CommandFault, AllocError>
-    ensures { IfOk result (λ fault. fault ≡ CommandFault.Refused (ack_of name (Bad argument.now))) }
+    ensures { IsRefusal result (ack_of name (Bad argument.now)) }
 {
     let text = format!(in alloc; "bad argument \"{argument}\"")?;
     refused(alloc, ErrorNumber::Argument, Some(name), text.as_str())
@@ -132,7 +131,7 @@ fn refused(
     command: Option<Name>,
     text: &str,
 ) -> Result<CommandFault, AllocError>
-    ensures { IfOk result (λ fault. fault ≡ CommandFault.Refused (record { number = number; command = command; text = text.now })) }
+    ensures { IsRefusal result (record { number = number; command = command; text = text.now }) }
 {
     Ok(CommandFault::Refused(Ack {
         number,

@@ -144,6 +144,10 @@ StaysClosed old written new written' = (new.pending ≡ old.pending) × (new.end
 abbrev pub IsWithinLimits : Held → Type 0
 IsWithinLimits held = (held.pending.next ≢ None) × (is_over held.pending.list ≡ false) × (length held.unsent ≤ 16777216)
 
+-- an open session that has run all lines that came
+abbrev pub HasRunAll : Held → Type 0
+HasRunAll held = (held.ended ≡ None) × (held.pending.lines ≡ []) × (held.pending.piece ≡ [])
+
 -- a session that greets its client so, of which nothing came
 abbrev pub opening : List ℕ → Held
 opening greeting = record { pending = record { list = Within None; lines = []; next = Some []; piece = [] }; unsent = greeting; ended = None }
@@ -223,3 +227,43 @@ then_read c bytes = ahead c.asked (coming (record { list = c.list; lines = []; n
 abbrev pub BytesInAnyCut : Type 0
 BytesInAnyCut = (pending : Pending) (bytes more : List ℕ)
     → (coming (read_on pending bytes) ≡ then_read (coming pending) bytes) × (coming (read_on pending (bytes ++ more)) ≡ then_read (coming (read_on pending bytes)) more)
+
+-- what a step of a session's code leaves as it was: all but what is read, or split, or told
+abbrev pub KeepsAllButRead : Conversation → Conversation → Type 0
+KeepsAllButRead old new = new ≡ record old { splitter = new.splitter; lines = new.lines; piece = new.piece; ended = new.ended }
+
+abbrev pub KeepsAllButSplit : Conversation → Conversation → Type 0
+KeepsAllButSplit old new = new ≡ record old { splitter = new.splitter; lines = new.lines; piece = new.piece }
+
+abbrev pub KeepsAllButTold : Conversation → Conversation → Type 0
+KeepsAllButTold old new = new ≡ record old { unsent = new.unsent; owed = new.owed; waits = new.waits }
+
+-- an open session whose bytes are all split has met no line that is too long
+abbrev pub HasNoLongLine : Conversation → Type 0
+HasNoLongLine c = c.ended ≡ None → c.piece.items ≡ [] → c.splitter ≢ None
+
+-- a session is as it was; or it was open, all lines before one that is too long are run, and it is closed
+abbrev pub EndsForLongLine : Conversation → Conversation → Type 0
+EndsForLongLine old new = (new.ended ≡ old.ended)
+    ⊎ ((old.ended ≡ None) × (new.ended ≡ Some LongLine) × (old.lines.items ≡ []) × (old.piece.items ≡ []) × (old.splitter ≡ None))
+
+-- bytes are read, and perhaps split
+abbrev pub ReadsInto : Conversation → Option (List ℕ) → Conversation → Option (List ℕ) → Type 0
+ReadsInto old unread new unread' = ReadsOn (held_of old) unread (held_of new) unread'
+
+-- a closed session only writes
+abbrev pub SendsOnceClosed : Conversation → Option (List ℕ) → Conversation → Option (List ℕ) → Type 0
+SendsOnceClosed old written new written' = old.ended ≢ None → StaysClosed (held_of old) written (held_of new) written'
+
+-- a session is closed for its writer's fault only where it was before, or where that failed
+abbrev pub FailsAsItsWriter : Conversation → Conversation → CallCounts → CallCounts → Type 0
+FailsAsItsWriter old new calls calls' = new.ended ≡ Some WriteFault → (old.ended ≡ Some WriteFault) ⊎ HasFailedSince calls calls'
+
+-- a read of nothing may end a session, by its peer or by a fault
+abbrev pub EndsWithoutBytes : ℕ → Option End → Type 0
+EndsWithoutBytes count end = (end ≡ None) ⊎ ((count ≡ 0) × ((end ≡ Some NoPeer) ⊎ (end ≡ Some ReadFault)))
+
+-- a write may end an open session: by a fault, or where more than 16 MiB are left
+abbrev pub EndsByWrite : Option End → Option End → List ℕ → Type 0
+EndsByWrite old new left =
+    (new ≡ old) ⊎ ((old ≡ None) × ((new ≡ Some WriteFault) ⊎ ((new ≡ Some Unsent) × (16777216 < length left))))

@@ -1,14 +1,13 @@
 //! What a session does, over its parts.
-ghost use Rattle.std.specs.Prelude.{◌≡◌, ◌≢◌, ◌++◌, ◌<◌, ◌≤◌, ◌+◌, ◌⊎◌, [], List, ℕ, length, take, drop, map, Some, None, Ok, Err, true, false, OnOk, OnErr, IfOk, IsErr, is_ok};
+ghost use Rattle.std.specs.Prelude.{◌≡◌, ◌≢◌, ◌++◌, ◌<◌, ◌≤◌, ◌+◌, ◌⊎◌, [], length, take, drop, map, Some, None, Ok, Err, true, false, OnOk, OnErr, IfOk, is_ok};
 ghost use Rattle.std.specs.Io.KnownBytes.{Appends, Consumes};
 ghost use Rattle.mpd_text.specs.Lines.Split.{views, line_of};
 ghost use Rattle.mpd_text.specs.Lines.Cut.{split_from};
-ghost use Rattle.counted_devices.specs.CallCounts.{NoFewer};
 ghost use Rattle.mpd_answers.specs.Answers.{Answers, caller};
 ghost use Rattle.mpd_answers.specs.Owing.{owed_bytes};
 ghost use Rattle.mpd_answers.specs.Requests.{is_over};
 ghost use Rattle.mpd_session.specs.declared.end.End.{End};
-ghost use Rattle.mpd_session.specs.Sessions.{Blames, BlamesNone, BlamesReader, BlamesWriter, HasFailedSince, IsWithinLimits, ReadsAs, ReadsOn, Runs, Says, Sends, StaysClosed, TellsOf, Turns, coming, end_by as end_by_lem, end_in_list as end_in_list_lem, held_of, opening, pending_of};
+ghost use Rattle.mpd_session.specs.Sessions.{Blames, BlamesNone, BlamesReader, BlamesWriter, HasFailedSince, IsWithinLimits, ReadsAs, Runs, Says, Sends, TellsOf, Turns, coming, end_by as end_by_lem, end_in_list as end_in_list_lem, held_of, opening, pending_of, EndsByWrite, EndsForLongLine, EndsWithoutBytes, FailsAsItsWriter, HasNoLongLine, HasRunAll, KeepsAllButRead, KeepsAllButSplit, KeepsAllButTold, ReadsInto, SendsOnceClosed};
 
 use crate::end::{End, Goes, SessionFault};
 use crate::unsent::Unsent;
@@ -122,9 +121,9 @@ impl Conversation {
         requires open { self.old.ended ≡ None → is_over self.old.gatherer ≡ false }
         ensures asker { self.new.asker ≡ self.old.asker }
         ensures turns { self.old.ended ≡ None → Turns (Answers S.standing S.failed self.old.asker) (held_of self.old) (caller seat.old shelf.old) (I.remaining reader.old) (O.contents writer.old) (held_of self.new) (caller seat.new shelf.new) (I.remaining reader.new) (O.contents writer.new) }
-        ensures closed { self.old.ended ≢ None → StaysClosed (held_of self.old) (O.contents writer.old) (held_of self.new) (O.contents writer.new) }
+        ensures closed { SendsOnceClosed self.old (O.contents writer.old) self.new (O.contents writer.new) }
         ensures open { self.new.ended ≡ None → is_over self.new.gatherer ≡ false }
-        ensures goes { result ≡ Ok Goes.On → (self.new.ended ≡ None) × (self.new.lines.items ≡ []) × (self.new.piece.items ≡ []) }
+        ensures goes { result ≡ Ok Goes.On → HasRunAll (held_of self.new) }
         ensures within { result ≡ Ok Goes.On → IsWithinLimits (held_of self.new) }
         ensures ends { (end : End) → result ≡ Ok (Goes.Closed end) → self.new.ended ≡ Some end }
         ensures read_fault { result ≡ Err SessionFault.ReadFault → self.new.ended ≡ Some End.ReadFault }
@@ -157,7 +156,7 @@ impl Conversation {
         ensures asker { self.new.asker ≡ self.old.asker }
         ensures open { self.new.ended ≡ None → is_over self.new.gatherer ≡ false }
         ensures nothing { is_ok result ≡ true → owed_bytes self.new.owed ≡ [] }
-        ensures long { is_ok result ≡ true → self.new.ended ≡ None → self.new.piece.items ≡ [] → self.new.splitter ≢ None }
+        ensures long { is_ok result ≡ true → HasNoLongLine self.new }
         ensures turns { Turns (Answers S.standing S.failed self.old.asker) (held_of self.old) (caller seat.old shelf.old) (I.remaining reader.old) (O.contents writer.old) (held_of self.new) (caller seat.new shelf.new) (I.remaining reader.new) (O.contents writer.new) }
         ensures all { OnOk result (self.new.ended ≡ None → self.new.lines.items ≡ []) }
         ensures calm { (O.call_counts writer.old).failures ≤ (O.call_counts writer.new).failures }
@@ -175,8 +174,8 @@ impl Conversation {
     /// Reads once where nothing waits, and splits what was read.
     fn take_in<I: Source>(&mut self, reader: &mut I) -> Result<(), AllocError>
         requires { self.old.ended ≡ None }
-        ensures frame { self.new ≡ record self.old { splitter = self.new.splitter; lines = self.new.lines; piece = self.new.piece; ended = self.new.ended } }
-        ensures reads { ReadsOn (held_of self.old) (I.remaining reader.old) (held_of self.new) (I.remaining reader.new) }
+        ensures frame { KeepsAllButRead self.old self.new }
+        ensures reads { ReadsInto self.old (I.remaining reader.old) self.new (I.remaining reader.new) }
         ensures blamed { BlamesReader self.new.ended (I.call_counts reader.old) (I.call_counts reader.new) }
     {
         if !self.lines.is_empty() {
@@ -191,7 +190,7 @@ impl Conversation {
         requires goes { self.old.ended ≡ None }
         requires lines { self.old.lines.items ≡ [] }
         ensures frame { self.new ≡ record self.old { piece = self.new.piece; ended = self.new.ended } }
-        ensures reads { ReadsOn (held_of self.old) (I.remaining reader.old) (held_of self.new) (I.remaining reader.new) }
+        ensures reads { ReadsInto self.old (I.remaining reader.old) self.new (I.remaining reader.new) }
         ensures blamed { BlamesReader self.new.ended (I.call_counts reader.old) (I.call_counts reader.new) }
     {
         if !self.piece.is_empty() {
@@ -216,7 +215,7 @@ impl Conversation {
     /// Takes the notice that waits.
     fn tell<L: Ledgers, R: Wait>(&mut self, rt: &R, house: &House<L>) -> Result<(), AllocError>
         requires { owed_bytes self.old.owed ≡ [] }
-        ensures frame { self.new ≡ record self.old { unsent = self.new.unsent; owed = self.new.owed; waits = self.new.waits } }
+        ensures frame { KeepsAllButTold self.old self.new }
         ensures told { TellsOf (held_of self.old).unsent (held_of self.new).unsent }
         ensures nothing { OnOk result (owed_bytes self.new.owed ≡ []) }
     {
@@ -246,7 +245,7 @@ impl Conversation {
     /// Splits what was read into lines.
     fn split(&mut self) -> Result<(), AllocError>
         requires { self.old.lines.items ≡ [] }
-        ensures frame { self.new ≡ record self.old { splitter = self.new.splitter; lines = self.new.lines; piece = self.new.piece } }
+        ensures frame { KeepsAllButSplit self.old self.new }
         ensures coming { coming (pending_of self.new) ≡ coming (pending_of self.old) }
         ensures all { OnOk result (self.new.piece.items ≡ []) }
     {
@@ -303,7 +302,7 @@ impl Conversation {
         requires { self.old.ended ≡ None → self.old.lines.items ≡ [] }
         ensures frame { self.new ≡ record self.old { ended = self.new.ended } }
         ensures long { self.new.ended ≡ None → self.new.piece.items ≡ [] → self.new.splitter ≢ None }
-        ensures ends { (self.new.ended ≡ self.old.ended) ⊎ ((self.old.ended ≡ None) × (self.new.ended ≡ Some End.LongLine) × (self.old.lines.items ≡ []) × (self.old.piece.items ≡ []) × (self.old.splitter ≡ None)) }
+        ensures ends { EndsForLongLine self.old self.new }
     {
         if self.ended.is_none() && self.piece.is_empty() && self.splitter.is_closed() {
             self.ended = Some(End::LongLine);
@@ -347,7 +346,7 @@ impl Conversation {
         ensures stays { self.new.ended ≡ None → self.old.ended ≡ None }
         ensures few { self.new.ended ≡ None → length self.new.unsent ≤ 16777216 }
         ensures sends { Sends (held_of self.old) (O.contents writer.old) (held_of self.new) (O.contents writer.new) }
-        ensures failed { self.new.ended ≡ Some End.WriteFault → (self.old.ended ≡ Some End.WriteFault) ⊎ HasFailedSince (O.call_counts writer.old) (O.call_counts writer.new) }
+        ensures failed { FailsAsItsWriter self.old self.new (O.call_counts writer.old) (O.call_counts writer.new) }
         ensures calm { (O.call_counts writer.old).failures ≤ (O.call_counts writer.new).failures }
     {
         if is_given_up(self.ended) {
@@ -370,7 +369,7 @@ struct Got {
 fn read_some<I: Source>(reader: &mut I, buf: &mut [u8]) -> Got
     ensures count { result.count ≤ length buf.new }
     ensures bytes { Consumes (I.remaining reader.old) (I.remaining reader.new) (take result.count buf.new) }
-    ensures ends { (result.end ≡ None) ⊎ ((result.count ≡ 0) × ((result.end ≡ Some End.NoPeer) ⊎ (result.end ≡ Some End.ReadFault))) }
+    ensures ends { EndsWithoutBytes result.count result.end }
     ensures blamed { BlamesReader result.end (I.call_counts reader.old) (I.call_counts reader.new) }
 {
     match reader.read_some(buf) {
@@ -470,7 +469,7 @@ fn end_in_list(is_over: bool) -> Option<End>
 fn end_after(ended: Option<End>, failed: bool, left: &[u8]) -> Option<End>
     ensures stays { result ≡ None → ended ≡ None }
     ensures few { result ≡ None → length left.now ≤ 16777216 }
-    ensures end { (result ≡ ended) ⊎ ((ended ≡ None) × ((result ≡ Some End.WriteFault) ⊎ ((result ≡ Some End.Unsent) × (16777216 < length left.now)))) }
+    ensures end { EndsByWrite ended result left.now }
     ensures failed { result ≡ Some End.WriteFault → (ended ≡ Some End.WriteFault) ⊎ (failed ≡ true) }
 {
     if ended.is_some() {

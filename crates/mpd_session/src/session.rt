@@ -35,7 +35,7 @@ impl Model for Session {
 impl Session {
     ghost use Rattle.std.specs.Prelude.{◌≡◌, ◌≢◌, [], None, Some, Ok, Err, false, IfOk};
     ghost use Rattle.mpd_answers.specs.Answers.{Answers, caller};
-    ghost use Rattle.mpd_session.specs.Sessions.{Blames, IsWithinLimits, StaysClosed, Turns, opening};
+    ghost use Rattle.mpd_session.specs.Sessions.{Blames, HasRunAll, IsWithinLimits, StaysClosed, Turns, opening};
     ghost use Rattle.mpd_session.specs.declared.end.End.{End};
 
     /// The session of a client that the player let in, and what it was greeted with. Nothing was read, and the
@@ -89,7 +89,7 @@ impl Session {
         ensures asker { self.new.asker ≡ self.old.asker }
         ensures turns { self.old.held.ended ≡ None → Turns (Answers S.standing S.failed self.old.asker) self.old.held (caller seat.old shelf.old) (I.remaining reader.old) (O.contents writer.old) self.new.held (caller seat.new shelf.new) (I.remaining reader.new) (O.contents writer.new) }
         ensures closed { self.old.held.ended ≢ None → StaysClosed self.old.held (O.contents writer.old) self.new.held (O.contents writer.new) }
-        ensures goes { result ≡ Ok Goes.On → (self.new.held.ended ≡ None) × (self.new.held.pending.lines ≡ []) × (self.new.held.pending.piece ≡ []) }
+        ensures goes { result ≡ Ok Goes.On → HasRunAll self.new.held }
         ensures within { result ≡ Ok Goes.On → IsWithinLimits self.new.held }
         ensures ends { (end : End) → result ≡ Ok (Goes.Closed end) → self.new.held.ended ≡ Some end }
         ensures read_fault { result ≡ Err SessionFault.ReadFault → self.new.held.ended ≡ Some End.ReadFault }

@@ -1,5 +1,5 @@
 -- Frames, and what becomes of them at an output (this profile's).
-use Rattle.std.specs.Prelude.{Result, Ok, Err, ℕ, ℤ, ◌+◌, ◌<◌, Bool, ◌&&◌, List, ◌++◌, Option, length, map, take, drop, filter, nat_le}
+use Rattle.std.specs.Prelude.{Result, Ok, Err, ℕ, ℤ, ◌≡◌, ◌+◌, ◌<◌, Bool, ◌&&◌, List, ◌++◌, Option, length, map, take, drop, filter, nat_le}
 use Rattle.std.specs.List.{flat_map}
 use Rattle.std.specs.Io.KnownBytes.{Appends}
 use Rattle.pcm_mix.specs.Layouts.{frame_bytes}
@@ -26,9 +26,18 @@ is_heard live item = live.enabled && cut_le live.cut item.cut
 abbrev pub heard : Live → List CutFrame → List (List ℤ)
 heard live items = map (λ item. item.frame) (filter (is_heard live) items)
 
+-- the frames that were popped into the slots after the first `held`
+abbrev pub came_into : List CutFrame → ℕ → ℕ → List CutFrame
+came_into slots held count = take count (drop held slots)
+
 -- the bytes of frames, four for each
 abbrev pub bytes_of : List (List ℤ) → List ℕ
 bytes_of frames = flat_map frame_bytes frames
+
+-- the writer took the bytes of all frames of a hand that are heard, so many
+abbrev pub WritesHeard : Option (List ℕ) → Option (List ℕ) → Live → List CutFrame → ℕ → Type 0
+WritesHeard before after live hand n =
+    (n ≡ length (heard live hand)) × Appends before after (bytes_of (heard live hand))
 
 -- The writer failed: it took the bytes of the first `written` frames of a hand that are heard, and `torn`
 -- bytes of the next.

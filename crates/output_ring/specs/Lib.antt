@@ -1,3 +1,4 @@
 pub mod Frames
 pub mod Rings
 pub mod Sending
+pub mod Turns

@@ -1,9 +1,11 @@
 -- What a contract sees of the two ends of a ring (this profile's).
-use Rattle.std.specs.Prelude.{ℕ, ◌≡◌, ◌+◌, Bool, List, ◌++◌, take, drop, length, IfSome}
+use Rattle.std.specs.Prelude.{ℕ, ℤ, ◌≡◌, ◌+◌, ◌-◌, ◌^◌, ◌<◌, ◌≤◌, Bool, false, List, [], ◌++◌, take, drop, length, IfSome}
 use Rattle.rtrb.specs.Ring.{sent, received, known_items, known_free, IsPair, all_sent, IsFinishedOf, SameProducer, SameConsumer}
 use Rattle.rtrb.specs.Ends.{SameRing}
+use Rattle.output_ring.specs.Frames.{fates, heard, no_fates, no_totals}
 use Rattle.output_ring.specs.declared.frames.CutFrame.{CutFrame}
 use Rattle.output_ring.specs.declared.frames.Fates.{Fates}
+use Rattle.output_ring.specs.declared.frames.Live.{Live}
 use Rattle.output_ring.specs.declared.frames.Totals.{Totals}
 use Rattle.output_ring.specs.declared.feeder.Feeder.{Feeder}
 use Rattle.output_ring.specs.declared.feeder.FeederEnd.{FeederEnd}
@@ -65,6 +67,63 @@ most_of d = length d.slots.items
 abbrev pub ring_of : Drainer → List CutFrame
 ring_of d = known_items d.consumer
 
+-- the frames that a drainer accounts for, in order: those with a fate, the hand, and those known in the ring
+abbrev pub accounted_of : Drainer → List CutFrame
+accounted_of d = (fates_of d ++ hand_of d) ++ ring_of d
+
+-- the frames of the hand that a playing output writes, in order
+abbrev pub heard_of : Live → Drainer → List (List ℤ)
+heard_of live d = heard live (hand_of d)
+
+-- the fates of the hand where so many of its frames are written: the rest are discarded
+abbrev pub hand_fates : Drainer → ℕ → Fates
+hand_fates d written = fates written (length (hand_of d) - written)
+
+-- no frame was popped, and none is in the hand or known to be in the ring; the hand can hold so many
+abbrev pub HasNoFrames : Drainer → ℕ → Type 0
+HasNoFrames d hand = (popped_of d ≡ []) × (hand_of d ≡ []) × (ring_of d ≡ []) × (most_of d ≡ hand)
+
+-- no fate was counted, and no writer failed
+abbrev pub HasNoFates : Drainer → Type 0
+HasNoFates d = (totals_of d ≡ no_totals) × (unreported_of d ≡ no_fates) × (has_failed d ≡ false)
+
+-- the hand has room for one frame more
+abbrev pub HandHasRoom : Drainer → Type 0
+HandHasRoom d = length (hand_of d) < most_of d
+
+-- the hand has room for all frames that are known to be in the ring
+abbrev pub HandHasRoomForRing : Drainer → Type 0
+HandHasRoomForRing d = length (hand_of d) + length (ring_of d) ≤ most_of d
+
+-- fewer than 2^64-1 frames were popped in all, so the drainer pops more
+abbrev pub CanPop : Drainer → Type 0
+CanPop d = length (popped_of d) < 2 ^ 64 - 1
+
+-- with all frames that are known to be in the ring, fewer than 2^64 are popped in all
+abbrev pub CanPopRing : Drainer → Type 0
+CanPopRing d = length (popped_of d) + length (ring_of d) < 2 ^ 64
+
+-- no frame got its fate: the fates and their counts, the hand's size and a failure stay
+abbrev pub KeepsFates : Drainer → Drainer → Type 0
+KeepsFates old new = (fates_of new ≡ fates_of old) × (totals_of new ≡ totals_of old)
+    × (unreported_of new ≡ unreported_of old) × (most_of new ≡ most_of old) × (has_failed new ≡ has_failed old)
+
+-- no frame was popped: the popped frames, those known to be in the ring and the hand's size stay
+abbrev pub KeepsPopped : Drainer → Drainer → Type 0
+KeepsPopped old new = (popped_of new ≡ popped_of old) × (ring_of new ≡ ring_of old) × (most_of new ≡ most_of old)
+
+-- all but the unreported fates stays
+abbrev pub KeepsAllButReport : Drainer → Drainer → Type 0
+KeepsAllButReport old new = (totals_of new ≡ totals_of old) × (popped_of new ≡ popped_of old)
+    × (hand_of new ≡ hand_of old) × (ring_of new ≡ ring_of old) × (most_of new ≡ most_of old)
+    × (has_failed new ≡ has_failed old)
+
+-- all but what is known of the ring stays
+abbrev pub KeepsAllButRing : Drainer → Drainer → Type 0
+KeepsAllButRing old new = (totals_of new ≡ totals_of old) × (unreported_of new ≡ unreported_of old)
+    × (popped_of new ≡ popped_of old) × (hand_of new ≡ hand_of old) × (most_of new ≡ most_of old)
+    × (has_failed new ≡ has_failed old)
+
 -- the two ends of one ring
 abbrev pub AreEnds : Feeder → Drainer → Type 0
 AreEnds f d = IsPair f.producer d.consumer
@@ -72,6 +131,10 @@ AreEnds f d = IsPair f.producer d.consumer
 -- a feeder's end stays that of its ring
 abbrev pub SameFeeder : Feeder → Feeder → Type 0
 SameFeeder a b = SameProducer a.producer b.producer
+
+-- what a feeder took and owes stays, and its end that of its ring
+abbrev pub KeepsFeeder : Feeder → Feeder → Type 0
+KeepsFeeder old new = (taken_of new ≡ taken_of old) × (owed_of new ≡ owed_of old) × SameFeeder old new
 
 -- a drainer's end stays that of its ring
 abbrev pub SameDrainer : Drainer → Drainer → Type 0
@@ -84,6 +147,10 @@ end_owed e = drop e.sent e.block.items
 -- with its token, what the feeder took in all
 abbrev pub EndTook : FeederEnd → List CutFrame → Type 0
 EndTook e taken = IfSome e.finished (λ f. all_sent f ++ end_owed e ≡ taken)
+
+-- so many frames are in the ring, and the drainer and the feeder's end account for all that was taken
+abbrev pub AccountsForAll : FeederEnd → Drainer → ℕ → Type 0
+AccountsForAll e d n = (n ≡ length (ring_of d)) × EndTook e (accounted_of d ++ end_owed e)
 
 -- with its token, the two ends of one ring
 abbrev pub AreEndsAfter : FeederEnd → Drainer → Type 0

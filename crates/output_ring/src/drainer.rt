@@ -3,6 +3,7 @@ ghost use Rattle.std.specs.Prelude.{◌≡◌, ◌+◌, ◌^◌, ◌<◌, ◌≤
 ghost use mathlib.Core.List.{IsPrefix};
 ghost use Rattle.rtrb.specs.Ring.{received, known_items, SameConsumer};
 ghost use Rattle.output_ring.specs.Sending.{HasRoom};
+ghost use Rattle.output_ring.specs.Frames.{came_into};
 
 use crate::feeder::{Feeder, FeederEnd};
 use crate::frames::{Cut, CutFrame, Fates, Live, Totals, WriteFault};
@@ -38,11 +39,11 @@ pub struct Drainer {
 
 impl Drainer {
     ghost use mathlib.Core.List.{IsPrefix};
-    ghost use Rattle.std.specs.Prelude.{◌≡◌, ◌+◌, ◌-◌, ◌^◌, ◌<◌, ◌≤◌, [], ◌++◌, IfOk, IfSome, IsSome, MatchResult, ◌||◌, ◌↔◌, is_err, OnErr, length, true, false};
-    ghost use Rattle.std.specs.Io.KnownBytes.{Appends};
+    ghost use Rattle.std.specs.Prelude.{◌≡◌, ◌+◌, ◌^◌, ◌<◌, ◌≤◌, [], ◌++◌, IfOk, IfSome, IsSome, MatchResult, ◌||◌, ◌↔◌, is_err, OnErr, length, true};
     ghost use Rattle.counted_devices.specs.CallCounts.{HasFailed};
-    ghost use Rattle.output_ring.specs.Frames.{heard, bytes_of, StopsInside, fates, no_fates, no_totals, both, counted, totals_after, fates_in};
-    ghost use Rattle.output_ring.specs.Rings.{taken_of, owed_of, fates_of, popped_of, came_of, hand_of, most_of, ring_of, totals_of, unreported_of, has_failed, AreEnds, AreEndsAfter, EndTook, end_owed, SameFeeder, SameDrainer};
+    ghost use Rattle.output_ring.specs.Frames.{no_fates, both, counted, totals_after, fates_in};
+    ghost use Rattle.output_ring.specs.Rings.{taken_of, owed_of, fates_of, popped_of, came_of, hand_of, most_of, ring_of, totals_of, unreported_of, has_failed, accounted_of, hand_fates, HasNoFates, HandHasRoom, HandHasRoomForRing, CanPop, CanPopRing, KeepsFates, KeepsPopped, KeepsAllButReport, KeepsAllButRing, KeepsFeeder, AreEnds, AreEndsAfter, AccountsForAll, end_owed, SameDrainer};
+    ghost use Rattle.output_ring.specs.Turns.{OnHold, OnPlay, DiscardsHand, KeepsHand, WritesHand, FailsInHand};
 
     pub(crate) fn new(
         alloc: Global,
@@ -50,7 +51,7 @@ impl Drainer {
         most: usize,
     ) -> Result<Drainer, AllocError>
         requires { received consumer ≡ [] }
-        ensures { IfOk result (λ d. (d.consumer ≡ consumer) × (hand_of d ≡ []) × (most_of d ≡ most) × (totals_of d ≡ no_totals) × (unreported_of d ≡ no_fates) × (has_failed d ≡ false)) }
+        ensures { IfOk result (λ d. (d.consumer ≡ consumer) × (hand_of d ≡ []) × (most_of d ≡ most) × HasNoFates d) }
     {
         let silence = CutFrame {
             frame: [0, 0],
@@ -84,10 +85,10 @@ impl Drainer {
         // The known frames come first, all that have room in the hand, and it stops only where no more are
         // known.
         ensures known { IsPrefix (ring_of self.old) (came_of self.old self.new ++ ring_of self.new) }
-        ensures all { length (hand_of self.old) + length (ring_of self.old) ≤ most_of self.old → length (popped_of self.old) + length (ring_of self.old) < 2 ^ 64 → length (ring_of self.old) ≤ result }
-        ensures stops { length (hand_of self.new) < most_of self.new → length (popped_of self.new) < 2 ^ 64 - 1 → ring_of self.new ≡ [] }
+        ensures all { HandHasRoomForRing self.old → CanPopRing self.old → length (ring_of self.old) ≤ result }
+        ensures stops { HandHasRoom self.new → CanPop self.new → ring_of self.new ≡ [] }
         ensures order { popped_of self.new ≡ fates_of self.new ++ hand_of self.new }
-        ensures kept { (fates_of self.new ≡ fates_of self.old) × (totals_of self.new ≡ totals_of self.old) × (unreported_of self.new ≡ unreported_of self.old) × (most_of self.new ≡ most_of self.old) × (has_failed self.new ≡ has_failed self.old) }
+        ensures kept { KeepsFates self.old self.new }
         ensures ring { SameDrainer self.old self.new }
     {
         let popped = self.totals.written + self.totals.discarded + self.held as u64;
@@ -102,11 +103,11 @@ impl Drainer {
     /// fault of a writer all is discarded; else a pause or the end keeps the hand; else a frame is written
     /// where the output is enabled and the frame's cut is at least the live one, and discarded otherwise.
     pub fn write_out<W: Sink>(&mut self, writer: &mut W, live: Live) -> Result<Fates, WriteFault>
-        ensures after_fault { has_failed self.old ≡ true → (result ≡ Ok (fates 0 (length (hand_of self.old)))) × (hand_of self.new ≡ []) × (writer.new ≡ writer.old) }
-        ensures held { has_failed self.old ≡ false → (live.paused || live.ended) ≡ true → (result ≡ Ok no_fates) × (hand_of self.new ≡ hand_of self.old) × (writer.new ≡ writer.old) }
-        ensures played { has_failed self.old ≡ false → (live.paused || live.ended) ≡ false → (hand_of self.new ≡ []) × MatchResult result
-            (λ f. (f ≡ fates (length (heard live (hand_of self.old))) (length (hand_of self.old) - length (heard live (hand_of self.old)))) × Appends (W.contents writer.old) (W.contents writer.new) (bytes_of (heard live (hand_of self.old))))
-            (λ e. (e.fates ≡ fates e.fates.written (length (hand_of self.old) - e.fates.written)) × StopsInside (W.contents writer.old) (W.contents writer.new) live (hand_of self.old) e.fates.written e.torn) }
+        ensures after_fault { has_failed self.old ≡ true → DiscardsHand self.old self.new writer.old writer.new result }
+        ensures held { OnHold self.old live (KeepsHand self.old self.new writer.old writer.new result) }
+        ensures played { OnPlay self.old live ((hand_of self.new ≡ []) × MatchResult result
+            (λ f. WritesHand live self.old (W.contents writer.old) (W.contents writer.new) f)
+            (λ e. FailsInHand live self.old (W.contents writer.old) (W.contents writer.new) e)) }
 
         // Only a failure of this writer during this call is a fault.
         ensures fault { OnErr result (HasFailed (W.call_counts writer.old) (W.call_counts writer.new)) }
@@ -115,7 +116,7 @@ impl Drainer {
         ensures totals { totals_of self.new ≡ totals_after (totals_of self.old) result }
         ensures unreported { unreported_of self.new ≡ both (unreported_of self.old) (fates_in result) }
         ensures order { popped_of self.new ≡ fates_of self.new ++ hand_of self.new }
-        ensures kept { (popped_of self.new ≡ popped_of self.old) × (ring_of self.new ≡ ring_of self.old) × (most_of self.new ≡ most_of self.old) }
+        ensures kept { KeepsPopped self.old self.new }
         ensures ring { SameDrainer self.old self.new }
     {
         if self.failed {
@@ -140,11 +141,11 @@ impl Drainer {
     // The hand's frames have their fates: so many were written.
     fn settle_hand(&mut self, written: u64) -> Fates
         requires { written ≤ length (hand_of self.old) }
-        ensures result { result ≡ fates written (length (hand_of self.old) - written) }
+        ensures result { result ≡ hand_fates self.old written }
         ensures hand { hand_of self.new ≡ [] }
-        ensures totals { totals_of self.new ≡ counted (totals_of self.old) (fates written (length (hand_of self.old) - written)) }
-        ensures unreported { unreported_of self.new ≡ both (unreported_of self.old) (fates written (length (hand_of self.old) - written)) }
-        ensures kept { (popped_of self.new ≡ popped_of self.old) × (ring_of self.new ≡ ring_of self.old) × (most_of self.new ≡ most_of self.old) × (has_failed self.new ≡ has_failed self.old) }
+        ensures totals { totals_of self.new ≡ counted (totals_of self.old) (hand_fates self.old written) }
+        ensures unreported { unreported_of self.new ≡ both (unreported_of self.old) (hand_fates self.old written) }
+        ensures kept { KeepsPopped self.old self.new × (has_failed self.new ≡ has_failed self.old) }
         ensures ring { SameDrainer self.old self.new }
     {
         let discarded = self.held as u64 - written;
@@ -166,7 +167,7 @@ impl Drainer {
     /// Says that the fates so far were reported.
     pub fn reported(&mut self)
         ensures unreported { unreported_of self.new ≡ no_fates }
-        ensures kept { (totals_of self.new ≡ totals_of self.old) × (popped_of self.new ≡ popped_of self.old) × (hand_of self.new ≡ hand_of self.old) × (ring_of self.new ≡ ring_of self.old) × (most_of self.new ≡ most_of self.old) × (has_failed self.new ≡ has_failed self.old) }
+        ensures kept { KeepsAllButReport self.old self.new }
         ensures ring { SameDrainer self.old self.new }
     {
         self.unreported = NO_FATES;
@@ -194,10 +195,10 @@ impl Drainer {
     /// hand, the ring and what is owed.
     pub fn beside(&mut self, feeder: &mut Feeder) -> usize
         requires { AreEnds feeder.old self.old }
-        ensures all { taken_of feeder.new ≡ ((fates_of self.new ++ hand_of self.new) ++ ring_of self.new) ++ owed_of feeder.new }
+        ensures all { taken_of feeder.new ≡ accounted_of self.new ++ owed_of feeder.new }
         ensures length { result ≡ length (ring_of self.new) }
-        ensures feeder { (taken_of feeder.new ≡ taken_of feeder.old) × (owed_of feeder.new ≡ owed_of feeder.old) × SameFeeder feeder.old feeder.new }
-        ensures kept { (totals_of self.new ≡ totals_of self.old) × (unreported_of self.new ≡ unreported_of self.old) × (popped_of self.new ≡ popped_of self.old) × (hand_of self.new ≡ hand_of self.old) × (most_of self.new ≡ most_of self.old) × (has_failed self.new ≡ has_failed self.old) }
+        ensures feeder { KeepsFeeder feeder.old feeder.new }
+        ensures kept { KeepsAllButRing self.old self.new }
         ensures ring { SameDrainer self.old self.new }
     {
         self.consumer.slots_beside(&mut feeder.producer)
@@ -208,9 +209,9 @@ impl Drainer {
     pub fn after(&mut self, end: &mut FeederEnd) -> Option<usize>
         requires { AreEndsAfter end.old self.old }
         ensures token { IsSome result ↔ IsSome end.old.finished }
-        ensures all { IfSome result (λ n. (n ≡ length (ring_of self.new)) × EndTook end.old (((fates_of self.new ++ hand_of self.new) ++ ring_of self.new) ++ end_owed end.old)) }
+        ensures all { IfSome result (λ n. AccountsForAll end.old self.new n) }
         ensures end { (end_owed end.new ≡ end_owed end.old) × AreEndsAfter end.new self.new }
-        ensures kept { (totals_of self.new ≡ totals_of self.old) × (unreported_of self.new ≡ unreported_of self.old) × (popped_of self.new ≡ popped_of self.old) × (hand_of self.new ≡ hand_of self.old) × (most_of self.new ≡ most_of self.old) × (has_failed self.new ≡ has_failed self.old) }
+        ensures kept { KeepsAllButRing self.old self.new }
         ensures ring { SameDrainer self.old self.new }
     {
         match &mut end.finished {
@@ -228,11 +229,11 @@ fn pop_after(
     most: usize,
 ) -> usize
     requires { held + most ≤ length slots.old }
-    ensures popped { received consumer.new ≡ received consumer.old ++ take result (drop held slots.new) }
-    ensures hand { take (held + result) slots.new ≡ take held slots.old ++ take result (drop held slots.new) }
+    ensures popped { received consumer.new ≡ received consumer.old ++ came_into slots.new held result }
+    ensures hand { take (held + result) slots.new ≡ take held slots.old ++ came_into slots.new held result }
     ensures length { length slots.new ≡ length slots.old }
-    ensures count { (result ≤ most) × (length (take result (drop held slots.new)) ≡ result) }
-    ensures known { IsPrefix (known_items consumer.old) (take result (drop held slots.new) ++ known_items consumer.new) }
+    ensures count { (result ≤ most) × (length (came_into slots.new held result) ≡ result) }
+    ensures known { IsPrefix (known_items consumer.old) (came_into slots.new held result ++ known_items consumer.new) }
     ensures stops { result < most → known_items consumer.new ≡ [] }
     ensures ring { SameConsumer consumer.old consumer.new }
 {

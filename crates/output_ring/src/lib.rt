@@ -2,9 +2,8 @@
 //! what was taken is written or discarded, in order, then held, in the ring, or owed.
 #![tactic(auto)]
 
-ghost use Rattle.std.specs.Prelude.{◌≡◌, [], IfOk, false};
-ghost use Rattle.output_ring.specs.Frames.{no_totals, no_fates};
-ghost use Rattle.output_ring.specs.Rings.{AreEnds, taken_of, owed_of, room_of, popped_of, hand_of, most_of, ring_of, totals_of, unreported_of, has_failed};
+ghost use Rattle.std.specs.Prelude.{◌≡◌, [], IfOk};
+ghost use Rattle.output_ring.specs.Rings.{AreEnds, HasNoFates, HasNoFrames, taken_of, owed_of, room_of};
 
 pub mod drainer;
 pub mod feeder;
@@ -21,8 +20,8 @@ use std::alloc::{AllocError, Global};
 pub fn ring(alloc: Global, capacity: usize, hand: usize) -> Result<(Feeder, Drainer), AllocError>
     ensures ends { IfOk result (λ r. AreEnds r.0 r.1) }
     ensures feeder { IfOk result (λ r. (taken_of r.0 ≡ []) × (owed_of r.0 ≡ []) × (room_of r.0 ≡ capacity)) }
-    ensures frames { IfOk result (λ r. (popped_of r.1 ≡ []) × (hand_of r.1 ≡ []) × (ring_of r.1 ≡ []) × (most_of r.1 ≡ hand)) }
-    ensures counts { IfOk result (λ r. (totals_of r.1 ≡ no_totals) × (unreported_of r.1 ≡ no_fates) × (has_failed r.1 ≡ false)) }
+    ensures frames { IfOk result (λ r. HasNoFrames r.1 hand) }
+    ensures counts { IfOk result (λ r. HasNoFates r.1) }
 {
     let (producer, consumer) = RingBuffer::new(alloc, capacity)?;
     let feeder = Feeder::new(alloc, producer)?;

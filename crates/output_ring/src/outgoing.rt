@@ -25,9 +25,8 @@ pub(crate) struct Outgoing {
 
 impl Outgoing {
     ghost use Rattle.std.specs.Prelude.{◌≡◌, ◌*◌, ◌≤◌, IfOk, OnErr, MatchResult, length, take};
-    ghost use Rattle.std.specs.Io.KnownBytes.{Appends};
     ghost use Rattle.counted_devices.specs.CallCounts.{HasFailed};
-    ghost use Rattle.output_ring.specs.Frames.{bytes_of, heard, StopsInside};
+    ghost use Rattle.output_ring.specs.Frames.{bytes_of, heard, StopsInside, WritesHeard};
     ghost use Rattle.output_ring.specs.Sending.{HasRoom, KeepsRoom};
 
     pub(crate) fn new(alloc: Global, most: usize) -> Result<Outgoing, AllocError>
@@ -65,7 +64,7 @@ impl Outgoing {
     ) -> Result<u64, Torn>
         requires { HasRoom (length hand.now) self.old }
         ensures bytes { MatchResult result
-            (λ n. (n ≡ length (heard live hand.now)) × Appends (W.contents writer.old) (W.contents writer.new) (bytes_of (heard live hand.now)))
+            (λ n. WritesHeard (W.contents writer.old) (W.contents writer.new) live hand.now n)
             (λ t. StopsInside (W.contents writer.old) (W.contents writer.new) live hand.now t.written t.bytes) }
         ensures most { MatchResult result (λ n. n ≤ length hand.now) (λ t. t.written ≤ length hand.now) }
         ensures fault { OnErr result (HasFailed (W.call_counts writer.old) (W.call_counts writer.new)) }

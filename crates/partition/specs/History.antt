@@ -1,5 +1,5 @@
 -- The history of a player, and what a player of one thread makes of it.
-use Rattle.std.specs.Prelude.{◌≡◌, ℕ, ◌==◌, nat_le, Bool, List, [], ◌∷◌, ◌++◌, length, map, count_by, if◌then◌else◌}
+use Rattle.std.specs.Prelude.{◌≡◌, ℕ, ◌==◌, ◌-◌, ◌^◌, ◌≤◌, nat_le, slice_index_or, Bool, List, [], ◌∷◌, ◌++◌, length, map, count_by, if◌then◌else◌}
 use Rattle.std.specs.List.{range_with_len}
 use Rattle.player_events.specs.declared.event.LogEntry.{LogEntry}
 use Rattle.partition.specs.Image.{Image}
@@ -54,6 +54,10 @@ AreTold i (h ∷ hs) = (h.told ≡ told i h.event) × AreTold (next_image h.seat
 -- how many events of a seat there are
 abbrev pub own : ℕ → List LogEntry → ℕ
 own seat history = count_by (λ h. h.seat == seat) history
+
+-- a seat made as many events as can be counted
+abbrev pub IsSpent : Chronicle → ℕ → Type 0
+IsSpent c seat = 2 ^ 63 - 1 ≤ slice_index_or c.present.shared.made seat 0
 
 -- how many events each seat made, seat 0 first
 abbrev pub made_of : List LogEntry → List ℕ

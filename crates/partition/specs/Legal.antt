@@ -11,7 +11,7 @@ use Rattle.idle_clients.specs.Clients.{Rising}
 use Rattle.partition.specs.History.{Chronicle, HistoryStep, replay, AreTold, AreToldBy, after_all, begun, events_among}
 use Rattle.partition.specs.Image.{Image, opening}
 use Rattle.partition.specs.Notices.{Raises, Tells, EachWorldTransition, AreHeard}
-use Rattle.partition.specs.Since.{HasPendingSince, books_since, world_transitions_of}
+use Rattle.partition.specs.Since.{HasPendingSince, books_of_all, world_transitions_of}
 use Rattle.partition.specs.World.{WorldTransition, IsPending, pending_for, image_of, trace_after}
 
 -- the flags of a client are its pending set by the transitions
@@ -46,7 +46,7 @@ pub record IsPast (c : Chronicle) : Type 0 where
   pub recent : c.present ≡ replay c.base c.window
   pub told : AreTold c.base c.window
   pub since : All (HasPendingSince c.base (world_transitions_of c)) c.present.clients
-  pub books : c.present.shared.books ≡ books_since c.base.shared.books (world_transitions_of c)
+  pub books : c.present.shared.books ≡ books_of_all c
   pub few : length c.window ≤ c.limit
   pub room : 1 ≤ c.limit
   pub distinct : AllPairs (λ e f. e.id ≢ f.id) (queue_of c.present.part.queue)

@@ -1,3 +1,4 @@
+pub mod Applying
 pub mod History
 pub mod Image
 pub mod Invariant

@@ -56,9 +56,13 @@ abbrev pub EntriesAre : Type 0
 EntriesAre = (seat : ℕ) (i : Image) (client : ℕ) (form : ListForm) (place : ℕ) (requests : List Answered)
     → AreEntries seat i client form place requests (entries_of seat i client form place requests)
 
+-- answers side by side
+abbrev pub answers_of : List OutcomeData → List ℕ
+answers_of tolds = flat_map (λ t. t.answer.text) tolds
+
 -- answers side by side, and after them this end, unless one of them ended the list
 abbrev pub text_with : List ℕ → List OutcomeData → List ℕ
-text_with end tolds = flat_map (λ t. t.answer.text) tolds ++ (if list_any ends_list tolds then [] else end)
+text_with end tolds = answers_of tolds ++ (if list_any ends_list tolds then [] else end)
 
 -- the whole answer of a list: one `OK` ends a list that succeeded
 abbrev pub list_text : List OutcomeData → List ℕ

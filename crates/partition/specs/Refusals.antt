@@ -6,9 +6,8 @@ use Rattle.player_state.specs.declared.state.Library.{Library}
 use Rattle.player_state.specs.declared.state.Part.{Part}
 use Rattle.partition.specs.Image.{Image}
 use Rattle.transitions.specs.Transitions.{TransitionData}
-use Rattle.player_state.specs.Outputs.{FrameBooks, books_after, can_count_all}
-use Rattle.partition.specs.Step.{counts_frames, keeps_limits}
-use Rattle.transitions.specs.Transitions.{report_of}
+use Rattle.player_state.specs.Outputs.{FrameBooks, can_count_all}
+use Rattle.partition.specs.Step.{books_by, counts_frames, keeps_limits}
 
 -- a transition is refused where it passes a limit, or for want of memory; that of a fold comes before any
 -- transition
@@ -20,7 +19,7 @@ RefusesTransition i t HistoryFull = ⊥
 
 -- what an event needs is refused where its frames could not be counted any more, or for want of memory
 abbrev pub RefusesFrames : FrameBooks → Part → Library → TransitionData → PartitionFault → Type 0
-RefusesFrames books part library t AtLimit = can_count_all (books_after books part.outputs t.effect (report_of part library t)) ≡ false
+RefusesFrames books part library t AtLimit = can_count_all (books_by books part library t) ≡ false
 RefusesFrames books part library t CutsAtLimit = ⊥
 RefusesFrames books part library t NoMemory = Unit {0}
 RefusesFrames books part library t HistoryFull = ⊥

@@ -79,3 +79,7 @@ books_since base world_transitions = record {
   written = map (λ output. summed_onto (slice_index_or base.written output 0) (λ m. written_by m.transition.effect output) world_transitions) (range_with_len 0 8);
   discarded = map (λ output. summed_onto (slice_index_or base.discarded output 0) (λ m. discarded_by m.transition.effect output) world_transitions) (range_with_len 0 8);
 }
+
+-- the frames of eight outputs, by the base of a history and its window
+abbrev pub books_of_all : Chronicle → FrameBooks
+books_of_all c = books_since c.base.shared.books (world_transitions_of c)

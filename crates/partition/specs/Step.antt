@@ -4,6 +4,7 @@ use Rattle.idle_notes.specs.declared.sets.Subsystems.{Subsystems}
 use Rattle.mpd_command.specs.declared.command.Command.{Command}
 use Rattle.mpd_command.specs.declared.command.Command.TheVariants as command
 use Rattle.mpd_command.specs.declared.request.Request.{Request}
+use Rattle.mpd_text.specs.Songs.Song.{SongData}
 use Rattle.mpd_command.specs.declared.request.Request.TheVariants.{Run, Refused}
 use Rattle.transitions.specs.declared.asked.Asked.{Asked}
 use Rattle.player_events.specs.declared.event.Event.{Event}
@@ -14,6 +15,7 @@ use Rattle.transitions.specs.declared.asked.Stand.TheVariants.{Alone, InList}
 use Rattle.player_state.specs.declared.effect.AudioStep.TheVariants.{Wants, Accepts, Fails, Settles}
 use Rattle.partition.specs.declared.partition.PartitionFault.{PartitionFault}
 use Rattle.partition.specs.declared.partition.PartitionFault.TheVariants.{CutsAtLimit, AtLimit}
+use Rattle.player_state.specs.declared.effect.AudioStep.{AudioStep}
 use Rattle.player_state.specs.declared.report.Report.TheVariants.{ToScan, ScanEnded, ToFeed, ToPlay, Ended}
 use Rattle.player_state.specs.declared.scan.ScanMove.TheVariants.{End as EndsScan}
 use Rattle.player_state.specs.declared.state.Client.{Client}
@@ -37,7 +39,7 @@ use Rattle.player_state.specs.Scans.{running}
 use Rattle.transitions.specs.Shelves.{Question, NoQuestion, is_written}
 use Rattle.transitions.specs.declared.shelf_calls.Read.{Read}
 use Rattle.shelf.specs.declared.faults.ShelfFault.{ShelfFault}
-use Rattle.player_state.specs.Outputs.{books_after, can_count_all, is_output}
+use Rattle.player_state.specs.Outputs.{FrameBooks, books_after, can_count_all, is_output}
 use Rattle.player_state.specs.Effects.{keeps_numbers, part_after}
 use Rattle.partition.specs.Image.{Image, counted}
 use Rattle.transitions.specs.Transitions.{TransitionData, CommandResult, acts, acts_unless, departs, or_ended, quiet, report_of, transition_by, no_response}
@@ -113,6 +115,14 @@ written_transition stand request refused t = if is_written t.written then once_w
 abbrev pub absent : TransitionData
 absent = record (quiet no_response) { report = ToPlay (record { cut = 0; enabled = false; paused = false }) }
 
+-- the turn of an output
+abbrev pub output_turn : Part → ℕ → AudioStep → TransitionData
+output_turn part output step = if is_output part.outputs output then acts step else absent
+
+-- the end of a scan: what it found, if it found songs, and whether that scan ran
+abbrev pub ended_scan : Library → Option (List SongData) → TransitionData
+ended_scan library songs = record (quiet no_response) { scan = EndsScan songs; report = ScanEnded library.scan.runs }
+
 -- What an event makes of a part, a library and some clients. The turn of an output that is not there changes
 -- nothing. After the end wants, scan questions and turns are told of it, and a have is stale; an output still
 -- tells of its frames.
@@ -122,12 +132,12 @@ transition_of ended part library clients (Disconnect number) = departs number
 transition_of ended part library clients (Line number stand request heard) =
     written_transition stand request heard.refused (transition_line part library (client_of number clients) stand request heard.read)
 transition_of ended part library clients ScanQuestion = record (quiet no_response) { report = if ended then Ended else ToScan (running library.scan) }
-transition_of ended part library clients (ScanResult songs) = record (quiet no_response) { scan = EndsScan songs; report = ScanEnded library.scan.runs }
+transition_of ended part library clients (ScanResult songs) = ended_scan library songs
 transition_of ended part library clients (Want owes) = acts_unless ended Ended (Wants owes)
 transition_of ended part library clients (Have number frames) = acts_unless ended (ToFeed None) (Accepts number frames)
 transition_of ended part library clients (Failed number partner) = acts (Fails number partner)
 transition_of ended part library clients (OutputTurn output written discarded failed) =
-    or_ended ended (if is_output part.outputs output then acts (Settles output written discarded failed) else absent)
+    or_ended ended (output_turn part output (Settles output written discarded failed))
 transition_of ended part library clients End = quiet no_response
 
 -- what an event asks the shelf: a line alone asks, and only one that is run
@@ -198,9 +208,13 @@ told_by i event t = record { answer = t.response.answer; notices = notices_after
 unfoldable pub told : Image → Event → OutcomeData
 told i event = told_by i event (transition i event)
 
+-- the numbers of frames after a transition
+abbrev pub books_by : FrameBooks → Part → Library → TransitionData → FrameBooks
+books_by books part library t = books_after books part.outputs t.effect (report_of part library t)
+
 -- whether the frames that a transition tells of can be counted with all others
 abbrev pub counts_frames : Image → TransitionData → Bool
-counts_frames i t = can_count_all (books_after i.shared.books i.part.outputs t.effect (report_of i.part i.shared.library t))
+counts_frames i t = can_count_all (books_by i.shared.books i.part i.shared.library t)
 
 -- whether a transition leaves the numbers of cuts, starts, jobs and scans at or below their limit
 abbrev pub keeps_limits : Image → TransitionData → Bool

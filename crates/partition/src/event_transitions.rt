@@ -4,13 +4,13 @@ ghost use Rattle.player_state.specs.declared.effect.CommandEffect.TheVariants.{R
 ghost use Rattle.std.specs.Prelude.{◌≡◌, true, Some, None, IfOk, if◌then◌else◌};
 ghost use Rattle.std.specs.Option.{option_copied};
 ghost use Rattle.player_state.specs.Fits.{Fits};
-ghost use Rattle.shelf.specs.Maps.{Trusted, Turns};
-ghost use Rattle.transitions.specs.Shelves.{IsRead, is_ok_read, is_written};
-ghost use Rattle.partition.specs.Step.{absent, result_of, ends_waiting as ends_waiting_lem, question_of, response_to_new, transition_command, transition_line, transition_of, transition_request};
+ghost use Rattle.transitions.specs.Shelves.{is_ok_read};
+ghost use Rattle.partition.specs.Applying.{OkGives, WritesAlone};
+ghost use Rattle.partition.specs.Lent.{ReadsFor, TurnsByRead};
+ghost use Rattle.partition.specs.Step.{ended_scan, output_turn, result_of, ends_waiting as ends_waiting_lem, response_to_new, transition_command, transition_line, transition_of, transition_request};
 ghost use Rattle.player_events.specs.Events.{store_reply_at};
-ghost use Rattle.transitions.specs.Transitions.{acts, quiet, no_response};
+ghost use Rattle.transitions.specs.Transitions.{acts};
 ghost use Rattle.transitions.specs.Transitions.{transition_by};
-ghost use Rattle.player_state.specs.Outputs.{is_output};
 
 use crate::state::MAX_CLIENTS;
 use idle_clients::find_client;
@@ -38,8 +38,8 @@ pub(crate) fn transition_of_event(
     event: &Event,
 ) -> Result<Transition, AllocError>
     requires { (store_reply_at event.now).refused ≡ None }
-    ensures transition { IfOk result (λ transition. transition ≡ transition_of ended part.now library.now clients.now event.now) }
-    ensures alone { IfOk result (λ transition. is_written transition.written ≡ true → transition ≡ record (quiet transition.response) { written = transition.written }) }
+    ensures transition { OkGives result (transition_of ended part.now library.now clients.now event.now) }
+    ensures alone { IfOk result WritesAlone }
     ensures fits { IfOk result (λ transition. Fits part.now transition.effect) }
 {
     match event {
@@ -92,7 +92,7 @@ fn end_scan(
     library: &Library,
     songs: Option<&SharedDb>,
 ) -> Result<Transition, AllocError>
-    ensures transition { IfOk result (λ transition. transition ≡ record (quiet no_response) { scan = ScanMove.End (option_copied songs.entry); report = Report.ScanEnded library.now.scan.runs }) }
+    ensures transition { OkGives result (ended_scan library.now (option_copied songs.entry)) }
     ensures rests { IfOk result (λ transition. transition.effect ≡ ByCommand Rests) }
 {
     let found = match songs {
@@ -110,7 +110,7 @@ fn settle(
     output: usize,
     turn: AudioStep,
 ) -> Result<Transition, AllocError>
-    ensures transition { IfOk result (λ transition. transition ≡ (if is_output part.now.outputs output then acts turn else absent)) }
+    ensures transition { OkGives result (output_turn part.now output turn) }
 {
     if part.outputs.is_output(output) {
         return Transition::acts(alloc, turn);
@@ -145,7 +145,7 @@ fn answer_line(
     request: &Request,
     read: &Read,
 ) -> Result<Transition, AllocError>
-    ensures transition { IfOk result (λ transition. transition ≡ transition_line part.now library.now client stand request.now read.now) }
+    ensures transition { OkGives result (transition_line part.now library.now client stand request.now read.now) }
     ensures fits { IfOk result (λ transition. Fits part.now transition.effect) }
 {
     let Some(client) = client else {
@@ -164,8 +164,8 @@ pub(crate) fn ask_shelf<S: Shelf>(
     shelf: &mut S,
     event: &Event,
 ) -> Result<Read, AllocError>
-    ensures turns { Turns (S.standing shelf.old) (S.standing shelf.new) (is_ok_read result) (S.standing shelf.old).maps }
-    ensures read { Trusted (S.standing shelf.old) (S.standing shelf.new) → IfOk result (λ read. IsRead (S.failed shelf.old shelf.new) (S.standing shelf.old).maps (question_of library.now clients.now event.now) read) }
+    ensures turns { TurnsByRead S.standing shelf.old shelf.new (is_ok_read result) }
+    ensures read { ReadsFor S.standing S.failed shelf.old shelf.new library.now clients.now event.now result }
 {
     let Event::Line(number, stand, request, _) = event else {
         return Ok(Read::Nothing);
@@ -201,7 +201,7 @@ fn answer_request(
     request: &Request,
     read: &Read,
 ) -> Result<Transition, AllocError>
-    ensures transition { IfOk result (λ transition. transition ≡ transition_request part.now library.now client stand request.now read.now) }
+    ensures transition { OkGives result (transition_request part.now library.now client stand request.now read.now) }
     ensures fits { IfOk result (λ transition. Fits part.now transition.effect) }
 {
     match request {
@@ -230,7 +230,7 @@ fn answer_command(
     client: Client,
     command: &Command,
 ) -> Result<Transition, AllocError>
-    ensures transition { IfOk result (λ transition. transition ≡ transition_command asked part.now library.now read.now client command.now) }
+    ensures transition { OkGives result (transition_command asked part.now library.now read.now client command.now) }
     ensures fits { IfOk result (λ transition. Fits part.now transition.effect) }
 {
     match command {
@@ -253,7 +253,7 @@ fn run(
     read: &Read,
     command: &Command,
 ) -> Result<Transition, AllocError>
-    ensures transition { IfOk result (λ transition. transition ≡ transition_by (result_of asked part.now library.now read.now command.now)) }
+    ensures transition { OkGives result (transition_by (result_of asked part.now library.now read.now command.now)) }
     ensures fits { IfOk result (λ transition. Fits part.now transition.effect) }
 {
     match command {

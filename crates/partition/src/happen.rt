@@ -1,22 +1,20 @@
 //! One event after the other, each kept with what it made clients hear.
 ghost use Rattle.std.specs.Prelude.{◌≡◌, ◌⊎◌, ◌<◌, ◌≤◌, ◌+◌, ◌++◌, ◌∷◌, [], None, count_by, length, map, vec_len, vec_capacity, IfErr, IfOk, OnErr, OnOk, not, true, false, nat_le, slice_index_or};
-ghost use Rattle.std.specs.List.{flat_map};
-ghost use Rattle.shelf.specs.Maps.{Trusted, Turns};
 ghost use Rattle.partition.specs.declared.partition.PartitionFault.{PartitionFault};
-ghost use Rattle.idle_clients.specs.Clients.{clients_after, closes as closes_lem, notice_for, notices_after, notified};
+ghost use Rattle.idle_clients.specs.Clients.{closes as closes_lem, notified};
 ghost use Rattle.partition.specs.Image.{counted, image_of_state};
-ghost use Rattle.partition.specs.Lent.{IsRefused, Records, question, writing};
+ghost use Rattle.partition.specs.Lent.{HasCause, IsRefusedIn, IsUnwrittenBy, IsWriteReply, RecordsIn, ServesEvent, TurnsByWriteOf};
+ghost use Rattle.partition.specs.Applying.{AddsEntry, GrowsBy, HearsRefusal, IsAlone, IsImageAfter, IsWithinLimits, PassesNoLimit, RefusesEvent, answer_to, clients_told, image_after, notices_by, notices_of, notices_told, outcome_with, report_by, telling_of};
 ghost use Rattle.player_state.specs.Fits.{Fits};
 ghost use Rattle.idle_clients.specs.Fingerprint.{raised_in, fingerprint};
 ghost use Rattle.idle_clients.specs.Rooms.{is_waiting, listed, room_in};
 ghost use Rattle.idle_clients.specs.Settled.{AllSettled, HasRoom, nothing};
 ghost use Rattle.partition.specs.Refusals.{MayRefuse, RefusesTransition};
-ghost use Rattle.transitions.specs.Shelves.{IsAnswered, Serves, LeavesUnchanged, answered, is_ok_write, is_wanting, is_written, maps_after};
-ghost use Rattle.partition.specs.Step.{after_transition, counts_frames, ended_after as ended_after_lem, keeps_limits, limit_of, next_image, raised_by, mover as mover_lem, told as told_of, told_by, transition as transition_at, transition_of};
+ghost use Rattle.transitions.specs.Shelves.{LeavesUnchanged, answered, is_wanting, is_written};
+ghost use Rattle.partition.specs.Step.{after_transition, counts_frames, ended_after as ended_after_lem, keeps_limits, limit_of, next_image, mover as mover_lem, told as told_of, told_by, transition as transition_at, transition_of};
 ghost use Rattle.player_events.specs.Events.{store_reply_at, with_store_reply, name_at, stand_of};
 ghost use Rattle.partition.specs.Steps.{entry};
 ghost use Rattle.player_events.specs.Events.{is_line};
-ghost use Rattle.transitions.specs.Transitions.{quiet};
 
 use crate::event_transitions::{ask_shelf, transition_of_event};
 use crate::lent::write;
@@ -44,8 +42,8 @@ struct Applied {
 impl Applied {
     /// What is handed out, and what is kept.
     fn into_outcomes(self) -> (Outcome, Outcome)
-        ensures given { result.0 ≡ record { answer = self.telling.response.answer; notices = listed self.given; report = self.telling.report } }
-        ensures kept { result.1 ≡ record { answer = self.telling.response.answer; notices = listed self.kept; report = self.telling.report } }
+        ensures given { result.0 ≡ outcome_with self.telling self.given }
+        ensures kept { result.1 ≡ outcome_with self.telling self.kept }
     {
         let Applied {
             telling,
@@ -83,8 +81,8 @@ pub(crate) fn record_event<S: Shelf>(
     requires seat { seat < 16 }
     requires count { nat_le 9223372036854775807 (slice_index_or state.old.made seat 0) ≡ false }
     requires settled { AllSettled state.old.clients.items }
-    ensures ok { IfOk result (λ outcome. Records S.standing S.failed (image_of_state state.old) (image_of_state state.new) history.old.items history.new.items shelf.old shelf.new seat event outcome) }
-    ensures refused { IfErr result (λ fault. IsRefused S.standing S.failed (image_of_state state.old) shelf.old shelf.new seat event fault) }
+    ensures ok { IfOk result (RecordsIn S.standing S.failed state.old state.new history.old.items history.new.items shelf.old shelf.new seat event) }
+    ensures refused { IfErr result (IsRefusedIn S.standing S.failed state.old shelf.old shelf.new seat event) }
     ensures unchanged { OnErr result (image_of_state state.new ≡ image_of_state state.old) }
     ensures unkept { OnErr result (history.new.items ≡ history.old.items) }
 {
@@ -139,8 +137,8 @@ fn keep(
     requires count { nat_le 9223372036854775807 (slice_index_or state.old.made seat 0) ≡ false }
     requires room { vec_len history.old < vec_capacity history.old }
     ensures state { image_of_state state.new ≡ counted seat (image_of_state state.old) }
-    ensures outcome { result ≡ record { answer = applied.telling.response.answer; notices = listed applied.given; report = applied.telling.report } }
-    ensures history { history.new.items ≡ history.old.items ++ entry seat event (record { answer = applied.telling.response.answer; notices = listed applied.kept; report = applied.telling.report }) ∷ [] }
+    ensures outcome { result ≡ outcome_with applied.telling applied.given }
+    ensures history { AddsEntry history.old.items history.new.items seat event (outcome_with applied.telling applied.kept) }
 {
     state.made[usize::from(seat)] += 1;
     let (given, told) = applied.into_outcomes();
@@ -171,15 +169,15 @@ fn apply_event<S: Shelf>(
     requires space { vec_len state.old.clients < vec_capacity state.old.clients }
     requires settled { AllSettled state.old.clients.items }
     ensures event { event.new ≡ with_store_reply event.old (store_reply_at event.new) }
-    ensures image { OnOk result (image_of_state state.new ≡ after_transition (image_of_state state.old) event.new (transition_at (image_of_state state.old) event.new)) }
-    ensures answer { IfOk result (λ applied. applied.telling.response.answer ≡ (transition_at (image_of_state state.old) event.new).response.answer) }
-    ensures report { IfOk result (λ applied. applied.telling.report ≡ (told_by (image_of_state state.old) event.new (transition_at (image_of_state state.old) event.new)).report) }
-    ensures given { IfOk result (λ applied. listed applied.given ≡ (told_by (image_of_state state.old) event.new (transition_at (image_of_state state.old) event.new)).notices) }
-    ensures kept { IfOk result (λ applied. listed applied.kept ≡ (told_by (image_of_state state.old) event.new (transition_at (image_of_state state.old) event.new)).notices) }
-    ensures within { OnOk result ((counts_frames (image_of_state state.old) (transition_at (image_of_state state.old) event.new) ≡ true) × (keeps_limits (image_of_state state.old) (transition_at (image_of_state state.old) event.new) ≡ true)) }
-    ensures shelf { OnOk result (Serves S.standing S.failed shelf.old shelf.new (question (image_of_state state.old) event.old) (writing (image_of_state state.old) event.old (store_reply_at event.new)) (store_reply_at event.new)) }
-    ensures refused { IfErr result (λ fault. RefusesTransition (image_of_state state.old) (transition_at (image_of_state state.old) event.new) fault) }
-    ensures cause { IfErr result (λ fault. (fault ≡ PartitionFault.NoMemory) ⊎ Serves S.standing S.failed shelf.old shelf.new (question (image_of_state state.old) event.old) (writing (image_of_state state.old) event.old (store_reply_at event.new)) (store_reply_at event.new)) }
+    ensures image { OnOk result (image_of_state state.new ≡ image_after state.old event.new) }
+    ensures answer { IfOk result (λ applied. applied.telling.response.answer ≡ answer_to state.old event.new) }
+    ensures report { IfOk result (λ applied. applied.telling.report ≡ (telling_of state.old event.new).report) }
+    ensures given { IfOk result (λ applied. listed applied.given ≡ (telling_of state.old event.new).notices) }
+    ensures kept { IfOk result (λ applied. listed applied.kept ≡ (telling_of state.old event.new).notices) }
+    ensures within { OnOk result (IsWithinLimits state.old event.new) }
+    ensures shelf { OnOk result (ServesEvent S.standing S.failed shelf.old shelf.new state.old event.old event.new) }
+    ensures refused { IfErr result (RefusesEvent state.old event.new) }
+    ensures cause { IfErr result (HasCause S.standing S.failed shelf.old shelf.new state.old event.old event.new) }
     ensures unchanged { OnErr result (LeavesUnchanged S.standing S.failed shelf.old shelf.new) }
     ensures err { OnErr result (image_of_state state.new ≡ image_of_state state.old) }
 {
@@ -208,13 +206,13 @@ fn apply_step(alloc: Global, state: &mut State, event: &Event) -> Result<Applied
     requires space { vec_len state.old.clients < vec_capacity state.old.clients }
     requires settled { AllSettled state.old.clients.items }
     requires step { is_line event.now ≡ false }
-    ensures image { OnOk result (image_of_state state.new ≡ after_transition (image_of_state state.old) event.now (transition_at (image_of_state state.old) event.now)) }
-    ensures answer { IfOk result (λ applied. applied.telling.response.answer ≡ (transition_at (image_of_state state.old) event.now).response.answer) }
-    ensures report { IfOk result (λ applied. applied.telling.report ≡ (told_by (image_of_state state.old) event.now (transition_at (image_of_state state.old) event.now)).report) }
-    ensures given { IfOk result (λ applied. listed applied.given ≡ (told_by (image_of_state state.old) event.now (transition_at (image_of_state state.old) event.now)).notices) }
-    ensures kept { IfOk result (λ applied. listed applied.kept ≡ (told_by (image_of_state state.old) event.now (transition_at (image_of_state state.old) event.now)).notices) }
-    ensures within { OnOk result ((counts_frames (image_of_state state.old) (transition_at (image_of_state state.old) event.now) ≡ true) × (keeps_limits (image_of_state state.old) (transition_at (image_of_state state.old) event.now) ≡ true)) }
-    ensures refused { IfErr result (λ fault. RefusesTransition (image_of_state state.old) (transition_at (image_of_state state.old) event.now) fault) }
+    ensures image { OnOk result (image_of_state state.new ≡ image_after state.old event.now) }
+    ensures answer { IfOk result (λ applied. applied.telling.response.answer ≡ answer_to state.old event.now) }
+    ensures report { IfOk result (λ applied. applied.telling.report ≡ (telling_of state.old event.now).report) }
+    ensures given { IfOk result (λ applied. listed applied.given ≡ (telling_of state.old event.now).notices) }
+    ensures kept { IfOk result (λ applied. listed applied.kept ≡ (telling_of state.old event.now).notices) }
+    ensures within { OnOk result (IsWithinLimits state.old event.now) }
+    ensures refused { IfErr result (RefusesEvent state.old event.now) }
     ensures err { OnErr result (image_of_state state.new ≡ image_of_state state.old) }
 {
     let transition = transition_of_event(
@@ -239,12 +237,12 @@ fn apply_transition(
     requires settled { AllSettled state.old.clients.items }
     requires fits { Fits state.old.part transition.effect }
     requires unwritten { is_written transition.written ≡ false }
-    ensures image { OnOk result (image_of_state state.new ≡ after_transition (image_of_state state.old) event.now transition) }
+    ensures image { OnOk result (IsImageAfter state.old event.now transition state.new) }
     ensures answer { IfOk result (λ applied. applied.telling.response.answer ≡ transition.response.answer) }
-    ensures report { IfOk result (λ applied. applied.telling.report ≡ (told_by (image_of_state state.old) event.now transition).report) }
-    ensures given { IfOk result (λ applied. listed applied.given ≡ (told_by (image_of_state state.old) event.now transition).notices) }
-    ensures kept { IfOk result (λ applied. listed applied.kept ≡ (told_by (image_of_state state.old) event.now transition).notices) }
-    ensures within { OnOk result ((counts_frames (image_of_state state.old) transition ≡ true) × (keeps_limits (image_of_state state.old) transition ≡ true)) }
+    ensures report { IfOk result (λ applied. applied.telling.report ≡ report_by state.old transition) }
+    ensures given { IfOk result (λ applied. listed applied.given ≡ notices_by state.old event.now transition) }
+    ensures kept { IfOk result (λ applied. listed applied.kept ≡ notices_by state.old event.now transition) }
+    ensures within { OnOk result (PassesNoLimit state.old transition) }
     ensures refused { IfErr result (λ fault. RefusesTransition (image_of_state state.old) transition fault) }
     ensures err { OnErr result (image_of_state state.new ≡ image_of_state state.old) }
 {
@@ -301,21 +299,21 @@ fn write_transition<S: Shelf>(
     requires space { vec_len state.old.clients < vec_capacity state.old.clients }
     requires settled { AllSettled state.old.clients.items }
     requires transition { transition ≡ transition_at (image_of_state state.old) event.old }
-    requires alone { transition ≡ record (quiet transition.response) { written = transition.written } }
+    requires alone { IsAlone transition }
     requires written { is_written transition.written ≡ true }
     requires unrefused { (store_reply_at event.old).refused ≡ None }
-    ensures event { event.new ≡ with_store_reply event.old (record (store_reply_at event.old) { refused = (store_reply_at event.new).refused }) }
-    ensures image { OnOk result (image_of_state state.new ≡ after_transition (image_of_state state.old) event.new (transition_at (image_of_state state.old) event.new)) }
-    ensures answer { IfOk result (λ applied. applied.telling.response.answer ≡ (transition_at (image_of_state state.old) event.new).response.answer) }
-    ensures report { IfOk result (λ applied. applied.telling.report ≡ (told_by (image_of_state state.old) event.new (transition_at (image_of_state state.old) event.new)).report) }
-    ensures given { IfOk result (λ applied. listed applied.given ≡ (told_by (image_of_state state.old) event.new (transition_at (image_of_state state.old) event.new)).notices) }
-    ensures kept { IfOk result (λ applied. listed applied.kept ≡ (told_by (image_of_state state.old) event.new (transition_at (image_of_state state.old) event.new)).notices) }
-    ensures within { OnOk result ((counts_frames (image_of_state state.old) (transition_at (image_of_state state.old) event.new) ≡ true) × (keeps_limits (image_of_state state.old) (transition_at (image_of_state state.old) event.new) ≡ true)) }
-    ensures turns { OnOk result (Turns (S.standing shelf.old) (S.standing shelf.new) (is_ok_write transition.written (answered (store_reply_at event.new).refused)) (maps_after transition.written (S.standing shelf.old).maps)) }
-    ensures answers { OnOk result (Trusted (S.standing shelf.old) (S.standing shelf.new) → IsAnswered (S.failed shelf.old shelf.new) (S.standing shelf.old).maps transition.written (answered (store_reply_at event.new).refused)) }
+    ensures event { HearsRefusal event.old event.new }
+    ensures image { OnOk result (image_of_state state.new ≡ image_after state.old event.new) }
+    ensures answer { IfOk result (λ applied. applied.telling.response.answer ≡ answer_to state.old event.new) }
+    ensures report { IfOk result (λ applied. applied.telling.report ≡ (telling_of state.old event.new).report) }
+    ensures given { IfOk result (λ applied. listed applied.given ≡ (telling_of state.old event.new).notices) }
+    ensures kept { IfOk result (λ applied. listed applied.kept ≡ (telling_of state.old event.new).notices) }
+    ensures within { OnOk result (IsWithinLimits state.old event.new) }
+    ensures turns { OnOk result (TurnsByWriteOf S.standing shelf.old shelf.new transition.written event.new) }
+    ensures answers { OnOk result (IsWriteReply S.standing S.failed shelf.old shelf.new transition.written event.new) }
     ensures ample { OnOk result (is_wanting (store_reply_at event.new).refused ≡ false) }
     ensures memory { IfErr result (λ fault. fault ≡ PartitionFault.NoMemory) }
-    ensures unchanged { OnErr result (Turns (S.standing shelf.old) (S.standing shelf.new) false (maps_after transition.written (S.standing shelf.old).maps)) }
+    ensures unchanged { OnErr result (IsUnwrittenBy S.standing shelf.old shelf.new transition.written) }
     ensures err { OnErr result (image_of_state state.new ≡ image_of_state state.old) }
 {
     let Ok((prepared, refusals)) = prepare_write(
@@ -349,7 +347,7 @@ fn tell_written(
 ) -> Applied
     requires space { vec_len state.old.clients < vec_capacity state.old.clients }
     requires settled { AllSettled state.old.clients.items }
-    requires alone { transition ≡ record (quiet transition.response) { written = transition.written } }
+    requires alone { IsAlone transition }
     requires before { prepared.before ≡ fingerprint state.old.part state.old.library }
     requires given { count_by is_waiting state.old.clients.items ≤ room_in prepared.given }
     requires kept { count_by is_waiting state.old.clients.items ≤ room_in prepared.kept }
@@ -402,17 +400,17 @@ fn write_out<S: Shelf>(
     refusals: Refusals,
 ) -> Result<Transition, AllocError>
     requires transition { transition ≡ transition_of ended part.now library.now clients.now event.old }
-    requires alone { transition ≡ record (quiet transition.response) { written = transition.written } }
+    requires alone { IsAlone transition }
     requires written { is_written transition.written ≡ true }
     requires unrefused { (store_reply_at event.old).refused ≡ None }
     requires refusals { refusals ≡ (stand_of event.old, name_at event.old) }
-    ensures event { event.new ≡ with_store_reply event.old (record (store_reply_at event.old) { refused = (store_reply_at event.new).refused }) }
+    ensures event { HearsRefusal event.old event.new }
     ensures transition { IfOk result (λ after. after ≡ transition_of ended part.now library.now clients.now event.new) }
-    ensures alone { IfOk result (λ after. after ≡ record (quiet after.response) { written = after.written }) }
-    ensures turns { OnOk result (Turns (S.standing shelf.old) (S.standing shelf.new) (is_ok_write transition.written (answered (store_reply_at event.new).refused)) (maps_after transition.written (S.standing shelf.old).maps)) }
-    ensures answers { OnOk result (Trusted (S.standing shelf.old) (S.standing shelf.new) → IsAnswered (S.failed shelf.old shelf.new) (S.standing shelf.old).maps transition.written (answered (store_reply_at event.new).refused)) }
+    ensures alone { IfOk result IsAlone }
+    ensures turns { OnOk result (TurnsByWriteOf S.standing shelf.old shelf.new transition.written event.new) }
+    ensures answers { OnOk result (IsWriteReply S.standing S.failed shelf.old shelf.new transition.written event.new) }
     ensures ample { OnOk result (is_wanting (store_reply_at event.new).refused ≡ false) }
-    ensures unchanged { OnErr result (Turns (S.standing shelf.old) (S.standing shelf.new) false (maps_after transition.written (S.standing shelf.old).maps)) }
+    ensures unchanged { OnErr result (IsUnwrittenBy S.standing shelf.old shelf.new transition.written) }
 {
     match write(shelf, &transition.written) {
         Ok(()) => Ok(transition),
@@ -439,10 +437,10 @@ fn tell(
     requires kept { HasRoom (raised_in raised.now) clients.old.items (room_in kept) }
     requires none_given { listed given ≡ [] }
     requires none_kept { listed kept ≡ [] }
-    ensures clients { clients.new.items ≡ clients_after number (raised_in raised.now) telling.response clients.old.items }
+    ensures clients { clients.new.items ≡ clients_told number raised.now telling.response clients.old.items }
     ensures telling { result.telling ≡ telling }
-    ensures given { listed result.given ≡ notices_after number (raised_in raised.now) telling.response clients.old.items }
-    ensures kept { listed result.kept ≡ notices_after number (raised_in raised.now) telling.response clients.old.items }
+    ensures given { listed result.given ≡ notices_told number raised.now telling.response clients.old.items }
+    ensures kept { listed result.kept ≡ notices_told number raised.now telling.response clients.old.items }
 {
     tell_clients(clients, number, raised, &telling.response, &mut given);
     kept.push_all(given.as_slice());
@@ -467,8 +465,8 @@ fn tell_clients(
     requires settled { AllSettled clients.old.items }
     requires empty { listed notices.old ≡ [] }
     requires notices { HasRoom (raised_in raised.now) clients.old.items (room_in notices.old) }
-    ensures clients { clients.new.items ≡ clients_after number (raised_in raised.now) response.now clients.old.items }
-    ensures notices { listed notices.new ≡ listed notices.old ++ notices_after number (raised_in raised.now) response.now clients.old.items }
+    ensures clients { clients.new.items ≡ clients_told number raised.now response.now clients.old.items }
+    ensures notices { GrowsBy notices.old notices.new (notices_told number raised.now response.now clients.old.items) }
     ensures few { length (listed notices.new) ≤ count_by is_waiting clients.old.items }
     ensures none { raised_in raised.now ≡ nothing → listed notices.new ≡ [] }
 {
@@ -490,7 +488,7 @@ fn tell_all(clients: &mut [Client], raised: &Raised, notices: &mut Notices)
     requires empty { listed notices.old ≡ [] }
     requires notices { HasRoom (raised_in raised.now) clients.old (room_in notices.old) }
     ensures clients { clients.new ≡ map (notified (raised_in raised.now)) clients.old }
-    ensures notices { listed notices.new ≡ listed notices.old ++ flat_map (notice_for (raised_in raised.now)) clients.old }
+    ensures notices { GrowsBy notices.old notices.new (notices_of raised.now clients.old) }
     ensures few { length (listed notices.new) ≤ count_by is_waiting clients.old }
     ensures none { raised_in raised.now ≡ nothing → listed notices.new ≡ [] }
 {

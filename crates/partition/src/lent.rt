@@ -1,14 +1,13 @@
 //! What is written to the lent shelf.
-ghost use Rattle.shelf.specs.Maps.{Trusted, Turns};
-ghost use Rattle.transitions.specs.Shelves.{IsAnswered, is_ok_write, maps_after};
+ghost use Rattle.partition.specs.Lent.{AnswersWrite, TurnsByWrite};
 
 use shelf::{Shelf, ShelfFault};
 use transitions::ShelfWrite;
 
 /// Writes to the shelf.
 pub(crate) fn write<S: Shelf>(shelf: &mut S, written: &ShelfWrite) -> Result<(), ShelfFault>
-    ensures turns { Turns (S.standing shelf.old) (S.standing shelf.new) (is_ok_write written.now result) (maps_after written.now (S.standing shelf.old).maps) }
-    ensures answers { Trusted (S.standing shelf.old) (S.standing shelf.new) → IsAnswered (S.failed shelf.old shelf.new) (S.standing shelf.old).maps written.now result }
+    ensures turns { TurnsByWrite S.standing shelf.old shelf.new written.now result }
+    ensures answers { AnswersWrite S.standing S.failed shelf.old shelf.new written.now result }
 {
     match written {
         ShelfWrite::Nothing => Ok(()),

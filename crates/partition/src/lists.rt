@@ -1,6 +1,7 @@
 //! What command lists make clients hear.
 ghost use Rattle.std.specs.Prelude.{◌≡◌, ◌++◌, ℕ, List, OnErr, OnOk};
-ghost use Rattle.std.specs.List.{flat_map, list_any};
+ghost use Rattle.partition.specs.Lists.{answers_of};
+ghost use Rattle.std.specs.List.{list_any};
 ghost use Rattle.idle_clients.specs.Clients.{closes};
 ghost use Rattle.player_events.specs.Events.{ends_list};
 
@@ -115,7 +116,7 @@ fn any_ends(outcomes: &[Outcome]) -> bool
 
 /// Appends the answers of outcomes and then `end`, by one growth. Without memory nothing changes.
 fn push_whole(outcomes: &[Outcome], end: &str, bytes: &mut Vec<u8>) -> Result<(), AllocError>
-    ensures ok { OnOk result (bytes.new.items ≡ bytes.old.items ++ (flat_map (λ t. t.answer.text) outcomes.now ++ end.now)) }
+    ensures ok { OnOk result (bytes.new.items ≡ bytes.old.items ++ (answers_of outcomes.now ++ end.now)) }
     ensures err { OnErr result (bytes.new.items ≡ bytes.old.items) }
 {
     let before = bytes.len();
@@ -136,7 +137,7 @@ fn whole_len(outcomes: &[Outcome], end: &str) -> usize {
 
 /// Appends the answers of outcomes and then `end`.
 fn push_each(outcomes: &[Outcome], end: &str, bytes: &mut Vec<u8>) -> Result<(), AllocError>
-    ensures ok { OnOk result (bytes.new.items ≡ bytes.old.items ++ (flat_map (λ t. t.answer.text) outcomes.now ++ end.now)) }
+    ensures ok { OnOk result (bytes.new.items ≡ bytes.old.items ++ (answers_of outcomes.now ++ end.now)) }
     ensures front { (more : List ℕ) × (bytes.new.items ≡ bytes.old.items ++ more) }
 {
     for outcome in outcomes {

@@ -1,12 +1,12 @@
 //! The player with its history.
-ghost use Rattle.std.specs.Prelude.{◌≡◌, ◌≢◌, ◌⊎◌, ◌↔◌, ◌++◌, ◌∷◌, ◌+◌, ◌-◌, ◌^◌, ◌≤◌, ◌<◌, [], None, false, length, map, vec_capacity, IfOk, IfErr, OnErr, OnOk, IsErrOf, slice_index_or, nat_le, is_some, true, min, List, All, AllPairs};
+ghost use Rattle.std.specs.Prelude.{◌≡◌, ◌≢◌, ◌⊎◌, ◌↔◌, ◌++◌, ◌∷◌, ◌+◌, ◌-◌, ◌^◌, ◌≤◌, ◌<◌, [], None, false, length, map, vec_capacity, IfOk, IfErr, OnErr, OnOk, IsErrOf, slice_index_or, nat_le, is_some, true, All, AllPairs};
 ghost use Rattle.song_queue.specs.State.{queue_of};
 ghost use Rattle.mpd_command.specs.Requests.{name_in};
 ghost use Rattle.player_events.specs.declared.event.LogEntry.{LogEntry};
-ghost use Rattle.partition.specs.History.{replay, AreTold, begun, folded, is_full, joined_by, own as own_of, with_room};
-ghost use Rattle.partition.specs.Image.{Image, opening};
+ghost use Rattle.partition.specs.History.{IsSpent, is_full, replay, AreTold, begun, folded, joined_by, own as own_of, with_room};
+ghost use Rattle.partition.specs.Image.{opening};
 ghost use Rattle.idle_clients.specs.Clients.{client_of};
-ghost use Rattle.partition.specs.Lent.{IsRefused, Records, Refuses};
+ghost use Rattle.partition.specs.Lent.{IsAtLimitOrFull, IsRefused, LacksMemory, RecordsNext, RecordsOnce, Refuses};
 ghost use Rattle.partition.specs.Lists.{RunsList, StopsList};
 ghost use Rattle.partition.specs.Legal.{IsPast};
 ghost use Rattle.partition.specs.Refusals.{MayRefuse};
@@ -14,8 +14,9 @@ ghost use Rattle.partition.specs.Step.{limit_of, next_image, told as told_of};
 ghost use Rattle.partition.specs.Steps.{RefusesStep, entry};
 ghost use Rattle.player_events.specs.Events.{is_line};
 ghost use Rattle.idle_clients.specs.Settled.{AllSettled};
-ghost use Rattle.partition.specs.Since.{HasPendingSince, books_since, world_transitions_of};
-ghost use Rattle.player_events.specs.Sizes.{event_bytes as event_bytes_lem, window_bytes as window_bytes_lem};
+ghost use Rattle.partition.specs.Since.{HasPendingSince, books_of_all, world_transitions_of};
+ghost use Rattle.partition.specs.Applying.{AreBytesOfLast};
+ghost use Rattle.player_events.specs.Sizes.{window_bytes as window_bytes_lem};
 
 use crate::happen::{record_event, record_step};
 use crate::laws::replays_worlds;
@@ -174,11 +175,11 @@ impl Partition {
         ensures limit { self.new.limit ≡ self.old.limit }
         // The event and its reply join the window; the reply is the one of the player of one thread, and the
         // new state is that player's next one. The shelf answered and changed as that says.
-        ensures ok { IfOk result (λ outcome. Records S.standing S.failed self.old.present self.new.present (with_room self.old).window self.new.window shelf.old shelf.new seat event outcome) }
+        ensures ok { IfOk result (RecordsOnce S.standing S.failed self.old self.new shelf.old shelf.new seat event) }
         // It is refused where the full window cannot be folded, for the limit that it would pass, or for want
         // of memory; nothing was written to the shelf.
-        ensures refused { IfErr result (λ fault. Refuses S.standing S.failed self.old self.new shelf.old shelf.new seat event fault) }
-        ensures own { 2 ^ 63 - 1 ≤ slice_index_or self.old.present.shared.made seat 0 → IsErrOf result PartitionFault.AtLimit ⊎ IsErrOf result PartitionFault.HistoryFull }
+        ensures refused { IfErr result (Refuses S.standing S.failed self.old self.new shelf.old shelf.new seat event) }
+        ensures own { IsSpent self.old seat → IsAtLimitOrFull result }
         ensures legal { IsPast self.old }
     {
         if !event.is_line() {
@@ -200,10 +201,10 @@ impl Partition {
         requires room { length self.old.window < self.old.limit }
         ensures base { self.new.base ≡ self.old.base }
         ensures limit { self.new.limit ≡ self.old.limit }
-        ensures ok { IfOk result (λ outcome. Records S.standing S.failed self.old.present self.new.present self.old.window self.new.window shelf.old shelf.new seat event outcome) }
+        ensures ok { IfOk result (RecordsNext S.standing S.failed self.old self.new shelf.old shelf.new seat event) }
         ensures err { OnErr result (self.new ≡ self.old) }
-        ensures refused { IfErr result (λ fault. IsRefused S.standing S.failed self.old.present shelf.old shelf.new seat event fault) }
-        ensures own { 2 ^ 63 - 1 ≤ slice_index_or self.old.present.shared.made seat 0 → IsErrOf result PartitionFault.AtLimit }
+        ensures refused { IfErr result (IsRefused S.standing S.failed self.old.present shelf.old shelf.new seat event) }
+        ensures own { IsSpent self.old seat → IsErrOf result PartitionFault.AtLimit }
     {
         self.legal();
         if self.is_at_limit(seat) {
@@ -232,7 +233,7 @@ impl Partition {
         // It is refused where the full window cannot be folded, for the limit that it would pass, or for want
         // of memory; all is as it was, but that a full window may have been folded.
         ensures refused { IfErr result (λ fault. RefusesStep self.old self.new seat event fault) }
-        ensures own { 2 ^ 63 - 1 ≤ slice_index_or self.old.present.shared.made seat 0 → IsErrOf result PartitionFault.AtLimit ⊎ IsErrOf result PartitionFault.HistoryFull }
+        ensures own { IsSpent self.old seat → IsAtLimitOrFull result }
         ensures legal { IsPast self.old }
     {
         self.legal();
@@ -253,7 +254,7 @@ impl Partition {
         ensures within { OnOk result (limit_of seat self.old.present event ≡ None) }
         ensures err { OnErr result (self.new ≡ self.old) }
         ensures refused { IfErr result (λ fault. MayRefuse (limit_of seat self.old.present event) fault) }
-        ensures own { 2 ^ 63 - 1 ≤ slice_index_or self.old.present.shared.made seat 0 → IsErrOf result PartitionFault.AtLimit }
+        ensures own { IsSpent self.old seat → IsErrOf result PartitionFault.AtLimit }
     {
         self.legal();
         if self.is_at_limit(seat) {
@@ -338,7 +339,7 @@ impl Partition {
 
     /// Why an event is refused for which there is no memory: a full window is folded before.
     fn find_no_memory(&mut self) -> PartitionFault
-        ensures { ((result ≡ PartitionFault.HistoryFull) × ((is_full self.old ≡ true) × (self.new ≡ self.old))) ⊎ ((result ≡ PartitionFault.NoMemory) × (self.new ≡ with_room self.old)) }
+        ensures { LacksMemory self.old self.new result }
     {
         match self.make_room() {
             Ok(()) => PartitionFault::NoMemory,
@@ -409,7 +410,7 @@ impl Partition {
         // The flags of each client are its pending set: what changed since its connect or last notice.
         ensures pending { All (HasPendingSince self.now.base (world_transitions_of self.now)) self.now.present.clients }
         // The frames of each output are those of the base and the sums over the window.
-        ensures books { self.now.present.shared.books ≡ books_since self.now.base.shared.books (world_transitions_of self.now) }
+        ensures books { self.now.present.shared.books ≡ books_of_all self.now }
         // Song ids are distinct.
         ensures distinct { AllPairs (λ e f. e.id ≢ f.id) (queue_of self.now.present.part.queue) }
     {
@@ -510,7 +511,7 @@ impl Partition {
 
 /// The bytes of the last event's texts.
 fn last_bytes(history: &[LogEntry]) -> u64
-    ensures { (front : List LogEntry) (last : LogEntry) → history.now ≡ front ++ last ∷ [] → result ≡ min (event_bytes_lem last) (2 ^ 64 - 1) }
+    ensures { AreBytesOfLast history.now result }
 {
     match history {
         [.., last] => event_bytes(last),

@@ -1,14 +1,14 @@
 //! What an event needs that can fail, made ready before anything changes.
-ghost use Rattle.std.specs.Prelude.{◌≡◌, ◌≤◌, [], true, false, count_by, IfErr, IfOk};
-ghost use Rattle.player_state.specs.Outputs.{books_after, can_count_all};
+ghost use Rattle.std.specs.Prelude.{◌≡◌, ◌≤◌, [], true, false, count_by, IfErr, IfOk, OnOk};
+ghost use Rattle.player_state.specs.Outputs.{can_count_all};
 ghost use Rattle.partition.specs.Refusals.{RefusesFrames};
 ghost use Rattle.idle_clients.specs.Rooms.{is_waiting, listed, room_in};
 ghost use Rattle.idle_clients.specs.Settled.{HasRoom, nothing};
 ghost use Rattle.transitions.specs.Shelves.{is_written};
 ghost use Rattle.idle_clients.specs.Fingerprint.{fingerprint};
 ghost use Rattle.player_events.specs.Events.{name_at, name_of as name_of_lem, stand_of};
-ghost use Rattle.partition.specs.Step.{raised_by};
-ghost use Rattle.transitions.specs.Transitions.{report_of};
+ghost use Rattle.partition.specs.Applying.{HasRoomFor};
+ghost use Rattle.partition.specs.Step.{books_by, raised_by};
 
 use crate::partition::PartitionFault;
 use idle_clients::{Fingerprint, Notices, waiting};
@@ -65,11 +65,11 @@ pub(crate) fn prepare_step(
     requires { is_written transition.now.written ≡ false }
     ensures given { IfOk result (λ made. listed made.0.given ≡ []) }
     ensures kept { IfOk result (λ made. listed made.0.kept ≡ []) }
-    ensures given_room { IfOk result (λ made. HasRoom (raised_by part.now library.now transition.now) clients.now (room_in made.0.given)) }
-    ensures kept_room { IfOk result (λ made. HasRoom (raised_by part.now library.now transition.now) clients.now (room_in made.0.kept)) }
+    ensures given_room { IfOk result (λ made. HasRoomFor part.now library.now transition.now clients.now made.0.given) }
+    ensures kept_room { IfOk result (λ made. HasRoomFor part.now library.now transition.now clients.now made.0.kept) }
     ensures before { IfOk result (λ made. made.0.before ≡ fingerprint part.now library.now) }
-    ensures counted { IfOk result (λ made. can_count_all (books_after books.now part.now.outputs transition.now.effect (report_of part.now library.now transition.now)) ≡ true) }
-    ensures books { IfOk result (λ made. made.1 ≡ books_after books.now part.now.outputs transition.now.effect (report_of part.now library.now transition.now)) }
+    ensures counted { OnOk result (can_count_all (books_by books.now part.now library.now transition.now) ≡ true) }
+    ensures books { IfOk result (λ made. made.1 ≡ books_by books.now part.now library.now transition.now) }
     ensures refused { IfErr result (λ fault. RefusesFrames books.now part.now library.now transition.now fault) }
 {
     let Some(books) = books.after(part, &transition.effect) else {

@@ -1,7 +1,7 @@
 -- What is remembered of a random order: ranks, played songs, and the generator that ranks are drawn from (MPD
 -- protocol reference, Playback options, `random`; that an order goes in rounds, and how ranks are drawn, is
 -- this profile's).
-use Rattle.std.specs.Prelude.{ℕ, zero, suc, Bool, ◌==◌, not, List, [], ◌∷◌, ◌++◌, map, filter, find}
+use Rattle.std.specs.Prelude.{ℕ, ◌≡◌, zero, suc, Bool, false, ◌==◌, not, All, List, [], ◌∷◌, ◌++◌, map, filter, find}
 use Rattle.std.specs.List.{list_any}
 use Rattle.std.specs.Option.{option_map_or}
 use Rattle.rand_pcg.specs.Lcg.{Lcg}
@@ -43,6 +43,10 @@ rank_of ranks id = option_map_or (λ r. r.rank) (find (λ r. r.id == id) ranks) 
 -- whether an id is one of these
 abbrev pub is_among : ℕ → List ℕ → Bool
 is_among id ids = list_any (λ other. other == id) ids
+
+-- no entry has one of the ids
+abbrev pub LackIds : List Entry → List ℕ → Type 0
+LackIds entries ids = All (λ e. is_among e.id ids ≡ false) entries
 
 -- whether an entry has this id
 abbrev pub has_id : ℕ → Entry → Bool

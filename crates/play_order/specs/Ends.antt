@@ -1,6 +1,6 @@
 -- What follows when a song ends (MPD protocol reference, Playback options, `single` and `consume`;
 -- Controlling playback, `next` and `previous`; how the modes act together is this profile's).
-use Rattle.std.specs.Prelude.{ℕ, ◌+◌, ◌-◌, Bool, true, false, ◌==◌, ◌&&◌, not, if◌then◌else◌, List, [], ◌∷◌, filter, length, slice_get, unwrap_or, option_map, Option, Some, None}
+use Rattle.std.specs.Prelude.{ℕ, ◌≡◌, ◌+◌, ◌-◌, Bool, true, false, ◌==◌, ◌&&◌, not, if◌then◌else◌, List, [], ◌∷◌, filter, length, slice_get, unwrap_or, option_map, Option, Some, None}
 use Rattle.song_queue.specs.declared.entry.Entry.{Entry}
 use Rattle.play_order.specs.declared.ending.Ending.{Ending}
 use Rattle.play_order.specs.declared.modes.Modes.{Modes}
@@ -9,7 +9,7 @@ use Rattle.play_order.specs.declared.modes.Consume.{Consume}
 use Rattle.play_order.specs.declared.modes.Single.TheVariants as single
 use Rattle.play_order.specs.declared.modes.Consume.TheVariants as consume
 use Rattle.play_order.specs.Draws.{RoundState, has_id, without, moved_last, others}
-use Rattle.play_order.specs.Order.{place_of, entry_of, ahead, round_for, next_of, begun, left_by, ids_taken}
+use Rattle.play_order.specs.Order.{place_of, entry_of, ahead, first_anew, round_for, next_of, begun, left_by, ids_taken}
 
 -- whether a song that ends is taken out
 abbrev pub consumes : Consume → Bool
@@ -40,6 +40,15 @@ round_left modes round id = if consumes modes.consume then without round (id ∷
 abbrev pub place_after : Modes → List Entry → ℕ → ℕ
 place_after modes entries id = if consumes modes.consume then place_of entries id else place_of entries id + 1
 
+-- at a place of what is left stands what comes after the song that ends, or nothing where nothing does
+abbrev pub GoesOnAt : Modes → List Entry → ℕ → ℕ → Type 0
+GoesOnAt modes entries id place =
+    slice_get (entries_left modes entries id) place ≡ slice_get (entries_left modes entries id) (place_after modes entries id)
+
+-- the modes after a song at whose end single was heeded
+abbrev pub modes_after : Modes → Modes
+modes_after modes = record modes { single = single_after modes.single; consume = consume_after modes.consume }
+
 -- the song stays current, if it is still in the queue
 abbrev pub staying : Modes → ℕ → Option ℕ
 staying modes id = if consumes modes.consume then None else Some id
@@ -69,7 +78,7 @@ in_order modes round entries id =
 -- the player stops after the song, or starts this one
 abbrev pub alone : Modes → RoundState → List Entry → ℕ → Option Entry → Following
 alone modes round entries id entry = record {
-  modes = record modes { single = single_after modes.single; consume = consume_after modes.consume };
+  modes = modes_after modes;
   left = entries_left modes entries id;
   round = round_left modes round id;
   entry = entry;
@@ -80,10 +89,14 @@ alone modes round entries id entry = record {
 abbrev pub again : Modes → List Entry → ℕ → Option Entry
 again modes entries id = if modes.repeat && not (consumes modes.consume) then entry_of entries id else None
 
+-- single plays the song again, or the player stops after it
+abbrev pub played_again : Modes → RoundState → List Entry → ℕ → Following
+played_again modes round entries id = alone modes round entries id (again modes entries id)
+
 -- by single: off, the order goes on; on, the song plays again or the player stops; oneshot, the player stops
 abbrev pub end_by : Single → Modes → RoundState → List Entry → ℕ → Following
 end_by single.Off modes round entries id = in_order modes round entries id
-end_by single.On modes round entries id = alone modes round entries id (again modes entries id)
+end_by single.On modes round entries id = played_again modes round entries id
 end_by single.Oneshot modes round entries id = alone modes round entries id None
 
 -- the natural end of a song
@@ -101,9 +114,21 @@ round_after f = begun f.modes f.round f.entry
 abbrev pub id_of : Option Entry → Option ℕ
 id_of entry = option_map (λ e. e.id) entry
 
+-- an id is that of an entry, and there is none where there is no entry
+abbrev pub IsIdOf : Option Entry → Option ℕ → Type 0
+IsIdOf entry id = id ≡ id_of entry
+
+-- an id is that of what comes first in a new round, with repeat
+abbrev pub IsFirstAnew : Modes → RoundState → List Entry → Option ℕ → Type 0
+IsFirstAnew modes round entries id = IsIdOf (first_anew modes.repeat round entries) id
+
 -- what the player is told of it
 abbrev pub ending_of : Following → Ending
 ending_of f = record { modes = f.modes; starts = id_of f.entry; current = f.current }
+
+-- the player is told of what follows
+abbrev pub IsEndingOf : Following → Ending → Type 0
+IsEndingOf f ending = ending ≡ ending_of f
 
 -- what comes after a song in the order, where no new round is needed
 abbrev pub ahead_after : Modes → RoundState → List Entry → ℕ → Option Entry
@@ -143,6 +168,10 @@ before modes round entries id =
 -- the round when `previous` has left the current song; nothing is consumed
 abbrev pub round_before : Modes → RoundState → ℕ → RoundState
 round_before modes round id = if modes.random then record round { played = played_before round id } else round
+
+-- the round when what `previous` starts has started
+abbrev pub round_after_previous : Modes → RoundState → List Entry → ℕ → RoundState
+round_after_previous modes round entries id = begun modes (round_before modes round id) (before modes round entries id)
 
 -- an id leaves the played songs, and another becomes the last of them, if there is one
 abbrev pub gone_back : RoundState → ℕ → Option ℕ → RoundState

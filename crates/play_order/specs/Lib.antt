@@ -1,6 +1,7 @@
 pub mod Draws
 pub mod Order
 pub mod Ends
+pub mod Queues
 pub mod Scans
 pub mod Rows
 pub mod Choices

@@ -79,6 +79,14 @@ abbrev pub begun : Modes → RoundState → Option Entry → RoundState
 begun modes round None = round
 begun modes round (Some entry) = started modes round entry.id
 
+-- the round when the player has begun with no current song: renewed where it was over
+abbrev pub round_after_opening : Modes → RoundState → List Entry → RoundState
+round_after_opening modes round entries = begun modes (round_for modes round entries) (opening_of modes round entries)
+
+-- a new round of these entries, when what comes first in it has started
+abbrev pub begun_anew : Modes → RoundState → List Entry → RoundState
+begun_anew modes round entries = begun modes (renewed round (ids_of entries)) (first_anew modes.repeat round entries)
+
 -- random order is turned on: each entry draws a rank, and only the current song was played
 abbrev pub randomized : RoundState → List Entry → Option ℕ → RoundState
 randomized round entries None = renewed round (ids_of entries)

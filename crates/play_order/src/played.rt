@@ -1,8 +1,9 @@
 //! Played songs, of which one is found at once.
-ghost use Rattle.std.specs.Prelude.{◌≡◌, ℕ, [], not, nat_eq, ◌==◌, ◌≤◌, ◌+◌, if◌then◌else◌, filter, false, IfOk, OnOk, OnErr, vec_capacity, vec_len};
+ghost use Rattle.std.specs.Prelude.{◌≡◌, ℕ, [], not, nat_eq, ◌≤◌, ◌+◌, filter, IfOk, OnOk, OnErr, vec_capacity, vec_len};
 ghost use Rattle.std.specs.HashSet.{contains};
 ghost use Rattle.play_order.specs.Draws.{is_among, moved_last, others};
 ghost use Rattle.play_order.specs.Ends.{last_of};
+ghost use Rattle.play_order.specs.Scans.{ForgetsIds};
 
 use std::alloc::{AllocError, Global};
 use std::collections::HashSet;
@@ -122,7 +123,7 @@ fn keep_others(order: &mut Vec<u32>, id: u32)
 }
 
 fn forget_all(found: &mut HashSet<u32>, ids: &[u32])
-    ensures { (id : ℕ) → contains nat_eq found.new id ≡ (if is_among id ids.now then false else contains nat_eq found.old id) }
+    ensures { ForgetsIds found.old found.new ids.now }
 {
     for id in ids {
         let _ = found.remove(id);

@@ -1,13 +1,12 @@
 //! Ranks, of which that of an id is found at once.
-ghost use Rattle.std.specs.Prelude.{◌≡◌, ℕ, ◌+◌, ◌<◌, ◌≤◌, ◌++◌, [], not, nat_eq, ◌==◌, if◌then◌else◌, length, filter, is_some, Some, None, IfOk, OnOk, OnErr, vec_capacity, vec_len};
+ghost use Rattle.std.specs.Prelude.{◌≡◌, ℕ, ◌+◌, ◌<◌, ◌≤◌, ◌++◌, [], not, nat_eq, if◌then◌else◌, length, filter, is_some, None, IfOk, OnOk, OnErr, vec_capacity, vec_len};
 ghost use Rattle.std.specs.HashMap.{get, spare};
-ghost use Rattle.std.specs.Option.{option_or};
 ghost use Rattle.song_queue.specs.declared.edit.Edit.TheVariants.{Insert};
 ghost use Rattle.song_queue.specs.Laws.{Takes};
 ghost use Rattle.song_queue.specs.State.{inserted};
 ghost use Rattle.play_order.specs.Order.{new_ids};
 ghost use Rattle.play_order.specs.Draws.{generator_after, is_among, rank_of, ranks_drawn};
-ghost use Rattle.play_order.specs.Scans.{FindsRanks};
+ghost use Rattle.play_order.specs.Scans.{FindsRanks, GivesRank};
 
 use crate::modes::Rank;
 use crate::scan::put_in;
@@ -145,7 +144,7 @@ fn draw_all(
 /// The id has this rank, if it had none. There is room for it.
 fn note_rank(by_id: &mut HashMap<u32, u32>, id: u32, rank: u32)
     requires { 0 < spare by_id.old }
-    ensures ranks { (other : ℕ) → get nat_eq by_id.new other ≡ option_or (get nat_eq by_id.old other) (if id == other then Some rank else None) }
+    ensures ranks { GivesRank by_id.old by_id.new id rank }
     ensures spare { spare by_id.old ≤ spare by_id.new + 1 }
 {
     if !by_id.contains_key(&id) {

@@ -1,14 +1,15 @@
 //! Rounds of a random order, and what follows when a song ends.
-ghost use Rattle.std.specs.Prelude.{◌≡◌, ◌≤◌, ◌+◌, ◌-◌, ℕ, List, [], ◌∷◌, false, true, ◌≢◌, length, All, AllPairs, IfOk, OnOk, OnErr, slice_get, None, is_some};
+ghost use Rattle.std.specs.Prelude.{◌≡◌, ◌≤◌, ◌-◌, true, ◌≢◌, length, AllPairs, IfOk, OnOk, OnErr, None, is_some};
 ghost use Rattle.std.specs.Option.{option_copied};
 ghost use Rattle.rand_core.specs.Pcg32Seed.{pcg32_seed};
 ghost use Rattle.rand_pcg.specs.Pcg.{pcg32_of_seed};
-ghost use Rattle.song_queue.specs.State.{edited, inserted, queue_of, removed as removed_lem, shuffled_state};
+ghost use Rattle.song_queue.specs.State.{edited, inserted, queue_of, removed as removed_lem};
 ghost use Rattle.song_queue.specs.declared.edit.Edit.TheVariants.{Insert};
 ghost use Rattle.song_queue.specs.Laws.{Takes};
-ghost use Rattle.play_order.specs.Draws.{RoundState, added as added_lem, drawn_from, emptied as emptied_lem, generator_after, generator_after_words, ids_of, is_among, opened, ranks_drawn, renewed, without, words_drawn};
-ghost use Rattle.play_order.specs.Order.{begun, first_anew, ids_taken, left_by, new_ids, next_of, opening_of, randomized as randomized_lem, round_for, started as started_lem};
-ghost use Rattle.play_order.specs.Ends.{after_end as after_end_lem, after_next as after_next_lem, ahead_after as ahead_after_lem, before as before_lem, consume_after as consume_after_lem, consumes as consumes_lem, ending_of, entries_left, id_of, again as again_lem, alone, peek as peek_lem, gone_back, next_after_removal, place_after, round_after, round_after_removal, round_before, round_left, single_after as single_after_lem};
+ghost use Rattle.play_order.specs.Draws.{RoundState, LackIds, added as added_lem, drawn_from, emptied as emptied_lem, generator_after_words, ids_of, opened, renewed, without, words_drawn};
+ghost use Rattle.play_order.specs.Order.{begun_anew, left_by, new_ids, opening_of, randomized as randomized_lem, round_after_opening, started as started_lem};
+ghost use Rattle.play_order.specs.Ends.{GoesOnAt, IsEndingOf, IsFirstAnew, IsIdOf, after_end as after_end_lem, after_next as after_next_lem, ahead_after as ahead_after_lem, before as before_lem, consume_after as consume_after_lem, consumes as consumes_lem, ending_of, entries_left, id_of, again as again_lem, alone, peek as peek_lem, gone_back, modes_after as modes_after_lem, next_after_removal, played_again, round_after, round_after_previous, round_left, single_after as single_after_lem};
+ghost use Rattle.play_order.specs.Queues.{IsNextAfterRemoval, IsRoundAfterRemoval, TellsStart, ids_in, next_without, queue_after_end, queue_after_next, round_without, shuffled_by};
 
 use crate::ending::Ending;
 use crate::modes::{Consume, Modes, Single};
@@ -96,7 +97,7 @@ impl Round {
         requires order { range.start ≤ range.end }
         requires within { range.end ≤ length (queue_of queue.old) }
         ensures round { OnOk result (self.new ≡ drawn_from self.old (range.end - range.start - 1)) }
-        ensures queue { OnOk result (queue.new ≡ shuffled_state queue.old range.start range.end (words_drawn self.old.generator (range.end - range.start - 1))) }
+        ensures queue { OnOk result (queue.new ≡ shuffled_by self.old queue.old range.start range.end) }
         ensures err { OnErr result (self.new ≡ self.old) }
         ensures err_queue { OnErr result (queue.new ≡ queue.old) }
     {
@@ -221,8 +222,8 @@ impl Round {
         queue: &Queue,
         id: u32,
     ) -> Result<Option<u32>, AllocError>
-        ensures round { OnOk result (self.new ≡ begun modes (round_before modes self.old id) (before_lem modes self.old (queue_of queue.now) id)) }
-        ensures starts { IfOk result (λ starts. starts ≡ id_of (before_lem modes self.old (queue_of queue.now) id)) }
+        ensures round { OnOk result (self.new ≡ round_after_previous modes self.old (queue_of queue.now) id) }
+        ensures starts { IfOk result (IsIdOf (before_lem modes self.old (queue_of queue.now) id)) }
         ensures err { OnErr result (self.new ≡ self.old) }
     {
         let starts = id_at(self.before(modes, queue, id));
@@ -235,8 +236,8 @@ impl Round {
     /// The player begins with no current song: a round that is over is renewed, whatever repeat is, and what
     /// comes first starts.
     pub fn opening(&mut self, modes: Modes, queue: &Queue) -> Result<Option<u32>, AllocError>
-        ensures round { OnOk result (self.new ≡ begun modes (round_for modes self.old (queue_of queue.now)) (opening_of modes self.old (queue_of queue.now))) }
-        ensures starts { IfOk result (λ starts. starts ≡ id_of (opening_of modes self.old (queue_of queue.now))) }
+        ensures round { OnOk result (self.new ≡ round_after_opening modes self.old (queue_of queue.now)) }
+        ensures starts { IfOk result (IsIdOf (opening_of modes self.old (queue_of queue.now))) }
         ensures err { OnErr result (self.new ≡ self.old) }
     {
         let repeating = Modes {
@@ -256,8 +257,8 @@ impl Round {
         id: u32,
     ) -> Result<Ending, AllocError>
         ensures round { OnOk result (self.new ≡ round_after (after_end_lem modes self.old (queue_of queue.old) id)) }
-        ensures queue { OnOk result (queue.new ≡ edited queue.old (after_end_lem modes self.old (queue_of queue.old) id).left) }
-        ensures ending { IfOk result (λ ending. ending ≡ ending_of (after_end_lem modes self.old (queue_of queue.old) id)) }
+        ensures queue { OnOk result (queue.new ≡ queue_after_end modes self.old queue.old id) }
+        ensures ending { IfOk result (IsEndingOf (after_end_lem modes self.old (queue_of queue.old) id)) }
         ensures err { OnErr result (self.new ≡ self.old) }
         ensures err_queue { OnErr result (queue.new ≡ queue.old) }
     {
@@ -276,8 +277,8 @@ impl Round {
         id: u32,
     ) -> Result<Ending, AllocError>
         ensures round { OnOk result (self.new ≡ round_after (after_next_lem modes self.old (queue_of queue.old) id)) }
-        ensures queue { OnOk result (queue.new ≡ edited queue.old (after_next_lem modes self.old (queue_of queue.old) id).left) }
-        ensures ending { IfOk result (λ ending. ending ≡ ending_of (after_next_lem modes self.old (queue_of queue.old) id)) }
+        ensures queue { OnOk result (queue.new ≡ queue_after_next modes self.old queue.old id) }
+        ensures ending { IfOk result (IsEndingOf (after_next_lem modes self.old (queue_of queue.old) id)) }
         ensures err { OnErr result (self.new ≡ self.old) }
         ensures err_queue { OnErr result (queue.new ≡ queue.old) }
     {
@@ -306,9 +307,9 @@ impl Round {
     ) -> Result<Option<u32>, AllocError>
         requires order { range.start ≤ range.end }
         requires within { range.end ≤ length (queue_of queue.old) }
-        ensures round { OnOk result (self.new ≡ round_after_removal modes self.old (queue_of queue.old) range.start range.end) }
+        ensures round { OnOk result (IsRoundAfterRemoval modes self.old queue.old range self.new) }
         ensures queue { OnOk result (queue.new ≡ removed_lem queue.old range.start range.end) }
-        ensures starts { IfOk result (λ starts. starts ≡ id_of (next_after_removal modes self.old (queue_of queue.old) range.start range.end)) }
+        ensures starts { IfOk result (IsNextAfterRemoval modes self.old queue.old range) }
         ensures err { OnErr result (self.new ≡ self.old) }
         ensures err_queue { OnErr result (queue.new ≡ queue.old) }
     {
@@ -324,7 +325,7 @@ impl Round {
     pub fn remove(&mut self, queue: &mut Queue, range: Range<usize>) -> Result<(), AllocError>
         requires order { range.start ≤ range.end }
         requires within { range.end ≤ length (queue_of queue.old) }
-        ensures round { OnOk result (self.new ≡ without self.old (ids_taken (queue_of queue.old) range.start range.end)) }
+        ensures round { OnOk result (self.new ≡ without self.old (ids_in queue.old range)) }
         ensures queue { OnOk result (queue.new ≡ removed_lem queue.old range.start range.end) }
         ensures err { OnErr result (self.new ≡ self.old) }
         ensures err_queue { OnErr result (queue.new ≡ queue.old) }
@@ -350,9 +351,9 @@ impl Round {
     ) -> Result<Option<u32>, AllocError>
         requires order { from ≤ end }
         requires within { end ≤ length (queue_of queue.now) }
-        requires apart { All (λ e. is_among e.id ids.now ≡ false) (left_by (queue_of queue.now) from end) }
-        ensures round { OnOk result (self.new ≡ begun modes (round_for modes (without self.old ids.now) (left_by (queue_of queue.now) from end)) (next_of modes (without self.old ids.now) (left_by (queue_of queue.now) from end) place)) }
-        ensures starts { IfOk result (λ starts. starts ≡ id_of (next_of modes (without self.old ids.now) (left_by (queue_of queue.now) from end) place)) }
+        requires apart { LackIds (left_by (queue_of queue.now) from end) ids.now }
+        ensures round { OnOk result (self.new ≡ round_without modes self.old ids.now queue.now from end place) }
+        ensures starts { IfOk result (IsIdOf (next_without modes self.old ids.now queue.now from end place)) }
         ensures err { OnErr result (self.new ≡ self.old) }
     {
         if !modes.random {
@@ -375,7 +376,7 @@ impl Round {
         requires order { from ≤ end }
         requires within { end ≤ length (queue_of queue.now) }
         ensures distinct { AllPairs (λ e f. e.id ≢ f.id) (queue_of queue.now) }
-        ensures starts { (ids : List ℕ) → All (λ e. is_among e.id ids ≡ false) (left_by (queue_of queue.now) from end) → result ≡ is_some (next_of modes (without self.now ids) (left_by (queue_of queue.now) from end) place) }
+        ensures starts { TellsStart result modes self.now queue.now from end place }
     {
         let some = end - from < queue.len();
         if !modes.random {
@@ -396,8 +397,8 @@ impl Round {
         requires random { modes.random ≡ true }
         requires order { from ≤ end }
         requires within { end ≤ length (queue_of queue.now) }
-        ensures round { OnOk result (self.new ≡ begun modes (renewed self.old (ids_of (left_by (queue_of queue.now) from end))) (first_anew modes.repeat self.old (left_by (queue_of queue.now) from end))) }
-        ensures starts { IfOk result (λ starts. starts ≡ id_of (first_anew modes.repeat self.old (left_by (queue_of queue.now) from end))) }
+        ensures round { OnOk result (self.new ≡ begun_anew modes self.old (left_by (queue_of queue.now) from end)) }
+        ensures starts { IfOk result (IsFirstAnew modes self.old (left_by (queue_of queue.now) from end)) }
         ensures err { OnErr result (self.new ≡ self.old) }
     {
         let mut round = self.drawn_anew(queue, from, end)?;
@@ -459,9 +460,9 @@ impl Round {
 
     /// With repeat the song with this id starts again, unless it is consumed; else the player stops after it.
     fn play_again(&mut self, modes: Modes, queue: &mut Queue, id: u32) -> Result<Ending, AllocError>
-        ensures round { OnOk result (self.new ≡ round_after (alone modes self.old (queue_of queue.old) id (again_lem modes (queue_of queue.old) id))) }
+        ensures round { OnOk result (self.new ≡ round_after (played_again modes self.old (queue_of queue.old) id)) }
         ensures queue { OnOk result (queue.new ≡ edited queue.old (entries_left modes (queue_of queue.old) id)) }
-        ensures ending { IfOk result (λ ending. ending ≡ ending_of (alone modes self.old (queue_of queue.old) id (again_lem modes (queue_of queue.old) id))) }
+        ensures ending { IfOk result (IsEndingOf (played_again modes self.old (queue_of queue.old) id)) }
         ensures err { OnErr result (self.new ≡ self.old) }
         ensures err_queue { OnErr result (queue.new ≡ queue.old) }
     {
@@ -515,7 +516,7 @@ fn span_of(modes: Modes, queue: &Queue, id: u32) -> Span
     ensures order { result.from ≤ result.end }
     ensures within { result.end ≤ length (queue_of queue.now) }
     ensures left { left_by (queue_of queue.now) result.from result.end ≡ entries_left modes (queue_of queue.now) id }
-    ensures place { slice_get (entries_left modes (queue_of queue.now) id) result.place ≡ slice_get (entries_left modes (queue_of queue.now) id) (place_after modes (queue_of queue.now) id) }
+    ensures place { GoesOnAt modes (queue_of queue.now) id result.place }
 {
     let len = queue.len();
     match queue.position_of(id) {
@@ -603,7 +604,7 @@ fn single_after(single: Single) -> Single
 
 /// The modes after a song at whose end single was heeded.
 fn modes_after(modes: Modes) -> Modes
-    ensures { result ≡ record modes { single = single_after_lem modes.single; consume = consume_after_lem modes.consume } }
+    ensures { result ≡ modes_after_lem modes }
 {
     let single = single_after(modes.single);
     let consume = consume_after(modes.consume);

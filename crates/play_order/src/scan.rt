@@ -1,13 +1,12 @@
 //! Goes through what is left of a queue when the entries from one place up to another are taken out.
-ghost use Rattle.std.specs.Prelude.{◌≡◌, ◌≤◌, ◌+◌, ◌++◌, fold, length, slice_get, ◌-◌, false, All, IfOk, OnErr, OnOk, vec_capacity, vec_len};
-ghost use Rattle.std.specs.List.{slice_range};
+ghost use Rattle.std.specs.Prelude.{◌≡◌, ◌≤◌, ◌+◌, ◌++◌, length, slice_get, ◌-◌, IfOk, OnErr, OnOk, vec_capacity, vec_len};
 ghost use Rattle.std.specs.Option.{option_copied};
 ghost use Rattle.song_queue.specs.declared.edit.Edit.TheVariants.{Insert};
 ghost use Rattle.song_queue.specs.Laws.{Takes};
 ghost use Rattle.song_queue.specs.State.{inserted, queue_of};
-ghost use Rattle.play_order.specs.Draws.{ids_of, is_among};
+ghost use Rattle.play_order.specs.Draws.{LackIds, ids_of};
 ghost use Rattle.play_order.specs.Order.{at_or_first, comes_before as comes_before_lem, entry_of, first_of, ids_taken, left_by, new_ids, unplayed};
-ghost use Rattle.play_order.specs.Scans.{better as better_lem};
+ghost use Rattle.play_order.specs.Scans.{best_within, better as better_lem};
 
 use crate::played::Played;
 use crate::ranks::Ranks;
@@ -43,7 +42,7 @@ fn first_within<'a>(
 ) -> Option<&'a Entry>
     requires order { from ≤ end }
     requires within { end ≤ length (queue_of queue.now) }
-    ensures { option_copied result ≡ fold (better_lem ranks.now) (option_copied best.entry) (unplayed played.now (slice_range (queue_of queue.now) from end)) }
+    ensures { option_copied result ≡ best_within ranks.now played.now queue.now from end (option_copied best.entry) }
 {
     let mut first = best;
     for place in from..end {
@@ -145,7 +144,7 @@ pub(crate) fn taken_ids(
     ensures ids { IfOk result (λ ids. ids.items ≡ ids_taken (queue_of queue.now) from end) }
 
     // They are not those of what is left.
-    ensures apart { IfOk result (λ ids. All (λ e. is_among e.id ids.items ≡ false) (left_by (queue_of queue.now) from end)) }
+    ensures apart { IfOk result (λ ids. LackIds (left_by (queue_of queue.now) from end) ids.items) }
 {
     // That ids are distinct comes with the length.
     let _len = queue.len();

@@ -1,15 +1,16 @@
 -- The steps that the decoder makes: wants, haves and failures, and the fade into the next song (MPD protocol
 -- reference, Playback options, `crossfade`; Querying MPD's status, `clearerror`; jobs, and how a fade is
 -- fixed and given up, are this profile's).
-use Rattle.std.specs.Prelude.{ℕ, ◌+◌, ◌-◌, ◌*◌, Bool, false, ◌==◌, ◌&&◌, ◌||◌, not, nat_le, nat_lt, min, if◌then◌else◌, List, ◌++◌, Option, Some, None, is_some, codes}
+use Rattle.std.specs.Prelude.{ℕ, ◌≡◌, ◌+◌, ◌-◌, ◌*◌, Bool, false, ◌==◌, ◌&&◌, ◌||◌, not, nat_le, nat_lt, min, if◌then◌else◌, List, ◌++◌, Option, Some, None, is_some, codes}
 use Rattle.song_queue.specs.declared.entry.Entry.{Entry}
+use Rattle.song_queue.specs.State.{QueueState, queue_of}
 use Rattle.play_order.specs.Order.{entry_of}
 use Rattle.play_order.specs.Ends as ends
 use Rattle.player_core.specs.declared.state.Fade.{Fade}
 use Rattle.player_core.specs.declared.state.FadePart.{FadePart}
 use Rattle.player_core.specs.declared.state.Job.{Job}
 use Rattle.player_core.specs.declared.state.Live.{Live}
-use Rattle.player_core.specs.Player.{PlayerState, Stepped, cut, given_up, halted, stays, is_paused, is_playing}
+use Rattle.player_core.specs.Player.{PlayerState, PlayerAndQueue, Stepped, both_after, cut, given_up, halted, stays, is_paused, is_playing}
 use Rattle.player_core.specs.Steps.{ended, peek}
 
 -- whether this is the entry with the id
@@ -81,6 +82,14 @@ job_for rate p entry next =
     let r = faded rate q entry next in
     given r (job_of r entry (reach rate q entry next))
 
+-- the player when it has asked for a job; what the end of the song would start is `next`
+abbrev pub with_job_for : ℕ → PlayerState → Entry → Option Entry → PlayerState
+with_job_for rate p entry next = (job_for rate p entry next).stepped.player
+
+-- a job is the one that it asks for
+abbrev pub IsJobFor : ℕ → PlayerState → Entry → Option Entry → Job → Type 0
+IsJobFor rate p entry next job = Some job ≡ (job_for rate p entry next).job
+
 abbrev pub nothing : PlayerState → Wanted
 nothing p = record { stepped = stays p; job = None }
 
@@ -96,9 +105,17 @@ abbrev pub want_of : ℕ → PlayerState → List Entry → Option ℕ → Wante
 want_of rate p entries None = nothing p
 want_of rate p entries (Some id) = want_at rate p entries id (entry_of entries id)
 
+-- the player and its queue after a want of the song with an id
+abbrev pub after_want_of : ℕ → PlayerState → QueueState → ℕ → PlayerAndQueue
+after_want_of rate p q id = both_after q (want_of rate p (queue_of q) (Some id)).stepped
+
 -- a want: there is a job only while the player plays, an output is enabled, and no feeder still owes frames
 abbrev pub want : ℕ → PlayerState → List Entry → Bool → Bool → Wanted
 want rate p entries enabled owes = if is_playing p.playback && enabled && not owes then want_of rate p entries p.current else nothing p
+
+-- the player and its queue after a want
+abbrev pub after_want : ℕ → PlayerState → QueueState → Bool → Bool → PlayerAndQueue
+after_want rate p q enabled owes = both_after q (want rate p (queue_of q) enabled owes).stepped
 
 -- what a have leaves, and the cut of its frames, unless it is stale
 pub record Had : Type 0 where
@@ -129,6 +146,10 @@ accepted p entries job count =
     then ended (record p { place = p.place + count }) entries job.id (mixed job.fade count)
     else stays (record p { place = p.place + count; job = None })
 
+-- the player and its queue when frames of a job are accepted
+abbrev pub after_accepted : PlayerState → QueueState → Job → ℕ → PlayerAndQueue
+after_accepted p q job count = both_after q (accepted p (queue_of q) job count)
+
 -- a fade of the job into what is no longer next makes its have stale
 abbrev pub has_lost_partner : Option FadePart → Option Entry → Bool
 has_lost_partner None next = false
@@ -148,6 +169,10 @@ have_of p entries (Some job) number count =
 -- a have of so many frames for a job
 abbrev pub have : PlayerState → List Entry → ℕ → ℕ → Had
 have p entries number count = have_of p entries p.job number count
+
+-- the player and its queue after a have
+abbrev pub after_have : PlayerState → QueueState → ℕ → ℕ → PlayerAndQueue
+after_have p q number count = both_after q (have p (queue_of q) number count).stepped
 
 abbrev pub error_text : Option Entry → List ℕ
 error_text None = codes "Failed to decode "

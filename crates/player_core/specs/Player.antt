@@ -1,6 +1,6 @@
 -- The player, and how songs start and stop (MPD protocol reference, Querying MPD's status, `status`;
 -- Controlling playback; cuts, starts and jobs, their limit, and fades are this profile's).
-use Rattle.std.specs.Prelude.{ℕ, ◌+◌, ◌≤◌, ◌<◌, ◌^◌, Bool, true, false, ◌&&◌, nat_le, List, Option, Some, None}
+use Rattle.std.specs.Prelude.{ℕ, ◌≡◌, ◌↔◌, ◌+◌, ◌≤◌, ◌<◌, ◌^◌, Bool, true, false, ◌&&◌, nat_le, List, Option, Some, None, Result, IsErrOf}
 use Rattle.std.specs.Option.{ForSome}
 use Rattle.rand_pcg.specs.Lcg.{Lcg}
 use Rattle.song_queue.specs.declared.entry.Entry.{Entry}
@@ -10,6 +10,8 @@ use Rattle.play_order.specs.declared.modes.Single.TheVariants as single
 use Rattle.play_order.specs.declared.modes.Consume.TheVariants as consume
 use Rattle.play_order.specs.Draws.{RoundState}
 use Rattle.play_order.specs.Draws as draws
+use Rattle.player_core.specs.declared.fault.PlayerFault.{PlayerFault}
+use Rattle.player_core.specs.declared.fault.PlayerFault.TheVariants.{CutsAtLimit}
 use Rattle.player_core.specs.declared.state.Playback.{Playback}
 use Rattle.player_core.specs.declared.state.Playback.TheVariants.{Stop, Play, Pause}
 use Rattle.player_core.specs.declared.state.Fade.{Fade}
@@ -64,6 +66,10 @@ opened max_cut g = record {
 abbrev pub is_within : PlayerState → Bool
 is_within p = nat_le p.cuts p.max_cut && nat_le p.starts p.max_cut && nat_le p.jobs p.max_cut
 
+-- a step is refused at a limit exactly where the player that it would leave has a number above it
+abbrev pub IsRefusedAtLimit : {A : Type 0} → Result A PlayerFault → PlayerState → Type 0
+IsRefusedAtLimit result after = IsErrOf result CutsAtLimit ↔ (is_within after ≡ false)
+
 -- what is true of each player: its numbers are within their limit, and what a job asks for can be counted
 pub record IsPlayer (p : PlayerState) : Type 0 where
   pub cuts : p.cuts ≤ p.max_cut
@@ -84,6 +90,15 @@ stays p = record { player = p; edit = None }
 abbrev pub queue_after : QueueState → Option (List Entry) → QueueState
 queue_after q None = q
 queue_after q (Some entries) = edited q entries
+
+-- a player and its queue
+pub record PlayerAndQueue : Type 0 where
+  pub player : PlayerState
+  pub queue : QueueState
+
+-- the two after a step
+abbrev pub both_after : QueueState → Stepped → PlayerAndQueue
+both_after q stepped = record { player = stepped.player; queue = queue_after q stepped.edit }
 
 abbrev pub is_stopped : Playback → Bool
 is_stopped Stop = true

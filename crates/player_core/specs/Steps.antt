@@ -4,7 +4,7 @@
 use Rattle.std.specs.Prelude.{ℕ, ◌-◌, Bool, true, false, ◌==◌, ◌&&◌, not, nat_le, nat_lt, min, if◌then◌else◌, List, Option, Some, None}
 use Rattle.mpd_text.specs.Songs.Song.{SongData}
 use Rattle.song_queue.specs.declared.entry.Entry.{Entry}
-use Rattle.song_queue.specs.State.{QueueState}
+use Rattle.song_queue.specs.State.{QueueState, queue_of}
 use Rattle.play_order.specs.declared.modes.Single.{Single}
 use Rattle.play_order.specs.declared.modes.Consume.{Consume}
 use Rattle.play_order.specs.Draws as draws
@@ -14,7 +14,7 @@ use Rattle.play_order.specs.Ends as ends
 use Rattle.play_order.specs.Ends.{Following, id_of}
 use Rattle.player_core.specs.declared.state.Playback.{Playback}
 use Rattle.player_core.specs.declared.state.Playback.TheVariants.{Stop, Play, Pause}
-use Rattle.player_core.specs.Player.{PlayerState, Stepped, cut, voided, halted, goes_on, starts_by_hand, stays, is_stopped, is_paused, playing_or_paused}
+use Rattle.player_core.specs.Player.{PlayerState, PlayerAndQueue, Stepped, both_after, cut, voided, halted, goes_on, starts_by_hand, stays, is_stopped, is_paused, playing_or_paused}
 
 -- the player when a song has ended, before what follows starts
 abbrev pub behind : PlayerState → Following → PlayerState
@@ -26,6 +26,10 @@ ended p entries id place =
     let f = ends.after_end p.modes p.round entries id in
     record { player = goes_on (behind p f) p.playback (id_of f.entry) place f.current; edit = Some f.left }
 
+-- the player and its queue after the natural end of a song of which so many frames were accepted
+abbrev pub after_end : PlayerState → QueueState → ℕ → ℕ → ℕ → PlayerAndQueue
+after_end p q accepted id place = both_after q (ended (record p { place = accepted }) (queue_of q) id place)
+
 -- `next`: the end of the current song as if single were off, with a cut; what follows plays
 abbrev pub next_by : PlayerState → List Entry → Option ℕ → Stepped
 next_by p entries None = stays p
@@ -35,6 +39,10 @@ next_by p entries (Some id) =
 
 abbrev pub next : PlayerState → List Entry → Stepped
 next p entries = next_by p entries p.current
+
+-- the player and its queue after `next`
+abbrev pub after_next : PlayerState → QueueState → PlayerAndQueue
+after_next p q = both_after q (next p (queue_of q))
 
 -- the entry with an id starts by hand
 abbrev pub start : PlayerState → Playback → ℕ → ℕ → PlayerState

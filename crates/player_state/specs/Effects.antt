@@ -47,6 +47,26 @@ player_edited p queue (Prioritize ranges priority) = p
 player_edited p queue (Swap a b) = p
 player_edited p queue (Shuffle start end words) = p
 
+-- the song at a place starts
+abbrev pub played_place : Part → ℕ → PlayerState
+played_place part place = played_entry part.player (slice_get (entries part) place)
+
+-- the song at a place is played from a frame on
+abbrev pub sought_place : Part → ℕ → ℕ → PlayerState
+sought_place part place frame = sought_entry part.player (slice_get (entries part) place) frame
+
+-- the queue is edited, and the player goes along
+abbrev pub part_edited : Part → Edit → Part
+part_edited part edit = record part { queue = state_after_edit part.queue edit; player = player_edited part.player part.queue edit }
+
+-- the player makes a step, which may leave less of the queue
+abbrev pub part_stepped : Part → player.Stepped → Part
+part_stepped part stepped = record part { queue = player.queue_after part.queue stepped.edit; player = stepped.player }
+
+-- other clients listen, or other messages wait
+abbrev pub with_channels : Part → List MemberData → Part
+with_channels part channels = record part { channels = channels }
+
 abbrev pub wanted : ℕ → Part → Bool → decoding.Wanted
 wanted rate part owes = decoding.want rate part.player (entries part) (any_enabled part.outputs) owes
 
@@ -66,13 +86,13 @@ player_after rate part (ByCommand (SetsConsume consume)) = steps.set_consume par
 player_after rate part (ByCommand (SetsCrossfade seconds)) = steps.set_crossfade part.player seconds
 player_after rate part (ByCommand ClearsError) = steps.clear_error part.player
 player_after rate part (ByCommand Plays) = steps.play part.player (entries part)
-player_after rate part (ByCommand (PlaysPlace place)) = played_entry part.player (slice_get (entries part) place)
+player_after rate part (ByCommand (PlaysPlace place)) = played_place part place
 player_after rate part (ByCommand (Pauses on)) = steps.pause part.player on
 player_after rate part (ByCommand TogglesPause) = steps.toggle_pause part.player
 player_after rate part (ByCommand Stops) = steps.stop part.player
 player_after rate part (ByCommand GoesOn) = (steps.next part.player (entries part)).player
 player_after rate part (ByCommand GoesBack) = steps.previous part.player (entries part)
-player_after rate part (ByCommand (Seeks place frame)) = sought_entry part.player (slice_get (entries part) place) frame
+player_after rate part (ByCommand (Seeks place frame)) = sought_place part place frame
 player_after rate part (ByCommand (Switches output on)) = part.player
 player_after rate part (ByAudio (Wants owes)) = (wanted rate part owes).stepped.player
 player_after rate part (ByAudio (Accepts number frames)) = (had part number frames).stepped.player
@@ -132,6 +152,10 @@ part_after rate part effect = record {
 abbrev pub feed_of : ℕ → Option ℕ → Option Feed
 feed_of volume cut = option_map (λ cut. record { cut = cut; volume = volume }) cut
 
+-- what an output is told after its turn: what is to be heard
+abbrev pub heard_after_turn : Part → ℕ → Bool → Report
+heard_after_turn part output failed = ToPlay (decoding.turn part.player (is_enabled (turned part.outputs output failed) output))
+
 -- what is told where nothing else is
 abbrev pub told_or : Report → Report → Report
 told_or Nothing own = own
@@ -143,8 +167,7 @@ abbrev pub report_after : ℕ → Part → Effect → Report → Report
 report_after rate part (ByCommand Rests) report = report
 report_after rate part (ByAudio (Wants owes)) report = ToDecode (wanted rate part owes).job
 report_after rate part (ByAudio (Accepts number frames)) report = ToFeed (feed_of part.volume (had part number frames).feed)
-report_after rate part (ByAudio (Settles output written discarded failed)) report =
-    told_or report (ToPlay (decoding.turn part.player (is_enabled (turned part.outputs output failed) output)))
+report_after rate part (ByAudio (Settles output written discarded failed)) report = told_or report (heard_after_turn part output failed)
 report_after rate part _ report = Nothing
 
 -- a scan would have a number above the limit of numbers

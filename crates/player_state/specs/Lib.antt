@@ -4,3 +4,4 @@ pub mod Libraries
 pub mod Outputs
 pub mod Fits
 pub mod Scans
+pub mod Outcomes

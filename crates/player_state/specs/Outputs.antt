@@ -1,6 +1,6 @@
 -- The outputs, and the frames that each was given, wrote and discarded (MPD protocol reference, Audio output
 -- devices; the books of frames are this profile's).
-use Rattle.std.specs.Prelude.{ℕ, ◌+◌, ◌==◌, Bool, true, false, ◌&&◌, nat_le, nat_lt, if◌then◌else◌, List, [], ◌∷◌, length, map, slice_index_or, slice_set, Some}
+use Rattle.std.specs.Prelude.{ℕ, ◌+◌, ◌==◌, Bool, true, false, ◌&&◌, nat_le, nat_lt, if◌then◌else◌, List, [], ◌∷◌, ◌++◌, length, map, slice_index_or, slice_set, Some}
 use Rattle.std.specs.List.{list_any, range_with_len}
 use Rattle.player_state.specs.declared.effect.Effect.{Effect}
 use Rattle.player_state.specs.declared.effect.Effect.TheVariants.{ByAudio}
@@ -35,6 +35,10 @@ any_enabled outputs = list_any (λ on. on) outputs.enabled
 -- one is turned on or off
 abbrev pub switched : OutputsData → ℕ → Bool → OutputsData
 switched outputs number on = record outputs { enabled = slice_set outputs.enabled number on }
+
+-- one more, after those that are there
+abbrev pub with_output : OutputsData → List ℕ → Bool → OutputsData
+with_output outputs name enabled = switched (record outputs { names = outputs.names ++ name ∷ [] }) (length outputs.names) enabled
 
 -- one has failed, and is off from now on
 abbrev pub broken : OutputsData → ℕ → OutputsData

@@ -1,12 +1,12 @@
 //! What an event does to what one player owns.
-ghost use Rattle.std.specs.Prelude.{◌≡◌, ℕ, true, false, None, IfErr, IfOk, OnOk, OnErr, IsErrOf, slice_get};
+ghost use Rattle.std.specs.Prelude.{◌≡◌, ℕ, true, None, IfErr, OnOk, OnErr};
 ghost use Rattle.idle_notes.specs.Channels.{sent, send_refusal, subscribed, subscribe_refusal, unsubscribed, unsubscribe_refusal};
-ghost use Rattle.song_queue.specs.Laws.{Takes, state_after_edit};
+ghost use Rattle.song_queue.specs.Laws.{Takes};
 ghost use Rattle.player_core.specs.Player as player;
-ghost use Rattle.player_core.specs.Decoding as decoding;
-ghost use Rattle.player_state.specs.Outputs.{is_enabled, turned};
+ghost use Rattle.player_state.specs.Outputs.{turned};
 ghost use Rattle.player_state.specs.Fits.{Fits};
-ghost use Rattle.player_state.specs.Effects.{entries, feed_of as feed_of_lem, had, part_after, player_after, player_edited, played_entry, report_after, sought_entry, told_or as told_or_lem, wanted};
+ghost use Rattle.player_state.specs.Effects.{feed_of as feed_of_lem, had, heard_after_turn, part_after, part_edited, part_stepped, played_place, player_after, player_edited, report_after, sought_place, told_or as told_or_lem, wanted, with_channels};
+ghost use Rattle.player_state.specs.Outcomes.{IsAtLimitOnlyBeyond, IsDoneOnlyWithin, Reports};
 
 use crate::report::{Feed, Report};
 use crate::state::Part;
@@ -97,9 +97,9 @@ impl CommandEffect {
     fn carry_out(self, part: &mut Part, report: Report) -> Result<Report, PlayerFault>
         requires { Fits part.old (Effect.ByCommand self) }
         ensures part { OnOk result ((rate : ℕ) → part.new ≡ part_after rate part.old (Effect.ByCommand self)) }
-        ensures report { IfOk result (λ given. (rate : ℕ) → given ≡ report_after rate part.old (Effect.ByCommand self) report) }
-        ensures within { OnOk result ((rate : ℕ) → player.is_within (player_after rate part.old (Effect.ByCommand self)) ≡ true) }
-        ensures limit { IsErrOf result PlayerFault.CutsAtLimit → (rate : ℕ) → player.is_within (player_after rate part.old (Effect.ByCommand self)) ≡ false }
+        ensures report { (rate : ℕ) → Reports result (report_after rate part.old (Effect.ByCommand self) report) }
+        ensures within { (rate : ℕ) → IsDoneOnlyWithin result (player_after rate part.old (Effect.ByCommand self)) }
+        ensures limit { (rate : ℕ) → IsAtLimitOnlyBeyond result (player_after rate part.old (Effect.ByCommand self)) }
         ensures err { OnErr result (part.new ≡ part.old) }
     {
         match self {
@@ -167,9 +167,9 @@ impl Effect {
 pub fn carry_out(part: &mut Part, rate: &Rate, effect: Effect, report: Report) -> Result<Report, PlayerFault>
     requires { Fits part.old effect }
     ensures part { OnOk result (part.new ≡ part_after rate.now part.old effect) }
-    ensures report { IfOk result (λ given. given ≡ report_after rate.now part.old effect report) }
-    ensures within { OnOk result (player.is_within (player_after rate.now part.old effect) ≡ true) }
-    ensures limit { IsErrOf result PlayerFault.CutsAtLimit → player.is_within (player_after rate.now part.old effect) ≡ false }
+    ensures report { Reports result (report_after rate.now part.old effect report) }
+    ensures within { IsDoneOnlyWithin result (player_after rate.now part.old effect) }
+    ensures limit { IsAtLimitOnlyBeyond result (player_after rate.now part.old effect) }
     ensures err { OnErr result (part.new ≡ part.old) }
 {
     match effect {
@@ -182,9 +182,9 @@ pub fn carry_out(part: &mut Part, rate: &Rate, effect: Effect, report: Report) -
 #[rattlefmt::skip]
 fn take_step(part: &mut Part, rate: &Rate, step: AudioStep, report: Report) -> Result<Report, PlayerFault>
     ensures part { OnOk result (part.new ≡ part_after rate.now part.old (Effect.ByAudio step)) }
-    ensures report { IfOk result (λ given. given ≡ report_after rate.now part.old (Effect.ByAudio step) report) }
-    ensures within { OnOk result (player.is_within (player_after rate.now part.old (Effect.ByAudio step)) ≡ true) }
-    ensures limit { IsErrOf result PlayerFault.CutsAtLimit → player.is_within (player_after rate.now part.old (Effect.ByAudio step)) ≡ false }
+    ensures report { Reports result (report_after rate.now part.old (Effect.ByAudio step) report) }
+    ensures within { IsDoneOnlyWithin result (player_after rate.now part.old (Effect.ByAudio step)) }
+    ensures limit { IsAtLimitOnlyBeyond result (player_after rate.now part.old (Effect.ByAudio step)) }
     ensures err { OnErr result (part.new ≡ part.old) }
 {
     match step {
@@ -197,7 +197,7 @@ fn take_step(part: &mut Part, rate: &Rate, step: AudioStep, report: Report) -> R
 
 fn subscribe(part: &mut Part, client: u32, channel: &str) -> Result<(), PlayerFault>
     requires { subscribe_refusal client channel.now part.old.channels ≡ None }
-    ensures part { OnOk result (part.new ≡ record part.old { channels = subscribed client channel.now part.old.channels }) }
+    ensures part { OnOk result (part.new ≡ with_channels part.old (subscribed client channel.now part.old.channels)) }
     ensures memory { IfErr result (λ fault. fault ≡ PlayerFault.NoMemory) }
     ensures err { OnErr result (part.new ≡ part.old) }
 {
@@ -208,7 +208,7 @@ fn subscribe(part: &mut Part, client: u32, channel: &str) -> Result<(), PlayerFa
 
 fn unsubscribe(part: &mut Part, client: u32, channel: &str)
     requires { unsubscribe_refusal client channel.now part.old.channels ≡ None }
-    ensures { part.new ≡ record part.old { channels = unsubscribed client channel.now part.old.channels } }
+    ensures { part.new ≡ with_channels part.old (unsubscribed client channel.now part.old.channels) }
 {
     match part.channels.unsubscribe(client, channel) {
         Ok(()) => {}
@@ -218,7 +218,7 @@ fn unsubscribe(part: &mut Part, client: u32, channel: &str)
 
 fn send(part: &mut Part, channel: &str, text: &str) -> Result<(), PlayerFault>
     requires { send_refusal channel.now part.old.channels ≡ None }
-    ensures part { OnOk result (part.new ≡ record part.old { channels = sent channel.now text.now part.old.channels }) }
+    ensures part { OnOk result (part.new ≡ with_channels part.old (sent channel.now text.now part.old.channels)) }
     ensures memory { IfErr result (λ fault. fault ≡ PlayerFault.NoMemory) }
     ensures err { OnErr result (part.new ≡ part.old) }
 {
@@ -229,7 +229,7 @@ fn send(part: &mut Part, channel: &str, text: &str) -> Result<(), PlayerFault>
 
 fn settle(part: &mut Part, output: usize, failed: bool) -> Report
     ensures part { part.new ≡ record part.old { outputs = turned part.old.outputs output failed } }
-    ensures report { result ≡ Report.ToPlay (decoding.turn part.old.player (is_enabled (turned part.old.outputs output failed) output)) }
+    ensures report { result ≡ heard_after_turn part.old output failed }
     ensures within { player.is_within part.old.player ≡ true }
 {
     part.outputs.settle(output, failed);
@@ -258,10 +258,10 @@ pub fn done(part: &Part) -> Report
 
 fn edit_queue(part: &mut Part, edit: Edit) -> Result<Report, PlayerFault>
     requires { Takes part.old.queue edit }
-    ensures part { OnOk result (part.new ≡ record part.old { queue = state_after_edit part.old.queue edit; player = player_edited part.old.player part.old.queue edit }) }
-    ensures report { IfOk result (λ given. given ≡ Report.Nothing) }
-    ensures within { OnOk result (player.is_within (player_edited part.old.player part.old.queue edit) ≡ true) }
-    ensures limit { IsErrOf result PlayerFault.CutsAtLimit → player.is_within (player_edited part.old.player part.old.queue edit) ≡ false }
+    ensures part { OnOk result (part.new ≡ part_edited part.old edit) }
+    ensures report { Reports result Report.Nothing }
+    ensures within { IsDoneOnlyWithin result (player_edited part.old.player part.old.queue edit) }
+    ensures limit { IsAtLimitOnlyBeyond result (player_edited part.old.player part.old.queue edit) }
     ensures err { OnErr result (part.new ≡ part.old) }
 {
     match edit {
@@ -281,10 +281,10 @@ fn edit_queue(part: &mut Part, edit: Edit) -> Result<Report, PlayerFault>
 }
 
 fn play_place(part: &mut Part, place: usize) -> Result<Report, PlayerFault>
-    ensures part { OnOk result (part.new ≡ record part.old { player = played_entry part.old.player (slice_get (entries part.old) place) }) }
-    ensures report { IfOk result (λ given. given ≡ Report.Nothing) }
-    ensures within { OnOk result (player.is_within (played_entry part.old.player (slice_get (entries part.old) place)) ≡ true) }
-    ensures limit { IsErrOf result PlayerFault.CutsAtLimit → player.is_within (played_entry part.old.player (slice_get (entries part.old) place)) ≡ false }
+    ensures part { OnOk result (part.new ≡ record part.old { player = played_place part.old place }) }
+    ensures report { Reports result Report.Nothing }
+    ensures within { IsDoneOnlyWithin result (played_place part.old place) }
+    ensures limit { IsAtLimitOnlyBeyond result (played_place part.old place) }
     ensures err { OnErr result (part.new ≡ part.old) }
 {
     if let Some(entry) = part.queue.get(place) {
@@ -294,10 +294,10 @@ fn play_place(part: &mut Part, place: usize) -> Result<Report, PlayerFault>
 }
 
 fn seek_place(part: &mut Part, place: usize, frame: u64) -> Result<Report, PlayerFault>
-    ensures part { OnOk result (part.new ≡ record part.old { player = sought_entry part.old.player (slice_get (entries part.old) place) frame }) }
-    ensures report { IfOk result (λ given. given ≡ Report.Nothing) }
-    ensures within { OnOk result (player.is_within (sought_entry part.old.player (slice_get (entries part.old) place) frame) ≡ true) }
-    ensures limit { IsErrOf result PlayerFault.CutsAtLimit → player.is_within (sought_entry part.old.player (slice_get (entries part.old) place) frame) ≡ false }
+    ensures part { OnOk result (part.new ≡ record part.old { player = sought_place part.old place frame }) }
+    ensures report { Reports result Report.Nothing }
+    ensures within { IsDoneOnlyWithin result (sought_place part.old place frame) }
+    ensures limit { IsAtLimitOnlyBeyond result (sought_place part.old place frame) }
     ensures err { OnErr result (part.new ≡ part.old) }
 {
     if let Some(entry) = part.queue.get(place) {
@@ -307,10 +307,10 @@ fn seek_place(part: &mut Part, place: usize, frame: u64) -> Result<Report, Playe
 }
 
 fn want(part: &mut Part, rate: &Rate, owes: bool) -> Result<Report, PlayerFault>
-    ensures part { OnOk result (part.new ≡ record part.old { queue = player.queue_after part.old.queue (wanted rate.now part.old owes).stepped.edit; player = (wanted rate.now part.old owes).stepped.player }) }
-    ensures report { IfOk result (λ given. given ≡ Report.ToDecode (wanted rate.now part.old owes).job) }
-    ensures within { OnOk result (player.is_within (wanted rate.now part.old owes).stepped.player ≡ true) }
-    ensures limit { IsErrOf result PlayerFault.CutsAtLimit → player.is_within (wanted rate.now part.old owes).stepped.player ≡ false }
+    ensures part { OnOk result (part.new ≡ part_stepped part.old (wanted rate.now part.old owes).stepped) }
+    ensures report { Reports result (Report.ToDecode (wanted rate.now part.old owes).job) }
+    ensures within { IsDoneOnlyWithin result (wanted rate.now part.old owes).stepped.player }
+    ensures limit { IsAtLimitOnlyBeyond result (wanted rate.now part.old owes).stepped.player }
     ensures err { OnErr result (part.new ≡ part.old) }
 {
     let enabled = part.outputs.any_enabled();
@@ -322,10 +322,10 @@ fn want(part: &mut Part, rate: &Rate, owes: bool) -> Result<Report, PlayerFault>
 }
 
 fn accept(part: &mut Part, number: u64, frames: u64) -> Result<Report, PlayerFault>
-    ensures part { OnOk result (part.new ≡ record part.old { queue = player.queue_after part.old.queue (had part.old number frames).stepped.edit; player = (had part.old number frames).stepped.player }) }
-    ensures report { IfOk result (λ given. given ≡ Report.ToFeed (feed_of_lem part.old.volume (had part.old number frames).feed)) }
-    ensures within { OnOk result (player.is_within (had part.old number frames).stepped.player ≡ true) }
-    ensures limit { IsErrOf result PlayerFault.CutsAtLimit → player.is_within (had part.old number frames).stepped.player ≡ false }
+    ensures part { OnOk result (part.new ≡ part_stepped part.old (had part.old number frames).stepped) }
+    ensures report { Reports result (Report.ToFeed (feed_of_lem part.old.volume (had part.old number frames).feed)) }
+    ensures within { IsDoneOnlyWithin result (had part.old number frames).stepped.player }
+    ensures limit { IsAtLimitOnlyBeyond result (had part.old number frames).stepped.player }
     ensures err { OnErr result (part.new ≡ part.old) }
 {
     let cut = part.player.have(&mut part.queue, number, frames)?;

@@ -2,12 +2,11 @@
 ghost use Rattle.player_state.specs.declared.effect.Effect.TheVariants.{ByCommand};
 ghost use Rattle.player_state.specs.declared.effect.CommandEffect.TheVariants.{Rests};
 ghost use Rattle.player_state.specs.declared.report.Report.TheVariants.{Nothing};
-ghost use Rattle.std.specs.Prelude.{◌≡◌, ◌+◌, ◌==◌, true, ℕ, if◌then◌else◌, length, map, slice_index_or};
+ghost use Rattle.std.specs.Prelude.{◌≡◌, ◌==◌, true, ℕ, if◌then◌else◌, length, map, slice_index_or};
 ghost use Rattle.std.specs.List.{range_with_len};
 ghost use Rattle.player_state.specs.declared.report.Report.{Report};
-ghost use Rattle.player_state.specs.FrameCounts.{IsBooked, IsCounted};
-ghost use Rattle.player_state.specs.Effects.{report_after};
-ghost use Rattle.player_state.specs.Outputs.{OutputsData, can_count_all, books_after as books_after_lem, discarded_by, empty_books, frames_fed as frames_fed_lem, is_enabled, total as total_lem, written_by};
+ghost use Rattle.player_state.specs.FrameCounts.{IsBooked, IsCounted, books_by_part, fed_by_part};
+ghost use Rattle.player_state.specs.Outputs.{OutputsData, can_count_all, books_after as books_after_lem, discarded_by, empty_books, grown as grown_lem, is_enabled, total as total_lem, written_by};
 
 use crate::effect::{AudioStep, Effect};
 use crate::outputs::Outputs;
@@ -98,7 +97,7 @@ impl FrameCounts {
 
     /// The books after an event, if the frames of all outputs together can be counted then.
     pub fn after(&self, part: &Part, effect: &Effect) -> Option<FrameCounts>
-        ensures { (rate : ℕ) (report : Report) → IsBooked result (books_after_lem self.now part.now.outputs effect.now (report_after rate part.now effect.now report)) }
+        ensures { (rate : ℕ) (report : Report) → IsBooked result (books_by_part self.now rate part.now effect.now report) }
     {
         let fed = frames_fed(part, effect);
         Some(FrameCounts {
@@ -112,7 +111,7 @@ impl FrameCounts {
 /// The frames that an event feeds.
 #[tactic(auto, using(crate::proofs::Frames::fed))]
 fn frames_fed(part: &Part, effect: &Effect) -> u64
-    ensures { (rate : ℕ) (report : Report) → result ≡ frames_fed_lem effect.now (report_after rate part.now effect.now report) }
+    ensures { (rate : ℕ) (report : Report) → result ≡ fed_by_part rate part.now effect.now report }
 {
     match effect {
         Effect::ByAudio(AudioStep::Accepts(number, frames))
@@ -192,7 +191,7 @@ fn part_of(output: usize, frames: u64, number: usize) -> u64
 /// Numbers that have grown, if all together can be counted.
 fn grown(numbers: &Numbers, more: &Numbers) -> Option<Numbers>
     requires { length numbers.now ≡ 8 }
-    ensures { IsCounted result (map (λ number. slice_index_or more.now number 0 + slice_index_or numbers.now number 0) (range_with_len 0 8)) }
+    ensures { IsCounted result (grown_lem numbers.now (λ number. slice_index_or more.now number 0)) }
 {
     if total(numbers) + total(more) > MAX_FRAMES {
         return None;

@@ -1,6 +1,6 @@
 //! The outputs, and the frames that each was given, wrote and discarded.
-ghost use Rattle.std.specs.Prelude.{◌≡◌, ◌<◌, ◌++◌, ◌∷◌, [], length, IfOk, OnOk, OnErr};
-ghost use Rattle.player_state.specs.Outputs.{any_enabled as any_enabled_lem, has_failed as has_failed_lem, is_enabled as is_enabled_lem, is_output as is_output_lem, no_outputs, switched, turned};
+ghost use Rattle.std.specs.Prelude.{◌≡◌, ◌<◌, length, IfOk, OnOk, OnErr};
+ghost use Rattle.player_state.specs.Outputs.{any_enabled as any_enabled_lem, has_failed as has_failed_lem, is_enabled as is_enabled_lem, is_output as is_output_lem, no_outputs, switched, turned, with_output};
 
 use mpd_text::SharedText;
 use std::alloc::{AllocError, Global};
@@ -43,7 +43,7 @@ impl Outputs {
     /// One more output, after those that are there.
     pub fn add(&mut self, name: SharedText, enabled: bool) -> Result<(), AllocError>
         requires { length self.old.names < 8 }
-        ensures ok { OnOk result (self.new ≡ switched (record self.old { names = self.old.names ++ name ∷ [] }) (length self.old.names) enabled) }
+        ensures ok { OnOk result (self.new ≡ with_output self.old name enabled) }
         ensures err { OnErr result (self.new ≡ self.old) }
     {
         let number = self.names.len();

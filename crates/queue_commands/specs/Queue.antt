@@ -1,5 +1,5 @@
 -- The commands that edit and show the queue (MPD protocol reference, The queue).
-use Rattle.std.specs.Prelude.{ℕ, ◌+◌, ◌-◌, ◌==◌, nat_lt, nat_le, Bool, ◌&&◌, ◌||◌, List, [], ◌∷◌, ◌++◌, Option, Some, None, length, filter, if◌then◌else◌, codes, decimal}
+use Rattle.std.specs.Prelude.{ℕ, ◌≤◌, ◌+◌, ◌-◌, ◌==◌, nat_lt, nat_le, Bool, ◌&&◌, ◌||◌, List, [], ◌∷◌, ◌++◌, Option, Some, None, length, filter, All, if◌then◌else◌, codes, decimal}
 use Rattle.std.specs.List.{flat_map, range_with_len}
 use Rattle.std.specs.declared.ops.Range.{Range as Places}
 use Rattle.mpd_command.specs.declared.forms.Place.{Place}
@@ -27,6 +27,10 @@ use Rattle.mpd_command.specs.declared.queue.QueueCommand.TheVariants as queue
 
 abbrev pub count : Part → ℕ
 count part = length (queue_of part.queue)
+
+-- so many songs find room in the queue, and each an id
+abbrev pub CanAdd : Part → ℕ → Type 0
+CanAdd part songs = (count part + songs ≤ part.queue.max_len) × (part.queue.greatest_id + songs ≤ part.queue.max_id)
 
 -- why so many songs cannot be added, if they cannot: there is no room for all of them, or no id for each
 abbrev pub lack : Part → ℕ → Option (List ℕ)
@@ -57,11 +61,15 @@ add_song_or_folder asked part library None uri = add_folder asked part library u
 abbrev pub add : Asked → Part → Library → List ℕ → CommandResult
 add asked part library uri = add_song_or_folder asked part library (song_of library.songs uri) uri
 
+-- a song goes to a place, where nothing lacks, and these lines are shown
+abbrev pub insert_one : Asked → Part → SongData → ℕ → List ℕ → CommandResult
+insert_one asked part song place lines = with_room asked part 1 (edits asked (Insert place (song ∷ [])) lines)
+
 -- a song goes to a place, and its id is told
 abbrev pub insert_at : Asked → Part → SongData → ℕ → CommandResult
 insert_at asked part song place =
     if nat_lt (count part) place then bad_index asked
-    else with_room asked part 1 (edits asked (Insert place (song ∷ [])) (pair_line (codes "Id") (decimal (part.queue.greatest_id + 1))))
+    else insert_one asked part song place (pair_line (codes "Id") (decimal (part.queue.greatest_id + 1)))
 
 abbrev pub no_current_song : Asked → CommandResult
 no_current_song asked = refusal asked PlayerSync (codes "no current song")
@@ -174,6 +182,14 @@ abbrev pub all_of : {A B : Type 0} → (A → Option B) → List A → Option (L
 all_of f [] = Some []
 all_of f (x ∷ xs) = consed (f x) (all_of f xs)
 
+-- places lie in a list of so many items
+abbrev pub LieIn : ℕ → Places ℕ → Type 0
+LieIn len r = (r.start ≤ r.end) × (r.end ≤ len)
+
+-- all of these do
+abbrev pub AllLieIn : ℕ → List (Places ℕ) → Type 0
+AllLieIn len ranges = All (LieIn len) ranges
+
 -- the places of ranges, if all of them are in the queue
 abbrev pub all_within : ℕ → List Range → Option (List (Places ℕ))
 all_within len ranges = all_of (λ range. within range len) ranges
@@ -237,9 +253,17 @@ is_in r place = nat_le r.start place && nat_lt place r.end
 abbrev pub is_between : Places ℕ → ℕ × Entry → Bool
 is_between r row = is_in r row.0
 
+-- the entries at these places, each with its place
+abbrev pub rows_in : QueueState → List ℕ → List (ℕ × Entry)
+rows_in queue places = rows_at (queue_of queue) places
+
+-- the entries whose places changed since a version, as far as these lie in a range
+abbrev pub changed_between : QueueState → ℕ → Places ℕ → List (ℕ × Entry)
+changed_between queue version r = filter (is_between r) (changed queue version)
+
 abbrev pub show_changed : Asked → Part → (ℕ × Entry → List ℕ) → ℕ → Option (Places ℕ) → CommandResult
 show_changed asked part lines version None = bad_index asked
-show_changed asked part lines version (Some r) = shows asked (flat_map lines (filter (is_between r) (changed part.queue version)))
+show_changed asked part lines version (Some r) = shows asked (flat_map lines (changed_between part.queue version r))
 
 -- the songs at the places that changed since a version, of a range or all
 abbrev pub changes : Asked → Part → Library → ℕ → Option Range → CommandResult

@@ -4,7 +4,7 @@ ghost use Rattle.std.specs.Prelude.{◌≡◌, ◌≤◌, ◌++◌, Some, IfOk, 
 ghost use Rattle.player_core.specs.Player.{is_stopped as is_stopped_lem};
 ghost use Rattle.queue_commands.specs.Playback.{clear_error as clear_error_lem, current_song as current_song_lem, elapsed as elapsed_lem, frame_at as frame_at_lem, lines_at, next as next_lem, pause as pause_lem, play as play_lem, play_id as play_id_lem, previous as previous_lem, seek as seek_lem, seek_cur as seek_cur_lem, result_of, seek_id as seek_id_lem, stop as stop_lem, time_of as time_of_lem};
 ghost use Rattle.player_state.specs.Fits.{Fits};
-ghost use Rattle.transitions.specs.Transitions.{transition_by};
+ghost use Rattle.transitions.specs.Transitions.{IsDecidedBy};
 
 use crate::queue_edits::current_place;
 use crate::queue_songs::push_entry;
@@ -20,7 +20,7 @@ use transitions::{Asked, Transition};
 #[rattlefmt::skip]
 #[tactic(auto, unfolding(crate::specs::Playback::result_of))]
 pub fn run(alloc: Global, asked: Asked, part: &Part, library: &Library, command: &PlaybackCommand) -> Result<Transition, AllocError>
-    ensures transition { IfOk result (λ transition. transition ≡ transition_by (result_of asked part.now library.now command.now)) }
+    ensures transition { IsDecidedBy result (result_of asked part.now library.now command.now) }
     ensures fits { IfOk result (λ transition. Fits part.now transition.effect) }
 {
     match command {
@@ -42,7 +42,7 @@ fn play(
     part: &Part,
     place: Option<u32>,
 ) -> Result<Transition, AllocError>
-    ensures { IfOk result (λ transition. transition ≡ transition_by (play_lem asked part.now place)) }
+    ensures { IsDecidedBy result (play_lem asked part.now place) }
 {
     let Some(place) = place else {
         return Transition::does(alloc, asked, CommandEffect::Plays);
@@ -60,7 +60,7 @@ fn play_id(
     part: &Part,
     id: Option<u32>,
 ) -> Result<Transition, AllocError>
-    ensures { IfOk result (λ transition. transition ≡ transition_by (play_id_lem asked part.now id)) }
+    ensures { IsDecidedBy result (play_id_lem asked part.now id) }
 {
     let Some(id) = id else {
         return Transition::does(alloc, asked, CommandEffect::Plays);
@@ -72,7 +72,7 @@ fn play_id(
 }
 
 fn pause(alloc: Global, asked: Asked, on: Option<bool>) -> Result<Transition, AllocError>
-    ensures { IfOk result (λ transition. transition ≡ transition_by (pause_lem asked on)) }
+    ensures { IsDecidedBy result (pause_lem asked on) }
 {
     match on {
         Some(on) => Transition::does(alloc, asked, CommandEffect::Pauses(on)),
@@ -81,13 +81,13 @@ fn pause(alloc: Global, asked: Asked, on: Option<bool>) -> Result<Transition, Al
 }
 
 fn stop(alloc: Global, asked: Asked) -> Result<Transition, AllocError>
-    ensures { IfOk result (λ transition. transition ≡ transition_by (stop_lem asked)) }
+    ensures { IsDecidedBy result (stop_lem asked) }
 {
     Transition::does(alloc, asked, CommandEffect::Stops)
 }
 
 fn next(alloc: Global, asked: Asked, part: &Part) -> Result<Transition, AllocError>
-    ensures { IfOk result (λ transition. transition ≡ transition_by (next_lem asked part.now)) }
+    ensures { IsDecidedBy result (next_lem asked part.now) }
 {
     if is_stopped(part) {
         return Transition::not_playing(alloc, asked);
@@ -96,7 +96,7 @@ fn next(alloc: Global, asked: Asked, part: &Part) -> Result<Transition, AllocErr
 }
 
 fn previous(alloc: Global, asked: Asked, part: &Part) -> Result<Transition, AllocError>
-    ensures { IfOk result (λ transition. transition ≡ transition_by (previous_lem asked part.now)) }
+    ensures { IsDecidedBy result (previous_lem asked part.now) }
 {
     if is_stopped(part) {
         return Transition::not_playing(alloc, asked);
@@ -122,7 +122,7 @@ fn seek(
     place: u32,
     time: Millis,
 ) -> Result<Transition, AllocError>
-    ensures { IfOk result (λ transition. transition ≡ transition_by (seek_lem asked part.now library.now place time.0)) }
+    ensures { IsDecidedBy result (seek_lem asked part.now library.now place time.0) }
 {
     let place = place as usize;
     if place >= part.queue.len() {
@@ -141,7 +141,7 @@ fn seek_id(
     id: u32,
     time: Millis,
 ) -> Result<Transition, AllocError>
-    ensures { IfOk result (λ transition. transition ≡ transition_by (seek_id_lem asked part.now library.now id time.0)) }
+    ensures { IsDecidedBy result (seek_id_lem asked part.now library.now id time.0) }
 {
     let Some(place) = part.queue.position_of(id) else {
         return Transition::no_such_song(alloc, asked);
@@ -158,7 +158,7 @@ fn seek_cur(
     library: &Library,
     seeking: Seeking,
 ) -> Result<Transition, AllocError>
-    ensures { IfOk result (λ transition. transition ≡ transition_by (seek_cur_lem asked part.now library.now seeking)) }
+    ensures { IsDecidedBy result (seek_cur_lem asked part.now library.now seeking) }
 {
     if is_stopped(part) {
         return Transition::not_playing(alloc, asked);
@@ -208,7 +208,7 @@ pub fn current_song(
     part: &Part,
     library: &Library,
 ) -> Result<Transition, AllocError>
-    ensures { IfOk result (λ transition. transition ≡ transition_by (current_song_lem asked part.now library.now)) }
+    ensures { IsDecidedBy result (current_song_lem asked part.now library.now) }
 {
     let mut lines = Answer::new(alloc);
     if let Some(place) = current_place(part) {
@@ -233,7 +233,7 @@ fn push_place_lines(
 }
 
 pub fn clear_error(alloc: Global, asked: Asked) -> Result<Transition, AllocError>
-    ensures { IfOk result (λ transition. transition ≡ transition_by (clear_error_lem asked)) }
+    ensures { IsDecidedBy result (clear_error_lem asked) }
 {
     Transition::does(alloc, asked, CommandEffect::ClearsError)
 }

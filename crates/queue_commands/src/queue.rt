@@ -1,8 +1,8 @@
 //! The table of the commands of the queue (MPD protocol reference, The Queue).
-ghost use Rattle.std.specs.Prelude.{◌≡◌, IfOk};
+ghost use Rattle.std.specs.Prelude.{IfOk};
 ghost use Rattle.player_state.specs.Fits.{Fits};
 ghost use Rattle.queue_commands.specs.Queue.{result_of};
-ghost use Rattle.transitions.specs.Transitions.{transition_by};
+ghost use Rattle.transitions.specs.Transitions.{IsDecidedBy};
 
 use crate::queue_edits::{
     add, add_id, clear, delete, delete_id, move_id, move_range, prio, prio_id, shuffle, swap,
@@ -18,7 +18,7 @@ use transitions::{Asked, Transition};
 #[rattlefmt::skip]
 #[tactic(auto, unfolding(crate::specs::Queue::result_of))]
 pub fn run(alloc: Global, asked: Asked, part: &Part, library: &Library, command: &QueueCommand) -> Result<Transition, AllocError>
-    ensures transition { IfOk result (λ transition. transition ≡ transition_by (result_of asked part.now library.now command.now)) }
+    ensures transition { IsDecidedBy result (result_of asked part.now library.now command.now) }
     ensures fits { IfOk result (λ transition. Fits part.now transition.effect) }
 {
     match command {

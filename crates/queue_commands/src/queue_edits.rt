@@ -1,13 +1,12 @@
 //! The commands that edit the queue (MPD protocol reference, The queue).
 ghost use Rattle.player_state.specs.declared.effect.Effect.TheVariants.{ByCommand};
 ghost use Rattle.player_state.specs.declared.effect.CommandEffect.TheVariants.{Rests};
-ghost use Rattle.std.specs.Prelude.{◌≡◌, ◌≤◌, ◌<◌, ◌∷◌, [], Option, Some, None, IfOk, IfSome, IfNone, All, length, map, ◌+◌};
+ghost use Rattle.std.specs.Prelude.{◌≡◌, ◌≤◌, ◌<◌, IfOk, IfSome, IfNone, length, map};
 ghost use Rattle.std.specs.Option.{option_copied};
 ghost use Rattle.song_queue.specs.State.{queue_of};
-ghost use Rattle.transitions.specs.CommandResults.{edits};
 ghost use Rattle.player_state.specs.declared.effect.CommandEffect.{CommandEffect};
-ghost use Rattle.queue_commands.specs.Queue.{add as add_lem, add_folder as add_folder_lem, add_songs, lack as lack_lem, add_id as add_id_lem, insert_song as insert_song_lem, insert_after as insert_after_lem, insert_at as insert_at_lem, insert_before as insert_before_lem, current_place as current_place_lem, no_current_song as no_current_song_lem, shuffle as shuffle_lem, clear as clear_lem, delete as delete_lem, delete_id as delete_id_lem, move as move_lem, move_id as move_id_lem, swap as swap_lem, swap_id as swap_id_lem, prio as prio_lem, prio_id as prio_id_lem, all_within, all_with_ids, place_with, with_room};
-ghost use Rattle.transitions.specs.Transitions.{transition_by};
+ghost use Rattle.queue_commands.specs.Queue.{AllLieIn, CanAdd, LieIn, add as add_lem, add_folder as add_folder_lem, add_songs, lack as lack_lem, add_id as add_id_lem, insert_song as insert_song_lem, insert_after as insert_after_lem, insert_at as insert_at_lem, insert_before as insert_before_lem, insert_one as insert_one_lem, current_place as current_place_lem, no_current_song as no_current_song_lem, shuffle as shuffle_lem, clear as clear_lem, delete as delete_lem, delete_id as delete_id_lem, move as move_lem, move_id as move_id_lem, swap as swap_lem, swap_id as swap_id_lem, prio as prio_lem, prio_id as prio_id_lem, all_within, all_with_ids, place_with};
+ghost use Rattle.transitions.specs.Transitions.{IsDecidedBy};
 ghost use Rattle.player_state.specs.Fits.{Fits};
 
 use crate::queue_songs::places_of;
@@ -28,7 +27,7 @@ pub(crate) fn add(
     library: &Library,
     uri: &Uri,
 ) -> Result<Transition, AllocError>
-    ensures transition { IfOk result (λ transition. transition ≡ transition_by (add_lem asked part.now library.now uri.now.0)) }
+    ensures transition { IsDecidedBy result (add_lem asked part.now library.now uri.now.0) }
     ensures fits { IfOk result (λ transition. Fits part.now transition.effect) }
 {
     match library.songs.db().share(uri.0.as_str())? {
@@ -48,7 +47,7 @@ fn add_folder(
     library: &Library,
     folder: &str,
 ) -> Result<Transition, AllocError>
-    ensures transition { IfOk result (λ transition. transition ≡ transition_by (add_folder_lem asked part.now library.now folder.now)) }
+    ensures transition { IsDecidedBy result (add_folder_lem asked part.now library.now folder.now) }
     ensures fits { IfOk result (λ transition. Fits part.now transition.effect) }
 {
     if !is_folder(library.songs.db(), folder) {
@@ -80,7 +79,7 @@ pub fn add_found(
     part: &Part,
     songs: &[&SharedSong],
 ) -> Result<Transition, AllocError>
-    ensures transition { IfOk result (λ transition. transition ≡ transition_by (add_songs asked part.now (map (λ song. song.now) songs.now))) }
+    ensures transition { IsDecidedBy result (add_songs asked part.now (map (λ song. song.now) songs.now)) }
     ensures fits { IfOk result (λ transition. Fits part.now transition.effect) }
 {
     if let Some(text) = lack(part, songs.len()) {
@@ -97,7 +96,7 @@ pub fn add_loaded(
     part: &Part,
     songs: Vec<SharedSong>,
 ) -> Result<Transition, AllocError>
-    ensures transition { IfOk result (λ transition. transition ≡ transition_by (add_songs asked part.now songs.items)) }
+    ensures transition { IsDecidedBy result (add_songs asked part.now songs.items) }
     ensures fits { IfOk result (λ transition. Fits part.now transition.effect) }
 {
     if let Some(text) = lack(part, songs.len()) {
@@ -121,7 +120,7 @@ fn shares_of_found(alloc: Global, songs: &[&SharedSong]) -> Result<Sequence<Shar
 /// Why so many songs cannot be added, if they cannot.
 fn lack(part: &Part, songs: usize) -> Option<&'static str>
     ensures text { option_copied result ≡ lack_lem part.now songs }
-    ensures room { IfNone result ((length (queue_of part.now.queue) + songs ≤ part.now.queue.max_len) × (part.now.queue.greatest_id + songs ≤ part.now.queue.max_id)) }
+    ensures room { IfNone result (CanAdd part.now songs) }
 {
     if !part.queue.has_room(songs) {
         return Some("playlist is full");
@@ -142,7 +141,7 @@ fn insert_one(
     lines: Answer,
 ) -> Result<Transition, AllocError>
     requires { place ≤ length (queue_of part.now.queue) }
-    ensures transition { IfOk result (λ transition. transition ≡ transition_by (with_room asked part.now 1 (edits asked (Edit.Insert place (song ∷ [])) lines))) }
+    ensures transition { IsDecidedBy result (insert_one_lem asked part.now song place lines) }
     ensures fits { IfOk result (λ transition. Fits part.now transition.effect) }
 {
     if let Some(text) = lack(part, 1) {
@@ -161,7 +160,7 @@ pub(crate) fn add_id(
     uri: &Uri,
     place: Option<Place>,
 ) -> Result<Transition, AllocError>
-    ensures transition { IfOk result (λ transition. transition ≡ transition_by (add_id_lem asked part.now library.now uri.now.0 place)) }
+    ensures transition { IsDecidedBy result (add_id_lem asked part.now library.now uri.now.0 place) }
     ensures fits { IfOk result (λ transition. Fits part.now transition.effect) }
 {
     match library.songs.db().share(uri.0.as_str())? {
@@ -177,7 +176,7 @@ fn insert_song(
     song: SharedSong,
     place: Option<Place>,
 ) -> Result<Transition, AllocError>
-    ensures transition { IfOk result (λ transition. transition ≡ transition_by (insert_song_lem asked part.now song place)) }
+    ensures transition { IsDecidedBy result (insert_song_lem asked part.now song place) }
     ensures fits { IfOk result (λ transition. Fits part.now transition.effect) }
 {
     match place {
@@ -196,7 +195,7 @@ fn insert_after(
     song: SharedSong,
     steps: usize,
 ) -> Result<Transition, AllocError>
-    ensures transition { IfOk result (λ transition. transition ≡ transition_by (insert_after_lem asked part.now song (current_place_lem part.now) steps)) }
+    ensures transition { IsDecidedBy result (insert_after_lem asked part.now song (current_place_lem part.now) steps) }
     ensures fits { IfOk result (λ transition. Fits part.now transition.effect) }
 {
     let Some(place) = current_place(part) else {
@@ -216,7 +215,7 @@ fn insert_before(
     song: SharedSong,
     steps: usize,
 ) -> Result<Transition, AllocError>
-    ensures transition { IfOk result (λ transition. transition ≡ transition_by (insert_before_lem asked part.now song (current_place_lem part.now) steps)) }
+    ensures transition { IsDecidedBy result (insert_before_lem asked part.now song (current_place_lem part.now) steps) }
     ensures fits { IfOk result (λ transition. Fits part.now transition.effect) }
 {
     let Some(place) = current_place(part) else {
@@ -237,7 +236,7 @@ pub(crate) fn current_place(part: &Part) -> Option<usize>
 }
 
 fn no_current_song(alloc: Global, asked: Asked) -> Result<Transition, AllocError>
-    ensures transition { IfOk result (λ transition. transition ≡ transition_by (no_current_song_lem asked)) }
+    ensures transition { IsDecidedBy result (no_current_song_lem asked) }
     ensures rests { IfOk result (λ transition. transition.effect ≡ ByCommand Rests) }
 {
     Transition::refuses(alloc, asked, ErrorNumber::PlayerSync, "no current song")
@@ -251,7 +250,7 @@ fn insert_at(
     song: SharedSong,
     place: usize,
 ) -> Result<Transition, AllocError>
-    ensures transition { IfOk result (λ transition. transition ≡ transition_by (insert_at_lem asked part.now song place)) }
+    ensures transition { IsDecidedBy result (insert_at_lem asked part.now song place) }
     ensures fits { IfOk result (λ transition. Fits part.now transition.effect) }
 {
     if place > part.queue.len() {
@@ -263,7 +262,7 @@ fn insert_at(
 }
 
 pub(crate) fn clear(alloc: Global, asked: Asked, part: &Part) -> Result<Transition, AllocError>
-    ensures transition { IfOk result (λ transition. transition ≡ transition_by (clear_lem asked part.now)) }
+    ensures transition { IsDecidedBy result (clear_lem asked part.now) }
     ensures fits { IfOk result (λ transition. Fits part.now transition.effect) }
 {
     let edit = Edit::Remove(0, part.queue.len());
@@ -276,7 +275,7 @@ pub(crate) fn delete(
     part: &Part,
     range: Range,
 ) -> Result<Transition, AllocError>
-    ensures transition { IfOk result (λ transition. transition ≡ transition_by (delete_lem asked part.now range)) }
+    ensures transition { IsDecidedBy result (delete_lem asked part.now range) }
     ensures fits { IfOk result (λ transition. Fits part.now transition.effect) }
 {
     let Some(places) = range.within(part.queue.len()) else {
@@ -292,7 +291,7 @@ pub(crate) fn delete_id(
     part: &Part,
     id: u32,
 ) -> Result<Transition, AllocError>
-    ensures transition { IfOk result (λ transition. transition ≡ transition_by (delete_id_lem asked part.now id)) }
+    ensures transition { IsDecidedBy result (delete_id_lem asked part.now id) }
     ensures fits { IfOk result (λ transition. Fits part.now transition.effect) }
 {
     let Some(place) = part.queue.position_of(id) else {
@@ -309,7 +308,7 @@ pub(crate) fn move_range(
     range: Range,
     to: u32,
 ) -> Result<Transition, AllocError>
-    ensures transition { IfOk result (λ transition. transition ≡ transition_by (move_lem asked part.now range to)) }
+    ensures transition { IsDecidedBy result (move_lem asked part.now range to) }
     ensures fits { IfOk result (λ transition. Fits part.now transition.effect) }
 {
     let len = part.queue.len();
@@ -331,7 +330,7 @@ pub(crate) fn move_id(
     id: u32,
     to: u32,
 ) -> Result<Transition, AllocError>
-    ensures transition { IfOk result (λ transition. transition ≡ transition_by (move_id_lem asked part.now id to)) }
+    ensures transition { IsDecidedBy result (move_id_lem asked part.now id to) }
     ensures fits { IfOk result (λ transition. Fits part.now transition.effect) }
 {
     let to = to as usize;
@@ -352,7 +351,7 @@ pub(crate) fn shuffle(
     part: &Part,
     range: Option<Range>,
 ) -> Result<Transition, AllocError>
-    ensures transition { IfOk result (λ transition. transition ≡ transition_by (shuffle_lem asked part.now range)) }
+    ensures transition { IsDecidedBy result (shuffle_lem asked part.now range) }
     ensures fits { IfOk result (λ transition. Fits part.now transition.effect) }
 {
     let len = part.queue.len();
@@ -373,7 +372,7 @@ pub(crate) fn swap(
     first: u32,
     second: u32,
 ) -> Result<Transition, AllocError>
-    ensures transition { IfOk result (λ transition. transition ≡ transition_by (swap_lem asked part.now first second)) }
+    ensures transition { IsDecidedBy result (swap_lem asked part.now first second) }
     ensures fits { IfOk result (λ transition. Fits part.now transition.effect) }
 {
     let (first, second) = (first as usize, second as usize);
@@ -392,7 +391,7 @@ pub(crate) fn swap_id(
     first: u32,
     second: u32,
 ) -> Result<Transition, AllocError>
-    ensures transition { IfOk result (λ transition. transition ≡ transition_by (swap_id_lem asked part.now first second)) }
+    ensures transition { IsDecidedBy result (swap_id_lem asked part.now first second) }
     ensures fits { IfOk result (λ transition. Fits part.now transition.effect) }
 {
     let Some(first) = part.queue.position_of(first) else {
@@ -412,7 +411,7 @@ pub(crate) fn prio(
     priority: u8,
     ranges: &[Range],
 ) -> Result<Transition, AllocError>
-    ensures transition { IfOk result (λ transition. transition ≡ transition_by (prio_lem asked part.now priority ranges.now)) }
+    ensures transition { IsDecidedBy result (prio_lem asked part.now priority ranges.now) }
     ensures fits { IfOk result (λ transition. Fits part.now transition.effect) }
 {
     let Some(places) = places_of_ranges(alloc, ranges, part.queue.len())? else {
@@ -429,7 +428,7 @@ fn places_of_ranges(
     len: usize,
 ) -> Result<Option<Sequence<ops::Range<usize>>>, AllocError>
     ensures places { IfOk result (λ places. places ≡ all_within len ranges.now) }
-    ensures inside { IfOk result (λ places. IfSome places (λ rs. All (λ r. (r.start ≤ r.end) × (r.end ≤ len)) rs)) }
+    ensures inside { IfOk result (λ places. IfSome places (AllLieIn len)) }
 {
     let mut places = Sequence::new(alloc);
     for range in ranges {
@@ -448,7 +447,7 @@ pub(crate) fn prio_id(
     priority: u8,
     ids: &[u32],
 ) -> Result<Transition, AllocError>
-    ensures transition { IfOk result (λ transition. transition ≡ transition_by (prio_id_lem asked part.now priority ids.now)) }
+    ensures transition { IsDecidedBy result (prio_id_lem asked part.now priority ids.now) }
     ensures fits { IfOk result (λ transition. Fits part.now transition.effect) }
 {
     let Some(places) = places_of_ids(alloc, &part.queue, ids)? else {
@@ -465,7 +464,7 @@ fn places_of_ids(
     ids: &[u32],
 ) -> Result<Option<Sequence<ops::Range<usize>>>, AllocError>
     ensures places { IfOk result (λ places. places ≡ all_with_ids queue.now ids.now) }
-    ensures inside { IfOk result (λ places. IfSome places (λ rs. All (λ r. (r.start ≤ r.end) × (r.end ≤ length (queue_of queue.now))) rs)) }
+    ensures inside { IfOk result (λ places. IfSome places (AllLieIn (length (queue_of queue.now)))) }
 {
     let mut places = Sequence::new(alloc);
     for id in ids {
@@ -481,7 +480,7 @@ fn places_of_ids(
 #[tactic(auto, unfolding(crate::specs::Queue::place_with))]
 fn place_of_id(queue: &Queue, id: u32) -> Option<ops::Range<usize>>
     ensures place { result ≡ place_with queue.now id }
-    ensures inside { IfSome result (λ r. (r.start ≤ r.end) × (r.end ≤ length (queue_of queue.now))) }
+    ensures inside { IfSome result (LieIn (length (queue_of queue.now))) }
 {
     let place = queue.position_of(id)?;
     Some(place..place + 1)

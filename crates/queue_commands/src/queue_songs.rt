@@ -1,12 +1,9 @@
 //! The commands that show the queue (MPD protocol reference, The queue).
-ghost use Rattle.std.specs.Prelude.{◌≡◌, ◌≤◌, ◌++◌, Some, IfOk, IfSome, OnOk, filter, length};
-ghost use Rattle.std.specs.List.{flat_map};
+ghost use Rattle.std.specs.Prelude.{◌≡◌, ◌++◌, Some, IfOk, IfSome, OnOk};
 ghost use Rattle.std.specs.Option.{option_copied};
-ghost use Rattle.song_queue.specs.Entries.{row_of, rows_at};
-ghost use Rattle.song_queue.specs.State.{queue_of, changed};
-ghost use Rattle.queue_commands.specs.Queue.{changed_places as changed_places_lem, changes as changes_lem, entry_lines, is_between, playlist_id as playlist_id_lem, playlist_info as playlist_info_lem, place_lines, priority_line, range_or_all, show_changed as show_changed_lem, show_places as show_places_lem};
-ghost use Rattle.queue_commands.specs.Shown.{row_lines};
-ghost use Rattle.transitions.specs.Transitions.{transition_by};
+ghost use Rattle.queue_commands.specs.Queue.{LieIn, changed_between, changed_places as changed_places_lem, changes as changes_lem, entry_lines, playlist_id as playlist_id_lem, playlist_info as playlist_info_lem, place_lines, priority_line, range_or_all, rows_in, show_places as show_places_lem};
+ghost use Rattle.queue_commands.specs.Shown.{changes_as, lines_of_row, lines_of_rows};
+ghost use Rattle.transitions.specs.Transitions.{IsDecidedBy};
 
 use mpd_text::{Answer, Range};
 use player_state::{Library, Part};
@@ -32,7 +29,7 @@ pub(crate) fn playlist_info(
     library: &Library,
     range: Option<Range>,
 ) -> Result<Transition, AllocError>
-    ensures { IfOk result (λ transition. transition ≡ transition_by (playlist_info_lem asked part.now library.now range)) }
+    ensures { IsDecidedBy result (playlist_info_lem asked part.now library.now range) }
 {
     match places_of(range, part.queue.len()) {
         Some(places) => show_places(alloc, asked, part, library, places),
@@ -47,7 +44,7 @@ pub(crate) fn playlist_id(
     library: &Library,
     id: Option<u32>,
 ) -> Result<Transition, AllocError>
-    ensures { IfOk result (λ transition. transition ≡ transition_by (playlist_id_lem asked part.now library.now id)) }
+    ensures { IsDecidedBy result (playlist_id_lem asked part.now library.now id) }
 {
     let Some(id) = id else {
         return playlist_info(alloc, asked, part, library, None);
@@ -61,7 +58,7 @@ pub(crate) fn playlist_id(
 /// The places of a range, or all, if they are in a list of so many items.
 pub(crate) fn places_of(range: Option<Range>, len: usize) -> Option<ops::Range<usize>>
     ensures places { result ≡ range_or_all range len }
-    ensures inside { IfSome result (λ places. (places.start ≤ places.end) × (places.end ≤ len)) }
+    ensures inside { IfSome result (LieIn len) }
 {
     match range {
         Some(range) => range.within(len),
@@ -76,7 +73,7 @@ fn show_places(
     library: &Library,
     places: ops::Range<usize>,
 ) -> Result<Transition, AllocError>
-    ensures { IfOk result (λ transition. transition ≡ transition_by (show_places_lem asked part.now library.now (Some places))) }
+    ensures { IsDecidedBy result (show_places_lem asked part.now library.now (Some places)) }
 {
     let places: Vec<usize> = places.collect(alloc)?;
     let lines = rows(alloc, &part.queue, library, &places, Shown::Song)?;
@@ -91,7 +88,7 @@ pub(crate) fn changes(
     version: u32,
     range: Option<Range>,
 ) -> Result<Transition, AllocError>
-    ensures { IfOk result (λ transition. transition ≡ transition_by (changes_lem asked part.now library.now version range)) }
+    ensures { IsDecidedBy result (changes_lem asked part.now library.now version range) }
 {
     show_changed(alloc, asked, part, library, version, range, Shown::Song)
 }
@@ -104,7 +101,7 @@ pub(crate) fn changed_places(
     version: u32,
     range: Option<Range>,
 ) -> Result<Transition, AllocError>
-    ensures { IfOk result (λ transition. transition ≡ transition_by (changed_places_lem asked part.now version range)) }
+    ensures { IsDecidedBy result (changed_places_lem asked part.now version range) }
 {
     show_changed(alloc, asked, part, library, version, range, Shown::Place)
 }
@@ -119,7 +116,7 @@ fn show_changed(
     range: Option<Range>,
     shown: Shown,
 ) -> Result<Transition, AllocError>
-    ensures { IfOk result (λ transition. transition ≡ transition_by (show_changed_lem asked part.now (row_lines shown library.now.rate) version (range_or_all range (length (queue_of part.now.queue))))) }
+    ensures { IsDecidedBy result (changes_as asked part.now library.now shown version range) }
 {
     let Some(places) = places_of(range, part.queue.len()) else {
         return Transition::bad_index(alloc, asked);
@@ -136,7 +133,7 @@ fn changed_within(
     version: u32,
     within: &ops::Range<usize>,
 ) -> Result<Vec<usize>, AllocError>
-    ensures { IfOk result (λ places. rows_at (queue_of queue.now) places.items ≡ filter (is_between within.now) (changed queue.now version)) }
+    ensures { IfOk result (λ places. rows_in queue.now places.items ≡ changed_between queue.now version within.now) }
 {
     let changed = queue.changed_since(version)?;
     let mut places = Vec::new(alloc);
@@ -156,7 +153,7 @@ fn rows(
     places: &[usize],
     shown: Shown,
 ) -> Result<Answer, AllocError>
-    ensures { IfOk result (λ lines. lines ≡ flat_map (row_lines shown library.now.rate) (rows_at (queue_of queue.now) places.now)) }
+    ensures { IfOk result (λ lines. lines ≡ lines_of_rows shown library.now (rows_in queue.now places.now)) }
 {
     let mut lines = Answer::new(alloc);
     for place in places {
@@ -173,7 +170,7 @@ fn push_row(
     entry: Option<&Entry>,
     shown: Shown,
 ) -> Result<(), AllocError>
-    ensures { OnOk result (lines.new ≡ lines.old ++ flat_map (row_lines shown library.now.rate) (row_of place (option_copied entry.entry))) }
+    ensures { OnOk result (lines.new ≡ lines.old ++ lines_of_row shown library.now place (option_copied entry.entry)) }
 {
     let Some(entry) = entry else {
         return Ok(());

@@ -1,6 +1,7 @@
 -- The tags of a song in a script (this profile's script; texts are taken as those of a RIFF WAVE file's INFO
 -- list).
-use Rattle.std.specs.Prelude.{ℕ, List, length, Option, Bool, ◌&&◌, nat_le, option_map, find}
+use Rattle.std.specs.Prelude.{◌≡◌, ℕ, List, length, Option, Some, None, MatchOption, Bool, ◌&&◌, nat_le, option_map, find}
+use Rattle.std.specs.Borrow.{Bor}
 use Rattle.std.specs.List.{list_all, list_any, filter_map}
 use Rattle.std.specs.Str.{str_eq_ignore_ascii_case}
 use Rattle.mpd_text.specs.Songs.Song.{TagData}
@@ -31,6 +32,11 @@ gives name word = is_tag_of name word && counts (text_of word)
 -- of one tag, the first text that counts
 abbrev pub first_text : TagName → List (List ℕ) → Option (List ℕ)
 first_text name words = option_map text_of (find (gives name) words)
+
+-- what is found is that text, or there is none
+abbrev pub IsFirstText : TagName → List (List ℕ) → Option (Bor (List ℕ)) → Type 0
+IsFirstText name words found =
+    MatchOption found (first_text name words ≡ None) (λ text. first_text name words ≡ Some text.now)
 
 -- the tags that words give, in the order of the names
 abbrev pub tags_of : List (List ℕ) → List TagData

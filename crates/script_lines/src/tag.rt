@@ -1,8 +1,8 @@
 //! The tags of a song, as a script writes them.
-ghost use Rattle.std.specs.Prelude.{◌≡◌, ◌<◌, IfOk, map, string_bytes, Some, None, MatchOption, nat_le};
+ghost use Rattle.std.specs.Prelude.{◌≡◌, ◌<◌, IfOk, map, string_bytes, nat_le};
 ghost use Rattle.std.specs.Str.{str_eq_ignore_ascii_case};
 ghost use Rattle.std.specs.List.{list_all};
-ghost use Rattle.script_lines.specs.Tags.{is_tag_of as is_tag_of_lem, is_tag as is_tag_lem, text_of as text_of_lem, counts as counts_lem, first_text as first_text_lem, tags_of as tags_of_lem};
+ghost use Rattle.script_lines.specs.Tags.{is_tag_of as is_tag_of_lem, is_tag as is_tag_lem, text_of as text_of_lem, counts as counts_lem, IsFirstText, tags_of as tags_of_lem};
 
 use crate::cut::{cut, has};
 use mpd_text::{TAG_NAMES, Tag, TagName};
@@ -53,7 +53,7 @@ fn has_no_control(text: &[u8]) -> bool
 }
 
 fn first_text(words: &[String], name: TagName) -> Option<&str>
-    ensures { MatchOption result (first_text_lem name (map string_bytes words.now) ≡ None) (λ text. first_text_lem name (map string_bytes words.now) ≡ Some text.now) }
+    ensures { IsFirstText name (map string_bytes words.now) result }
 {
     for word in words {
         let text = text_of(word.as_str());

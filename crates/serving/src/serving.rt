@@ -1,6 +1,6 @@
 //! A daemon over the files of the system, with a shelf of any kind.
 ghost use Rattle.settings.specs.Values.{AreWithin};
-ghost use Rattle.held_player.specs.Blanks.{AreFor};
+ghost use Rattle.held_player.specs.Blanks.{AreFor, HasPartsOfFrames, HasSeatsOfOnePart};
 ghost use Rattle.std.specs.Prelude.{◌≡◌};
 
 use crate::fault::DaemonFault;
@@ -47,8 +47,8 @@ pub fn serve<S: Shelf, R: Threads + Wait + Clock + Net + Copy + Send + Sync + 's
 
 /// Seven new ledgers; those of written and discarded frames have a part for each output, and one more.
 fn blanks() -> Blanks
-    ensures seats { (result.first.parts ≡ 1) × (result.second.parts ≡ 1) × (result.third.parts ≡ 1) × (result.fourth.parts ≡ 1) }
-    ensures frames { (result.frames.decoded.parts ≡ 1) × (result.frames.written.parts ≡ 9) × (result.frames.discarded.parts ≡ 9) }
+    ensures seats { HasSeatsOfOnePart result }
+    ensures frames { HasPartsOfFrames result }
 {
     Blanks {
         first: Blank::new(1),

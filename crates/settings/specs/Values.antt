@@ -1,9 +1,10 @@
 -- Which settings a table is (this profile's).
-use Rattle.std.specs.Prelude.{◌≡◌, ◌≤◌, ⊤, ℕ, List, [], ◌∷◌, codes, pos, Option, Some, None, option_map, string_bytes, true, vec_len, Bool, if◌then◌else◌}
+use Rattle.std.specs.Prelude.{◌≡◌, ◌≤◌, ⊤, ℕ, List, [], ◌∷◌, codes, pos, Option, Some, None, option_map, String, string_bytes, true, vec_len, Bool, if◌then◌else◌}
+use Rattle.std.specs.Global.{Global}
 use Rattle.std.specs.Option.{ForSome}
 use Rattle.std.specs.Str.{bytes_eq}
 use Rattle.toml.specs.Data.{Data, string, integer, boolean, array, table, Items, no_items, item, Members, get_member}
-use Rattle.settings.specs.Keys.{Key, LeftOut, stands_for, output_keys, settings_keys}
+use Rattle.settings.specs.Keys.{Key, LeftOut, nothing, refused, stands_for, output_keys, settings_keys}
 use Rattle.settings.specs.declared.values.OutputSettings.{OutputSettings}
 use Rattle.settings.specs.declared.values.Settings.{Settings}
 
@@ -16,6 +17,19 @@ found_or None left_out = None
 -- the same at a key of a table
 abbrev pub found_at : List ℕ → Members → LeftOut → Option Data
 found_at name entries left_out = found_or (get_member name entries) left_out
+
+-- the text at a key of a table, which must be there
+abbrev pub IsTextAt : List ℕ → Members → List ℕ → Type 0
+IsTextAt name entries text = found_at name entries refused ≡ Some (string text)
+
+-- the text at a key of a table, or none where it is left out
+abbrev pub IsTextOrNoneAt : List ℕ → Members → Option (String Global) → Type 0
+IsTextOrNoneAt name entries text =
+    found_at name entries nothing ≡ option_map (λ found. string (string_bytes found)) text
+
+-- the whole number at a key of a table, or this default where it is left out
+abbrev pub IsNumberAt : List ℕ → Members → ℕ → ℕ → Type 0
+IsNumberAt name entries default n = found_at name entries (stands_for (integer (pos default))) ≡ Some (integer (pos n))
 
 -- what is at a key of a table, where there is something, passes the test
 abbrev pub PassesAt : (Data → Bool) → List ℕ → Members → Type 0
@@ -42,6 +56,11 @@ abbrev pub AreOutputs : Items → List OutputSettings → Type 0
 AreOutputs no_items [] = ⊤
 AreOutputs (item d rest) (output ∷ outputs) = IsOutput d output × AreOutputs rest outputs
 AreOutputs _ _ = ⊥
+
+-- the outputs at a key of a table, or none where it is left out
+abbrev pub AreOutputsAt : List ℕ → Members → List OutputSettings → Type 0
+AreOutputsAt name entries outputs = (ds : Items)
+    × (found_at name entries (stands_for (array no_items)) ≡ Some (array ds)) × AreOutputs ds outputs
 
 -- the table says these settings: each is the value of its key
 pub record Says (entries : Members) (settings : Settings) : Type 0 where

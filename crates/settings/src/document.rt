@@ -1,9 +1,9 @@
 //! A text as settings.
-ghost use Rattle.std.specs.Prelude.{◌≡◌, Some, IfErr, IfOk, codes, pos};
+ghost use Rattle.std.specs.Prelude.{◌≡◌, Some, IfErr, IfOk, codes};
 ghost use Rattle.settings.specs.Refusals.{IsRefusedBy, IsRefusedFor, IsTaken};
-ghost use Rattle.settings.specs.Keys.{is_number, stands_for};
-ghost use Rattle.settings.specs.Values.{AreWithin, PassesAt, Says, found_at};
-ghost use Rattle.toml.specs.Data.{Members, integer};
+ghost use Rattle.settings.specs.Keys.{is_number};
+ghost use Rattle.settings.specs.Values.{AreWithin, IsNumberAt, PassesAt, Says};
+ghost use Rattle.toml.specs.Data.{Members};
 ghost use Rattle.toml.specs.Parse.{parse_document};
 ghost use Rattle.toml.specs.View.{table_view};
 
@@ -74,7 +74,7 @@ fn read(alloc: Global, table: &Table) -> Result<Settings, AllocError>
 
 fn rate_of(table: &Table) -> Rate
     requires { PassesAt (is_number 8000 192000) (codes "rate") (table_view table.now) }
-    ensures { found_at (codes "rate") (table_view table.now) (stands_for (integer (pos 44100))) ≡ Some (integer (pos result)) }
+    ensures { IsNumberAt (codes "rate") (table_view table.now) 44100 result }
 {
     match Rate::new(number_at(table, "rate", RATE)) {
         Some(rate) => rate,

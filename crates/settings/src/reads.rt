@@ -1,8 +1,8 @@
 //! What is read of a table that is taken.
-ghost use Rattle.std.specs.Prelude.{◌≡◌, ◌≤◌, Some, option_map, pos, string_bytes, true, IfOk, IsSome, vec_len};
-ghost use Rattle.settings.specs.Keys.{are_outputs, each_output, is_flag, is_natural, is_number, is_output, is_text, nothing, refused, stands_for};
-ghost use Rattle.settings.specs.Values.{AreOutputs, IsOutput, PassesAt, found_at};
-ghost use Rattle.toml.specs.Data.{Items, array, boolean, get_member, integer, no_items, string};
+ghost use Rattle.std.specs.Prelude.{◌≡◌, ◌≤◌, Some, string_bytes, true, IfOk, IsSome, vec_len};
+ghost use Rattle.settings.specs.Keys.{are_outputs, each_output, is_flag, is_natural, is_number, is_output, is_text, stands_for};
+ghost use Rattle.settings.specs.Values.{AreOutputs, AreOutputsAt, IsNumberAt, IsOutput, IsTextAt, IsTextOrNoneAt, PassesAt, found_at};
+ghost use Rattle.toml.specs.Data.{boolean, get_member};
 ghost use Rattle.toml.specs.View.{array_view, table_view, view};
 
 use crate::keys::{Span, natural, value_at};
@@ -15,7 +15,7 @@ use toml::{Table, Value};
 pub(crate) fn text_at(alloc: Global, table: &Table, name: &str) -> Result<String, AllocError>
     requires there { IsSome (get_member name.now (table_view table.now)) }
     requires good { PassesAt is_text name.now (table_view table.now) }
-    ensures { IfOk result (λ text. found_at name.now (table_view table.now) refused ≡ Some (string (string_bytes text))) }
+    ensures { IfOk result (λ text. IsTextAt name.now (table_view table.now) (string_bytes text)) }
 {
     match text_perhaps(alloc, table, name)? {
         Some(text) => Ok(text),
@@ -30,7 +30,7 @@ pub(crate) fn text_perhaps(
     name: &str,
 ) -> Result<Option<String>, AllocError>
     requires { PassesAt is_text name.now (table_view table.now) }
-    ensures { IfOk result (λ text. found_at name.now (table_view table.now) nothing ≡ option_map (λ found. string (string_bytes found)) text) }
+    ensures { IfOk result (λ text. IsTextOrNoneAt name.now (table_view table.now) text) }
 {
     let Some(value) = value_at(table, name) else {
         return Ok(None);
@@ -44,7 +44,7 @@ pub(crate) fn text_perhaps(
 /// The whole number at a key, or 0 where it is left out.
 pub(crate) fn natural_at(table: &Table, name: &str) -> u64
     requires { PassesAt is_natural name.now (table_view table.now) }
-    ensures { found_at name.now (table_view table.now) (stands_for (integer (pos 0))) ≡ Some (integer (pos result)) }
+    ensures { IsNumberAt name.now (table_view table.now) 0 result }
 {
     match value_at(table, name) {
         Some(value) => natural(value).unwrap_or(0),
@@ -55,7 +55,7 @@ pub(crate) fn natural_at(table: &Table, name: &str) -> u64
 /// The number at a key, or the one that stands for it.
 pub(crate) fn number_at(table: &Table, name: &str, span: Span) -> u32
     requires { PassesAt (is_number span.least span.most) name.now (table_view table.now) }
-    ensures value { found_at name.now (table_view table.now) (stands_for (integer (pos span.default))) ≡ Some (integer (pos result)) }
+    ensures value { IsNumberAt name.now (table_view table.now) span.default result }
     ensures range { (span.least ≤ result) × (result ≤ span.most) }
 {
     let Some(value) = value_at(table, name) else {
@@ -85,8 +85,7 @@ pub(crate) fn outputs_at(
     name: &str,
 ) -> Result<Vec<OutputSettings>, AllocError>
     requires { PassesAt are_outputs name.now (table_view table.now) }
-    ensures says { IfOk result (λ outputs. (ds : Items)
-        × (found_at name.now (table_view table.now) (stands_for (array no_items)) ≡ Some (array ds)) × AreOutputs ds outputs.items) }
+    ensures says { IfOk result (λ outputs. AreOutputsAt name.now (table_view table.now) outputs.items) }
     ensures most { IfOk result (λ outputs. vec_len outputs ≤ 8) }
 {
     let Some(value) = value_at(table, name) else {

@@ -3,3 +3,4 @@ pub mod Entries
 pub mod Lines
 pub mod Maps
 pub mod Memory
+pub mod Shelf

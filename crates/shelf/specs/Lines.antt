@@ -1,5 +1,5 @@
 -- A stored playlist's text: each URI followed by one newline byte (this profile's tables, `uris`).
-use Rattle.std.specs.Prelude.{ℕ, Bool, not, List, [], ◌∷◌, ◌++◌, ◌==◌, Contains, flat_map, cond}
+use Rattle.std.specs.Prelude.{ℕ, Bool, not, List, [], ◌∷◌, ◌++◌, ◌==◌, ◌≡◌, Contains, flat_map, cond}
 use Rattle.std.specs.List.{list_any}
 
 abbrev pub newline : ℕ
@@ -31,3 +31,7 @@ before b (line ∷ lines) = (b ∷ line) ∷ lines
 unfoldable pub lines_of : List ℕ → List (List ℕ)
 lines_of [] = []
 lines_of (b ∷ text) = cond (b == newline) ([] ∷ lines_of text) (before b (lines_of text))
+
+-- the text has this line first, and the lines of the rest after it
+abbrev pub BeginsWith : List ℕ → List ℕ → List ℕ → Type 0
+BeginsWith text line rest = lines_of text ≡ line ∷ lines_of rest

@@ -2,7 +2,7 @@
 
 ghost use Rattle.std.specs.Prelude.{◌≡◌, ◌==◌, ◌↔◌, ◌<◌, ◌≤◌, ◌++◌, ◌∷◌, [], IsTrue, IfSome, MatchOption, OnOk, OnErr, length, take, string_bytes};
 ghost use Rattle.std.specs.Str.{IsCharBoundary};
-ghost use Rattle.shelf.specs.Lines.{text_of, lines_of, ended, are_single_lines, HasNoNewline};
+ghost use Rattle.shelf.specs.Lines.{text_of, lines_of, ended, are_single_lines, BeginsWith, HasNoNewline};
 
 use std::alloc::{AllocError, Global};
 use std::marker::Model;
@@ -99,7 +99,7 @@ impl Clone for UriList {
 
 /// The first line of a text, without its newline, and what comes after it. What no newline ends is no line.
 pub fn next_uri(rest: &str) -> Option<(&str, &str)>
-    ensures lines { MatchOption result (lines_of rest.now ≡ []) (λ parts. lines_of rest.now ≡ parts.0.now ∷ lines_of parts.1.now) }
+    ensures lines { MatchOption result (lines_of rest.now ≡ []) (λ parts. BeginsWith rest.now parts.0.now parts.1.now) }
     ensures single { IfSome result (λ parts. HasNoNewline parts.0.now) }
     ensures shorter { IfSome result (λ parts. length parts.1.now < length rest.now) }
 {

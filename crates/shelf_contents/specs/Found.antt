@@ -1,8 +1,10 @@
 -- The songs that have a sticker (MPD protocol reference, Stickers: `sticker find`; that values are compared
 -- by their bytes is this profile's).
-use Rattle.std.specs.Prelude.{ℕ, Bool, true, ◌&&◌, List, ◌++◌, flat_map, filter, Option, Some, None, is_some, bytes_eq, if◌then◌else◌}
+use Rattle.std.specs.Prelude.{◌≡◌, ℕ, Bool, true, ◌&&◌, List, ◌++◌, flat_map, filter, map, Option, Some, None, is_some, bytes_eq, if◌then◌else◌}
 use Rattle.std.specs.Cmp.Lexicographic.{slice_cmp}
 use Rattle.std.specs.Ordering.{nat_cmp, is_eq, is_lt, is_gt}
+use Rattle.shelf.specs.declared.faults.Entry.{Entry}
+use Rattle.shelf.specs.Entries.{entry_texts}
 use Rattle.mpd_text.specs.Songs.Song.{SongData}
 use Rattle.mpd_command.specs.declared.sticker.Comparison.{Comparison}
 use Rattle.mpd_command.specs.declared.sticker.Operator.{Operator}
@@ -37,3 +39,7 @@ found_line name e = uri_line e.0 ++ sticker_of name e.1
 
 abbrev pub found_lines : List SongData → List ℕ → List ℕ → Option Comparison → List (List ℕ × List ℕ) → List ℕ
 found_lines songs asked name test entries = flat_map (found_line name) (filter (is_found songs asked test) entries)
+
+-- the answer shows those of these entries that are found
+abbrev pub ShowsFound : List SongData → List ℕ → List ℕ → Option Comparison → List Entry → List ℕ → Type 0
+ShowsFound songs asked name test entries answer = answer ≡ found_lines songs asked name test (map entry_texts entries)

@@ -1,10 +1,10 @@
 //! The songs that have a sticker (MPD protocol reference, Stickers: `sticker find`).
 
-ghost use Rattle.std.specs.Prelude.{◌≡◌, ◌++◌, IfOk, OnOk, map, string_bytes};
+ghost use Rattle.std.specs.Prelude.{◌≡◌, ◌++◌, IfOk, OnOk, string_bytes};
 ghost use Rattle.std.specs.Option.{option_copied};
 ghost use Rattle.shelf.specs.Entries.{entry_texts};
 ghost use Rattle.song_search.specs.Truth.{front_of};
-ghost use Rattle.shelf_contents.specs.Found.{compares as compares_lem, meets as meets_lem, is_asked as is_asked_lem, found_line, found_lines as found_lines_lem};
+ghost use Rattle.shelf_contents.specs.Found.{compares as compares_lem, meets as meets_lem, is_asked as is_asked_lem, found_line, ShowsFound};
 
 use crate::shown::push_sticker;
 use mpd_command::{Comparison, Operator};
@@ -24,7 +24,7 @@ pub fn found_lines(
     entries: &[Entry],
     test: Option<&Comparison>,
 ) -> Result<Answer, AllocError>
-    ensures { IfOk result (λ answer. answer ≡ found_lines_lem db.now uri.now name.now (option_copied test.entry) (map entry_texts entries.now)) }
+    ensures { IfOk result (ShowsFound db.now uri.now name.now (option_copied test.entry) entries.now) }
 {
     let is_song = db.get(uri).is_some();
     let front = front(alloc, uri)?;

@@ -27,6 +27,10 @@ IsUnstorable row = (fits_i64 (id_in (rowid row)) ≡ false) ⊎ (10 ^ 9 < sum_by
 abbrev pub IsNoText : Value → Type 0
 IsNoText v = (text : List ℕ) → v ≡ Text text → IsUtf8 text → ⊥
 
+-- the row has no text in one of these columns
+abbrev pub HasNoTextIn : List ℕ → Row → Type 0
+HasNoTextIn columns row = (at : ℕ) × Has columns at × IsNoText (column row at)
+
 -- A row that is asked for has no text in one of these columns. A shelf's own store has no such row.
 abbrev pub LacksText : List ℕ → (Row → Bool) → List Row → Type 0
 LacksText columns is_asked rows = (row : Row) × Has rows row × IsTrue (is_asked row) × (at : ℕ) × Has columns at × IsNoText (column row at)

@@ -1,5 +1,6 @@
 pub mod Asks
 pub mod Faults
+pub mod Finds
 pub mod Opens
 pub mod Settled
 pub mod Tables

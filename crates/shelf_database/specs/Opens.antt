@@ -1,11 +1,14 @@
 -- What an open of a shelf makes of a connection.
-use Rattle.std.specs.Prelude.{◌≡◌, ◌≢◌, ◌⊎◌, ◌≤◌, ℕ, pos, Bool, false, List, [], codes, Some, IsTrue}
+use Rattle.std.specs.Prelude.{◌≡◌, ◌≢◌, ◌⊎◌, ◌≤◌, ℕ, pos, Bool, false, List, [], codes, Some, IsTrue, Result, is_ok, IfOk, IfErr}
+use Rattle.std.specs.Global.{Vec}
 use Rattle.sqlite.specs.Disk.{MoreFaults}
 use Rattle.sqlite.specs.Order.{Row}
 use Rattle.sqlite.specs.Tree.{Trees}
 use Rattle.sqlite.specs.Schema.{Schema}
 use Rattle.sqlite.specs.Change.{created}
 use Rattle.sqlite.specs.Effect.{Database, IsDatabase}
+use Rattle.sqlite.specs.Store.{Ghosts}
+use Rattle.sqlite.specs.Held.{Held, state}
 use Rattle.sqlite.specs.State.{State, HasCleanDisk, KeepsCommit, Survives, FailsToQuery, Shown}
 use Rattle.sqlite.specs.declared.error.Error.{Error}
 use Rattle.sqlite.specs.declared.error.Error.TheVariants.{SqliteFailure}
@@ -58,6 +61,14 @@ pub record Opens (old new : State) (is_done : Bool) : Type 0 where
   pub stop : HasCleanDisk new → (maps : Maps) → Holds old maps → (m : Maps) → (database_standing new).MayLeave m → (database_standing old).MayLeave m ⊎ Same maps m
   pub whole : HasCleanDisk new → IsTrue old.is_open → (maps : Maps) → Holds old maps → (trees : Trees) → new.may_leave trees → IsLeft old trees
 
+-- the same, over a database that has something in it
+abbrev pub OpensFilled : State → State → Bool → Type 0
+OpensFilled old new is_done = old.now.schema ≢ no_schema → Opens old new is_done
+
+-- the same, over a database that has nothing in it
+abbrev pub OpensEmpty : State → State → Bool → Type 0
+OpensEmpty old new is_done = old.now.schema ≡ no_schema → Opens old new is_done
+
 -- Tables whose number is 1 are refused since the store failed, or for want of memory.
 abbrev pub IsUnread : State → State → ShelfFault → Type 0
 IsUnread old new fault = HasCleanDisk new → IsReady old → profile_number old.now.trees ≡ Some (pos 1) → fault ≡ StoreFault → HasFailed old new
@@ -69,6 +80,24 @@ number_query = codes "SELECT number FROM profile"
 abbrev pub IsOther : State → State → Type 0
 IsOther old new =
     ((e : Error) × (e ≢ SqliteFailure code.OutOfMemory) × FailsToQuery number_query [] old new e) ⊎ ((rows : List Row) × Shown number_query [] old new rows × (number_of 0 rows ≢ Some (pos 1)))
+
+-- Where the disk is clean, `StoreFault` is for what the store answers that is asked for its number.
+abbrev pub BlamesNumber : {X : Type 0} → State → State → Result X ShelfFault → Type 0
+BlamesNumber old new result = HasCleanDisk new → IfErr result (λ fault. fault ≡ StoreFault → IsOther old new)
+
+-- Where the disk is clean, `StoreFault` is since it lacks a table of a shelf, or for that answer.
+abbrev pub BlamesTables : {X : Type 0} → State → State → Result X ShelfFault → Type 0
+BlamesTables old new result =
+    HasCleanDisk new → IfErr result (λ fault. fault ≡ StoreFault → (has_tables old.now.schema ≡ false) ⊎ IsOther old new)
+
+-- Where the disk is clean, over a shelf's tables, a success is the rows that show the profile's number.
+abbrev pub TellsNumber : State → State → Result (Vec Row) ShelfFault → Type 0
+TellsNumber old new result =
+    HasCleanDisk new → IsReady old → IfOk result (λ rows. number_of 0 rows.items ≡ profile_number old.now.trees)
+
+-- Where the disk is clean, tables are not made since the store failed, or for want of memory.
+abbrev pub IsUnmade : State → State → Error → Type 0
+IsUnmade old new error = HasCleanDisk new → IsBlank old → error ≢ SqliteFailure code.OutOfMemory → HasFailed old new
 
 -- Why a shelf is refused with `StoreFault`: since the store failed, where it has no tables, or tables whose
 -- number is 1; where it has any, since they lack one of a shelf's, or for what it answers.
@@ -89,6 +118,15 @@ pub record Leads (Before After : Database → Type 0) (old new : State) (is_done
 -- want of memory.
 abbrev pub IsStopped : (Database → Type 0) → State → State → Error → Type 0
 IsStopped Before old new error = HasCleanDisk new → IsTrue old.in_transaction → Before old.now → error ≢ SqliteFailure code.OutOfMemory → HasFailed old new
+
+module _ {S : Type 0} (store : Ghosts S) where
+  -- the step on the connection leads from such a database to such a one, if it succeeds
+  abbrev pub LeadsFrom : {X : Type 0} → (Before After : Database → Type 0) → Held S → Held S → Result X Error → Type 0
+  LeadsFrom Before After old new result = Leads Before After (state store old) (state store new) (is_ok result)
+
+  -- the step on the connection, over such a database, is stopped for this error
+  abbrev pub IsStoppedOn : (Database → Type 0) → Held S → Held S → Error → Type 0
+  IsStoppedOn Before old new error = IsStopped Before (state store old) (state store new) error
 
 abbrev pub profile_schema : Schema
 profile_schema = created no_schema profile_table

@@ -114,6 +114,10 @@ is_sticker table =
 abbrev pub has_tables : Schema → Bool
 has_tables schema = list_any is_profile schema.tables && list_any is_list schema.tables && list_any is_sticker schema.tables
 
+-- a database with nothing, or with the tables of a shelf and perhaps with others
+abbrev pub MayHoldShelf : State → Type 0
+MayHoldShelf s = (s.now.schema ≡ no_schema) ⊎ IsTrue (has_tables s.now.schema)
+
 -- a row whose column has the text
 abbrev pub has_text : ℕ → List ℕ → Row → Bool
 has_text at text row = is_eq (value_cmp (column row at) (Words text))

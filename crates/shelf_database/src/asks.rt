@@ -1,11 +1,7 @@
 //! One statement run on a connection.
 
-ghost use Rattle.std.specs.Prelude.{◌≡◌, ◌⊎◌, [], ◌∷◌, List, true, IfOk, IfErr, option_map, string_bytes};
-ghost use Rattle.sqlite.specs.Order.{Row as Values};
 ghost use Rattle.sqlite.specs.Values.{bound};
-ghost use Rattle.sqlite.specs.Held.{state};
-ghost use Rattle.sqlite.specs.State.{HasCleanDisk, Shown, Survives, CommitsBy, CommitsShowing};
-ghost use Rattle.shelf_database.specs.Asks.{IsRefused, IsFirst, IsTextless, Ran};
+ghost use Rattle.shelf_database.specs.Asks.{SurvivesChange, SurvivesQuery, TellsFirst, TellsNoFirst, TellsRefusal, TellsRows, TellsRun};
 
 use crate::database::fault;
 use crate::rows::text_at;
@@ -19,9 +15,9 @@ pub(crate) fn ask<S: Alter>(
     query: &str,
     values: &[ValueRef<'_>],
 ) -> Result<Vec<Row>, ShelfFault>
-    ensures shown { HasCleanDisk (state S.Store connection.new) → IfOk result (λ rows. Shown query.now (bound values.now) (state S.Store connection.old) (state S.Store connection.new) rows.items) }
-    ensures refused { HasCleanDisk (state S.Store connection.new) → IfErr result (IsRefused query.now (bound values.now) (state S.Store connection.old) (state S.Store connection.new)) }
-    ensures survives { Survives (state S.Store connection.old) (state S.Store connection.new) (CommitsShowing query.now (bound values.now) (state S.Store connection.old)) }
+    ensures shown { TellsRows S.Store connection.old connection.new query.now (bound values.now) result }
+    ensures refused { TellsRefusal S.Store connection.old connection.new query.now (bound values.now) result }
+    ensures survives { SurvivesQuery S.Store connection.old connection.new query.now (bound values.now) }
 {
     match connection.query_all(query, values) {
         Ok(rows) => Ok(rows),
@@ -35,9 +31,9 @@ pub(crate) fn first_text<S: Alter>(
     query: &str,
     values: &[ValueRef<'_>],
 ) -> Result<Option<String>, ShelfFault>
-    ensures shown { HasCleanDisk (state S.Store connection.new) → IfOk result (λ text. (rows : List Values) × Shown query.now (bound values.now) (state S.Store connection.old) (state S.Store connection.new) rows × IsFirst rows (option_map string_bytes text)) }
-    ensures refused { HasCleanDisk (state S.Store connection.new) → IfErr result (λ fault. IsRefused query.now (bound values.now) (state S.Store connection.old) (state S.Store connection.new) fault ⊎ IsTextless query.now (bound values.now) (state S.Store connection.old) (state S.Store connection.new) fault) }
-    ensures survives { Survives (state S.Store connection.old) (state S.Store connection.new) (CommitsShowing query.now (bound values.now) (state S.Store connection.old)) }
+    ensures shown { TellsFirst S.Store connection.old connection.new query.now (bound values.now) result }
+    ensures refused { TellsNoFirst S.Store connection.old connection.new query.now (bound values.now) result }
+    ensures survives { SurvivesQuery S.Store connection.old connection.new query.now (bound values.now) }
 {
     let rows = ask(connection, query, values)?;
     match rows.first() {
@@ -52,8 +48,8 @@ pub(crate) fn change<S: Alter>(
     statement: &str,
     values: &[ValueRef<'_>],
 ) -> Result<(), ShelfFault>
-    ensures ran { HasCleanDisk (state S.Store connection.new) → Ran statement.now (bound values.now) (state S.Store connection.old) (state S.Store connection.new) result }
-    ensures survives { Survives (state S.Store connection.old) (state S.Store connection.new) (CommitsBy statement.now (bound values.now) (state S.Store connection.old)) }
+    ensures ran { TellsRun S.Store connection.old connection.new statement.now (bound values.now) result }
+    ensures survives { SurvivesChange S.Store connection.old connection.new statement.now (bound values.now) }
 {
     match connection.execute(statement, values) {
         Ok(_) => Ok(()),

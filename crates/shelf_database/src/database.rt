@@ -1,15 +1,13 @@
 //! A shelf over a database.
 
-ghost use Rattle.std.specs.Prelude.{◌≡◌, ◌⊎◌, List, [], ◌∷◌, ℕ, None, OnOk, OnErr, IfOk, IfErr, IsSome, IsTrue, is_some, true, false};
-ghost use Rattle.sqlite.specs.State.{HasCleanDisk};
-ghost use Rattle.shelf.specs.Maps.{Maps, Turns};
+ghost use Rattle.std.specs.Prelude.{◌≡◌, ◌⊎◌, OnOk, IfOk, IfErr, true, false};
 ghost use Rattle.sqlite.specs.Held.{state};
 ghost use Rattle.shelf.specs.declared.faults.ShelfFault.{ShelfFault};
-ghost use Rattle.shelf_database.specs.Tables.{no_schema, has_tables, has_text, database_standing, maps_in, IsReady, Reads};
+ghost use Rattle.shelf_database.specs.Tables.{database_standing, MayHoldShelf, Reads};
 ghost use Rattle.shelf_database.specs.Opens.{Opens, IsBlamed};
-ghost use Rattle.shelf_database.specs.Settled.{settled_maps};
-ghost use Rattle.shelf_database.specs.Asks.{Refuses};
-ghost use Rattle.shelf_database.specs.Faults.{HasFailed, LacksText, StoreFailed};
+ghost use Rattle.shelf_database.specs.Settled.{leaves_what_it_shows};
+ghost use Rattle.shelf_database.specs.Faults.{StoreFailed};
+ghost use Rattle.shelf_database.specs.Finds.{FailsToName, FindsList, FindsSticker, FindsStickers, MissesStickers, RefusesAsFailed};
 
 use crate::asks::{ask, change, first_text};
 use crate::profile::make_ready;
@@ -60,7 +58,7 @@ impl<S: Alter + Drop> SqlShelf<S> {
         ensures named { IfErr result (λ left. (left.0 ≡ ShelfFault.NoMemory) ⊎ (left.0 ≡ ShelfFault.StoreFault)) }
         ensures blamed { IfErr result (λ left. IsBlamed (state S.Store connection) (state S.Store left.1) left.0) }
         ensures outside { OnOk result ((state S.Store connection).in_transaction ≡ false) }
-        ensures taken { OnOk result (((state S.Store connection).now.schema ≡ no_schema) ⊎ IsTrue (has_tables (state S.Store connection).now.schema)) }
+        ensures taken { OnOk result (MayHoldShelf (state S.Store connection)) }
     {
         match make_ready(&mut connection) {
             Ok(()) => Ok(SqlShelf { alloc, connection }),
@@ -83,8 +81,8 @@ impl<S: Alter + Drop> SqlShelf<S> {
 /// Whether a list has the name. A query that fails leaves the maps, whatever the call was to do.
 fn has_list<S: Alter>(connection: &mut Connection<S>, name: &str) -> Result<bool, ShelfFault>
     ensures reads { OnOk result (Reads (state S.Store connection.old) (state S.Store connection.new)) }
-    ensures found { HasCleanDisk (state S.Store connection.new) → IsReady (state S.Store connection.old) → IfOk result (λ is_there. is_there ≡ is_some ((maps_in (state S.Store connection.old).now.trees).lists name.now)) }
-    ensures refused { IfErr result (Refuses (state S.Store connection.old) (state S.Store connection.new) (HasFailed (state S.Store connection.old) (state S.Store connection.new))) }
+    ensures found { FindsList (state S.Store connection.old) (state S.Store connection.new) name.now result }
+    ensures refused { IfErr result (RefusesAsFailed (state S.Store connection.old) (state S.Store connection.new)) }
 {
     let find = "SELECT name FROM list WHERE name = ?1";
     let rows = ask(connection, find, params![name])?;
@@ -99,8 +97,8 @@ fn has_sticker<S: Alter>(
     name: &str,
 ) -> Result<bool, ShelfFault>
     ensures reads { OnOk result (Reads (state S.Store connection.old) (state S.Store connection.new)) }
-    ensures found { HasCleanDisk (state S.Store connection.new) → IsReady (state S.Store connection.old) → IfOk result (λ is_there. is_there ≡ is_some ((maps_in (state S.Store connection.old).now.trees).stickers uri.now name.now)) }
-    ensures refused { IfErr result (Refuses (state S.Store connection.old) (state S.Store connection.new) (HasFailed (state S.Store connection.old) (state S.Store connection.new))) }
+    ensures found { FindsSticker (state S.Store connection.old) (state S.Store connection.new) uri.now name.now result }
+    ensures refused { IfErr result (RefusesAsFailed (state S.Store connection.old) (state S.Store connection.new)) }
 {
     let find = "SELECT value FROM sticker WHERE uri = ?1 AND name = ?2";
     let rows = ask(connection, find, params![uri, name])?;
@@ -111,9 +109,9 @@ fn has_sticker<S: Alter>(
 /// the call was to do.
 fn has_stickers<S: Alter>(connection: &mut Connection<S>, uri: &str) -> Result<bool, ShelfFault>
     ensures reads { OnOk result (Reads (state S.Store connection.old) (state S.Store connection.new)) }
-    ensures found { HasCleanDisk (state S.Store connection.new) → IsReady (state S.Store connection.old) → IfOk result (λ is_there. is_there ≡ true → (name : List ℕ) × IsSome ((maps_in (state S.Store connection.old).now.trees).stickers uri.now name)) }
-    ensures missing { HasCleanDisk (state S.Store connection.new) → IsReady (state S.Store connection.old) → IfOk result (λ is_there. is_there ≡ false → (name : List ℕ) → (maps_in (state S.Store connection.old).now.trees).stickers uri.now name ≡ None) }
-    ensures refused { IfErr result (Refuses (state S.Store connection.old) (state S.Store connection.new) (HasFailed (state S.Store connection.old) (state S.Store connection.new) ⊎ LacksText (2 ∷ []) (has_text 1 uri.now) ((state S.Store connection.old).now.trees 3))) }
+    ensures found { FindsStickers (state S.Store connection.old) (state S.Store connection.new) uri.now result }
+    ensures missing { MissesStickers (state S.Store connection.old) (state S.Store connection.new) uri.now result }
+    ensures refused { IfErr result (FailsToName (state S.Store connection.old) (state S.Store connection.new) uri.now) }
 {
     let find = "SELECT name FROM sticker WHERE uri = ?1 ORDER BY name";
     let name = first_text(connection, find, params![uri])?;
@@ -125,7 +123,7 @@ impl<S: Alter + Drop> Shelf for SqlShelf<S> {
 
     ghost failed = { λ old new call. StoreFailed (state S.Store old.connection) (state S.Store new.connection) call };
 
-    ghost settled = { λ s m clean ours opened left. settled_maps _ m (λ is_open trees left. S.Store.settled s.connection.store trees is_open left) ours.ready opened left };
+    ghost settled = { λ s. leaves_what_it_shows _ (S.Store.settled s.connection.store) };
 
     fn lists(&mut self) -> Result<Vec<String>, ShelfFault> {
         let rows = ask(

@@ -1,12 +1,11 @@
 //! The tables of a shelf in a database: read where they are, made where there are none.
 
-ghost use Rattle.std.specs.Prelude.{◌≡◌, ◌≢◌, ◌⊎◌, ◌↔◌, [], pos, Some, IsTrue, IfOk, IfErr, OnOk, OnErr, is_ok, false};
+ghost use Rattle.std.specs.Prelude.{◌≡◌, ◌⊎◌, ◌↔◌, [], pos, Some, IsTrue, IfErr, OnOk, OnErr, is_ok, false};
 ghost use Rattle.sqlite.specs.Held.{state};
-ghost use Rattle.sqlite.specs.State.{HasCleanDisk, Shown};
 ghost use Rattle.shelf.specs.declared.faults.ShelfFault.{ShelfFault};
-ghost use Rattle.shelf_database.specs.Tables.{no_schema, number_of, profile_number, has_tables, IsReady, Reads};
-ghost use Rattle.shelf_database.specs.Faults.{HasFailed};
-ghost use Rattle.shelf_database.specs.Opens.{Opens, IsBlamed, IsUnread, IsOther, number_query, IsBlank, IsStopped, Leads, HasNothing, HasProfile, HasNumber, HasLists, HasTables};
+ghost use Rattle.shelf_database.specs.Asks.{TellsRows};
+ghost use Rattle.shelf_database.specs.Tables.{no_schema, number_of, has_tables, MayHoldShelf, Reads};
+ghost use Rattle.shelf_database.specs.Opens.{BlamesNumber, BlamesTables, HasLists, HasNothing, HasNumber, HasProfile, HasTables, IsBlamed, IsStoppedOn, IsUnmade, IsUnread, LeadsFrom, Opens, OpensEmpty, OpensFilled, TellsNumber, number_query};
 
 use crate::database::fault;
 use crate::tables::are_tables;
@@ -19,7 +18,7 @@ pub(crate) fn make_ready<S: Alter>(connection: &mut Connection<S>) -> Result<(),
     ensures named { IfErr result (λ fault. (fault ≡ ShelfFault.NoMemory) ⊎ (fault ≡ ShelfFault.StoreFault)) }
     ensures blamed { IfErr result (IsBlamed (state S.Store connection.old) (state S.Store connection.new)) }
     ensures outside { OnOk result ((state S.Store connection.old).in_transaction ≡ false) }
-    ensures taken { OnOk result (((state S.Store connection.old).now.schema ≡ no_schema) ⊎ IsTrue (has_tables (state S.Store connection.old).now.schema)) }
+    ensures taken { OnOk result (MayHoldShelf (state S.Store connection.old)) }
 {
     if !connection.is_autocommit() {
         return Err(ShelfFault::StoreFault);
@@ -43,10 +42,10 @@ fn is_blank<S: Alter>(connection: &Connection<S>) -> bool
 
 /// Looks for the tables, and reads the number of the profile.
 fn read_profile<S: Alter>(connection: &mut Connection<S>) -> Result<(), ShelfFault>
-    ensures opens { (state S.Store connection.old).now.schema ≢ no_schema → Opens (state S.Store connection.old) (state S.Store connection.new) (is_ok result) }
+    ensures opens { OpensFilled (state S.Store connection.old) (state S.Store connection.new) (is_ok result) }
     ensures named { IfErr result (λ fault. (fault ≡ ShelfFault.NoMemory) ⊎ (fault ≡ ShelfFault.StoreFault)) }
     ensures blamed { IfErr result (IsUnread (state S.Store connection.old) (state S.Store connection.new)) }
-    ensures other { HasCleanDisk (state S.Store connection.new) → IfErr result (λ fault. fault ≡ ShelfFault.StoreFault → (has_tables (state S.Store connection.old).now.schema ≡ false) ⊎ IsOther (state S.Store connection.old) (state S.Store connection.new)) }
+    ensures other { BlamesTables (state S.Store connection.old) (state S.Store connection.new) result }
     ensures taken { OnOk result (IsTrue (has_tables (state S.Store connection.old).now.schema)) }
 {
     if !are_tables(connection.schema()) {
@@ -57,10 +56,10 @@ fn read_profile<S: Alter>(connection: &mut Connection<S>) -> Result<(), ShelfFau
 
 /// Reads the number of the profile, which has to be 1.
 fn read_number<S: Alter>(connection: &mut Connection<S>) -> Result<(), ShelfFault>
-    ensures opens { (state S.Store connection.old).now.schema ≢ no_schema → Opens (state S.Store connection.old) (state S.Store connection.new) (is_ok result) }
+    ensures opens { OpensFilled (state S.Store connection.old) (state S.Store connection.new) (is_ok result) }
     ensures named { IfErr result (λ fault. (fault ≡ ShelfFault.NoMemory) ⊎ (fault ≡ ShelfFault.StoreFault)) }
     ensures blamed { IfErr result (IsUnread (state S.Store connection.old) (state S.Store connection.new)) }
-    ensures other { HasCleanDisk (state S.Store connection.new) → IfErr result (λ fault. fault ≡ ShelfFault.StoreFault → IsOther (state S.Store connection.old) (state S.Store connection.new)) }
+    ensures other { BlamesNumber (state S.Store connection.old) (state S.Store connection.new) result }
 {
     let rows = numbers(connection)?;
     is_one(&rows)
@@ -69,12 +68,12 @@ fn read_number<S: Alter>(connection: &mut Connection<S>) -> Result<(), ShelfFaul
 /// What the rows of the profile show.
 fn numbers<S: Alter>(connection: &mut Connection<S>) -> Result<Vec<Row>, ShelfFault>
     ensures reads { OnOk result (Reads (state S.Store connection.old) (state S.Store connection.new)) }
-    ensures shown { HasCleanDisk (state S.Store connection.new) → IsReady (state S.Store connection.old) → IfOk result (λ rows. number_of 0 rows.items ≡ profile_number (state S.Store connection.old).now.trees) }
-    ensures failed { (state S.Store connection.old).now.schema ≢ no_schema → OnErr result (Opens (state S.Store connection.old) (state S.Store connection.new) false) }
+    ensures shown { TellsNumber (state S.Store connection.old) (state S.Store connection.new) result }
+    ensures failed { OnErr result (OpensFilled (state S.Store connection.old) (state S.Store connection.new) false) }
     ensures named { IfErr result (λ fault. (fault ≡ ShelfFault.NoMemory) ⊎ (fault ≡ ShelfFault.StoreFault)) }
     ensures blamed { IfErr result (IsUnread (state S.Store connection.old) (state S.Store connection.new)) }
-    ensures told { HasCleanDisk (state S.Store connection.new) → IfOk result (λ rows. Shown number_query [] (state S.Store connection.old) (state S.Store connection.new) rows.items) }
-    ensures other { HasCleanDisk (state S.Store connection.new) → IfErr result (λ fault. fault ≡ ShelfFault.StoreFault → IsOther (state S.Store connection.old) (state S.Store connection.new)) }
+    ensures told { TellsRows S.Store connection.old connection.new number_query [] result }
+    ensures other { BlamesNumber (state S.Store connection.old) (state S.Store connection.new) result }
 {
     match connection.query_all("SELECT number FROM profile", &[]) {
         Ok(rows) => Ok(rows),
@@ -103,8 +102,8 @@ fn is_one(rows: &[Row]) -> Result<(), ShelfFault>
 
 /// Makes the tables, in one transaction.
 fn make_tables<S: Alter>(connection: &mut Connection<S>) -> Result<(), Error>
-    ensures opens { (state S.Store connection.old).now.schema ≡ no_schema → Opens (state S.Store connection.old) (state S.Store connection.new) (is_ok result) }
-    ensures blamed { IfErr result (λ error. HasCleanDisk (state S.Store connection.new) → IsBlank (state S.Store connection.old) → error ≢ Error.SqliteFailure ErrorCode.OutOfMemory → HasFailed (state S.Store connection.old) (state S.Store connection.new)) }
+    ensures opens { OpensEmpty (state S.Store connection.old) (state S.Store connection.new) (is_ok result) }
+    ensures blamed { IfErr result (IsUnmade (state S.Store connection.old) (state S.Store connection.new)) }
 {
     if !connection.is_autocommit() {
         return Err(Error::InvalidQuery);
@@ -117,8 +116,8 @@ fn make_tables<S: Alter>(connection: &mut Connection<S>) -> Result<(), Error>
 /// The number is noted before the other tables are made, which leave it as it is.
 fn fill<S: Alter>(transaction: &mut Transaction<'_, S>) -> Result<(), Error>
     ensures same_reference { transaction.new.conn.ghost_name ≡ transaction.old.conn.ghost_name }
-    ensures leads { Leads HasNothing HasTables (state S.Store transaction.old.conn.now) (state S.Store transaction.new.conn.now) (is_ok result) }
-    ensures blamed { IfErr result (IsStopped HasNothing (state S.Store transaction.old.conn.now) (state S.Store transaction.new.conn.now)) }
+    ensures leads { LeadsFrom S.Store HasNothing HasTables transaction.old.conn.now transaction.new.conn.now result }
+    ensures blamed { IfErr result (IsStoppedOn S.Store HasNothing transaction.old.conn.now transaction.new.conn.now) }
 {
     make_profile(transaction)?;
     note_number(transaction)?;
@@ -128,8 +127,8 @@ fn fill<S: Alter>(transaction: &mut Transaction<'_, S>) -> Result<(), Error>
 
 fn make_profile<S: Alter>(transaction: &mut Transaction<'_, S>) -> Result<(), Error>
     ensures same_reference { transaction.new.conn.ghost_name ≡ transaction.old.conn.ghost_name }
-    ensures leads { Leads HasNothing HasProfile (state S.Store transaction.old.conn.now) (state S.Store transaction.new.conn.now) (is_ok result) }
-    ensures blamed { IfErr result (IsStopped HasNothing (state S.Store transaction.old.conn.now) (state S.Store transaction.new.conn.now)) }
+    ensures leads { LeadsFrom S.Store HasNothing HasProfile transaction.old.conn.now transaction.new.conn.now result }
+    ensures blamed { IfErr result (IsStoppedOn S.Store HasNothing transaction.old.conn.now transaction.new.conn.now) }
 {
     transaction.execute(
         "CREATE TABLE profile (one INTEGER PRIMARY KEY CHECK (one = 1), number INTEGER NOT NULL)",
@@ -140,8 +139,8 @@ fn make_profile<S: Alter>(transaction: &mut Transaction<'_, S>) -> Result<(), Er
 
 fn note_number<S: Alter>(transaction: &mut Transaction<'_, S>) -> Result<(), Error>
     ensures same_reference { transaction.new.conn.ghost_name ≡ transaction.old.conn.ghost_name }
-    ensures leads { Leads HasProfile HasNumber (state S.Store transaction.old.conn.now) (state S.Store transaction.new.conn.now) (is_ok result) }
-    ensures blamed { IfErr result (IsStopped HasProfile (state S.Store transaction.old.conn.now) (state S.Store transaction.new.conn.now)) }
+    ensures leads { LeadsFrom S.Store HasProfile HasNumber transaction.old.conn.now transaction.new.conn.now result }
+    ensures blamed { IfErr result (IsStoppedOn S.Store HasProfile transaction.old.conn.now transaction.new.conn.now) }
 {
     transaction.execute("INSERT INTO profile (one, number) VALUES (1, 1)", &[])?;
     Ok(())
@@ -149,8 +148,8 @@ fn note_number<S: Alter>(transaction: &mut Transaction<'_, S>) -> Result<(), Err
 
 fn make_lists<S: Alter>(transaction: &mut Transaction<'_, S>) -> Result<(), Error>
     ensures same_reference { transaction.new.conn.ghost_name ≡ transaction.old.conn.ghost_name }
-    ensures leads { Leads HasNumber HasLists (state S.Store transaction.old.conn.now) (state S.Store transaction.new.conn.now) (is_ok result) }
-    ensures blamed { IfErr result (IsStopped HasNumber (state S.Store transaction.old.conn.now) (state S.Store transaction.new.conn.now)) }
+    ensures leads { LeadsFrom S.Store HasNumber HasLists transaction.old.conn.now transaction.new.conn.now result }
+    ensures blamed { IfErr result (IsStoppedOn S.Store HasNumber transaction.old.conn.now transaction.new.conn.now) }
 {
     transaction.execute(
         "CREATE TABLE list (name TEXT NOT NULL PRIMARY KEY, uris TEXT NOT NULL)",
@@ -161,8 +160,8 @@ fn make_lists<S: Alter>(transaction: &mut Transaction<'_, S>) -> Result<(), Erro
 
 fn make_stickers<S: Alter>(transaction: &mut Transaction<'_, S>) -> Result<(), Error>
     ensures same_reference { transaction.new.conn.ghost_name ≡ transaction.old.conn.ghost_name }
-    ensures leads { Leads HasLists HasTables (state S.Store transaction.old.conn.now) (state S.Store transaction.new.conn.now) (is_ok result) }
-    ensures blamed { IfErr result (IsStopped HasLists (state S.Store transaction.old.conn.now) (state S.Store transaction.new.conn.now)) }
+    ensures leads { LeadsFrom S.Store HasLists HasTables transaction.old.conn.now transaction.new.conn.now result }
+    ensures blamed { IfErr result (IsStoppedOn S.Store HasLists transaction.old.conn.now transaction.new.conn.now) }
 {
     transaction.execute(
         "CREATE TABLE sticker (uri TEXT NOT NULL, name TEXT NOT NULL, value TEXT NOT NULL, PRIMARY KEY (uri, name))",

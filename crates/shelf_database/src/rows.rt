@@ -1,10 +1,10 @@
 //! The texts of a query's rows.
 
-ghost use Rattle.std.specs.Prelude.{◌≡◌, ◌⊎◌, ℕ, [], ◌∷◌, true, IfOk, IfErr, map, string_bytes};
+ghost use Rattle.std.specs.Prelude.{◌≡◌, ◌⊎◌, [], ◌∷◌, true, IfOk, IfErr, string_bytes};
 ghost use Rattle.sqlite.specs.Order.{column};
 ghost use Rattle.sqlite.specs.declared.types.Value.TheVariants.{Text};
-ghost use Rattle.sqlite_rules.specs.Lists.{Has};
-ghost use Rattle.shelf_database.specs.Faults.{IsNoText, LacksText};
+ghost use Rattle.shelf_database.specs.Asks.{ShowTexts};
+ghost use Rattle.shelf_database.specs.Faults.{HasNoTextIn, IsNoText, LacksText};
 ghost use Rattle.shelf.specs.declared.faults.ShelfFault.{ShelfFault};
 ghost use Rattle.shelf.specs.Maps.{Answers, no_refusal};
 ghost use Rattle.shelf.specs.Entries.{entry_texts};
@@ -28,7 +28,7 @@ pub(crate) fn text_at(row: &Row, at: usize) -> Result<String, ShelfFault>
 
 /// The text in the first column of each row.
 pub(crate) fn texts_of(alloc: Global, rows: &[Row]) -> Result<Vec<String>, ShelfFault>
-    ensures texts { IfOk result (λ texts. map (λ row. column row 0) rows.now ≡ map (λ text. Text (string_bytes text)) texts.items) }
+    ensures texts { IfOk result (λ texts. ShowTexts 0 rows.now string_bytes texts.items) }
     ensures answers { Answers (LacksText (0 ∷ []) (λ _. true) rows.now) no_refusal result }
 {
     let mut texts = Vec::new(alloc);
@@ -43,7 +43,7 @@ fn entry_of(row: &Row) -> Result<Entry, ShelfFault>
     ensures key { IfOk result (λ e. column row.now 0 ≡ Text (entry_texts e).0) }
     ensures value { IfOk result (λ e. column row.now 1 ≡ Text (entry_texts e).1) }
     ensures named { IfErr result (λ fault. (fault ≡ ShelfFault.NoMemory) ⊎ (fault ≡ ShelfFault.StoreFault)) }
-    ensures fault { IfErr result (λ fault. fault ≡ ShelfFault.StoreFault → (at : ℕ) × Has (0 ∷ 1 ∷ []) at × IsNoText (column row.now at)) }
+    ensures fault { IfErr result (λ fault. fault ≡ ShelfFault.StoreFault → HasNoTextIn (0 ∷ 1 ∷ []) row.now) }
 {
     let key = text_at(row, 0)?;
     let value = text_at(row, 1)?;
@@ -52,8 +52,8 @@ fn entry_of(row: &Row) -> Result<Entry, ShelfFault>
 
 /// The texts in the first two columns of each row.
 pub(crate) fn entries_of(alloc: Global, rows: &[Row]) -> Result<Vec<Entry>, ShelfFault>
-    ensures keys { IfOk result (λ entries. map (λ row. column row 0) rows.now ≡ map (λ e. Text (entry_texts e).0) entries.items) }
-    ensures values { IfOk result (λ entries. map (λ row. column row 1) rows.now ≡ map (λ e. Text (entry_texts e).1) entries.items) }
+    ensures keys { IfOk result (λ entries. ShowTexts 0 rows.now (λ e. (entry_texts e).0) entries.items) }
+    ensures values { IfOk result (λ entries. ShowTexts 1 rows.now (λ e. (entry_texts e).1) entries.items) }
     ensures answers { Answers (LacksText (0 ∷ 1 ∷ []) (λ _. true) rows.now) no_refusal result }
 {
     let mut entries = Vec::new(alloc);

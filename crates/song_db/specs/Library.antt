@@ -1,5 +1,6 @@
 -- The song library (MPD protocol reference, The music database; the order and the limit are this profile's).
-use Rattle.std.specs.Prelude.{ℕ, ◌≡◌, ◌≤◌, Bool, false, ◌==◌, ◌||◌, if◌then◌else◌, List, [], ◌∷◌, length, AllPairs, Option, find}
+use Rattle.std.specs.Prelude.{ℕ, ◌≡◌, ◌<◌, ◌≤◌, Bool, false, ◌==◌, ◌||◌, if◌then◌else◌, List, [], ◌∷◌, length, AllPairs, Option, find, vec_len}
+use Rattle.std.specs.Global.{Vec}
 use Rattle.std.specs.List.{list_any}
 use Rattle.std.specs.Ordering.{is_lt, nat_cmp}
 use Rattle.std.specs.Cmp.Lexicographic.{slice_cmp}
@@ -22,6 +23,10 @@ abbrev pub are_twins_beside : List SongData → Bool
 are_twins_beside [] = false
 are_twins_beside (a ∷ []) = false
 are_twins_beside (a ∷ b ∷ songs) = same_uri a.uri b.uri || are_twins_beside (b ∷ songs)
+
+-- the songs are more than a library has, and no two have one URI
+abbrev pub AreTooMany : Vec SongData → Type 0
+AreTooMany songs = (is_twice_named songs.items ≡ false) × (100000 < vec_len songs)
 
 -- the order of two songs: by the bytes of their URIs
 abbrev pub by_uri : SongData → SongData → Ordering

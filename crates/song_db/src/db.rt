@@ -1,8 +1,8 @@
 //! The song library.
-ghost use Rattle.std.specs.Prelude.{◌≡◌, ◌↔◌, ◌<◌, false, IfOk, IfSome, IfNone, IsErrOf, IsTrue, IsPermutation, vec_len, length, slice_get};
+ghost use Rattle.std.specs.Prelude.{◌≡◌, ◌↔◌, ◌<◌, IfOk, IfSome, IfNone, IsErrOf, IsTrue, IsPermutation, vec_len, length, slice_get};
 ghost use Rattle.std.specs.Option.{option_copied};
 ghost use Rattle.std.specs.Bool.{OnFalse};
-ghost use Rattle.song_db.specs.Library.{is_twice_named, are_twins_beside, in_byte_order, song_of, IsLibrary, InByteOrder};
+ghost use Rattle.song_db.specs.Library.{is_twice_named, AreTooMany, are_twins_beside, in_byte_order, song_of, IsLibrary, InByteOrder};
 
 use crate::shared_song::SharedSong;
 use mpd_text::Song;
@@ -59,7 +59,7 @@ impl Db {
         ensures permutation { IfOk result (λ db. IsPermutation songs.items db) }
         ensures library { IfOk result (λ db. IsLibrary db) }
         ensures twice_named { IsErrOf result DbFault.TwiceNamed ↔ IsTrue (is_twice_named songs.items) }
-        ensures too_many { IsErrOf result DbFault.TooMany ↔ ((is_twice_named songs.items ≡ false) × (100000 < vec_len songs)) }
+        ensures too_many { IsErrOf result DbFault.TooMany ↔ AreTooMany songs }
     {
         let mut songs = songs;
         if sort_finds_twins(&mut songs) {

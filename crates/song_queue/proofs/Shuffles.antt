@@ -1,5 +1,5 @@
 -- Entries that are shuffled.
-use Rattle.std.proofs.Common.{◌≡◌, ◌≢◌, ℕ, zero, suc, ◌+◌, ◌-◌, ◌%◌, ◌<◌, ◌≤◌, Bool, cond, not, List, [], ◌∷◌, length, map, take, drop, get_or, set, refl, ap, sym, subst, ◌∙◌, ltb, eqb, inl, inr, arith}
+use Rattle.std.proofs.Common.{◌≡◌, ◌≢◌, ℕ, zero, suc, ◌+◌, ◌-◌, ◌%◌, ◌<◌, ◌≤◌, Bool, cond, not, List, [], ◌∷◌, length, map, take, drop, get_or, set, refl, ap, sym, subst, ◌∙◌, ltb, inl, inr, arith}
 use Rattle.std.specs.Prelude.{All, IsPermutation, swap}
 use Rattle.std.proofs.Math.ListN.{get_or-map}
 use Rattle.std.proofs.Math.Nat.{mod-lt}
@@ -11,7 +11,7 @@ use Rattle.song_queue.specs.declared.entry.Entry.{Entry}
 use Rattle.song_queue.specs.declared.entry.Slot.{Slot}
 use Rattle.song_queue.specs.Entries.{same_entry}
 use Rattle.song_queue.specs.Shuffles.{shuffled}
-use Rattle.song_queue.specs.State.{QueueState, IsQueue, restamped, kept, written, stamped_by, entries_of, queue_of, wraps, next_version, shuffled_state}
+use Rattle.song_queue.specs.State.{QueueState, IsQueue, restamped, kept, written, stamped_slot, stamped_by, entries_of, queue_of, wraps, next_version, shuffled_state}
 use Rattle.song_queue.specs.Laws.{ShufflesPermute}
 use Rattle.song_queue.proofs.Same.{same_entry-refl, same_entry-other}
 use Rattle.song_queue.proofs.Edits.{Distinct, IsQueue-stays, edited-same, edited-is}
@@ -93,16 +93,12 @@ map-shuffled f xs start end (word ∷ words) =
 abbrev pub slot_ids : List Slot → List ℕ
 slot_ids ss = map (λ s. s.entry.id) ss
 
--- a slot by the id that it is to hold
-abbrev pub stamped : ℕ → Bool → ℕ → Slot → Slot
-stamped v w id s = cond (eqb s.entry.id id) (kept w s) (written v w s.entry)
-
 pub stamped_by-more : (v : ℕ) (w : Bool) (ids : List ℕ) (ss : List Slot) (i : ℕ) (d : Slot) → i < length ids → i < length ss
-    → set (stamped_by v w (take i ids) ss) i (stamped v w (get_or ids i 0) (get_or (stamped_by v w (take i ids) ss) i d)) ≡ stamped_by v w (take (suc i) ids) ss
+    → set (stamped_by v w (take i ids) ss) i (stamped_slot v w (get_or ids i 0) (get_or (stamped_by v w (take i ids) ss) i d)) ≡ stamped_by v w (take (suc i) ids) ss
 stamped_by-more v w [] ss i d li ls = absurd (omega arith)
 stamped_by-more v w (id ∷ ids) [] i d li ls = absurd (omega arith)
 stamped_by-more v w (id ∷ ids) (s ∷ ss) zero d li ls = refl
-stamped_by-more v w (id ∷ ids) (s ∷ ss) (suc i) d li ls = λ n. stamped v w id s ∷ stamped_by-more v w ids ss i d (omega arith) (omega arith) n
+stamped_by-more v w (id ∷ ids) (s ∷ ss) (suc i) d li ls = λ n. stamped_slot v w id s ∷ stamped_by-more v w ids ss i d (omega arith) (omega arith) n
 
 -- a slot is at a place as before where its id is
 abbrev pub Returns : List Slot → List Slot → Type 0
@@ -113,7 +109,7 @@ stamped-restamped v w [] [] size returns = refl
 stamped-restamped v w [] (n ∷ ns) size returns = absurd (omega arith)
 stamped-restamped v w (o ∷ os) [] size returns = absurd (omega arith)
 stamped-restamped v w (o ∷ os) (n ∷ ns) size returns =
-    let first : stamped v w o.entry.id n ≡ cond (same_entry o.entry n.entry) (kept w o) (written v w n.entry) = elim (cases_eq o.entry.id n.entry.id) [
+    let first : stamped_slot v w o.entry.id n ≡ cond (same_entry o.entry n.entry) (kept w o) (written v w n.entry) = elim (cases_eq o.entry.id n.entry.id) [
       | inl e ↦
           let same : o ≡ n = returns 0 o (omega arith) e in
           cond-true _ _ _ (eq-eqb n.entry.id o.entry.id (sym e)) ∙ ap (kept w) (sym same) ∙ sym (cond-true _ _ _ (ap (λ (x : Slot). same_entry o.entry x.entry) (sym same) ∙ same_entry-refl o.entry))

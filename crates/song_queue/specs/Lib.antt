@@ -2,6 +2,8 @@ pub mod Entries
 pub mod Shuffles
 pub mod Past
 pub mod State
+pub mod Slots
+pub mod Refusals
 pub mod Laws
 pub mod Rows
 pub mod Fields

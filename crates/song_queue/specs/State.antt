@@ -1,6 +1,6 @@
 -- A queue with the stamps and marks of its slots, and what an edit makes of it (MPD protocol reference, The
 -- queue; the marks at a wrap are this profile's).
-use Rattle.std.specs.Prelude.{ℕ, zero, suc, ◌≢◌, ◌+◌, ◌≤◌, Bool, false, not, ◌||◌, nat_lt, ◌==◌, if◌then◌else◌, List, [], ◌∷◌, ◌++◌, length, take, drop, map, filter, swap, All, AllPairs, Option, position}
+use Rattle.std.specs.Prelude.{ℕ, zero, suc, ◌≢◌, ◌+◌, ◌<◌, ◌≤◌, Bool, false, not, ◌||◌, nat_lt, ◌==◌, if◌then◌else◌, List, [], ◌∷◌, ◌++◌, length, take, drop, map, filter, swap, All, AllPairs, Option, position}
 use Rattle.std.specs.Bool.{beq}
 use Rattle.std.specs.List.{enumerate_from}
 use Rattle.std.specs.declared.ops.Range.{Range}
@@ -51,11 +51,15 @@ restamped version wraps slots [] = []
 restamped version wraps [] (e ∷ es) = written version wraps e ∷ restamped version wraps [] es
 restamped version wraps (s ∷ ss) (e ∷ es) = (if same_entry s.entry e then kept wraps s else written version wraps e) ∷ restamped version wraps ss es
 
+-- a slot by the id that it is to hold: kept where its entry has the id, else new at this version
+abbrev pub stamped_slot : ℕ → Bool → ℕ → Slot → Slot
+stamped_slot version wraps id slot = if slot.entry.id == id then kept wraps slot else written version wraps slot.entry
+
 -- the slots after those are written whose entry has another id than this one, and the others kept
 abbrev pub stamped_by : ℕ → Bool → List ℕ → List Slot → List Slot
 stamped_by version wraps [] slots = slots
 stamped_by version wraps (id ∷ ids) [] = []
-stamped_by version wraps (id ∷ ids) (s ∷ ss) = (if s.entry.id == id then kept wraps s else written version wraps s.entry) ∷ stamped_by version wraps ids ss
+stamped_by version wraps (id ∷ ids) (s ∷ ss) = stamped_slot version wraps id s ∷ stamped_by version wraps ids ss
 
 -- whether the next version begins anew
 abbrev pub wraps : QueueState → Bool
@@ -98,9 +102,17 @@ shuffled_state q start end words = edited q (shuffled (queue_of q) start end wor
 abbrev pub position_of : QueueState → ℕ → Option ℕ
 position_of q id = position (λ s. s.entry.id == id) q.slots
 
--- whether a slot is shown to a client that knows a version
+-- the queue has an entry at the place, and the place after it is a number of 64 bits
+abbrev pub HasPlace : QueueState → ℕ → Type 0
+HasPlace q place = (place < length (queue_of q)) × (place < 18446744073709551615)
+
+-- whether a slot is shown to a client that knows a version, where another one is present
+abbrev pub is_shown : ℕ → ℕ → Slot → Bool
+is_shown version present slot = slot.marked || nat_lt version slot.stamp || nat_lt present version
+
+-- whether a slot of a queue is shown to a client that knows a version
 abbrev pub is_changed : QueueState → ℕ → Slot → Bool
-is_changed q version slot = slot.marked || nat_lt version slot.stamp || nat_lt q.version version
+is_changed q version slot = is_shown version q.version slot
 
 -- the changed slots in rising order, each with its entry
 abbrev pub changed : QueueState → ℕ → List (ℕ × Entry)

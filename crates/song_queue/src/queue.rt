@@ -1,8 +1,9 @@
 //! The queue and its edits.
-ghost use Rattle.std.specs.Prelude.{◌≡◌, ◌≢◌, ◌↔◌, ◌+◌, ◌-◌, ◌<◌, ◌≤◌, ◌⊎◌, All, Any, length, map, IfOk, IfSome, nat_le, OnOk, OnErr, IsErrOf, IsOkUnless, slice_get, vec_len};
+ghost use Rattle.std.specs.Prelude.{◌≡◌, ◌↔◌, ◌+◌, ◌<◌, ◌≤◌, ◌⊎◌, All, Any, length, map, IfOk, IfSome, nat_le, OnOk, OnErr, IsErrOf, IsOkUnless, slice_get, vec_len};
 ghost use Rattle.std.specs.Option.{option_copied};
 ghost use Rattle.std.specs.Bool.{OnTrue, OnFalse};
-ghost use Rattle.song_queue.specs.State.{QueueState, IsQueue, queue_of, position_of, inserted, removed, moved, prioritized, swapped, shuffled_state, changed, opened};
+ghost use Rattle.song_queue.specs.State.{QueueState, IsQueue, HasPlace, queue_of, position_of, inserted, removed, moved, prioritized, swapped, shuffled_state, changed, opened};
+ghost use Rattle.song_queue.specs.Refusals.{IsPastEnd, LiesOutside, CannotMove, HasNoRoom, HasNoIds};
 ghost use Rattle.song_queue.specs.Laws.{PatchesEarlier};
 
 use crate::entry::{Entry, Slot};
@@ -157,7 +158,7 @@ impl Queue {
     /// The place of the entry with an id.
     pub fn position_of(&self, id: u32) -> Option<usize>
         ensures place { result ≡ position_of self.now id }
-        ensures within { IfSome result (λ place. (place < length (queue_of self.now)) × (place < 18446744073709551615)) }
+        ensures within { IfSome result (HasPlace self.now) }
     {
         self.slots.iter().position(|slot| slot.entry.id == id)
     }
@@ -178,8 +179,8 @@ impl Queue {
         ensures ok { OnOk result (self.new ≡ inserted self.old at songs.items) }
         ensures no_such_song { IsErrOf result QueueFault.NoSuchSong → ⊥ }
         ensures bad_index { IsErrOf result QueueFault.BadIndex ↔ (length (queue_of self.old) < at) }
-        ensures full { IsErrOf result QueueFault.Full ↔ ((at ≤ length (queue_of self.old)) × (self.old.max_len < length (queue_of self.old) + vec_len songs)) }
-        ensures no_more_ids { IsErrOf result QueueFault.NoMoreIds ↔ ((at ≤ length (queue_of self.old)) × (length (queue_of self.old) + vec_len songs ≤ self.old.max_len) × (self.old.max_id < self.old.greatest_id + vec_len songs)) }
+        ensures full { IsErrOf result QueueFault.Full ↔ HasNoRoom self.old at (vec_len songs) }
+        ensures no_more_ids { IsErrOf result QueueFault.NoMoreIds ↔ HasNoIds self.old at (vec_len songs) }
         ensures err { OnErr result (self.new ≡ self.old) }
     {
         let len = self.slots.len();
@@ -209,7 +210,7 @@ impl Queue {
     /// Takes the entries of a range out. It takes no memory.
     pub fn remove(&mut self, range: Range<usize>) -> Result<(), QueueFault>
         ensures ok { OnOk result (self.new ≡ removed self.old range.start range.end) }
-        ensures bad_index { IsErrOf result QueueFault.BadIndex ↔ ((range.end < range.start) ⊎ (length (queue_of self.old) < range.end)) }
+        ensures bad_index { IsErrOf result QueueFault.BadIndex ↔ LiesOutside self.old range }
         ensures faults { IsOkUnless result QueueFault.BadIndex }
         ensures err { OnErr result (self.new ≡ self.old) }
     {
@@ -231,7 +232,7 @@ impl Queue {
     /// is left. An empty range changes nothing, whatever the place. It takes no memory.
     pub fn move_range(&mut self, range: Range<usize>, to: usize) -> Result<(), QueueFault>
         ensures ok { OnOk result (self.new ≡ moved self.old range.start range.end to) }
-        ensures bad_index { IsErrOf result QueueFault.BadIndex ↔ ((range.end < range.start) ⊎ (length (queue_of self.old) < range.end) ⊎ ((range.start ≢ range.end) × (length (queue_of self.old) < to + (range.end - range.start)))) }
+        ensures bad_index { IsErrOf result QueueFault.BadIndex ↔ CannotMove self.old range to }
         ensures faults { IsOkUnless result QueueFault.BadIndex }
         ensures err { OnErr result (self.new ≡ self.old) }
     {
@@ -260,7 +261,7 @@ impl Queue {
     /// It takes no memory.
     pub fn set_prio(&mut self, ranges: &[Range<usize>], priority: u8) -> Result<(), QueueFault>
         ensures ok { OnOk result (self.new ≡ prioritized self.old ranges.now priority) }
-        ensures bad_index { IsErrOf result QueueFault.BadIndex ↔ Any (λ r. (r.end < r.start) ⊎ (length (queue_of self.old) < r.end)) ranges.now }
+        ensures bad_index { IsErrOf result QueueFault.BadIndex ↔ Any (LiesOutside self.old) ranges.now }
         ensures faults { IsOkUnless result QueueFault.BadIndex }
         ensures err { OnErr result (self.new ≡ self.old) }
     {
@@ -280,7 +281,7 @@ impl Queue {
     /// Lets the entries at two places change places; a place with itself changes nothing. It takes no memory.
     pub fn swap(&mut self, a: usize, b: usize) -> Result<(), QueueFault>
         ensures ok { OnOk result (self.new ≡ swapped self.old a b) }
-        ensures bad_index { IsErrOf result QueueFault.BadIndex ↔ ((length (queue_of self.old) ≤ a) ⊎ (length (queue_of self.old) ≤ b)) }
+        ensures bad_index { IsErrOf result QueueFault.BadIndex ↔ (IsPastEnd self.old a ⊎ IsPastEnd self.old b) }
         ensures faults { IsOkUnless result QueueFault.BadIndex }
         ensures err { OnErr result (self.new ≡ self.old) }
     {
@@ -303,7 +304,7 @@ impl Queue {
     /// is at its place again.
     pub fn shuffle(&mut self, range: Range<usize>, words: &[u32]) -> Result<(), QueueFault>
         ensures ok { OnOk result (self.new ≡ shuffled_state self.old range.start range.end words.now) }
-        ensures bad_index { IsErrOf result QueueFault.BadIndex ↔ ((range.end < range.start) ⊎ (length (queue_of self.old) < range.end)) }
+        ensures bad_index { IsErrOf result QueueFault.BadIndex ↔ LiesOutside self.old range }
         ensures no_such_song { IsErrOf result QueueFault.NoSuchSong → ⊥ }
         ensures full { IsErrOf result QueueFault.Full → ⊥ }
         ensures no_more_ids { IsErrOf result QueueFault.NoMoreIds → ⊥ }

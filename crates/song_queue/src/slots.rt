@@ -1,7 +1,7 @@
 //! Lists of slots: what edits write and keep.
-ghost use Rattle.std.specs.Prelude.{◌≡◌, ◌+◌, ◌<◌, ◌≤◌, ◌++◌, ◌==◌, ◌-◌, ◌^◌, ◌||◌, ◌≢◌, ◌↔◌, nat_lt, length, map, take, drop, swap, filter, vec_len, true, IfOk, OnOk, OnErr, IsTrue, All, AllPairs, if◌then◌else◌};
-ghost use Rattle.std.specs.List.{enumerate_from, slice_range};
-ghost use Rattle.song_queue.specs.State.{kept, written, write_at, entries_of, restamped, prioritized_slot, stamped_by};
+ghost use Rattle.std.specs.Prelude.{◌≡◌, ◌+◌, ◌<◌, ◌≤◌, ◌==◌, ◌-◌, ◌^◌, ◌≢◌, ◌↔◌, length, map, drop, swap, vec_len, true, IfOk, OnOk, OnErr, IsTrue, All, AllPairs, if◌then◌else◌};
+ghost use Rattle.song_queue.specs.State.{kept, written, write_at, entries_of, restamped, prioritized_slot, stamped_slot, stamped_by};
+ghost use Rattle.song_queue.specs.Slots.{places_shown, written_from, with_put_in, with_taken_out, with_parts_turned, with_moved_to_end, with_end_moved_to};
 ghost use Rattle.song_queue.specs.Entries.{entries_for, moved_to, with_priority};
 ghost use Rattle.song_queue.specs.Shuffles.{shuffled};
 
@@ -30,7 +30,7 @@ pub fn changed_places(
     version: u32,
     present: u32,
 ) -> Result<Vec<usize>, AllocError>
-    ensures { IfOk result (λ places. places.items ≡ map (λ p. p.0) (filter (λ p. p.1.marked || nat_lt version p.1.stamp || nat_lt present version) (enumerate_from 0 slots.now))) }
+    ensures { IfOk result (λ places. places.items ≡ places_shown version present slots.now) }
 {
     slots
         .iter()
@@ -99,7 +99,7 @@ pub fn put_in(
     wraps: bool,
 ) -> Result<(), AllocError>
     requires { at ≤ vec_len slots.old }
-    ensures ok { OnOk result (slots.new.items ≡ map (kept wraps) (take at slots.old.items) ++ map (written version wraps) (entries_of added.items ++ drop at (entries_of slots.old.items))) }
+    ensures ok { OnOk result (slots.new.items ≡ with_put_in version wraps slots.old.items at added.items) }
     ensures err { OnErr result (slots.new.items ≡ slots.old.items) }
 {
     let count = added.len();
@@ -114,7 +114,7 @@ pub fn put_in(
 pub fn take_out(slots: &mut Vec<Slot>, start: usize, end: usize, version: u32, wraps: bool)
     requires order { start ≤ end }
     requires within { end ≤ vec_len slots.old }
-    ensures { slots.new.items ≡ map (kept wraps) (take start slots.old.items) ++ map (written version wraps) (drop end (entries_of slots.old.items)) }
+    ensures { slots.new.items ≡ with_taken_out version wraps slots.old.items start end }
 {
     let count = end - start;
     let left = slots.len() - count;
@@ -158,7 +158,7 @@ fn turn(slots: &mut [Slot], low: usize, middle: usize, high: usize, version: u32
     requires front { low ≤ middle }
     requires back { middle ≤ high }
     requires within { high ≤ length slots.old }
-    ensures { slots.new ≡ map (kept wraps) (take low slots.old) ++ map (written version wraps) (entries_of (slice_range slots.old middle high ++ slice_range slots.old low middle)) ++ map (kept wraps) (drop high slots.old) }
+    ensures { slots.new ≡ with_parts_turned version wraps slots.old low middle high }
 {
     let (front, rest) = slots.split_at_mut(low);
     let (span, back) = rest.split_at_mut(high - low);
@@ -273,7 +273,7 @@ pub fn stamp_others(slots: &mut [Slot], ids: &[u32], version: u32, wraps: bool)
 
 /// Writes a slot whose entry has another id than this, and keeps it else.
 fn stamp_other(slot: &mut Slot, id: u32, version: u32, wraps: bool)
-    ensures { slot.new ≡ (if slot.old.entry.id == id then kept wraps slot.old else written version wraps slot.old.entry) }
+    ensures { slot.new ≡ stamped_slot version wraps id slot.old }
 {
     if slot.entry.id != id {
         slot.stamp = version;
@@ -296,7 +296,7 @@ fn write(slots: &mut [Slot], place: usize, version: u32, wraps: bool)
 /// Moves slots from a place to the end.
 fn move_first(slots: &mut [Slot], start: usize, count: usize)
     requires { start + count ≤ length slots.old }
-    ensures { slots.new ≡ take start slots.old ++ (drop count (drop start slots.old) ++ take count (drop start slots.old)) }
+    ensures { slots.new ≡ with_moved_to_end slots.old start count }
 {
     slots[start..].rotate_left(count);
 }
@@ -304,7 +304,7 @@ fn move_first(slots: &mut [Slot], start: usize, count: usize)
 /// Moves the last slots to a place.
 fn move_last(slots: &mut [Slot], at: usize, count: usize)
     requires { at + count ≤ length slots.old }
-    ensures { slots.new ≡ take at slots.old ++ (drop (length slots.old - count) slots.old ++ take (length slots.old - count - at) (drop at slots.old)) }
+    ensures { slots.new ≡ with_end_moved_to slots.old at count }
 {
     slots[at..].rotate_right(count);
 }
@@ -312,7 +312,7 @@ fn move_last(slots: &mut [Slot], at: usize, count: usize)
 /// The slots from a place on are written, and those before it kept.
 fn restamp(slots: &mut [Slot], from: usize, version: u32, wraps: bool)
     requires { from ≤ length slots.old }
-    ensures { slots.new ≡ map (kept wraps) (take from slots.old) ++ map (written version wraps) (drop from (entries_of slots.old)) }
+    ensures { slots.new ≡ written_from version wraps slots.old from (drop from (entries_of slots.old)) }
 {
     let (front, back) = slots.split_at_mut(from);
     keep_all(front, wraps);

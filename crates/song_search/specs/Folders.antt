@@ -1,7 +1,7 @@
 -- Folders of a library: what lies in them (MPD protocol reference, The music database; that a folder is what
 -- stands before a slash of a URI, and that the empty one is the whole library, is this profile's).
-use Rattle.std.specs.Prelude.{ℕ, Bool, not, ◌&&◌, ◌||◌, ◌==◌, nat_eq, List, [], ◌∷◌, ◌++◌, length, drop, Option, Some, None, if◌then◌else◌}
-use Rattle.std.specs.List.{filter, filter_map, list_any, starts_with, before_first}
+use Rattle.std.specs.Prelude.{ℕ, ◌≡◌, ◌+◌, ◌<◌, ◌≤◌, Bool, true, not, ◌&&◌, ◌||◌, ◌==◌, nat_eq, List, [], ◌∷◌, ◌++◌, length, drop, Option, Some, None, if◌then◌else◌}
+use Rattle.std.specs.List.{filter, filter_map, list_any, position_or_len, starts_with, before_first}
 use Rattle.mpd_text.specs.Songs.Song.{SongData}
 use Rattle.song_search.specs.Truth.{front_of, is_under}
 use Rattle.song_search.specs.Texts.{ascending}
@@ -20,6 +20,22 @@ path_in folder uri = drop (length (front_of folder)) uri
 
 abbrev pub has_slash : List ℕ → Bool
 has_slash text = list_any (λ b. b == 47) text
+
+-- a place is where the path of a URI from a folder on begins that it lies under
+abbrev pub IsPathStart : List ℕ → List ℕ → ℕ → Type 0
+IsPathStart folder uri start = (is_under folder uri ≡ true) × (start ≡ length (front_of folder)) × (start ≤ length uri)
+
+-- a place is that of the first slash of a text
+abbrev pub IsFirstSlash : List ℕ → ℕ → Type 0
+IsFirstSlash text place =
+    (has_slash text ≡ true) × (place ≡ position_or_len (λ b. b == 47) text) × (place < length text)
+
+-- a place of a text is that of its first slash from another one on
+abbrev pub IsFirstSlashFrom : ℕ → List ℕ → ℕ → Type 0
+IsFirstSlashFrom start text place =
+    (has_slash (drop start text) ≡ true)
+    × (place ≡ start + position_or_len (λ b. b == 47) (drop start text))
+    × (place < length text)
 
 -- whether a URI lies right in a folder, in none of the folders below
 abbrev pub is_direct : List ℕ → List ℕ → Bool

@@ -1,9 +1,14 @@
 -- Texts in byte order, each once.
 use Rattle.std.specs.Prelude.{ℕ, List, map}
+use denote.Ref.{Bor}
 use Rattle.std.specs.Ordering.{nat_cmp}
 use Rattle.std.specs.Cmp.Lexicographic.{slice_cmp}
 use Rattle.std.specs.declared.cmp.Ordering.{Ordering}
 use Rattle.std.specs.FinMap.{keys, from_entries}
+
+-- what each reference of a list refers to
+abbrev pub values_now : {X : Type 0} → List (Bor X) → List X
+values_now references = map (λ reference. reference.now) references
 
 -- the order of two texts, by their bytes
 abbrev pub by_bytes : List ℕ → List ℕ → Ordering

@@ -1,15 +1,16 @@
 //! Folders of a library (MPD protocol reference, The music database: `lsinfo`, `listall`, and folders in
 //! `add`).
-ghost use Rattle.std.specs.Prelude.{◌≡◌, ◌≢◌, ◌++◌, ◌∷◌, [], ℕ, List, IfOk, MatchOption, map, length, drop, nat_eq, true, false, ◌==◌, ◌+◌, ◌<◌, ◌≤◌};
-ghost use Rattle.std.specs.List.{starts_with, prefix_len, position_or_len};
+ghost use Rattle.std.specs.Prelude.{◌≡◌, ◌++◌, ◌∷◌, [], IfOk, MatchOption, length, drop, nat_eq, false, ◌≤◌};
+ghost use Rattle.std.specs.List.{starts_with, prefix_len};
 ghost use Rattle.std.specs.List.Sorted.{IsPartitionedBy};
 ghost use Rattle.std.specs.Option.{option_copied};
 ghost use Rattle.std.specs.Ordering.{is_lt};
 ghost use Rattle.mpd_text.specs.Songs.Song.{SongData};
+ghost use Rattle.filters.specs.Truth.{LacksPrefix};
 ghost use Rattle.song_db.specs.Library.{InByteOrder};
-ghost use Rattle.song_search.specs.Texts.{by_bytes};
+ghost use Rattle.song_search.specs.Texts.{by_bytes, values_now};
 ghost use Rattle.song_search.specs.Truth.{front_of, is_under as is_under_lem};
-ghost use Rattle.song_search.specs.Folders.{under as under_lem, is_folder as is_folder_lem, folder_below as folder_below_lem, direct_songs, direct_folders, lies_in, has_slash};
+ghost use Rattle.song_search.specs.Folders.{under as under_lem, is_folder as is_folder_lem, folder_below as folder_below_lem, direct_songs, direct_folders, lies_in, has_slash, IsPathStart, IsFirstSlash, IsFirstSlashFrom};
 
 use crate::texts::sort_once;
 use song_db::{Db, SharedSong};
@@ -43,8 +44,8 @@ pub struct Listing<'a> {
 /// What lies right in a folder. Each folder below is passed over by halves, and neither songs nor texts are
 /// copied.
 pub fn list_folder<'a>(alloc: Global, db: &'a Db, folder: &str) -> Result<Listing<'a>, AllocError>
-    ensures folders { IfOk result (λ found. map (λ text. text.now) found.folders.items ≡ direct_folders folder.now db.now) }
-    ensures songs { IfOk result (λ found. map (λ song. song.now) found.songs.items ≡ direct_songs folder.now db.now) }
+    ensures folders { IfOk result (λ found. values_now found.folders.items ≡ direct_folders folder.now db.now) }
+    ensures songs { IfOk result (λ found. values_now found.songs.items ≡ direct_songs folder.now db.now) }
 {
     let mut folders = Vec::new(alloc);
     let mut songs = Vec::new(alloc);
@@ -85,7 +86,7 @@ fn folder_below<'a>(uri: &'a str, folder: &str) -> Option<&'a str>
 
 /// Where the path of a URI from a folder on begins, if it lies under the folder.
 fn path_start(uri: &str, folder: &str) -> Option<usize>
-    ensures { MatchOption result (is_under_lem folder.now uri.now ≡ false) (λ start. (is_under_lem folder.now uri.now ≡ true) × (start ≡ length (front_of folder.now)) × (start ≤ length uri.now)) }
+    ensures { MatchOption result (is_under_lem folder.now uri.now ≡ false) (IsPathStart folder.now uri.now) }
 {
     if folder.is_empty() {
         return Some(0);
@@ -100,7 +101,7 @@ fn path_start(uri: &str, folder: &str) -> Option<usize>
 /// The place of the first slash from a place on.
 fn slash_from(uri: &str, start: usize) -> Option<usize>
     requires { start ≤ length uri.now }
-    ensures { MatchOption result (has_slash (drop start uri.now) ≡ false) (λ place. (has_slash (drop start uri.now) ≡ true) × (place ≡ start + position_or_len (λ b. b == 47) (drop start uri.now)) × (place < length uri.now)) }
+    ensures { MatchOption result (has_slash (drop start uri.now) ≡ false) (IsFirstSlashFrom start uri.now) }
 {
     let bytes = uri.as_bytes();
     let place = slash_in(&bytes[start..])?;
@@ -109,7 +110,7 @@ fn slash_from(uri: &str, start: usize) -> Option<usize>
 
 /// The place of the first slash.
 fn slash_in(path: &[u8]) -> Option<usize>
-    ensures { MatchOption result (has_slash path.now ≡ false) (λ place. (has_slash path.now ≡ true) × (place ≡ position_or_len (λ b. b == 47) path.now) × (place < length path.now)) }
+    ensures { MatchOption result (has_slash path.now ≡ false) (IsFirstSlash path.now) }
 {
     for (place, b) in path.iter().enumerate() {
         if *b == b'/' {
@@ -190,7 +191,7 @@ fn begins_with_slash(rest: &[u8]) -> bool
 
 /// The bytes after a prefix, if they begin with it.
 fn after_prefix<'a>(bytes: &'a [u8], prefix: &[u8]) -> Option<&'a [u8]>
-    ensures { MatchOption result ((rest : List ℕ) → bytes.now ≢ prefix.now ++ rest) (λ rest. bytes.now ≡ prefix.now ++ rest.now) }
+    ensures { MatchOption result (LacksPrefix prefix.now bytes.now) (λ rest. bytes.now ≡ prefix.now ++ rest.now) }
 {
     bytes.strip_prefix(prefix)
 }

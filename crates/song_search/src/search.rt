@@ -1,5 +1,5 @@
 //! Songs that meet a filter (MPD protocol reference, The music database: `find`, `search`, `list`, `count`).
-ghost use Rattle.std.specs.Prelude.{◌≡◌, ◌↔◌, ◌≤◌, ◌*◌, ◌^◌, IfOk, IsTrue, map, length};
+ghost use Rattle.std.specs.Prelude.{◌≡◌, ◌↔◌, ◌≤◌, ◌^◌, IfOk, IsTrue, length};
 ghost use Rattle.mpd_text.specs.Songs.Song.{SongData};
 ghost use Rattle.filters.specs.Expressions.{Expression};
 ghost use Rattle.filters.specs.Truth.{Holds, text_of_tag as text_of_tag_lem};
@@ -7,6 +7,7 @@ ghost use Rattle.filters.specs.declared.matching.Case.TheVariants.{Heeded};
 ghost use Rattle.song_db.specs.Lines.{millis};
 ghost use Rattle.song_search.specs.Truth.{meets};
 ghost use Rattle.song_search.specs.Answers.{found, tag_texts as tag_texts_lem, listed as listed_lem, playtime};
+ghost use Rattle.song_search.specs.Texts.{values_now};
 
 use crate::texts::sort_once;
 use filters::{Case, Filter};
@@ -26,7 +27,7 @@ pub fn find<'a>(
     filter: &Filter,
     case: Case,
 ) -> Result<Vec<&'a SharedSong>, AllocError>
-    ensures { IfOk result (λ songs. map (λ song. song.now) songs.items ≡ found case filter.now db.now) }
+    ensures { IfOk result (λ songs. values_now songs.items ≡ found case filter.now db.now) }
 {
     let mut songs = Vec::new(alloc);
     for song in db.songs() {
@@ -65,7 +66,7 @@ pub fn listed<'a>(
     name: TagName,
     filter: &Filter,
 ) -> Result<Vec<&'a str>, AllocError>
-    ensures { IfOk result (λ texts. map (λ text. text.now) texts.items ≡ listed_lem name filter.now db.now) }
+    ensures { IfOk result (λ texts. values_now texts.items ≡ listed_lem name filter.now db.now) }
 {
     let mut texts = tag_texts(alloc, db.songs(), name, filter)?;
     sort_once(&mut texts);
@@ -79,7 +80,7 @@ fn tag_texts<'a>(
     name: TagName,
     filter: &Filter,
 ) -> Result<Vec<&'a str>, AllocError>
-    ensures { IfOk result (λ texts. map (λ text. text.now) texts.items ≡ tag_texts_lem name (found Heeded filter.now songs.now)) }
+    ensures { IfOk result (λ texts. values_now texts.items ≡ tag_texts_lem name (found Heeded filter.now songs.now)) }
 {
     let mut texts = Vec::new(alloc);
     for song in songs {

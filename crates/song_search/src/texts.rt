@@ -1,8 +1,8 @@
 //! Texts in byte order, each once.
-ghost use Rattle.std.specs.Prelude.{◌≡◌, ◌↔◌, ℕ, List, map};
+ghost use Rattle.std.specs.Prelude.{◌≡◌, ◌↔◌, ℕ, List};
 ghost use Rattle.std.specs.List.{Contains};
 ghost use Rattle.std.specs.List.Sorted.{IsStrictlySortedBy};
-ghost use Rattle.song_search.specs.Texts.{by_bytes, ascending};
+ghost use Rattle.song_search.specs.Texts.{by_bytes, ascending, values_now};
 
 /// The law that `ascending` is the list of the texts of a list in byte order, each before all that follow it.
 pub fn ascending_has_each_once()
@@ -12,7 +12,7 @@ pub fn ascending_has_each_once()
 
 /// Puts texts in byte order, and keeps each once.
 pub(crate) fn sort_once(texts: &mut Vec<&str>)
-    ensures { map (λ text. text.now) texts.new.items ≡ ascending (map (λ text. text.now) texts.old.items) }
+    ensures { values_now texts.new.items ≡ ascending (values_now texts.old.items) }
 {
     texts.sort_unstable();
     texts.dedup();

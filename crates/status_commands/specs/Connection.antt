@@ -1,6 +1,7 @@
 -- The commands of the connection, which need nothing of the player (MPD protocol reference, Connection
 -- settings; Reflection).
 use Rattle.std.specs.Prelude.{ℕ, Bool, true, false, List, [], codes, if◌then◌else◌}
+use Rattle.std.specs.Borrow.{Bor}
 use Rattle.std.specs.Bool.{beq}
 use Rattle.std.specs.List.{flat_map}
 use Rattle.mpd_command.specs.Names.{all_names, is_forbidden}
@@ -16,14 +17,21 @@ use Rattle.mpd_command.specs.declared.connection.ConnectionCommand.TheVariants a
 abbrev pub ping : Asked → Answer
 ping asked = succeeds asked.stand (codes "")
 
--- the names of tags, in their order
+-- the names of tags, a line each, in their order
+abbrev pub tag_type_lines : List ℕ
+tag_type_lines = flat_map (λ name. pair_line (codes "tagtype") (tag_text name)) tag_names
+
 abbrev pub tag_types : Asked → Answer
-tag_types asked = succeeds asked.stand (flat_map (λ name. pair_line (codes "tagtype") (tag_text name)) tag_names)
+tag_types asked = succeeds asked.stand tag_type_lines
 
 -- a command's name, where it is forbidden or not as asked
 abbrev pub command_line : Bool → Bool → List ℕ → List ℕ
 command_line allow_kill forbidden name =
     if beq (is_forbidden name allow_kill) forbidden then pair_line (codes "command") name else []
+
+-- those of some names that are forbidden, or those that are not, a line each
+abbrev pub command_lines_among : Bool → Bool → List (Bor (List ℕ)) → List ℕ
+command_lines_among allow_kill forbidden names = flat_map (λ name. command_line allow_kill forbidden name.now) names
 
 -- the names of the commands that are forbidden, or of those that are not, in their order
 unfoldable pub command_lines : Bool → Bool → List ℕ

@@ -18,7 +18,7 @@ use Rattle.player_core.specs.declared.state.Playback.{Playback}
 use Rattle.player_core.specs.declared.state.Playback.TheVariants.{Stop, Play, Pause}
 use Rattle.player_core.specs.Player.{is_stopped}
 use Rattle.player_core.specs.Steps.{current_entry, peek}
-use Rattle.transitions.specs.Answers.{ResponseData, refuses, shut, stays, tells}
+use Rattle.transitions.specs.Answers.{ResponseData, refuses_command, shut, stays, tells}
 use Rattle.transitions.specs.CommandResults.{only, shows}
 use Rattle.queue_commands.specs.Playback.{clear_error, current_song}
 use Rattle.transitions.specs.declared.asked.Asked.{Asked}
@@ -65,7 +65,7 @@ granted client ToGoOn = resumes client
 -- how a client waits is no matter of a list
 abbrev pub wished_at : Stand → Asked → Client → Wish → ResponseData
 wished_at Alone asked client wish = granted client wish
-wished_at (InList form place) asked client wish = stays (refuses asked.stand (Some asked.name) Argument (codes "not allowed in a list"))
+wished_at (InList form place) asked client wish = stays (refuses_command asked Argument (codes "not allowed in a list"))
 
 abbrev pub wished : Asked → Client → Wish → ResponseData
 wished asked client wish = wished_at asked.stand asked client wish
@@ -102,6 +102,10 @@ queue_lines version length playback =
     pair_line (codes "partition") (codes "default") ++ (pair_line (codes "playlist") (decimal version)
     ++ (pair_line (codes "playlistlength") (decimal length) ++ pair_line (codes "state") (state_text playback)))
 
+-- the same, of what one player owns
+abbrev pub queue_lines_of : Part → List ℕ
+queue_lines_of part = queue_lines part.queue.version (length (queue_of part.queue)) part.player.playback
+
 -- a song that is there, by its place and its id
 unfoldable pub song_place_lines : ℕ → ℕ → List ℕ
 song_place_lines place id = pair_line (codes "song") (decimal place) ++ pair_line (codes "songid") (decimal id)
@@ -127,6 +131,10 @@ abbrev pub next_lines : QueueState → Option Entry → List ℕ
 next_lines queue None = []
 next_lines queue (Some entry) = next_lines_at (position_of queue entry.id) entry.id
 
+-- the same, of what one player owns
+abbrev pub next_lines_of : Part → List ℕ
+next_lines_of part = next_lines part.queue (peek part.player (queue_of part.queue))
+
 abbrev pub audio_text : ℕ → List ℕ
 audio_text rate = decimal rate ++ codes ":16:2"
 
@@ -144,11 +152,15 @@ abbrev pub duration_of : ℕ → Option Entry → List ℕ
 duration_of rate None = []
 duration_of rate (Some entry) = duration_line rate entry.song.frames
 
+-- how long the current song is, if there is one
+abbrev pub current_duration : ℕ → Part → List ℕ
+current_duration rate part = duration_of rate (current_entry part.player (queue_of part.queue))
+
 -- these are shown where the player does not stand still
 abbrev pub progress_lines : ℕ → Part → List ℕ
 progress_lines rate part =
     if is_stopped part.player.playback then []
-    else elapsed_line rate part.player.place ++ (duration_of rate (current_entry part.player (queue_of part.queue)) ++ audio_line rate)
+    else elapsed_line rate part.player.place ++ (current_duration rate part ++ audio_line rate)
 
 -- why the player stopped, where that was an error
 abbrev pub error_line : Option (List ℕ) → List ℕ
@@ -164,12 +176,15 @@ abbrev pub scan_line : Option ℕ → List ℕ
 scan_line None = []
 scan_line (Some number) = pair_line (codes "updating_db") (decimal number)
 
+-- the seconds of fades, the scan that runs, and why the player stopped, each where it is there
+abbrev pub last_lines : Part → Library → List ℕ
+last_lines part library = fade_line part.player.crossfade ++ (scan_line (running library.scan) ++ error_line part.player.error)
+
 abbrev pub status : Asked → Part → Library → CommandResult
 status asked part library =
-    shows asked (mode_lines part.volume part.player.modes ++ (queue_lines part.queue.version (length (queue_of part.queue)) part.player.playback
-    ++ (current_lines part.queue part.player.current ++ (next_lines part.queue (peek part.player (queue_of part.queue))
-    ++ (progress_lines library.rate part ++ (fade_line part.player.crossfade
-    ++ (scan_line (running library.scan) ++ error_line part.player.error)))))))
+    shows asked (mode_lines part.volume part.player.modes ++ (queue_lines_of part
+    ++ (current_lines part.queue part.player.current ++ (next_lines_of part
+    ++ (progress_lines library.rate part ++ last_lines part library)))))
 
 -- what each command makes of the player; those by which a client waits are wishes and make nothing of it
 unfoldable pub result_of : Asked → Part → Library → StatusCommand → CommandResult

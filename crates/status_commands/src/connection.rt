@@ -1,13 +1,10 @@
 //! The commands of the connection, which need nothing of the player (MPD protocol reference, Connection
 //! settings; Reflection).
-ghost use Rattle.std.specs.Prelude.{◌≡◌, ◌++◌, true, false, IfOk, OnOk, codes};
-ghost use Rattle.std.specs.List.{flat_map};
-ghost use Rattle.mpd_text.specs.Answers.Answer.{pair_line};
-ghost use Rattle.mpd_text.specs.Songs.Tags.{tag_names, tag_text};
+ghost use Rattle.std.specs.Prelude.{◌≡◌, ◌++◌, IfOk, OnOk};
 ghost use Rattle.player_state.specs.Fits.{Fits};
-ghost use Rattle.transitions.specs.Answers.{stays};
-ghost use Rattle.transitions.specs.Transitions.{transition_by};
-ghost use Rattle.status_commands.specs.Connection.{command_line, command_lines, commands as commands_lem, not_commands as not_commands_lem, ping as ping_lem, result_of, tag_types as tag_types_lem};
+ghost use Rattle.transitions.specs.Answers.{Responds, stays};
+ghost use Rattle.transitions.specs.Transitions.{IsDecidedBy};
+ghost use Rattle.status_commands.specs.Connection.{command_line, command_lines, command_lines_among, commands as commands_lem, not_commands as not_commands_lem, ping as ping_lem, result_of, tag_type_lines, tag_types as tag_types_lem};
 
 use mpd_command::{ConnectionCommand, is_forbidden, names};
 use mpd_text::{Answer, TAG_NAMES};
@@ -19,7 +16,7 @@ use transitions::{Asked, Response, Transition, shows, succeeds};
 #[rattlefmt::skip]
 #[tactic(auto, unfolding(crate::specs::Connection::result_of))]
 pub fn run(alloc: Global, asked: Asked, part: &Part, command: &ConnectionCommand) -> Result<Transition, AllocError>
-    ensures transition { IfOk result (λ transition. transition ≡ transition_by (result_of asked command.now)) }
+    ensures transition { IsDecidedBy result (result_of asked command.now) }
     ensures fits { IfOk result (λ transition. Fits part.now transition.effect) }
 {
     match command {
@@ -33,13 +30,13 @@ pub fn run(alloc: Global, asked: Asked, part: &Part, command: &ConnectionCommand
 }
 
 fn ping(alloc: Global, asked: Asked) -> Result<Response, AllocError>
-    ensures { IfOk result (λ response. response ≡ stays (ping_lem asked)) }
+    ensures { Responds result (stays (ping_lem asked)) }
 {
     succeeds(alloc, asked)
 }
 
 fn tag_types(alloc: Global, asked: Asked) -> Result<Response, AllocError>
-    ensures { IfOk result (λ response. response ≡ stays (tag_types_lem asked)) }
+    ensures { Responds result (stays (tag_types_lem asked)) }
 {
     let mut answer = Answer::new(alloc);
     push_types(&mut answer)?;
@@ -47,7 +44,7 @@ fn tag_types(alloc: Global, asked: Asked) -> Result<Response, AllocError>
 }
 
 fn push_types(answer: &mut Answer) -> Result<(), AllocError>
-    ensures { OnOk result (answer.new ≡ answer.old ++ flat_map (λ name. pair_line (codes "tagtype") (tag_text name)) tag_names) }
+    ensures { OnOk result (answer.new ≡ answer.old ++ tag_type_lines) }
 {
     for name in TAG_NAMES {
         answer.pair("tagtype", name.text())?;
@@ -57,7 +54,7 @@ fn push_types(answer: &mut Answer) -> Result<(), AllocError>
 
 /// The commands that may be run.
 fn commands(alloc: Global, asked: Asked, allow_kill: bool) -> Result<Response, AllocError>
-    ensures { IfOk result (λ response. response ≡ stays (commands_lem asked allow_kill)) }
+    ensures { Responds result (stays (commands_lem asked allow_kill)) }
 {
     let mut answer = Answer::new(alloc);
     push_all_commands(&mut answer, allow_kill, false)?;
@@ -66,7 +63,7 @@ fn commands(alloc: Global, asked: Asked, allow_kill: bool) -> Result<Response, A
 
 /// The commands that may not be run.
 fn not_commands(alloc: Global, asked: Asked, allow_kill: bool) -> Result<Response, AllocError>
-    ensures { IfOk result (λ response. response ≡ stays (not_commands_lem asked allow_kill)) }
+    ensures { Responds result (stays (not_commands_lem asked allow_kill)) }
 {
     let mut answer = Answer::new(alloc);
     push_all_commands(&mut answer, allow_kill, true)?;
@@ -92,7 +89,7 @@ fn push_commands(
     allow_kill: bool,
     forbidden: bool,
 ) -> Result<(), AllocError>
-    ensures { OnOk result (answer.new ≡ answer.old ++ flat_map (λ name. command_line allow_kill forbidden name.now) names.now) }
+    ensures { OnOk result (answer.new ≡ answer.old ++ command_lines_among allow_kill forbidden names.now) }
 {
     for name in names {
         push_command(answer, *name, allow_kill, forbidden)?;

@@ -2,7 +2,7 @@
 ghost use Rattle.std.specs.Prelude.{◌≡◌, ◌++◌, IfOk, OnOk, map};
 ghost use Rattle.std.specs.List.{flat_map};
 ghost use Rattle.status_commands.specs.Messages.{channels as channels_lem, lines_of_channels, lines_of_messages, message_lines, read_messages as read_messages_lem, result_of, send_message as send_message_lem, subscribe as subscribe_lem, unsubscribe as unsubscribe_lem};
-ghost use Rattle.transitions.specs.Transitions.{transition_by};
+ghost use Rattle.transitions.specs.Transitions.{IsDecidedBy};
 ghost use Rattle.player_state.specs.Fits.{Fits};
 
 use idle_notes::{MAX_SUBSCRIPTIONS, Message, is_channel_name};
@@ -16,7 +16,7 @@ use transitions::{Asked, Transition};
 #[rattlefmt::skip]
 #[tactic(auto, unfolding(crate::specs::Messages::result_of))]
 pub fn run(alloc: Global, asked: Asked, part: &Part, command: &MessageCommand) -> Result<Transition, AllocError>
-    ensures transition { IfOk result (λ transition. transition ≡ transition_by (result_of asked part.now command.now)) }
+    ensures transition { IsDecidedBy result (result_of asked part.now command.now) }
     ensures fits { IfOk result (λ transition. Fits part.now transition.effect) }
 {
     match command {
@@ -34,7 +34,7 @@ fn subscribe(
     part: &Part,
     channel: &Text,
 ) -> Result<Transition, AllocError>
-    ensures transition { IfOk result (λ transition. transition ≡ transition_by (subscribe_lem asked part.now channel.now)) }
+    ensures transition { IsDecidedBy result (subscribe_lem asked part.now channel.now) }
     ensures fits { IfOk result (λ transition. Fits part.now transition.effect) }
 {
     if !is_channel_name(channel.as_str()) {
@@ -56,7 +56,7 @@ fn unsubscribe(
     part: &Part,
     channel: &Text,
 ) -> Result<Transition, AllocError>
-    ensures transition { IfOk result (λ transition. transition ≡ transition_by (unsubscribe_lem asked part.now channel.now)) }
+    ensures transition { IsDecidedBy result (unsubscribe_lem asked part.now channel.now) }
     ensures fits { IfOk result (λ transition. Fits part.now transition.effect) }
 {
     if !is_channel_name(channel.as_str()) {
@@ -74,7 +74,7 @@ fn unsubscribe(
 }
 
 fn channels(alloc: Global, asked: Asked, part: &Part) -> Result<Transition, AllocError>
-    ensures { IfOk result (λ transition. transition ≡ transition_by (channels_lem asked part.now)) }
+    ensures { IsDecidedBy result (channels_lem asked part.now) }
 {
     let names = part.channels.channels(alloc)?;
     let mut lines = Answer::new(alloc);
@@ -99,7 +99,7 @@ fn send_message(
     channel: &Text,
     text: &Text,
 ) -> Result<Transition, AllocError>
-    ensures transition { IfOk result (λ transition. transition ≡ transition_by (send_message_lem asked part.now channel.now text.now)) }
+    ensures transition { IsDecidedBy result (send_message_lem asked part.now channel.now text.now) }
     ensures fits { IfOk result (λ transition. Fits part.now transition.effect) }
 {
     if !is_channel_name(channel.as_str()) {
@@ -117,7 +117,7 @@ fn send_message(
 }
 
 fn read_messages(alloc: Global, asked: Asked, part: &Part) -> Result<Transition, AllocError>
-    ensures transition { IfOk result (λ transition. transition ≡ transition_by (read_messages_lem asked part.now)) }
+    ensures transition { IsDecidedBy result (read_messages_lem asked part.now) }
     ensures fits { IfOk result (λ transition. Fits part.now transition.effect) }
 {
     let mut lines = Answer::new(alloc);

@@ -2,7 +2,7 @@
 ghost use Rattle.std.specs.Prelude.{◌≡◌, IfOk};
 ghost use Rattle.status_commands.specs.Options.{consume as consume_lem, consume_of as consume_of_lem, crossfade as crossfade_lem, get_volume as get_volume_lem, mode_of as mode_of_lem, random as random_lem, repeat as repeat_lem, result_of, set_volume as set_volume_lem, single as single_lem};
 ghost use Rattle.player_state.specs.Fits.{Fits};
-ghost use Rattle.transitions.specs.Transitions.{transition_by};
+ghost use Rattle.transitions.specs.Transitions.{IsDecidedBy};
 
 use mpd_command::{FadeSeconds, OptionCommand, SingleMode, Volume};
 use mpd_text::Answer;
@@ -15,7 +15,7 @@ use transitions::{Asked, Transition};
 #[rattlefmt::skip]
 #[tactic(auto, unfolding(crate::specs::Options::result_of))]
 pub fn run(alloc: Global, asked: Asked, part: &Part, command: &OptionCommand) -> Result<Transition, AllocError>
-    ensures transition { IfOk result (λ transition. transition ≡ transition_by (result_of asked part.now command.now)) }
+    ensures transition { IsDecidedBy result (result_of asked part.now command.now) }
     ensures fits { IfOk result (λ transition. Fits part.now transition.effect) }
 {
     match command {
@@ -30,19 +30,19 @@ pub fn run(alloc: Global, asked: Asked, part: &Part, command: &OptionCommand) ->
 }
 
 fn repeat(alloc: Global, asked: Asked, on: bool) -> Result<Transition, AllocError>
-    ensures { IfOk result (λ transition. transition ≡ transition_by (repeat_lem asked on)) }
+    ensures { IsDecidedBy result (repeat_lem asked on) }
 {
     Transition::does(alloc, asked, CommandEffect::SetsRepeat(on))
 }
 
 fn random(alloc: Global, asked: Asked, on: bool) -> Result<Transition, AllocError>
-    ensures { IfOk result (λ transition. transition ≡ transition_by (random_lem asked on)) }
+    ensures { IsDecidedBy result (random_lem asked on) }
 {
     Transition::does(alloc, asked, CommandEffect::SetsRandom(on))
 }
 
 fn single(alloc: Global, asked: Asked, mode: SingleMode) -> Result<Transition, AllocError>
-    ensures { IfOk result (λ transition. transition ≡ transition_by (single_lem asked mode)) }
+    ensures { IsDecidedBy result (single_lem asked mode) }
 {
     Transition::does(alloc, asked, CommandEffect::SetsSingle(mode_of(mode)))
 }
@@ -58,7 +58,7 @@ fn mode_of(mode: SingleMode) -> Single
 }
 
 fn consume(alloc: Global, asked: Asked, on: bool) -> Result<Transition, AllocError>
-    ensures { IfOk result (λ transition. transition ≡ transition_by (consume_lem asked on)) }
+    ensures { IsDecidedBy result (consume_lem asked on) }
 {
     Transition::does(alloc, asked, CommandEffect::SetsConsume(consume_of(on)))
 }
@@ -70,7 +70,7 @@ fn consume_of(on: bool) -> Consume
 }
 
 fn crossfade(alloc: Global, asked: Asked, seconds: &FadeSeconds) -> Result<Transition, AllocError>
-    ensures { IfOk result (λ transition. transition ≡ transition_by (crossfade_lem asked seconds.now)) }
+    ensures { IsDecidedBy result (crossfade_lem asked seconds.now) }
 {
     Transition::does(
         alloc,
@@ -80,13 +80,13 @@ fn crossfade(alloc: Global, asked: Asked, seconds: &FadeSeconds) -> Result<Trans
 }
 
 fn set_volume(alloc: Global, asked: Asked, volume: &Volume) -> Result<Transition, AllocError>
-    ensures { IfOk result (λ transition. transition ≡ transition_by (set_volume_lem asked volume.now)) }
+    ensures { IsDecidedBy result (set_volume_lem asked volume.now) }
 {
     Transition::does(alloc, asked, CommandEffect::SetsVolume(volume.copied()))
 }
 
 fn get_volume(alloc: Global, asked: Asked, part: &Part) -> Result<Transition, AllocError>
-    ensures { IfOk result (λ transition. transition ≡ transition_by (get_volume_lem asked part.now)) }
+    ensures { IsDecidedBy result (get_volume_lem asked part.now) }
 {
     let mut answer = Answer::new(alloc);
     answer.pair("volume", part.volume.percent())?;

@@ -3,7 +3,7 @@ ghost use Rattle.std.specs.Prelude.{◌≡◌, ◌++◌, IfOk, OnOk};
 ghost use Rattle.std.specs.List.{enumerate_from, flat_map};
 ghost use Rattle.status_commands.specs.Outputs.{no_such_output as no_such_output_lem, enabled_line, output_lines, output_name_lines, outputs as outputs_lem, plugin_line, result_of, switch_output as switch_output_lem, toggle_output as toggle_output_lem};
 ghost use Rattle.player_state.specs.Fits.{Fits};
-ghost use Rattle.transitions.specs.Transitions.{transition_by};
+ghost use Rattle.transitions.specs.Transitions.{IsDecidedBy};
 
 use crate::status::digit;
 use mpd_command::OutputCommand;
@@ -16,7 +16,7 @@ use transitions::{Asked, Transition};
 #[rattlefmt::skip]
 #[tactic(auto, unfolding(crate::specs::Outputs::result_of))]
 pub fn run(alloc: Global, asked: Asked, part: &Part, command: &OutputCommand) -> Result<Transition, AllocError>
-    ensures transition { IfOk result (λ transition. transition ≡ transition_by (result_of asked part.now command.now)) }
+    ensures transition { IsDecidedBy result (result_of asked part.now command.now) }
     ensures fits { IfOk result (λ transition. Fits part.now transition.effect) }
 {
     match command {
@@ -28,7 +28,7 @@ pub fn run(alloc: Global, asked: Asked, part: &Part, command: &OutputCommand) ->
 }
 
 fn outputs(alloc: Global, asked: Asked, part: &Part) -> Result<Transition, AllocError>
-    ensures { IfOk result (λ transition. transition ≡ transition_by (outputs_lem asked part.now)) }
+    ensures { IsDecidedBy result (outputs_lem asked part.now) }
 {
     Transition::shows(asked, lines_of(alloc, &part.outputs)?)
 }
@@ -81,7 +81,7 @@ fn push_enabled(lines: &mut Answer, on: u8) -> Result<(), AllocError>
 }
 
 fn no_such_output(alloc: Global, asked: Asked) -> Result<Transition, AllocError>
-    ensures { IfOk result (λ transition. transition ≡ transition_by (no_such_output_lem asked)) }
+    ensures { IsDecidedBy result (no_such_output_lem asked) }
 {
     Transition::refuses(alloc, asked, ErrorNumber::NoExist, "no such output")
 }
@@ -94,7 +94,7 @@ fn switch_output(
     output: usize,
     on: bool,
 ) -> Result<Transition, AllocError>
-    ensures { IfOk result (λ transition. transition ≡ transition_by (switch_output_lem asked part.now output on)) }
+    ensures { IsDecidedBy result (switch_output_lem asked part.now output on) }
 {
     if !part.outputs.is_output(output) {
         return no_such_output(alloc, asked);
@@ -111,7 +111,7 @@ fn toggle_output(
     part: &Part,
     output: usize,
 ) -> Result<Transition, AllocError>
-    ensures { IfOk result (λ transition. transition ≡ transition_by (toggle_output_lem asked part.now output)) }
+    ensures { IsDecidedBy result (toggle_output_lem asked part.now output) }
 {
     let on = !part.outputs.is_enabled(output);
     switch_output(alloc, asked, part, output, on)

@@ -1,15 +1,12 @@
 //! The commands that ask how the player is, and what changed (MPD protocol reference, Querying MPD's status).
-ghost use Rattle.std.specs.Prelude.{◌≡◌, Option, Some, None, IfOk, OnOk, ◌++◌, codes, length};
+ghost use Rattle.std.specs.Prelude.{◌≡◌, IfOk, OnOk, ◌++◌, codes};
 ghost use Rattle.idle_notes.specs.Notes.{waits, notice_of};
 ghost use Rattle.std.specs.Option.{option_copied};
-ghost use Rattle.song_queue.specs.State.{queue_of};
-ghost use Rattle.player_core.specs.Steps.{current_entry, peek};
-ghost use Rattle.status_commands.specs.Status.{ToWait, ToGoOn, audio_line, consume_text as consume_text_lem, current_lines, digit as digit_lem, duration_line, duration_of, elapsed_line, error_line, fade_line, idles, mode_lines, next_lines, next_place_lines, progress_lines, queue_lines, result_of, resumes, scan_line, single_text as single_text_lem, song_place_lines, state_text as state_text_lem, status as status_lem, wished};
+ghost use Rattle.status_commands.specs.Status.{ToWait, ToGoOn, audio_line, consume_text as consume_text_lem, current_duration, current_lines, digit as digit_lem, duration_line, elapsed_line, error_line, fade_line, idles, last_lines, mode_lines, next_lines_of, next_place_lines, progress_lines, queue_lines_of, result_of, resumes, scan_line, single_text as single_text_lem, song_place_lines, state_text as state_text_lem, status as status_lem, wished};
 ghost use Rattle.mpd_text.specs.declared.answers.answer.ErrorNumber.TheVariants.{Argument};
-ghost use Rattle.transitions.specs.Answers.{refuses as refuses_lem, stays};
-ghost use Rattle.transitions.specs.Transitions.{transition_by};
+ghost use Rattle.transitions.specs.Answers.{Responds, refuses_command, stays};
+ghost use Rattle.transitions.specs.Transitions.{IsDecidedBy};
 ghost use Rattle.player_state.specs.Fits.{Fits};
-ghost use Rattle.player_state.specs.Scans.{running};
 
 use idle_notes::Subsystems;
 use mpd_command::StatusCommand;
@@ -27,7 +24,7 @@ use transitions::{Asked, Move, Next, Response, Stand, Transition, refuses, shut,
 #[rattlefmt::skip]
 #[tactic(auto, unfolding(crate::specs::Status::result_of))]
 pub fn run(alloc: Global, asked: Asked, part: &Part, library: &Library, command: &StatusCommand) -> Result<Transition, AllocError>
-    ensures transition { IfOk result (λ transition. transition ≡ transition_by (result_of asked part.now library.now command.now)) }
+    ensures transition { IsDecidedBy result (result_of asked part.now library.now command.now) }
     ensures fits { IfOk result (λ transition. Fits part.now transition.effect) }
 {
     match command {
@@ -45,7 +42,7 @@ fn status(
     part: &Part,
     library: &Library,
 ) -> Result<Transition, AllocError>
-    ensures { IfOk result (λ transition. transition ≡ transition_by (status_lem asked part.now library.now)) }
+    ensures { IsDecidedBy result (status_lem asked part.now library.now) }
 {
     let mut lines = Answer::new(alloc);
     push_modes(&mut lines, part.volume.percent(), part.player.modes())?;
@@ -90,7 +87,7 @@ fn consume_text(consume: Consume) -> &'static str
 
 #[tactic(auto, unfolding(crate::specs::Status::queue_lines))]
 fn push_queue(lines: &mut Answer, part: &Part) -> Result<(), AllocError>
-    ensures { OnOk result (lines.new ≡ lines.old ++ queue_lines part.now.queue.version (length (queue_of part.now.queue)) part.now.player.playback) }
+    ensures { OnOk result (lines.new ≡ lines.old ++ queue_lines_of part.now) }
 {
     lines.pair("partition", "default")?;
     lines.pair("playlist", part.queue.version())?;
@@ -131,7 +128,7 @@ fn push_song_place(lines: &mut Answer, place: usize, id: u32) -> Result<(), Allo
 
 /// The song that the natural end of the current one would start, if there is one.
 fn push_next(lines: &mut Answer, part: &Part) -> Result<(), AllocError>
-    ensures { OnOk result (lines.new ≡ lines.old ++ next_lines part.now.queue (peek part.now.player (queue_of part.now.queue))) }
+    ensures { OnOk result (lines.new ≡ lines.old ++ next_lines_of part.now) }
 {
     let Some(entry) = part.player.peek(&part.queue) else {
         return Ok(());
@@ -188,7 +185,7 @@ fn push_duration(
     part: &Part,
     rate: &Rate,
 ) -> Result<(), AllocError>
-    ensures { OnOk result (lines.new ≡ lines.old ++ duration_of rate.now (current_entry part.now.player (queue_of part.now.queue))) }
+    ensures { OnOk result (lines.new ≡ lines.old ++ current_duration rate.now part.now) }
 {
     match part.player.current_entry(&part.queue) {
         Some(entry) => push_duration_line(alloc, lines, entry.song.song().frames(), rate),
@@ -220,7 +217,7 @@ fn push_audio(alloc: Global, lines: &mut Answer, rate: &Rate) -> Result<(), Allo
 
 /// The seconds of fades, the scan that runs, and why the player stopped, each where it is there.
 fn push_last(lines: &mut Answer, part: &Part, library: &Library) -> Result<(), AllocError>
-    ensures { OnOk result (lines.new ≡ lines.old ++ (fade_line part.now.player.crossfade ++ (scan_line (running library.now.scan) ++ error_line part.now.player.error))) }
+    ensures { OnOk result (lines.new ≡ lines.old ++ last_lines part.now library.now) }
 {
     push_fade(lines, part.player.crossfade())?;
     push_scan(lines, library.scan.running())?;
@@ -271,7 +268,7 @@ pub fn idle(
     client: Client,
     named: Subsystems,
 ) -> Result<Response, AllocError>
-    ensures { IfOk result (λ response. response ≡ wished asked client (ToWait named)) }
+    ensures { Responds result (wished asked client (ToWait named)) }
 {
     match asked.stand {
         Stand::Alone => wait_for(alloc, client, named),
@@ -280,7 +277,7 @@ pub fn idle(
 }
 
 fn wait_for(alloc: Global, client: Client, named: Subsystems) -> Result<Response, AllocError>
-    ensures { IfOk result (λ response. response ≡ idles named (notice_of (waits named client.pending))) }
+    ensures { Responds result (idles named (notice_of (waits named client.pending))) }
 {
     let mut pending = client.pending;
     let Some(names) = pending.wait(named) else {
@@ -294,7 +291,7 @@ fn wait_for(alloc: Global, client: Client, named: Subsystems) -> Result<Response
 }
 
 pub fn no_idle(alloc: Global, asked: Asked, client: Client) -> Result<Response, AllocError>
-    ensures { IfOk result (λ response. response ≡ wished asked client ToGoOn) }
+    ensures { Responds result (wished asked client ToGoOn) }
 {
     match asked.stand {
         Stand::Alone => go_on(alloc, client),
@@ -303,7 +300,7 @@ pub fn no_idle(alloc: Global, asked: Asked, client: Client) -> Result<Response, 
 }
 
 fn go_on(alloc: Global, client: Client) -> Result<Response, AllocError>
-    ensures { IfOk result (λ response. response ≡ resumes client) }
+    ensures { Responds result (resumes client) }
 {
     if !client.pending.is_waiting() {
         return tells(String::new(alloc), Move::Stay);
@@ -312,7 +309,7 @@ fn go_on(alloc: Global, client: Client) -> Result<Response, AllocError>
 }
 
 fn not_in_list(alloc: Global, asked: Asked) -> Result<Response, AllocError>
-    ensures { IfOk result (λ response. response ≡ stays (refuses_lem asked.stand (Some asked.name) Argument (codes "not allowed in a list"))) }
+    ensures { Responds result (stays (refuses_command asked Argument (codes "not allowed in a list"))) }
 {
     refuses(alloc, asked, ErrorNumber::Argument, "not allowed in a list")
 }

@@ -1,6 +1,7 @@
 -- What clients hear (MPD protocol reference, Responses and Command lists; notices: Querying MPD's status,
 -- `idle`).
-use Rattle.std.specs.Prelude.{ℕ, Bool, false, true, List, ◌++◌, codes, Option}
+use Rattle.std.specs.Prelude.{◌≡◌, ℕ, Bool, false, true, List, ◌++◌, codes, Option, Some, Result, IfOk}
+use Rattle.std.specs.declared.alloc.AllocError.{AllocError}
 use Rattle.command_lists.specs.declared.word.ListForm.TheVariants.{Plain, ListOk}
 use Rattle.mpd_text.specs.Answers.Answer.{ack_line, number_of}
 use Rattle.mpd_text.specs.declared.answers.answer.ErrorNumber.{ErrorNumber}
@@ -11,6 +12,7 @@ use Rattle.transitions.specs.declared.reply.Move.{Move}
 use Rattle.transitions.specs.declared.reply.Move.TheVariants.{Stay}
 use Rattle.transitions.specs.declared.reply.Next.{Next}
 use Rattle.transitions.specs.declared.reply.Next.TheVariants.{Goes, Closes}
+use Rattle.transitions.specs.declared.asked.Asked.{Asked}
 use Rattle.transitions.specs.declared.asked.Stand.{Stand}
 use Rattle.transitions.specs.declared.asked.Stand.TheVariants.{Alone, InList}
 use Rattle.shelf.specs.declared.faults.ShelfFault.{ShelfFault}
@@ -26,6 +28,14 @@ pub record Answer : Type 0 where
 pub record ResponseData : Type 0 where
   pub answer : Answer
   pub move : Move
+
+-- a text, what becomes of the client, whether it was a refusal, and what the client does
+abbrev pub response_of : List ℕ → Next → Bool → Move → ResponseData
+response_of text next refused moves = record { answer = record { text = text; next = next; refused = refused }; move = moves }
+
+-- unless there is no memory, the response is this one
+abbrev pub Responds : Result ResponseData AllocError → ResponseData → Type 0
+Responds result response = IfOk result (λ given. given ≡ response)
 
 -- what follows the lines of a success: `OK`; in a list nothing, or `list_OK` where its form wants it
 abbrev pub ending : Stand → List ℕ
@@ -49,6 +59,10 @@ succeeds stand lines = tells (lines ++ ending stand)
 -- a refusal of a command, or of a line that names none
 abbrev pub refuses : Stand → Option Name → ErrorNumber → List ℕ → Answer
 refuses stand name number text = record { text = ack_line (number_of number) (place_of stand) (text_of_name name) text; next = Goes; refused = true }
+
+-- a refusal of the command that a client asks for
+abbrev pub refuses_command : Asked → ErrorNumber → List ℕ → Answer
+refuses_command asked number text = refuses asked.stand (Some asked.name) number text
 
 -- what a client is told where the shelf refuses what its command asks for. A command looks at names before it
 -- asks, so that a shelf which refuses a name is not a shelf as it should be

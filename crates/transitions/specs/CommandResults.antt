@@ -1,11 +1,11 @@
 -- What commands make of a player.
-use Rattle.std.specs.Prelude.{ℕ, List, ◌++◌, codes, Some}
+use Rattle.std.specs.Prelude.{ℕ, List, ◌++◌, codes}
 use Rattle.mpd_text.specs.declared.answers.answer.ErrorNumber.{ErrorNumber}
 use Rattle.mpd_text.specs.declared.answers.answer.ErrorNumber.TheVariants.{Argument, NoExist, PlayerSync}
 use Rattle.song_queue.specs.declared.edit.Edit.{Edit}
 use Rattle.player_state.specs.declared.effect.CommandEffect.{CommandEffect}
 use Rattle.player_state.specs.declared.effect.CommandEffect.TheVariants.{Rests, Edits, Leaves}
-use Rattle.transitions.specs.Answers.{Answer, refuses, shut, succeeds}
+use Rattle.transitions.specs.Answers.{Answer, refuses_command, shut, succeeds}
 use Rattle.transitions.specs.declared.asked.Asked.{Asked}
 use Rattle.player_state.specs.declared.scan.ScanMove.TheVariants.{Stay, Begin}
 use Rattle.transitions.specs.declared.shelf_calls.ShelfWrite.{ShelfWrite}
@@ -38,7 +38,7 @@ writes asked write = record { effect = Rests; scan = Stay; written = write; answ
 
 -- the command is refused
 abbrev pub refusal : Asked → ErrorNumber → List ℕ → CommandResult
-refusal asked number text = only (refuses asked.stand (Some asked.name) number text)
+refusal asked number text = only (refuses_command asked number text)
 
 abbrev pub bad_index : Asked → CommandResult
 bad_index asked = refusal asked Argument (codes "bad song index")

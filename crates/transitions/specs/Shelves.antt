@@ -1,6 +1,6 @@
 -- What an event asks of the lent shelf, and what it makes of the shelf's two maps (MPD protocol reference,
 -- Stored playlists, Stickers).
-use Rattle.std.specs.Prelude.{◌≡◌, ⊤, ℕ, Bool, true, false, List, Option, Some, None, Result, Ok, Err}
+use Rattle.std.specs.Prelude.{◌≡◌, ⊤, ℕ, Bool, true, false, List, Option, Some, None, Result, Ok, Err, IfOk}
 use Rattle.shelf.specs.declared.faults.ShelfFault.{ShelfFault}
 use Rattle.shelf.specs.declared.faults.ShelfFault.TheVariants.{NoMemory, StoreFault}
 use Rattle.shelf.specs.Calls as calls
@@ -106,6 +106,15 @@ is_read (read_variant.Refused fault) = false
 abbrev pub is_ok_read : {E : Type 0} → Result Read E → Bool
 is_ok_read (Ok read) = is_read read
 is_ok_read (Err e) = false
+
+-- a call that asks leaves the shelf's maps
+abbrev pub TurnsByReading : {S E : Type 0} → (S → Standing) → S → S → Result Read E → Type 0
+TurnsByReading standing old new result = Turns (standing old) (standing new) (is_ok_read result) (standing old).maps
+
+-- what was read answers the question, where the shelf can be trusted and memory was not wanting
+abbrev pub ReadsFor : {S E : Type 0} → (S → Standing) → (S → S → Call → Type 0) → S → S → Question → Result Read E → Type 0
+ReadsFor standing failed old new question result =
+    Trusted (standing old) (standing new) → IfOk result (λ read. IsRead (failed old new) (standing old).maps question read)
 
 -- what a call that writes answers, by why it was refused
 abbrev pub answered : Option ShelfFault → Result ⊤ ShelfFault

@@ -1,5 +1,6 @@
 -- What an event makes of a player, before it happens.
-use Rattle.std.specs.Prelude.{ℕ, Bool, codes, if◌then◌else◌}
+use Rattle.std.specs.Prelude.{◌≡◌, ℕ, Bool, codes, if◌then◌else◌, Result, IfOk}
+use Rattle.std.specs.declared.alloc.AllocError.{AllocError}
 use Rattle.player_state.specs.declared.effect.Effect.{Effect}
 use Rattle.player_state.specs.declared.effect.CommandEffect.{CommandEffect}
 use Rattle.player_state.specs.declared.effect.AudioStep.{AudioStep}
@@ -14,7 +15,7 @@ use Rattle.transitions.specs.declared.shelf_calls.ShelfWrite.TheVariants.{Nothin
 use Rattle.player_state.specs.declared.state.Library.{Library}
 use Rattle.player_state.specs.declared.state.Part.{Part}
 use Rattle.transitions.specs.Answers.{Answer, ResponseData, shut, stays, tells}
-use Rattle.player_state.specs.Effects.{report_after}
+use Rattle.player_state.specs.Effects.{keeps_numbers, report_after}
 
 -- what an event makes of a player: what it does to what the player owns and to the scans, what it writes to
 -- the shelf, what is answered, what the client that it comes from does, and what a part of the daemon is told
@@ -33,12 +34,25 @@ pub record CommandResult : Type 0 where
   pub written : ShelfWrite
   pub answer : Answer
 
+-- these together are a transition
+abbrev pub transition_from : Effect → ScanMove → ShelfWrite → ResponseData → Report → TransitionData
+transition_from effect scan written response report =
+    record { effect = effect; scan = scan; written = written; response = response; report = report }
+
 abbrev pub transition_by : CommandResult → TransitionData
 transition_by command_result = record { effect = ByCommand command_result.effect; scan = command_result.scan; written = command_result.written; response = stays command_result.answer; report = Nothing }
+
+-- unless there is no memory, the transition is the one of this command's result
+abbrev pub IsDecidedBy : Result TransitionData AllocError → CommandResult → Type 0
+IsDecidedBy result command_result = IfOk result (λ transition. transition ≡ transition_by command_result)
 
 -- the player stays as it is
 abbrev pub quiet : ResponseData → TransitionData
 quiet response = record { effect = ByCommand Rests; scan = Stay; written = Unwritten; response = response; report = Nothing }
+
+-- what a transition writes, and what is answered, alone
+abbrev pub only_written : TransitionData → TransitionData
+only_written t = record (quiet t.response) { written = t.written }
 
 -- a client goes, with its channels and its messages
 abbrev pub departs : ℕ → TransitionData
@@ -63,3 +77,7 @@ acts_unless ended report step = record (acts step) { effect = if ended then ByCo
 -- what a part of the daemon is told that is no client
 abbrev pub report_of : Part → Library → TransitionData → Report
 report_of part library t = report_after library.rate part t.effect t.report
+
+-- whether a transition leaves the numbers of cuts, starts, jobs and scans at or below their limit
+abbrev pub keeps_all_numbers : Part → Library → TransitionData → Bool
+keeps_all_numbers part library t = keeps_numbers library.rate part library.scan t.effect t.scan

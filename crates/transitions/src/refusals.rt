@@ -1,7 +1,7 @@
 //! What a line is answered where the shelf refuses what it is to write.
 ghost use Rattle.std.specs.Prelude.{◌≡◌, IfOk};
 ghost use Rattle.shelf.specs.declared.faults.ShelfFault.{ShelfFault};
-ghost use Rattle.transitions.specs.Answers.{refused_by_shelf, stays};
+ghost use Rattle.transitions.specs.Answers.{Responds, refused_by_shelf, stays};
 
 use crate::asked::Stand;
 use crate::response::{Response, refuses_line};
@@ -97,7 +97,7 @@ pub fn shelf_refuses(
     name: Option<Name>,
     fault: ShelfFault,
 ) -> Result<Response, AllocError>
-    ensures { IfOk result (λ response. response ≡ stays (refused_by_shelf stand name fault)) }
+    ensures { Responds result (stays (refused_by_shelf stand name fault)) }
 {
     match fault {
         ShelfFault::NoSuchList => {

@@ -1,8 +1,8 @@
 //! What an event answers, made before anything changes, since it can fail for memory.
-ghost use Rattle.std.specs.Prelude.{◌≡◌, Option, Some, None, IfOk, OnOk, ◌++◌, codes};
+ghost use Rattle.std.specs.Prelude.{◌≡◌, OnOk, ◌++◌, codes};
 ghost use Rattle.std.specs.String.{string_bytes};
 ghost use Rattle.mpd_command.specs.Requests.{text_of_name};
-ghost use Rattle.transitions.specs.Answers.{ResponseData, ending, refuses as refuses_lem, shut as shut_lem, stays, succeeds as succeeds_lem, tells as tells_lem};
+ghost use Rattle.transitions.specs.Answers.{Responds, ending, refuses as refuses_lem, refuses_command, response_of, shut as shut_lem, stays, succeeds as succeeds_lem, tells as tells_lem};
 
 use crate::asked::{Asked, Stand};
 use crate::reply::{Move, Next, Reply};
@@ -49,7 +49,7 @@ impl Response {
         refused: bool,
         moves: Move,
     ) -> Result<Response, AllocError>
-        ensures { IfOk result (λ response. response ≡ record { answer = record { text = text; next = next; refused = refused }; move = moves }) }
+        ensures { Responds result (response_of text next refused moves) }
     {
         let kept = text.clone()?;
         Ok(Response {
@@ -95,21 +95,21 @@ impl Response {
 
 /// These lines, after which the client's next line may come.
 pub fn tells(text: String, moves: Move) -> Result<Response, AllocError>
-    ensures { IfOk result (λ response. response ≡ record { answer = tells_lem (string_bytes text); move = moves }) }
+    ensures { Responds result (record { answer = tells_lem (string_bytes text); move = moves }) }
 {
     Response::of(SharedText::of(text)?, Next::Goes, false, moves)
 }
 
 /// A success that shows no lines.
 pub fn succeeds(alloc: Global, asked: Asked) -> Result<Response, AllocError>
-    ensures { IfOk result (λ response. response ≡ stays (succeeds_lem asked.stand (codes ""))) }
+    ensures { Responds result (stays (succeeds_lem asked.stand (codes ""))) }
 {
     shows(asked, Answer::new(alloc))
 }
 
 /// A success that shows these lines.
 pub fn shows(asked: Asked, lines: Answer) -> Result<Response, AllocError>
-    ensures { IfOk result (λ response. response ≡ stays (succeeds_lem asked.stand lines)) }
+    ensures { Responds result (stays (succeeds_lem asked.stand lines)) }
 {
     let mut lines = lines;
     end(&mut lines, asked.stand)?;
@@ -134,7 +134,7 @@ pub fn refuses(
     number: ErrorNumber,
     text: &str,
 ) -> Result<Response, AllocError>
-    ensures { IfOk result (λ response. response ≡ stays (refuses_lem asked.stand (Some asked.name) number text.now)) }
+    ensures { Responds result (stays (refuses_command asked number text.now)) }
 {
     refuses_line(alloc, asked.stand, Some(asked.name), number, text)
 }
@@ -147,7 +147,7 @@ pub fn refuses_line(
     number: ErrorNumber,
     text: &str,
 ) -> Result<Response, AllocError>
-    ensures { IfOk result (λ response. response ≡ stays (refuses_lem stand name number text.now)) }
+    ensures { Responds result (stays (refuses_lem stand name number text.now)) }
 {
     let mut answer = Answer::new(alloc);
     let place = stand.place();
@@ -171,7 +171,7 @@ fn name_text(name: Option<Name>) -> &'static str
 
 /// Closed, without bytes.
 pub fn shut(alloc: Global) -> Result<Response, AllocError>
-    ensures { IfOk result (λ response. response ≡ stays shut_lem) }
+    ensures { Responds result (stays shut_lem) }
 {
     Response::of(
         SharedText::of(String::new(alloc))?,

@@ -1,13 +1,12 @@
 //! What an event is to do, found out before anything changes.
 ghost use Rattle.std.specs.Prelude.{◌≡◌, if◌then◌else◌, true, false, IfOk, IsErrOf, OnOk, OnErr};
 ghost use Rattle.transitions.specs.CommandResults.{begins_scan as begins_scan_lem, bad_index as bad_index_lem, bad_name as bad_name_lem, closes_client as closes_client_lem, does as does_lem, edits, no_such_song as no_such_song_lem, not_playing as not_playing_lem, refusal, shows as shows_lem, writes as writes_lem};
-ghost use Rattle.player_state.specs.Effects.{keeps_numbers, part_after};
+ghost use Rattle.player_state.specs.Effects.{part_after};
 ghost use Rattle.player_state.specs.Libraries.{library_after};
-ghost use Rattle.transitions.specs.Transitions.{transition_by};
 ghost use Rattle.player_state.specs.Fits.{Fits};
 ghost use Rattle.transitions.specs.Shelves.{is_written};
 ghost use Rattle.player_state.specs.declared.report.Report.{Report};
-ghost use Rattle.transitions.specs.Transitions.{acts as acts_lem, acts_unless as acts_unless_lem, departs as departs_lem, or_ended as or_ended_lem, quiet, report_of, no_response};
+ghost use Rattle.transitions.specs.Transitions.{IsDecidedBy, acts as acts_lem, acts_unless as acts_unless_lem, departs as departs_lem, keeps_all_numbers, only_written, or_ended as or_ended_lem, quiet, report_of, no_response};
 
 use crate::asked::Asked;
 use crate::reply::Move;
@@ -46,11 +45,11 @@ impl Drop for Transition {
 }
 
 impl Model for Transition {
-    ghost use Rattle.transitions.specs.Transitions.{TransitionData};
+    ghost use Rattle.transitions.specs.Transitions.{TransitionData, transition_from};
 
     ghost Value = { TransitionData };
 
-    ghost view = { λ p. record { effect = p.effect; scan = p.scan; written = p.written; response = p.response; report = p.report } };
+    ghost view = { λ p. transition_from p.effect p.scan p.written p.response p.report };
 }
 
 impl Transition {
@@ -97,7 +96,7 @@ impl Transition {
 
     /// The queue is edited, and these lines are shown.
     pub fn edits(asked: Asked, edit: Edit, lines: Answer) -> Result<Transition, AllocError>
-        ensures { IfOk result (λ transition. transition ≡ transition_by (edits asked edit lines)) }
+        ensures { IsDecidedBy result (edits asked edit lines) }
     {
         Ok(Transition {
             effect: Effect::ByCommand(CommandEffect::Edits(edit)),
@@ -114,7 +113,7 @@ impl Transition {
         asked: Asked,
         effect: CommandEffect,
     ) -> Result<Transition, AllocError>
-        ensures { IfOk result (λ transition. transition ≡ transition_by (does_lem asked effect)) }
+        ensures { IsDecidedBy result (does_lem asked effect) }
     {
         Ok(Transition {
             effect: Effect::ByCommand(effect),
@@ -131,7 +130,7 @@ impl Transition {
         asked: Asked,
         written: ShelfWrite,
     ) -> Result<Transition, AllocError>
-        ensures { IfOk result (λ transition. transition ≡ transition_by (writes_lem asked written)) }
+        ensures { IsDecidedBy result (writes_lem asked written) }
     {
         Ok(Transition {
             effect: Effect::ByCommand(CommandEffect::Rests),
@@ -148,7 +147,7 @@ impl Transition {
         effect: CommandEffect,
         lines: Answer,
     ) -> Result<Transition, AllocError>
-        ensures { IfOk result (λ transition. transition ≡ transition_by (record (shows_lem asked lines) { effect = effect })) }
+        ensures { IsDecidedBy result (record (shows_lem asked lines) { effect = effect }) }
     {
         Ok(Transition {
             effect: Effect::ByCommand(effect),
@@ -174,15 +173,15 @@ impl Transition {
 
     /// The client that asks is gone, without an answer.
     pub fn closes_client(alloc: Global, asked: Asked) -> Result<Transition, AllocError>
-        ensures { IfOk result (λ transition. transition ≡ transition_by (closes_client_lem asked)) }
+        ensures { IsDecidedBy result (closes_client_lem asked) }
     {
         Transition::departs(alloc, asked.client)
     }
 
     /// What writes to the shelf does nothing else.
     pub fn once_written(self) -> Transition
-        ensures transition { result ≡ (if is_written self.written then record (quiet self.response) { written = self.written } else self) }
-        ensures alone { is_written result.written ≡ true → result ≡ record (quiet result.response) { written = result.written } }
+        ensures transition { result ≡ (if is_written self.written then only_written self else self) }
+        ensures alone { is_written result.written ≡ true → result ≡ only_written result }
     {
         if !self.written.is_written() {
             return self;
@@ -205,7 +204,7 @@ impl Transition {
 
     /// A scan begins, and these lines are shown.
     pub fn begins_scan(asked: Asked, lines: Answer) -> Result<Transition, AllocError>
-        ensures { IfOk result (λ transition. transition ≡ transition_by (begins_scan_lem asked lines)) }
+        ensures { IsDecidedBy result (begins_scan_lem asked lines) }
     {
         Ok(Transition {
             effect: Effect::ByCommand(CommandEffect::Rests),
@@ -242,7 +241,7 @@ impl Transition {
 
     /// The part stays as it is, and these lines are shown.
     pub fn shows(asked: Asked, lines: Answer) -> Result<Transition, AllocError>
-        ensures { IfOk result (λ transition. transition ≡ transition_by (shows_lem asked lines)) }
+        ensures { IsDecidedBy result (shows_lem asked lines) }
     {
         Ok(Transition::only(shows(asked, lines)?))
     }
@@ -253,19 +252,19 @@ impl Transition {
         number: ErrorNumber,
         text: &str,
     ) -> Result<Transition, AllocError>
-        ensures { IfOk result (λ transition. transition ≡ transition_by (refusal asked number text.now)) }
+        ensures { IsDecidedBy result (refusal asked number text.now) }
     {
         Ok(Transition::only(refuses(alloc, asked, number, text)?))
     }
 
     pub fn bad_index(alloc: Global, asked: Asked) -> Result<Transition, AllocError>
-        ensures { IfOk result (λ transition. transition ≡ transition_by (bad_index_lem asked)) }
+        ensures { IsDecidedBy result (bad_index_lem asked) }
     {
         Transition::refuses(alloc, asked, ErrorNumber::Argument, "bad song index")
     }
 
     pub fn bad_name(alloc: Global, asked: Asked, name: &str) -> Result<Transition, AllocError>
-        ensures { IfOk result (λ transition. transition ≡ transition_by (bad_name_lem asked name.now)) }
+        ensures { IsDecidedBy result (bad_name_lem asked name.now) }
     {
         let mut text = String::from_str(alloc, "bad name \"")?;
         text.push_str(name)?;
@@ -274,13 +273,13 @@ impl Transition {
     }
 
     pub fn no_such_song(alloc: Global, asked: Asked) -> Result<Transition, AllocError>
-        ensures { IfOk result (λ transition. transition ≡ transition_by (no_such_song_lem asked)) }
+        ensures { IsDecidedBy result (no_such_song_lem asked) }
     {
         Transition::refuses(alloc, asked, ErrorNumber::NoExist, "no such song")
     }
 
     pub fn not_playing(alloc: Global, asked: Asked) -> Result<Transition, AllocError>
-        ensures { IfOk result (λ transition. transition ≡ transition_by (not_playing_lem asked)) }
+        ensures { IsDecidedBy result (not_playing_lem asked) }
     {
         Transition::refuses(alloc, asked, ErrorNumber::PlayerSync, "not playing")
     }
@@ -311,8 +310,8 @@ impl Transition {
         ensures library { OnOk result (library.new ≡ library_after library.old self.scan) }
         ensures response { IfOk result (λ telling. telling.response ≡ self.response) }
         ensures report { IfOk result (λ telling. telling.report ≡ report_of part.old library.old self) }
-        ensures within { OnOk result (keeps_numbers library.old.rate part.old library.old.scan self.effect self.scan ≡ true) }
-        ensures limit { IsErrOf result PlayerFault.CutsAtLimit → keeps_numbers library.old.rate part.old library.old.scan self.effect self.scan ≡ false }
+        ensures within { OnOk result (keeps_all_numbers part.old library.old self ≡ true) }
+        ensures limit { IsErrOf result PlayerFault.CutsAtLimit → keeps_all_numbers part.old library.old self ≡ false }
         ensures err { OnErr result (part.new ≡ part.old) }
         ensures err_library { OnErr result (library.new ≡ library.old) }
     {

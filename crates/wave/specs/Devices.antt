@@ -1,5 +1,5 @@
 -- What calls ask of a device (this profile's).
-use Rattle.std.specs.Prelude.{◌≡◌, ℕ, ◌+◌, ◌-◌, ◌^◌, ◌≤◌, ◌⊎◌, List, length, take, drop}
+use Rattle.std.specs.Prelude.{◌≡◌, ℕ, ◌+◌, ◌-◌, ◌^◌, ◌≤◌, ◌⊎◌, List, length, take, drop, Option, Some, IfSome, Result, IfOk, IsErrOf}
 use Rattle.counted_devices.specs.declared.call_counts.CallCounts.{CallCounts}
 use Rattle.counted_devices.specs.CallCounts.{HasFailed}
 use Rattle.wave.specs.declared.fault.WaveFault.{WaveFault}
@@ -9,9 +9,21 @@ use Rattle.wave.specs.declared.fault.WaveFault.TheVariants.{NotRiff, NoFormat, U
 abbrev pub FillsFrom : List ℕ → ℕ → ℕ → List ℕ → Type 0
 FillsFrom bytes at n buf = take n buf ≡ take (length buf) (drop at bytes)
 
+-- what remains to be read are the bytes from this place on
+abbrev pub RemainsAt : ℕ → List ℕ → Option (List ℕ) → Type 0
+RemainsAt at bytes remaining = remaining ≡ Some (drop at bytes)
+
+-- what the call gives is this of the device's bytes, where they are known
+abbrev pub GivesOfBytes : {X E : Type 0} → Option (List ℕ) → (List ℕ → X) → Result X E → Type 0
+GivesOfBytes known value r = IfSome known (λ bytes. IfOk r (λ found. found ≡ value bytes))
+
 -- the device was called 2 ^ 32 times since, or its count is at its greatest value
 abbrev pub CalledTooOften : CallCounts → CallCounts → Type 0
 CalledTooOften old new = (old.calls + 2 ^ 32 ≤ new.calls) ⊎ (new.calls ≡ 2 ^ 64 - 1)
+
+-- a read fault comes only where the device failed since, or was called too often
+abbrev pub ReadFaultHasCause : {X : Type 0} → CallCounts → CallCounts → Result X WaveFault → Type 0
+ReadFaultHasCause old new r = IsErrOf r ReadFault → HasFailed old new ⊎ CalledTooOften old new
 
 -- the device failed since, or its count of calls has come to a limit
 abbrev pub Ends : ℕ → CallCounts → CallCounts → Type 0

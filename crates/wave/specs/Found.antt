@@ -1,12 +1,13 @@
 -- The texts that are found while chunks are read.
-use Rattle.std.specs.Prelude.{ℕ, List, [], ◌∷◌, ◌++◌, Option, Some, None, if◌then◌else◌}
+use Rattle.std.specs.Prelude.{◌≡◌, ℕ, List, [], ◌∷◌, ◌++◌, Option, Some, None, if◌then◌else◌}
 use Rattle.std.specs.Option.{option_or}
 use Rattle.mpd_text.specs.Songs.Song.{TagData}
 use Rattle.mpd_text.specs.declared.songs.song.TagName.{TagName}
 use Rattle.mpd_text.specs.declared.songs.song.TagName.TheVariants.{Title, Artist, Album, Date, Genre, Comment}
 use Rattle.wave.specs.declared.tag.Texts.{Texts}
 use Rattle.wave.specs.Chunks.{Chunk}
-use Rattle.wave.specs.Texts.{text_of, counts, first_text}
+use Rattle.wave.specs.Texts.{text_of, counts, first_text, items}
+use Rattle.wave.specs.Parts.{file_chunks}
 use Rattle.mpd_text.specs.Songs.Tags.{tag_with}
 
 -- the text of a content, if it is not skipped
@@ -35,6 +36,14 @@ joined texts found = record {
   genre = option_or texts.genre (first_text Genre found);
   comment = option_or texts.comment (first_text Comment found);
 }
+
+-- the texts of all lists of a file's first bytes
+abbrev pub file_texts : List ℕ → ℕ → Texts
+file_texts bytes end = joined no_texts (items (file_chunks bytes end))
+
+-- these are the texts with that of an item, if it counts, before all that come later
+abbrev pub TakesItem : Texts → Chunk → Texts → Type 0
+TakesItem texts item next = (more : List Chunk) → joined next more ≡ joined texts (item ∷ more)
 
 -- a list of one tag, or of none
 abbrev pub shown : Option TagData → List TagData

@@ -5,6 +5,7 @@ use Rattle.wave.specs.declared.fault.WaveFault.TheVariants.{NotRiff, NoFormat, U
 use Rattle.wave.specs.declared.format.Layout.{Layout}
 use Rattle.wave.specs.declared.samples.Samples.{Samples}
 use Rattle.wave.specs.Chunks.{Chunk}
+use Rattle.wave.specs.Parts.{file_chunks}
 use Rattle.wave.specs.Waves.{Sound, with_layout, data_of, sound_of}
 
 -- a fault of the file is the one that its bytes mean; one of the device or of memory says nothing of them
@@ -15,6 +16,10 @@ Refuses Unsupported meaning = meaning ≡ Err Unsupported
 Refuses NoData meaning = meaning ≡ Err NoData
 Refuses ReadFault meaning = ⊤
 Refuses NoMemory meaning = ⊤
+
+-- the sound of a file's first bytes at this rate, or the first refusal
+abbrev pub file_sound : ℕ → List ℕ → ℕ → Result Sound WaveFault
+file_sound rate bytes end = sound_of rate (file_chunks bytes end)
 
 -- the sound of chunks after those that gave a layout, or gave none
 unfoldable pub sound_after : ℕ → Option Layout → List Chunk → Result Sound WaveFault

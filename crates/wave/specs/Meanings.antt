@@ -1,5 +1,6 @@
 -- What a head says of the bytes that it was read from.
-use Rattle.std.specs.Prelude.{◌≡◌, ℕ, ◌*◌, List, length, take, drop, Result, Ok, Err, ℤ}
+use Rattle.std.specs.Prelude.{◌≡◌, ℕ, ◌*◌, List, length, take, drop, Option, IfSome, Result, Ok, Err, IfOk, ℤ}
+use Rattle.std.specs.Global.{Vec}
 use Rattle.wave.specs.declared.fault.WaveFault.{WaveFault}
 use Rattle.wave.specs.declared.head.Head.{Head}
 use Rattle.wave.specs.Formats.{block, frames_of}
@@ -11,6 +12,11 @@ use Rattle.wave.specs.Heads.{Refuses}
 -- the frames that lie where the head says
 abbrev pub frames_in : List ℕ → Head → List (List ℤ)
 frames_in bytes head = frames_of head.layout (take (head.frames * block head.layout) (drop head.place bytes))
+
+-- what is given are n frames of the bytes from a frame on, or fewer where they have no more
+abbrev pub GivesFrames : {E : Type 0} → Option (List ℕ) → Head → ℕ → ℕ → Result (Vec (List ℤ)) E → Type 0
+GivesFrames known head from n r =
+    IfSome known (λ bytes. IfOk r (λ frames. frames.items ≡ take n (drop from (frames_in bytes head))))
 
 abbrev pub wave_in : List ℕ → Head → Wave
 wave_in bytes head = record { layout = head.layout; tags = head.tags.items; frames = frames_in bytes head }

@@ -1,6 +1,6 @@
 -- The texts of a file (Multimedia Programming Interface and Data Specifications 1.0, INFO List Chunk). Which
 -- texts are skipped is this profile's.
-use Rattle.std.specs.Prelude.{ℕ, List, [], ◌∷◌, length, take, drop, Bool, ◌&&◌, ◌==◌, nat_le, if◌then◌else◌, Option, Some, None, codes}
+use Rattle.std.specs.Prelude.{◌≡◌, ℕ, List, [], ◌∷◌, length, take, drop, Bool, true, false, ◌&&◌, ◌==◌, nat_le, if◌then◌else◌, Option, Some, None, MatchOption, codes}
 use Rattle.std.specs.List.{flat_map, filter_map, list_all, before_first}
 use Rattle.std.specs.Str.{is_utf8, bytes_eq}
 use Rattle.mpd_text.specs.Songs.Song.{TagData}
@@ -30,6 +30,12 @@ identifier Date = codes "ICRD"
 identifier Genre = codes "IGNR"
 identifier Comment = codes "ICMT"
 
+-- the tag whose texts lie in chunks of this name; none where no tag's do
+abbrev pub IsTagOf : List ℕ → Option TagName → Type 0
+IsTagOf name found = MatchOption found
+    ((tag : TagName) → bytes_eq name (identifier tag) ≡ false)
+    (λ tag. bytes_eq name (identifier tag) ≡ true)
+
 -- a text ends at its first zero byte, or with the content
 abbrev pub text_of : List ℕ → List ℕ
 text_of content = before_first (λ byte. byte == 0) content
@@ -37,6 +43,10 @@ text_of content = before_first (λ byte. byte == 0) content
 -- a text that is not skipped
 abbrev pub counts : List ℕ → Bool
 counts text = nat_le 1 (length text) && nat_le (length text) 1024 && list_all (λ byte. nat_le 32 byte) text && is_utf8 text
+
+-- the text is these bytes, and is not skipped
+abbrev pub CountsAs : List ℕ → List ℕ → Type 0
+CountsAs bytes text = (counts bytes ≡ true) × (text ≡ bytes)
 
 -- the chunk lies within its list and holds a text of the tag that is not skipped
 abbrev pub gives : TagName → Chunk → Bool

@@ -1,8 +1,8 @@
 //! Reads of a device at a place, with an end to how often it is called.
-ghost use Rattle.std.specs.Prelude.{◌≡◌, ℕ, ◌+◌, ◌-◌, ◌^◌, ◌≤◌, ◌<◌, List, Some, length, min, take, drop, IfSome, IfOk, OnErr};
+ghost use Rattle.std.specs.Prelude.{◌≡◌, ◌+◌, ◌-◌, ◌^◌, ◌≤◌, ◌<◌, length, min, take, IfSome, IfOk, OnOk, OnErr};
 ghost use Rattle.std.specs.Io.KnownBytes.{Consumes, IsAtEnd};
 ghost use Rattle.counted_devices.specs.CallCounts.{NoFewer};
-ghost use Rattle.wave.specs.Devices.{FillsFrom, Ends, KeepsTo};
+ghost use Rattle.wave.specs.Devices.{RemainsAt, FillsFrom, Ends, KeepsTo};
 
 use crate::fault::Unread;
 use counted_devices::Media;
@@ -54,7 +54,7 @@ pub(crate) fn read_at<M: Media>(
 }
 
 fn seek<M: Media>(media: &mut M, limit: u64, at: u64) -> Result<(), Unread>
-    ensures value { IfSome (M.all_bytes media.old) (λ bytes. IfOk result (λ _. M.remaining media.new ≡ Some (drop at bytes))) }
+    ensures value { IfSome (M.all_bytes media.old) (λ bytes. OnOk result (RemainsAt at bytes (M.remaining media.new))) }
     ensures stays { M.all_bytes media.new ≡ M.all_bytes media.old }
     ensures ends { OnErr result (Ends limit (M.call_counts media.old) (M.call_counts media.new)) }
     ensures keeps { KeepsTo limit (M.call_counts media.old) (M.call_counts media.new) }

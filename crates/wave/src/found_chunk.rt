@@ -1,9 +1,9 @@
 //! Chunks, and where they lie.
-ghost use Rattle.std.specs.Prelude.{◌≡◌, ◌==◌, ℕ, ◌+◌, ◌≤◌, ◌<◌, List, Some, length, take, drop, IfSome, IfOk, OnErr};
+ghost use Rattle.std.specs.Prelude.{◌≡◌, ◌==◌, ℕ, ◌+◌, ◌≤◌, ◌<◌, List, length, IfSome, IfOk, OnErr};
 ghost use Rattle.counted_devices.specs.CallCounts.{NoFewer};
 ghost use Rattle.wave.specs.Chunks.{Chunk, AreChunks, chunks};
 ghost use Rattle.wave.specs.Devices.{Ends, KeepsTo};
-ghost use Rattle.wave.specs.Parts.{IsHeader, StartsWith};
+ghost use Rattle.wave.specs.Parts.{IsHeader, IsChunkOfHeader, StartsWith};
 
 use crate::device::read_at;
 use crate::fault::Unread;
@@ -56,7 +56,7 @@ fn header_of(bytes: &[u8]) -> Option<Header>
 /// The chunk that begins at a place, of bytes that go up to an end.
 fn part_of(header: Header, at: u64, end: u64) -> FoundChunk
     requires { at + 8 ≤ end }
-    ensures starts { (bytes : List ℕ) → end ≤ length bytes → IsHeader (take 8 (drop at bytes)) (Some header) → StartsWith bytes at end (Some result) }
+    ensures starts { IsChunkOfHeader header at end result }
     ensures within { result.place + result.len ≤ end }
     ensures onward { at < result.next }
 {

@@ -1,9 +1,9 @@
 //! Frames of a file.
-ghost use Rattle.std.specs.Prelude.{◌≡◌, ◌⊎◌, ◌≤◌, ◌<◌, ◌+◌, ◌*◌, ◌^◌, length, take, drop, IfSome, IfOk, IfErr, IsErrOf};
-ghost use Rattle.counted_devices.specs.CallCounts.{NoFewer, HasFailed};
-ghost use Rattle.wave.specs.Devices.{CalledTooOften};
+ghost use Rattle.std.specs.Prelude.{◌≡◌, ◌⊎◌, ◌≤◌, ◌<◌, ◌+◌, ◌*◌, ◌^◌, length, IfOk, IfErr};
+ghost use Rattle.counted_devices.specs.CallCounts.{NoFewer};
+ghost use Rattle.wave.specs.Devices.{ReadFaultHasCause};
 ghost use Rattle.wave.specs.Formats.{frames_of};
-ghost use Rattle.wave.specs.Meanings.{frames_in};
+ghost use Rattle.wave.specs.Meanings.{GivesFrames};
 
 use crate::device::{last_call, read_at};
 use crate::fault::WaveFault;
@@ -48,12 +48,12 @@ impl<R: Media> Reader<R> {
     /// The frames from a frame on, counted from 0: n of them, or fewer where the file has no more.
     pub fn frames_at(&mut self, alloc: Global, from: u64, n: usize) -> Result<Vec<Frame>, WaveFault>
         // They are the frames that the bytes hold where the head says.
-        ensures value { IfSome (R.all_bytes self.old.media) (λ bytes. IfOk result (λ frames. frames.items ≡ take n (drop from (frames_in bytes self.old.head)))) }
+        ensures value { GivesFrames (R.all_bytes self.old.media) self.old.head from n result }
         ensures count { IfOk result (λ frames. length frames.items ≤ n) }
         ensures fault { IfErr result (λ fault. (fault ≡ WaveFault.ReadFault) ⊎ (fault ≡ WaveFault.NoMemory)) }
         // A fault of the device comes only where it failed, or was called too often, or its count is at its
         // greatest value.
-        ensures read_fault { IsErrOf result WaveFault.ReadFault → HasFailed (R.call_counts self.old.media) (R.call_counts self.new.media) ⊎ CalledTooOften (R.call_counts self.old.media) (R.call_counts self.new.media) }
+        ensures read_fault { ReadFaultHasCause (R.call_counts self.old.media) (R.call_counts self.new.media) result }
         ensures few_calls { (R.call_counts self.new.media).calls ≤ (R.call_counts self.old.media).calls + 2 ^ 32 }
         ensures head { self.new.head ≡ self.old.head }
         ensures stays { R.all_bytes self.new.media ≡ R.all_bytes self.old.media }

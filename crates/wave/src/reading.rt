@@ -1,11 +1,11 @@
 //! Heads, read from files.
-ghost use Rattle.std.specs.Prelude.{length, ◌≡◌, ◌⊎◌, ◌≤◌, ◌+◌, ◌/◌, ◌^◌, ◌<◌, take, IfSome, IfOk, OnErr, IsErrOf};
-ghost use Rattle.counted_devices.specs.CallCounts.{NoFewer, HasFailed};
-ghost use Rattle.wave.specs.Devices.{Ends, KeepsTo, CalledTooOften};
+ghost use Rattle.std.specs.Prelude.{length, ◌≡◌, ◌≤◌, ◌+◌, ◌/◌, ◌^◌, ◌<◌, take, IfSome, IfOk, OnErr, IsErrOf};
+ghost use Rattle.counted_devices.specs.CallCounts.{NoFewer};
+ghost use Rattle.wave.specs.Devices.{Ends, KeepsTo, ReadFaultHasCause};
 ghost use Rattle.wave.specs.Formats.{block};
 ghost use Rattle.wave.specs.Waves.{is_riff, wave_of};
 ghost use Rattle.wave.specs.Meanings.{MeansWave, MeansChunks};
-ghost use Rattle.wave.specs.Parts.{chunks_within};
+ghost use Rattle.wave.specs.Parts.{file_chunks};
 
 use crate::device::{last_call, read_at, size};
 use crate::fault::{Unread, WaveFault};
@@ -25,7 +25,7 @@ pub fn read_head<M: Media>(alloc: Global, media: &mut M, rate: u32) -> Result<He
     ensures value { IfSome (M.all_bytes media.old) (λ bytes. MeansWave bytes result (wave_of rate bytes)) }
     // A fault of the device comes only where it failed, or was called too often, or its count is at its
     // greatest value.
-    ensures read_fault { IsErrOf result WaveFault.ReadFault → HasFailed (M.call_counts media.old) (M.call_counts media.new) ⊎ CalledTooOften (M.call_counts media.old) (M.call_counts media.new) }
+    ensures read_fault { ReadFaultHasCause (M.call_counts media.old) (M.call_counts media.new) result }
     ensures few_calls { (M.call_counts media.new).calls ≤ (M.call_counts media.old).calls + 2 ^ 32 }
     ensures stays { M.all_bytes media.new ≡ M.all_bytes media.old }
     ensures calm { NoFewer (M.call_counts media.old) (M.call_counts media.new) }
@@ -47,7 +47,7 @@ fn head_of_chunks<M: Media>(
     rate: u32,
 ) -> Result<Head, WaveFault>
     requires { IfSome (M.all_bytes media.old) (λ bytes. end ≤ length bytes) }
-    ensures value { IfSome (M.all_bytes media.old) (λ bytes. MeansChunks rate bytes (chunks_within bytes 12 end) result) }
+    ensures value { IfSome (M.all_bytes media.old) (λ bytes. MeansChunks rate bytes (file_chunks bytes end) result) }
     ensures ends { IsErrOf result WaveFault.ReadFault → Ends limit (M.call_counts media.old) (M.call_counts media.new) }
     ensures stays { M.all_bytes media.new ≡ M.all_bytes media.old }
     ensures keeps { KeepsTo limit (M.call_counts media.old) (M.call_counts media.new) }

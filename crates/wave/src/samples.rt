@@ -1,13 +1,12 @@
 //! Where the samples of a file lie.
-ghost use Rattle.std.specs.Prelude.{◌≡◌, ◌==◌, ◌&&◌, ℕ, ◌≤◌, ◌+◌, List, ◌∷◌, length, take, true, false, IfErr, IfSome, IfOk, OnErr, IsErrOf, MatchResult, codes, is_none};
+ghost use Rattle.std.specs.Prelude.{◌≡◌, ◌==◌, ◌&&◌, ℕ, ◌≤◌, ◌+◌, List, ◌∷◌, length, true, false, IfErr, IfSome, IfOk, OnErr, IsErrOf, MatchResult, codes, is_none};
 ghost use Rattle.std.specs.Str.{bytes_eq};
 ghost use Rattle.counted_devices.specs.CallCounts.{NoFewer};
 ghost use Rattle.wave.specs.Chunks.{Chunk};
 ghost use Rattle.wave.specs.Formats.{layout_of};
-ghost use Rattle.wave.specs.Waves.{sound_of};
-ghost use Rattle.wave.specs.Devices.{Ends, KeepsTo};
-ghost use Rattle.wave.specs.Parts.{content_of, chunk_of, chunks_within};
-ghost use Rattle.wave.specs.Heads.{Refuses, MeansSound, sound_after, missing};
+ghost use Rattle.wave.specs.Devices.{GivesOfBytes, Ends, KeepsTo};
+ghost use Rattle.wave.specs.Parts.{content_of, format_content, chunk_of};
+ghost use Rattle.wave.specs.Heads.{file_sound, Refuses, MeansSound, sound_after, missing};
 
 use crate::device::read_at;
 use crate::fault::{Unread, WaveFault};
@@ -31,7 +30,7 @@ pub(crate) fn find_samples<M: Media>(
     rate: u32,
 ) -> Result<Samples, WaveFault>
     requires { IfSome (M.all_bytes media.old) (λ bytes. end ≤ length bytes) }
-    ensures value { IfSome (M.all_bytes media.old) (λ bytes. MeansSound bytes result (sound_of rate (chunks_within bytes 12 end))) }
+    ensures value { IfSome (M.all_bytes media.old) (λ bytes. MeansSound bytes result (file_sound rate bytes end)) }
     ensures within { IfOk result (λ found. found.place + found.len ≤ end) }
     ensures fault { IsErrOf result WaveFault.NoMemory → ⊥ }
     ensures ends { IsErrOf result WaveFault.ReadFault → Ends limit (M.call_counts media.old) (M.call_counts media.new) }
@@ -121,7 +120,7 @@ fn layout_at<M: Media>(
     part: FoundChunk,
     rate: u32,
 ) -> Result<Option<Layout>, Unread>
-    ensures value { IfSome (M.all_bytes media.old) (λ bytes. IfOk result (λ found. found ≡ layout_of rate (take 40 (content_of bytes part)))) }
+    ensures value { GivesOfBytes (M.all_bytes media.old) (λ bytes. layout_of rate (format_content bytes part)) result }
     ensures stays { M.all_bytes media.new ≡ M.all_bytes media.old }
     ensures ends { OnErr result (Ends limit (M.call_counts media.old) (M.call_counts media.new)) }
     ensures keeps { KeepsTo limit (M.call_counts media.old) (M.call_counts media.new) }

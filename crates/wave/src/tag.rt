@@ -1,8 +1,6 @@
 //! Texts, and the tags that they give.
-ghost use Rattle.std.specs.Prelude.{◌≡◌, ◌==◌, ◌++◌, Some, None, true, false, IfOk, OnOk, MatchOption, nat_le};
-ghost use Rattle.std.specs.Str.{bytes_eq};
-ghost use Rattle.mpd_text.specs.declared.songs.song.TagName.{TagName};
-ghost use Rattle.wave.specs.Texts.{identifier, text_of, counts};
+ghost use Rattle.std.specs.Prelude.{◌≡◌, ◌==◌, ◌++◌, Some, None, false, IfOk, OnOk, MatchOption, nat_le};
+ghost use Rattle.wave.specs.Texts.{IsTagOf, text_of, counts, CountsAs};
 ghost use Rattle.mpd_text.specs.Songs.Tags.{tag_with};
 ghost use Rattle.std.specs.List.{list_all, position};
 ghost use Rattle.wave.specs.Found.{text_in, no_texts, put, listed, shown};
@@ -16,7 +14,7 @@ pub const MAX_TEXT: usize = 1_024;
 
 /// The tag whose texts lie in chunks of this name.
 pub(crate) fn tag_of(name: [u8; 4]) -> Option<TagName>
-    ensures { MatchOption result ((tag : TagName) → bytes_eq name (identifier tag) ≡ false) (λ tag. bytes_eq name (identifier tag) ≡ true) }
+    ensures { IsTagOf name result }
 {
     if name == *b"INAM" {
         return Some(TagName::Title);
@@ -57,7 +55,7 @@ fn up_to_zero(content: &[u8]) -> &[u8]
 
 /// The text of these bytes, if it is not skipped.
 fn counted(bytes: &[u8]) -> Option<&str>
-    ensures { MatchOption result (counts bytes.now ≡ false) (λ text. (counts bytes.now ≡ true) × (text.now ≡ bytes.now)) }
+    ensures { MatchOption result (counts bytes.now ≡ false) (λ text. CountsAs bytes.now text.now) }
 {
     if bytes.is_empty() || bytes.len() > MAX_TEXT || !has_no_control(bytes) {
         return None;

@@ -1,12 +1,12 @@
 //! The texts in the lists of a file.
-ghost use Rattle.std.specs.Prelude.{◌≡◌, ◌==◌, ◌&&◌, nat_le, codes, ◌≤◌, ◌<◌, ◌^◌, ◌+◌, List, ◌∷◌, ◌++◌, true, length, IfSome, IfOk, IfErr, OnErr};
+ghost use Rattle.std.specs.Prelude.{◌≡◌, ◌==◌, ◌&&◌, nat_le, codes, ◌≤◌, ◌<◌, ◌^◌, ◌+◌, List, ◌++◌, true, length, IfSome, IfOk, IfErr, OnErr};
 ghost use Rattle.std.specs.Str.{bytes_eq};
 ghost use Rattle.counted_devices.specs.CallCounts.{NoFewer};
 ghost use Rattle.wave.specs.Chunks.{Chunk};
-ghost use Rattle.wave.specs.Texts.{is_info, items};
-ghost use Rattle.wave.specs.Devices.{Ends, KeepsTo, IsOutside};
+ghost use Rattle.wave.specs.Texts.{is_info};
+ghost use Rattle.wave.specs.Devices.{GivesOfBytes, Ends, KeepsTo, IsOutside};
 ghost use Rattle.wave.specs.Parts.{content_of, chunk_of, chunks_within};
-ghost use Rattle.wave.specs.Found.{text_in, no_texts, joined};
+ghost use Rattle.wave.specs.Found.{text_in, joined, file_texts, TakesItem};
 
 use crate::device::read_at;
 use crate::fault::{Unread, WaveFault};
@@ -24,7 +24,7 @@ pub(crate) fn read_texts<M: Media>(
     end: u64,
 ) -> Result<Texts, WaveFault>
     requires { IfSome (M.all_bytes media.old) (λ bytes. end ≤ length bytes) }
-    ensures value { IfSome (M.all_bytes media.old) (λ bytes. IfOk result (λ texts. texts ≡ joined no_texts (items (chunks_within bytes 12 end)))) }
+    ensures value { IfSome (M.all_bytes media.old) (λ bytes. IfOk result (λ texts. texts ≡ file_texts bytes end)) }
     ensures fault { IfErr result (IsOutside limit (M.call_counts media.old) (M.call_counts media.new)) }
     ensures stays { M.all_bytes media.new ≡ M.all_bytes media.old }
     ensures keeps { KeepsTo limit (M.call_counts media.old) (M.call_counts media.new) }
@@ -51,7 +51,7 @@ fn may_be_list(part: FoundChunk) -> bool
 /// Whether a chunk is a whole list of texts.
 fn is_list<M: Media>(media: &mut M, limit: u64, part: FoundChunk) -> Result<bool, Unread>
     requires { IfSome (M.all_bytes media.old) (λ bytes. length (content_of bytes part) ≡ part.len) }
-    ensures value { IfSome (M.all_bytes media.old) (λ bytes. IfOk result (λ found. found ≡ is_info (chunk_of bytes part))) }
+    ensures value { GivesOfBytes (M.all_bytes media.old) (λ bytes. is_info (chunk_of bytes part)) result }
     ensures long { IfOk result (λ found. found ≡ true → 4 ≤ part.len) }
     ensures stays { M.all_bytes media.new ≡ M.all_bytes media.old }
     ensures ends { OnErr result (Ends limit (M.call_counts media.old) (M.call_counts media.new)) }
@@ -102,7 +102,7 @@ fn take_item<M: Media>(
     texts: Texts,
 ) -> Result<Texts, WaveFault>
     requires { IfSome (M.all_bytes media.old) (λ bytes. length (content_of bytes item) ≡ item.len) }
-    ensures value { IfSome (M.all_bytes media.old) (λ bytes. IfOk result (λ next. (more : List Chunk) → joined next more ≡ joined texts (chunk_of bytes item ∷ more))) }
+    ensures value { IfSome (M.all_bytes media.old) (λ bytes. IfOk result (TakesItem texts (chunk_of bytes item))) }
     ensures fault { IfErr result (IsOutside limit (M.call_counts media.old) (M.call_counts media.new)) }
     ensures stays { M.all_bytes media.new ≡ M.all_bytes media.old }
     ensures keeps { KeepsTo limit (M.call_counts media.old) (M.call_counts media.new) }
@@ -127,7 +127,7 @@ fn text_at<M: Media>(
     limit: u64,
     item: FoundChunk,
 ) -> Result<Option<Text>, WaveFault>
-    ensures value { IfSome (M.all_bytes media.old) (λ bytes. IfOk result (λ found. found ≡ text_in (content_of bytes item))) }
+    ensures value { GivesOfBytes (M.all_bytes media.old) (λ bytes. text_in (content_of bytes item)) result }
     ensures fault { IfErr result (IsOutside limit (M.call_counts media.old) (M.call_counts media.new)) }
     ensures stays { M.all_bytes media.new ≡ M.all_bytes media.old }
     ensures keeps { KeepsTo limit (M.call_counts media.old) (M.call_counts media.new) }

@@ -1,5 +1,5 @@
 -- Ranges of places in arguments (MPD protocol reference, Requests: Ranges).
-use Rattle.std.specs.Prelude.{ℕ, ◌+◌, List, [], ◌∷◌, length, Option, Some, None, Bool, ◌==◌, ◌&&◌, nat_le, nat_lt, min, option_map, if◌then◌else◌}
+use Rattle.std.specs.Prelude.{◌≡◌, ℕ, ◌+◌, List, [], ◌∷◌, length, Option, Some, None, Bool, true, false, ◌==◌, ◌&&◌, nat_le, nat_lt, min, option_map, if◌then◌else◌}
 use Rattle.std.specs.List.{position_or_len, before_first, after_first}
 use Rattle.std.specs.declared.ops.Range.{Range as Places}
 use Rattle.mpd_text.specs.Answers.Number.{number_of}
@@ -16,6 +16,14 @@ before b text = before_first (λ c. c == b) text
 
 abbrev pub after : ℕ → List ℕ → List ℕ
 after b text = after_first (λ c. c == b) text
+
+-- the byte is not in a text
+abbrev pub HasNoByte : ℕ → List ℕ → Type 0
+HasNoByte b text = has_byte b text ≡ false
+
+-- the byte is in a text, and the first such cuts it into these
+abbrev pub IsCutAt : ℕ → List ℕ → List ℕ → List ℕ → Type 0
+IsCutAt b text front back = (has_byte b text ≡ true) × (front ≡ before b text) × (back ≡ after b text)
 
 abbrev pub between : ℕ → Option ℕ → Option Range
 between start None = None

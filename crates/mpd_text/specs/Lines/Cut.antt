@@ -71,3 +71,12 @@ EndsOpen stream lines start = (stream ≡ with_newlines lines ++ start) × AreLi
 
 abbrev pub EndsTooLong : List ℕ → List (List ℕ) → Type 0
 EndsTooLong stream lines = (front more : List ℕ) × (stream ≡ with_newlines lines ++ (front ++ more)) × AreLines lines × HasNoNewline front × (length front ≡ 16385)
+
+-- a stream that ends in a start of a line is split into its lines and that start
+abbrev pub IsSplitWhereOpen : List ℕ → List (List ℕ) → List ℕ → Type 0
+IsSplitWhereOpen stream lines start =
+    EndsOpen stream lines start → split stream ≡ record { lines = lines; next = Some start }
+
+-- a stream that ends in a line that is too long is split into the lines before it
+abbrev pub IsSplitWhereTooLong : List ℕ → List (List ℕ) → Type 0
+IsSplitWhereTooLong stream lines = EndsTooLong stream lines → split stream ≡ record { lines = lines; next = None }

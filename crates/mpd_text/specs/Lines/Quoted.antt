@@ -1,10 +1,14 @@
 -- Texts in double quotes (MPD protocol reference, Requests).
-use Rattle.std.specs.Prelude.{ℕ, List, [], ◌∷◌, ◌++◌, map, ◌==◌, ◌||◌, if◌then◌else◌}
+use Rattle.std.specs.Prelude.{ℕ, List, [], ◌∷◌, ◌++◌, map, ◌==◌, ◌||◌, encode_utf8, if◌then◌else◌}
 use Rattle.std.specs.List.{flat_map, join_with_byte}
 
 -- a quotation mark and a backslash come after a backslash
 abbrev pub escaped : ℕ → List ℕ
 escaped b = if (b == 34) || (b == 92) then 92 ∷ b ∷ [] else b ∷ []
+
+-- the bytes of a character between quotes
+abbrev pub escaped_character : ℕ → List ℕ
+escaped_character c = flat_map escaped (encode_utf8 c)
 
 -- a text in quotes
 abbrev pub quoted_text : List ℕ → List ℕ

@@ -12,3 +12,7 @@ pub record SongData : Type 0 where
   pub uri : List ℕ
   pub tags : List TagData
   pub frames : ℕ
+
+-- the song of this URI, these tags and so many frames
+abbrev pub song_data : List ℕ → List TagData → ℕ → SongData
+song_data uri tags frames = record { uri = uri; tags = tags; frames = frames }

@@ -1,7 +1,7 @@
 //! Ranges of places in arguments (MPD protocol reference, Requests: Ranges).
-ghost use Rattle.std.specs.Prelude.{◌≡◌, Some, None, true, false, MatchOption, IfSome, ◌<◌, ◌≤◌};
+ghost use Rattle.std.specs.Prelude.{◌≡◌, Some, None, MatchOption, IfSome, ◌<◌, ◌≤◌};
 ghost use Rattle.mpd_text.specs.Answers.Number.{number_of};
-ghost use Rattle.mpd_text.specs.Answers.Range.{has_byte, before, after, range_of, within as within_lem};
+ghost use Rattle.mpd_text.specs.Answers.Range.{HasNoByte, IsCutAt, range_of, within as within_lem};
 
 use super::numbers::number;
 use std::ops;
@@ -61,7 +61,7 @@ impl Range {
 /// What stands before the first such character, and what stands after it.
 pub(super) fn halves(text: &str, delimiter: char) -> Option<(&str, &str)>
     requires { delimiter < 128 }
-    ensures { MatchOption result (has_byte delimiter text.now ≡ false) (λ x. (has_byte delimiter text.now ≡ true) × (x.0.now ≡ before delimiter text.now) × (x.1.now ≡ after delimiter text.now)) }
+    ensures { MatchOption result (HasNoByte delimiter text.now) (λ x. IsCutAt delimiter text.now x.0.now x.1.now) }
 {
     text.split_once(delimiter)
 }

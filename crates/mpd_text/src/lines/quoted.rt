@@ -1,10 +1,9 @@
 //! A text in double quotes (MPD protocol reference, Requests).
-ghost use Rattle.std.specs.Prelude.{◌≡◌, ◌<◌, ◌≤◌, ◌++◌, ◌∷◌, [], List, ℕ, length, Ok, Err, IfOk, OnOk, string_bytes, encode_utf8};
-ghost use Rattle.std.specs.List.{flat_map};
+ghost use Rattle.std.specs.Prelude.{◌≡◌, ◌<◌, ◌≤◌, ◌++◌, ◌∷◌, [], List, ℕ, length, Ok, Err, IfOk, OnOk, string_bytes};
 ghost use Rattle.mpd_text.specs.declared.lines.quoting.WordsFault.TheVariants.{TooMany};
 ghost use Rattle.mpd_text.specs.Lines.Scan.{words_of};
 ghost use Rattle.mpd_text.specs.Lines.Grammar.{IsQuotedWord, Spells};
-ghost use Rattle.mpd_text.specs.Lines.Quoted.{escaped, quoted_text, quoted_line};
+ghost use Rattle.mpd_text.specs.Lines.Quoted.{escaped_character, quoted_text, quoted_line};
 
 use std::alloc::{AllocError, Global};
 
@@ -26,7 +25,7 @@ pub fn quote(alloc: Global, text: &str) -> Result<String, AllocError>
 /// Adds a character to what is between quotes.
 #[tactic(auto, using(crate::proofs::QuotedWords::plain_char))]
 fn push_escaped(quoted: &mut String, character: char) -> Result<(), AllocError>
-    ensures { OnOk result (string_bytes quoted.new ≡ string_bytes quoted.old ++ flat_map escaped (encode_utf8 character)) }
+    ensures { OnOk result (string_bytes quoted.new ≡ string_bytes quoted.old ++ escaped_character character) }
 {
     match character {
         '"' => quoted.push_str("\\\""),

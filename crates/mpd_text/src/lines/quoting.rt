@@ -1,12 +1,12 @@
 //! A line as words (MPD protocol reference, Requests).
-ghost use Rattle.std.specs.Prelude.{◌≡◌, ◌≤◌, length, Ok, Err, MatchResult, ◌≢◌, ◌||◌, ◌&&◌, ◌==◌, List, ℕ, [], ◌∷◌, ◌++◌, map, nat_lt, not, OnOk, IfOk, IfErr, IsTrue, string_bytes, All};
+ghost use Rattle.std.specs.Prelude.{◌≡◌, Err, MatchResult, ◌≢◌, ◌||◌, ◌&&◌, ◌==◌, List, ℕ, [], ◌∷◌, ◌++◌, map, nat_lt, not, OnOk, IfOk, IfErr, IsTrue, string_bytes, All};
 ghost use Rattle.std.specs.Str.{IsUtf8};
 ghost use Rattle.std.specs.List.{AllByRecursion};
 ghost use Rattle.mpd_text.specs.declared.lines.quoting.WordsFault.TheVariants.{NoMemory};
 ghost use Rattle.mpd_text.specs.Lines.Scan.{is_blank as is_blank_lem, is_bare as is_bare_lem, words_of};
-ghost use Rattle.mpd_text.specs.Lines.Grammar.{Spells, IsFaulty};
+ghost use Rattle.mpd_text.specs.Lines.Grammar.{IsFaulty};
 ghost use Rattle.mpd_text.specs.declared.lines.quoting.WordsFault.{WordsFault};
-ghost use Rattle.mpd_text.specs.Lines.Words.{outcome, Refuses, Gives, bytes_of, texts_of};
+ghost use Rattle.mpd_text.specs.Lines.Words.{AreWordsOf, AreReadIfSpelt, GivesWhatIsSpelt, outcome, Refuses, Gives, bytes_of, texts_of};
 
 use std::alloc::{AllocError, AllocFailed, Global};
 use std::mem;
@@ -165,11 +165,11 @@ fn is_bare(b: u8) -> bool
 /// separate them and may be at both ends; a line of these alone has no words.
 pub fn words(alloc: Global, line: &str) -> Result<Vec<String>, WordsFault>
     // The list is the line's.
-    ensures found { IfOk result (λ words. Spells line.now (texts_of words) × (length (texts_of words) ≤ 65)) }
+    ensures found { IfOk result (λ words. AreWordsOf line.now (texts_of words)) }
     // The fault is the first from the left.
     ensures fault { IfErr result (λ fault. fault ≢ NoMemory → IsFaulty 0 line.now fault) }
     // A line that has such a list is not refused, unless memory runs out, and what is given is determined.
-    ensures only { (texts : List (List ℕ)) → length texts ≤ 65 → Spells line.now texts → Gives texts_of result (Ok texts) }
+    ensures only { GivesWhatIsSpelt texts_of line.now result }
     ensures exact { Gives texts_of result (words_of line.now) }
 {
     read_words(alloc, line)
@@ -214,12 +214,12 @@ fn raw_words(alloc: Global, line: &[u8]) -> Result<Vec<Vec<u8>>, WordsFault>
 
 /// A law: a line has one list of words, or one fault. A caller has it by a call.
 pub fn one_reading()
-    ensures words { (line : List ℕ) (words : List (List ℕ)) → length words ≤ 65 → Spells line words → words_of line ≡ Ok words }
+    ensures words { (line : List ℕ) (words : List (List ℕ)) → AreReadIfSpelt line words }
     ensures fault { (line : List ℕ) (fault : WordsFault) → IsFaulty 0 line fault → words_of line ≡ Err fault }
 {}
 
 /// A law: what is read of a line is what it spells, or the way in which it goes wrong. A caller has it by a
 /// call.
 pub fn some_reading()
-    ensures { (line : List ℕ) → MatchResult (words_of line) (λ words. Spells line words × (length words ≤ 65)) (λ fault. IsFaulty 0 line fault) }
+    ensures { (line : List ℕ) → MatchResult (words_of line) (AreWordsOf line) (IsFaulty 0 line) }
 {}

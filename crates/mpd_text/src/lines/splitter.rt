@@ -1,8 +1,8 @@
 //! A stream of bytes as lines (MPD protocol reference, Requests).
-ghost use Rattle.std.specs.Prelude.{◌≡◌, ◌<◌, ◌≤◌, ◌-◌, ◌++◌, ◌∷◌, map, length, take, drop, get_or, IfOk, OnOk, is_none, Some, None, [], List, ℕ};
+ghost use Rattle.std.specs.Prelude.{◌≡◌, ◌<◌, ◌≤◌, ◌-◌, ◌++◌, ◌∷◌, map, length, take, drop, get_or, IfOk, OnOk, is_none, Some, [], List, ℕ};
 ghost use Rattle.std.specs.Str.Lines.{strip_carriage_return};
 ghost use Rattle.mpd_text.specs.Lines.Split.{view, views, line_of, next_of, AreStart, SplitsAfter};
-ghost use Rattle.mpd_text.specs.Lines.Cut.{split, then_split, split_pieces, HasNoNewline, IsStart, EndsOpen, EndsTooLong};
+ghost use Rattle.mpd_text.specs.Lines.Cut.{split, then_split, split_pieces, HasNoNewline, IsStart, IsSplitWhereOpen, IsSplitWhereTooLong};
 ghost use Rattle.std.specs.List.{concat};
 ghost use Rattle.mpd_text.specs.declared.lines.splitter.SplitFault.TheVariants.{NoMemory};
 
@@ -234,6 +234,6 @@ pub fn pieces_do_not_matter()
 /// A law: a stream is its lines with their newlines, then a start of a line or one that is too long. A
 /// caller has it by a call.
 pub fn lines_make_the_stream()
-    ensures ends { (stream : List ℕ) (lines : List (List ℕ)) (start : List ℕ) → EndsOpen stream lines start → split stream ≡ record { lines = lines; next = Some start } }
-    ensures too_long { (stream : List ℕ) (lines : List (List ℕ)) → EndsTooLong stream lines → split stream ≡ record { lines = lines; next = None } }
+    ensures ends { (stream : List ℕ) (lines : List (List ℕ)) (start : List ℕ) → IsSplitWhereOpen stream lines start }
+    ensures too_long { (stream : List ℕ) (lines : List (List ℕ)) → IsSplitWhereTooLong stream lines }
 {}

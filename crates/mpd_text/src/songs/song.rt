@@ -84,10 +84,11 @@ impl Model for Song {
 
 impl Song {
     ghost use Rattle.mpd_text.specs.Lines.Cut.{HasNoNewline};
+    ghost use Rattle.mpd_text.specs.Songs.Song.{song_data};
 
     /// A song of these, or `None` where the URI holds a newline. Takes no memory.
     pub fn new(uri: String, tags: Vec<Tag>, frames: u64) -> Option<Song>
-        ensures song { IfSome result (λ song. song ≡ record { uri = string_bytes uri; tags = tags.items; frames = frames }) }
+        ensures song { IfSome result (λ song. song ≡ song_data (string_bytes uri) tags.items frames) }
         ensures newline { IsNone result ↔ Contains (string_bytes uri) 10 }
     {
         if uri.as_bytes().contains(&b'\n') {

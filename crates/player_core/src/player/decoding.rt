@@ -1,10 +1,11 @@
 //! The steps that the decoder makes: wants, haves and failures.
-ghost use Rattle.std.specs.Prelude.{◌≡◌, ◌↔◌, ◌≤◌, ◌<◌, ◌+◌, ◌^◌, false, string_bytes, is_some, IfOk, IsErrOf, OnOk, OnErr, Some};
+ghost use Rattle.std.specs.Prelude.{◌≡◌, ◌≤◌, ◌<◌, ◌+◌, ◌^◌, string_bytes, is_some, IfOk, OnOk, OnErr, Some};
 ghost use Rattle.std.specs.Option.{option_copied, ForSome};
 ghost use Rattle.song_queue.specs.State.{queue_of};
-ghost use Rattle.play_order.specs.Order.{entry_of};
 ghost use Rattle.player_core.specs.Player as player;
+ghost use Rattle.player_core.specs.Player.{IsRefusedAtLimit};
 ghost use Rattle.player_core.specs.Decoding as decoding;
+ghost use Rattle.player_core.specs.Decoding.{IsJobFor, with_job_for};
 
 use crate::fault::PlayerFault;
 use crate::player::Player;
@@ -28,9 +29,9 @@ impl Player {
         owes: bool,
     ) -> Result<Option<Job>, PlayerFault>
         ensures job { IfOk result (λ job. job ≡ (decoding.want rate self.old (queue_of queue.old) enabled owes).job) }
-        ensures ok { OnOk result (self.new ≡ (decoding.want rate self.old (queue_of queue.old) enabled owes).stepped.player) }
-        ensures queue { OnOk result (queue.new ≡ player.queue_after queue.old (decoding.want rate self.old (queue_of queue.old) enabled owes).stepped.edit) }
-        ensures limit { IsErrOf result PlayerFault.CutsAtLimit ↔ (player.is_within (decoding.want rate self.old (queue_of queue.old) enabled owes).stepped.player ≡ false) }
+        ensures ok { OnOk result (self.new ≡ (decoding.after_want rate self.old queue.old enabled owes).player) }
+        ensures queue { OnOk result (queue.new ≡ (decoding.after_want rate self.old queue.old enabled owes).queue) }
+        ensures limit { IsRefusedAtLimit result (decoding.after_want rate self.old queue.old enabled owes).player }
         ensures err { OnErr result (self.new ≡ self.old) }
         ensures err_queue { OnErr result (queue.new ≡ queue.old) }
     {
@@ -50,10 +51,10 @@ impl Player {
         queue: &mut Queue,
         id: u32,
     ) -> Result<Option<Job>, PlayerFault>
-        ensures job { IfOk result (λ job. job ≡ (decoding.want_at rate self.old (queue_of queue.old) id (entry_of (queue_of queue.old) id)).job) }
-        ensures ok { OnOk result (self.new ≡ (decoding.want_at rate self.old (queue_of queue.old) id (entry_of (queue_of queue.old) id)).stepped.player) }
-        ensures queue { OnOk result (queue.new ≡ player.queue_after queue.old (decoding.want_at rate self.old (queue_of queue.old) id (entry_of (queue_of queue.old) id)).stepped.edit) }
-        ensures limit { IsErrOf result PlayerFault.CutsAtLimit ↔ (player.is_within (decoding.want_at rate self.old (queue_of queue.old) id (entry_of (queue_of queue.old) id)).stepped.player ≡ false) }
+        ensures job { IfOk result (λ job. job ≡ (decoding.want_of rate self.old (queue_of queue.old) (Some id)).job) }
+        ensures ok { OnOk result (self.new ≡ (decoding.after_want_of rate self.old queue.old id).player) }
+        ensures queue { OnOk result (queue.new ≡ (decoding.after_want_of rate self.old queue.old id).queue) }
+        ensures limit { IsRefusedAtLimit result (decoding.after_want_of rate self.old queue.old id).player }
         ensures err { OnErr result (self.new ≡ self.old) }
         ensures err_queue { OnErr result (queue.new ≡ queue.old) }
     {
@@ -73,9 +74,9 @@ impl Player {
     /// A job from the player's place. What the end of the song would start is `next`.
     fn ask(&mut self, rate: u32, entry: &Entry, next: Option<&Entry>) -> Result<Job, PlayerFault>
         requires { self.old.place < entry.now.song.frames }
-        ensures job { IfOk result (λ job. Some job ≡ (decoding.job_for rate self.old entry.now (option_copied next.entry)).job) }
-        ensures ok { OnOk result (self.new ≡ (decoding.job_for rate self.old entry.now (option_copied next.entry)).stepped.player) }
-        ensures limit { IsErrOf result PlayerFault.CutsAtLimit ↔ (player.is_within (decoding.job_for rate self.old entry.now (option_copied next.entry)).stepped.player ≡ false) }
+        ensures job { IfOk result (IsJobFor rate self.old entry.now (option_copied next.entry)) }
+        ensures ok { OnOk result (self.new ≡ with_job_for rate self.old entry.now (option_copied next.entry)) }
+        ensures limit { IsRefusedAtLimit result (with_job_for rate self.old entry.now (option_copied next.entry)) }
         ensures err { OnErr result (self.new ≡ self.old) }
     {
         if self.jobs == self.max_cut {
@@ -105,9 +106,9 @@ impl Player {
         count: u64,
     ) -> Result<Option<u64>, PlayerFault>
         ensures feed { IfOk result (λ feed. feed ≡ (decoding.have self.old (queue_of queue.old) number count).feed) }
-        ensures ok { OnOk result (self.new ≡ (decoding.have self.old (queue_of queue.old) number count).stepped.player) }
-        ensures queue { OnOk result (queue.new ≡ player.queue_after queue.old (decoding.have self.old (queue_of queue.old) number count).stepped.edit) }
-        ensures limit { IsErrOf result PlayerFault.CutsAtLimit ↔ (player.is_within (decoding.have self.old (queue_of queue.old) number count).stepped.player ≡ false) }
+        ensures ok { OnOk result (self.new ≡ (decoding.after_have self.old queue.old number count).player) }
+        ensures queue { OnOk result (queue.new ≡ (decoding.after_have self.old queue.old number count).queue) }
+        ensures limit { IsRefusedAtLimit result (decoding.after_have self.old queue.old number count).player }
         ensures err { OnErr result (self.new ≡ self.old) }
         ensures err_queue { OnErr result (queue.new ≡ queue.old) }
     {
@@ -153,9 +154,9 @@ impl Player {
     fn accept(&mut self, queue: &mut Queue, job: Job, count: u64) -> Result<(), PlayerFault>
         requires count { self.old.place + count < 2 ^ 64 }
         requires fade { ForSome job.fade (λ part. part.index ≤ self.old.place) }
-        ensures ok { OnOk result (self.new ≡ (decoding.accepted self.old (queue_of queue.old) job count).player) }
-        ensures queue { OnOk result (queue.new ≡ player.queue_after queue.old (decoding.accepted self.old (queue_of queue.old) job count).edit) }
-        ensures limit { IsErrOf result PlayerFault.CutsAtLimit ↔ (player.is_within (decoding.accepted self.old (queue_of queue.old) job count).player ≡ false) }
+        ensures ok { OnOk result (self.new ≡ (decoding.after_accepted self.old queue.old job count).player) }
+        ensures queue { OnOk result (queue.new ≡ (decoding.after_accepted self.old queue.old job count).queue) }
+        ensures limit { IsRefusedAtLimit result (decoding.after_accepted self.old queue.old job count).player }
         ensures err { OnErr result (self.new ≡ self.old) }
         ensures err_queue { OnErr result (queue.new ≡ queue.old) }
     {
@@ -172,7 +173,7 @@ impl Player {
     /// The decoder could not read the song of a job, or that of the partner that is mixed in.
     pub fn failed(&mut self, queue: &Queue, number: u64, partner: bool) -> Result<(), PlayerFault>
         ensures ok { OnOk result (self.new ≡ decoding.failed self.old (queue_of queue.now) number partner) }
-        ensures limit { IsErrOf result PlayerFault.CutsAtLimit ↔ (player.is_within (decoding.failed self.old (queue_of queue.now) number partner) ≡ false) }
+        ensures limit { IsRefusedAtLimit result (decoding.failed self.old (queue_of queue.now) number partner) }
         ensures err { OnErr result (self.new ≡ self.old) }
     {
         let Some(job) = self.job else {
@@ -193,7 +194,7 @@ impl Player {
     /// The player stops, since the song of an entry cannot be read.
     fn stop_unread(&mut self, queue: &Queue, id: u32) -> Result<(), PlayerFault>
         ensures ok { OnOk result (self.new ≡ decoding.unread self.old (queue_of queue.now) id) }
-        ensures limit { IsErrOf result PlayerFault.CutsAtLimit ↔ (player.is_within (decoding.unread self.old (queue_of queue.now) id) ≡ false) }
+        ensures limit { IsRefusedAtLimit result (decoding.unread self.old (queue_of queue.now) id) }
         ensures err { OnErr result (self.new ≡ self.old) }
     {
         if self.ends_cuts(false) {

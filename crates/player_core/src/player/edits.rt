@@ -1,9 +1,10 @@
 //! Edits of the queue that the order of play takes part in.
-ghost use Rattle.std.specs.Prelude.{◌≡◌, ◌↔◌, ◌≤◌, false, length, IsErrOf, OnOk, OnErr};
-ghost use Rattle.song_queue.specs.State.{queue_of, inserted as inserted_in, removed as removed_from, shuffled_state};
+ghost use Rattle.std.specs.Prelude.{◌≡◌, ◌≤◌, length, OnOk, OnErr};
+ghost use Rattle.song_queue.specs.State.{queue_of, inserted as inserted_in, removed as removed_from};
 ghost use Rattle.song_queue.specs.declared.edit.Edit.TheVariants.{Insert};
 ghost use Rattle.song_queue.specs.Laws.{Takes};
-ghost use Rattle.player_core.specs.Player as player;
+ghost use Rattle.play_order.specs.Queues.{shuffled_by};
+ghost use Rattle.player_core.specs.Player.{IsRefusedAtLimit};
 ghost use Rattle.player_core.specs.Steps as steps;
 
 use crate::fault::PlayerFault;
@@ -39,7 +40,7 @@ impl Player {
         requires order { range.start ≤ range.end }
         requires within { range.end ≤ length (queue_of queue.old) }
         ensures ok { OnOk result (self.new ≡ steps.shuffled self.old range.start range.end) }
-        ensures queue { OnOk result (queue.new ≡ shuffled_state queue.old range.start range.end (steps.shuffle_words self.old range.start range.end)) }
+        ensures queue { OnOk result (queue.new ≡ shuffled_by self.old.round queue.old range.start range.end) }
         ensures err { OnErr result (self.new ≡ self.old) }
         ensures err_queue { OnErr result (queue.new ≡ queue.old) }
     {
@@ -53,7 +54,7 @@ impl Player {
         requires within { range.end ≤ length (queue_of queue.old) }
         ensures ok { OnOk result (self.new ≡ steps.removed self.old (queue_of queue.old) range.start range.end) }
         ensures queue { OnOk result (queue.new ≡ removed_from queue.old range.start range.end) }
-        ensures limit { IsErrOf result PlayerFault.CutsAtLimit ↔ (player.is_within (steps.removed self.old (queue_of queue.old) range.start range.end) ≡ false) }
+        ensures limit { IsRefusedAtLimit result (steps.removed self.old (queue_of queue.old) range.start range.end) }
         ensures err { OnErr result (self.new ≡ self.old) }
         ensures err_queue { OnErr result (queue.new ≡ queue.old) }
     {
@@ -76,7 +77,7 @@ impl Player {
         requires within { end ≤ length (queue_of queue.old) }
         ensures ok { OnOk result (self.new ≡ steps.goes_on_without self.old (queue_of queue.old) start end) }
         ensures queue { OnOk result (queue.new ≡ removed_from queue.old start end) }
-        ensures limit { IsErrOf result PlayerFault.CutsAtLimit ↔ (player.is_within (steps.goes_on_without self.old (queue_of queue.old) start end) ≡ false) }
+        ensures limit { IsRefusedAtLimit result (steps.goes_on_without self.old (queue_of queue.old) start end) }
         ensures err { OnErr result (self.new ≡ self.old) }
         ensures err_queue { OnErr result (queue.new ≡ queue.old) }
     {

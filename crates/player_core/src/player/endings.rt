@@ -1,7 +1,6 @@
 //! How songs end, by `next` or by themselves.
-ghost use Rattle.std.specs.Prelude.{◌≡◌, ◌↔◌, false, IsErrOf, OnOk, OnErr};
-ghost use Rattle.song_queue.specs.State.{queue_of};
-ghost use Rattle.player_core.specs.Player as player;
+ghost use Rattle.std.specs.Prelude.{◌≡◌, OnOk, OnErr};
+ghost use Rattle.player_core.specs.Player.{IsRefusedAtLimit};
 ghost use Rattle.player_core.specs.Steps as steps;
 
 use crate::fault::PlayerFault;
@@ -12,9 +11,9 @@ use song_queue::Queue;
 impl Player {
     /// Ends the current song as if single were off, and plays what follows.
     pub fn next(&mut self, queue: &mut Queue) -> Result<(), PlayerFault>
-        ensures ok { OnOk result (self.new ≡ (steps.next self.old (queue_of queue.old)).player) }
-        ensures queue { OnOk result (queue.new ≡ player.queue_after queue.old (steps.next self.old (queue_of queue.old)).edit) }
-        ensures limit { IsErrOf result PlayerFault.CutsAtLimit ↔ (player.is_within (steps.next self.old (queue_of queue.old)).player ≡ false) }
+        ensures ok { OnOk result (self.new ≡ (steps.after_next self.old queue.old).player) }
+        ensures queue { OnOk result (queue.new ≡ (steps.after_next self.old queue.old).queue) }
+        ensures limit { IsRefusedAtLimit result (steps.after_next self.old queue.old).player }
         ensures err { OnErr result (self.new ≡ self.old) }
         ensures err_queue { OnErr result (queue.new ≡ queue.old) }
     {
@@ -41,9 +40,9 @@ impl Player {
         accepted: u64,
         place: u64,
     ) -> Result<(), PlayerFault>
-        ensures ok { OnOk result (self.new ≡ (steps.ended (record self.old { place = accepted }) (queue_of queue.old) id place).player) }
-        ensures queue { OnOk result (queue.new ≡ player.queue_after queue.old (steps.ended (record self.old { place = accepted }) (queue_of queue.old) id place).edit) }
-        ensures limit { IsErrOf result PlayerFault.CutsAtLimit ↔ (player.is_within (steps.ended (record self.old { place = accepted }) (queue_of queue.old) id place).player ≡ false) }
+        ensures ok { OnOk result (self.new ≡ (steps.after_end self.old queue.old accepted id place).player) }
+        ensures queue { OnOk result (queue.new ≡ (steps.after_end self.old queue.old accepted id place).queue) }
+        ensures limit { IsRefusedAtLimit result (steps.after_end self.old queue.old accepted id place).player }
         ensures err { OnErr result (self.new ≡ self.old) }
         ensures err_queue { OnErr result (queue.new ≡ queue.old) }
     {

@@ -1,6 +1,7 @@
 //! How songs start and stop: the parts of steps.
-ghost use Rattle.std.specs.Prelude.{◌≡◌, ◌↔◌, ◌<◌, false, is_some, OnOk, OnErr, IsErrOf};
+ghost use Rattle.std.specs.Prelude.{◌≡◌, ◌<◌, false, is_some, OnOk, OnErr};
 ghost use Rattle.player_core.specs.Player as player;
+ghost use Rattle.player_core.specs.Player.{IsRefusedAtLimit};
 ghost use Rattle.player_core.specs.Steps as steps;
 ghost use Rattle.player_core.specs.Limits as limits;
 
@@ -112,7 +113,7 @@ impl Player {
         place: u64,
     ) -> Result<(), PlayerFault>
         ensures ok { OnOk result (self.new ≡ steps.start self.old playback id place) }
-        ensures limit { IsErrOf result PlayerFault.CutsAtLimit ↔ (player.is_within (steps.start self.old playback id place) ≡ false) }
+        ensures limit { IsRefusedAtLimit result (steps.start self.old playback id place) }
         ensures err { OnErr result (self.new ≡ self.old) }
     {
         if self.ends_by_hand(true) {

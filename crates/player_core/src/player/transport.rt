@@ -1,10 +1,11 @@
 //! The steps that clients make while the queue stays.
-ghost use Rattle.std.specs.Prelude.{◌≡◌, ◌↔◌, true, false, is_some, IsErrOf, IsOkUnless, OnOk, OnErr};
+ghost use Rattle.std.specs.Prelude.{◌≡◌, is_some, IsOkUnless, OnOk, OnErr};
 ghost use Rattle.std.specs.Option.{option_copied};
 ghost use Rattle.song_queue.specs.State.{queue_of};
 ghost use Rattle.play_order.specs.Order.{opening_of};
 ghost use Rattle.player_core.specs.declared.state.Playback.TheVariants.{Play};
 ghost use Rattle.player_core.specs.Player as player;
+ghost use Rattle.player_core.specs.Player.{IsRefusedAtLimit};
 ghost use Rattle.player_core.specs.Steps as steps;
 
 use crate::fault::PlayerFault;
@@ -19,7 +20,7 @@ impl Player {
     /// The player stops. It takes no memory.
     pub fn stop(&mut self) -> Result<(), PlayerFault>
         ensures ok { OnOk result (self.new ≡ steps.stop self.old) }
-        ensures limit { IsErrOf result PlayerFault.CutsAtLimit ↔ (player.is_within (steps.stop self.old) ≡ false) }
+        ensures limit { IsRefusedAtLimit result (steps.stop self.old) }
         ensures faults { IsOkUnless result PlayerFault.CutsAtLimit }
         ensures err { OnErr result (self.new ≡ self.old) }
     {
@@ -54,7 +55,7 @@ impl Player {
     /// An entry of the queue starts.
     pub fn play_entry(&mut self, entry: &Entry) -> Result<(), PlayerFault>
         ensures ok { OnOk result (self.new ≡ steps.play_entry self.old entry.now) }
-        ensures limit { IsErrOf result PlayerFault.CutsAtLimit ↔ (player.is_within (steps.play_entry self.old entry.now) ≡ false) }
+        ensures limit { IsRefusedAtLimit result (steps.play_entry self.old entry.now) }
         ensures err { OnErr result (self.new ≡ self.old) }
     {
         self.start(Playback::Play, entry.id, 0)
@@ -63,7 +64,7 @@ impl Player {
     /// Seeks to a frame of an entry of the queue, at most to its end.
     pub fn seek(&mut self, entry: &Entry, frame: u64) -> Result<(), PlayerFault>
         ensures ok { OnOk result (self.new ≡ steps.seek self.old entry.now frame) }
-        ensures limit { IsErrOf result PlayerFault.CutsAtLimit ↔ (player.is_within (steps.seek self.old entry.now frame) ≡ false) }
+        ensures limit { IsRefusedAtLimit result (steps.seek self.old entry.now frame) }
         ensures err { OnErr result (self.new ≡ self.old) }
     {
         let place = frame.min(entry.song.song().frames());
@@ -86,7 +87,7 @@ impl Player {
     /// Plays on, or begins with the current song, or where the order does.
     pub fn play(&mut self, queue: &Queue) -> Result<(), PlayerFault>
         ensures ok { OnOk result (self.new ≡ steps.play self.old (queue_of queue.now)) }
-        ensures limit { IsErrOf result PlayerFault.CutsAtLimit ↔ (player.is_within (steps.play self.old (queue_of queue.now)) ≡ false) }
+        ensures limit { IsRefusedAtLimit result (steps.play self.old (queue_of queue.now)) }
         ensures err { OnErr result (self.new ≡ self.old) }
     {
         match self.playback {
@@ -101,7 +102,7 @@ impl Player {
     /// Begins with the current song, or where the order does.
     fn begin(&mut self, queue: &Queue) -> Result<(), PlayerFault>
         ensures ok { OnOk result (self.new ≡ steps.begin self.old (queue_of queue.now) self.old.current) }
-        ensures limit { IsErrOf result PlayerFault.CutsAtLimit ↔ (player.is_within (steps.begin self.old (queue_of queue.now) self.old.current) ≡ false) }
+        ensures limit { IsRefusedAtLimit result (steps.begin self.old (queue_of queue.now) self.old.current) }
         ensures err { OnErr result (self.new ≡ self.old) }
     {
         match self.current {
@@ -113,7 +114,7 @@ impl Player {
     /// Starts an entry that was looked for.
     fn start_found(&mut self, entry: Option<&Entry>) -> Result<(), PlayerFault>
         ensures ok { OnOk result (self.new ≡ steps.start_found self.old Play (option_copied entry.entry)) }
-        ensures limit { IsErrOf result PlayerFault.CutsAtLimit ↔ (player.is_within (steps.start_found self.old Play (option_copied entry.entry)) ≡ false) }
+        ensures limit { IsRefusedAtLimit result (steps.start_found self.old Play (option_copied entry.entry)) }
         ensures err { OnErr result (self.new ≡ self.old) }
     {
         // A field is read, so that the numbers are known to be within their limit.
@@ -127,7 +128,7 @@ impl Player {
     /// Begins where the order does.
     fn open_order(&mut self, queue: &Queue) -> Result<(), PlayerFault>
         ensures ok { OnOk result (self.new ≡ steps.open_order self.old (queue_of queue.now)) }
-        ensures limit { IsErrOf result PlayerFault.CutsAtLimit ↔ (player.is_within (steps.open_order self.old (queue_of queue.now)) ≡ false) }
+        ensures limit { IsRefusedAtLimit result (steps.open_order self.old (queue_of queue.now)) }
         ensures err { OnErr result (self.new ≡ self.old) }
     {
         if self.ends_by_hand(self.opens(queue)) {
@@ -153,7 +154,7 @@ impl Player {
     /// Plays what is before the current song; nothing where there is none.
     pub fn previous(&mut self, queue: &Queue) -> Result<(), PlayerFault>
         ensures ok { OnOk result (self.new ≡ steps.previous self.old (queue_of queue.now)) }
-        ensures limit { IsErrOf result PlayerFault.CutsAtLimit ↔ (player.is_within (steps.previous self.old (queue_of queue.now)) ≡ false) }
+        ensures limit { IsRefusedAtLimit result (steps.previous self.old (queue_of queue.now)) }
         ensures err { OnErr result (self.new ≡ self.old) }
     {
         let Some(id) = self.current else {

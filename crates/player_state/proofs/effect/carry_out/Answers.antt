@@ -1,6 +1,5 @@
-use Rattle.std.proofs.Common.{◌≡◌, ℕ, true, Result, Ok, Err, OnOk, IfOk}
-use Rattle.player_core.specs.Player as player
-use Rattle.player_state.specs.Effects.{part_after, player_after, report_after}
+use Rattle.std.proofs.Common.{◌≡◌, ℕ, Result, Ok, Err, OnOk}
+use Rattle.player_state.specs.Effects.{part_after}
 use Rattle.player_state.specs.declared.effect.Effect.TheVariants.{ByCommand}
 use Rattle.player_state.proofs.effect.carry_out.Goals as goal
 
@@ -9,21 +8,15 @@ at_ok : {X E : Type 0} (P : ℕ → Type 0) (r : Result X E) (rate : ℕ) → On
 at_ok P (Ok x) rate all = all rate
 at_ok P (Err e) rate all = tt
 
-of_ok : {X E : Type 0} (P : ℕ → X → Type 0) (r : Result X E) (rate : ℕ) → IfOk r (λ x. (n : ℕ) → P n x) → IfOk r (P rate)
-of_ok P (Ok x) rate all = all rate
-of_ok P (Err e) rate all = tt
-
 pub returns-in-ByCommand-clause-part : goal.returns-in-ByCommand-clause-part
 returns-in-ByCommand-clause-part c =
     rw c.in-ByCommand.is (at_ok (λ n. c.carry_out.new.part ≡ part_after n c.args.part.now (ByCommand c.in-ByCommand.effect)) c.carry_out.result c.args.rate.now c.carry_out.ensures.part)
 
 pub returns-in-ByCommand-clause-report : goal.returns-in-ByCommand-clause-report
-returns-in-ByCommand-clause-report c =
-    rw c.in-ByCommand.is (of_ok (λ n given. given ≡ report_after n c.args.part.now (ByCommand c.in-ByCommand.effect) c.args.report) c.carry_out.result c.args.rate.now c.carry_out.ensures.report)
+returns-in-ByCommand-clause-report c = rw c.in-ByCommand.is (c.carry_out.ensures.report c.args.rate.now)
 
 pub returns-in-ByCommand-clause-within : goal.returns-in-ByCommand-clause-within
-returns-in-ByCommand-clause-within c =
-    rw c.in-ByCommand.is (at_ok (λ n. player.is_within (player_after n c.args.part.now (ByCommand c.in-ByCommand.effect)) ≡ true) c.carry_out.result c.args.rate.now c.carry_out.ensures.within)
+returns-in-ByCommand-clause-within c = rw c.in-ByCommand.is (c.carry_out.ensures.within c.args.rate.now)
 
 pub returns-in-ByCommand-clause-limit : goal.returns-in-ByCommand-clause-limit
-returns-in-ByCommand-clause-limit c = rw c.in-ByCommand.is (λ e. c.carry_out.ensures.limit e c.args.rate.now)
+returns-in-ByCommand-clause-limit c = rw c.in-ByCommand.is (c.carry_out.ensures.limit c.args.rate.now)

@@ -1,0 +1,24 @@
+-- What a window shows of its file.
+use Rattle.std.specs.Prelude.{ℕ, List, Option}
+use Rattle.std.specs.declared.io.traits.Read as Read
+use Rattle.counted_devices.specs.declared.device.Failing as Failing
+use Rattle.counted_devices.specs.declared.device.Media as Media
+use Rattle.library_scan.specs.Windows.{IsEnd, from_place, left, whole}
+use Rattle.library_scan.specs.declared.window.Windowed.{Windowed}
+
+module _ {M : Type 0} {media : Media.Ghosts M} {read : Read.Ghosts M} {failing : Failing.Ghosts M} where
+  -- how many of the bytes that were read are still to be given
+  abbrev pub left_in : Windowed M media read failing → ℕ
+  left_in w = left w.place w.start w.filled
+
+  -- all bytes of the file, where they are known and as many as it had when it was looked at
+  abbrev pub whole_in : Windowed M media read failing → Option (List ℕ)
+  whole_in w = whole (media.all_bytes w.file) w.len
+
+  -- those from the window's place on
+  abbrev pub rest_in : Windowed M media read failing → Option (List ℕ)
+  rest_in w = from_place w.place (whole_in w)
+
+  -- no byte stands from the window's place on, where the file is as long as was told
+  abbrev pub IsAtFileEnd : Windowed M media read failing → Type 0
+  IsAtFileEnd w = IsEnd (media.all_bytes w.file) w.len w.place
