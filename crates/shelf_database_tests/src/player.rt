@@ -1,12 +1,11 @@
-//! A player that is lent a shelf over a database.
+//! A player that is lent a shelf.
 use mpd_command::Request;
 use mpd_text::Song;
 use partition::{Limits, Partition, Setup};
 use player_events::Event;
 use player_state::{Library, Outputs, Scan};
-use shelf_database::SqlShelf;
+use shelf::Shelf;
 use song_db::{Db, Rate, SharedDb};
-use sqlite::Alter;
 use std::alloc::{AllocError, Global};
 use transitions::Stand;
 
@@ -55,11 +54,10 @@ fn opened(alloc: Global) -> Result<Partition, AllocError> {
     Partition::open(alloc, setup, library(alloc)?)
 }
 
-/// Applies an event, and adds what the client hears of it. Here alone it is proved that a player can be lent
-/// this shelf.
-fn happens<S: Alter + Drop>(
+/// Applies an event, and adds what the client hears of it.
+fn happens<S: Shelf>(
     player: &mut Partition,
-    shelf: &mut SqlShelf<S>,
+    shelf: &mut S,
     event: Event,
     all: &mut String,
 ) -> Result<(), AllocError> {
@@ -74,17 +72,28 @@ fn line_of(alloc: Global, line: &str) -> Result<Event, AllocError> {
     Ok(Event::line(1, Stand::Alone, request))
 }
 
-/// What a client hears that comes to a new player and says these lines.
-pub fn session<S: Alter + Drop>(
+/// Says these lines to the player, and adds what the client hears.
+fn say<S: Shelf>(
     alloc: Global,
-    shelf: &mut SqlShelf<S>,
+    player: &mut Partition,
+    shelf: &mut S,
     lines: &str,
-) -> Result<String, AllocError> {
-    let mut player = opened(alloc)?;
-    let mut all = String::new(alloc);
-    happens(&mut player, shelf, Event::Connect(1), &mut all)?;
+    all: &mut String,
+) -> Result<(), AllocError> {
     for line in lines.lines() {
-        happens(&mut player, shelf, line_of(alloc, line)?, &mut all)?;
+        happens(player, shelf, line_of(alloc, line)?, all)?;
     }
-    Ok(all)
+    Ok(())
+}
+
+/// Adds what a client hears that comes to a new player and says these lines.
+pub fn session<S: Shelf>(
+    alloc: Global,
+    shelf: &mut S,
+    lines: &str,
+    all: &mut String,
+) -> Result<(), AllocError> {
+    let mut player = opened(alloc)?;
+    happens(&mut player, shelf, Event::Connect(1), all)?;
+    say(alloc, &mut player, shelf, lines, all)
 }

@@ -1,11 +1,8 @@
 //! Worked sessions of a player that is lent a shelf over a database: in memory, on files that are opened
 //! again, and on files of which one fails.
 use crate::memory::opened as opened_in_memory;
-use crate::player::session;
-use crate::stops::{Half, Side, closed, copied, empty, filled, opened, over, synced, written};
+use crate::stops::{Disks, Side, Step, Visit, filled, look_again, visited};
 use shelf_tests::calls::{wants, wants_text};
-use sqlite::{Connection, FileStore};
-use sqlite_disk::{Fuse, Memory};
 use std::alloc::Global;
 use std::test::Fail;
 
@@ -50,41 +47,44 @@ OK
 ACK [50@0] {sticker} no such sticker
 ";
 
+/// What a session tells over a shelf in memory.
+fn in_memory(alloc: Global, lines: &str) -> Result<String, Fail> {
+    let mut told = String::new(alloc);
+    let mut shelf = opened_in_memory(alloc)?;
+    let is_told = visited(alloc, &mut shelf, Visit::Say(lines), &mut told);
+    wants(is_told, "the session is not told")?;
+    Ok(told)
+}
+
 #[test]
 fn lists_and_stickers_in_memory(rt: HostRuntime) -> Result<(), Fail> {
-    let mut shelf = opened_in_memory(rt.alloc())?;
-    let told = session(rt.alloc(), &mut shelf, LISTS)?;
+    let told = in_memory(rt.alloc(), LISTS)?;
     wants_text(rt.alloc(), told.as_str(), LISTS_TELL)
 }
 
-/// What a session tells over a shelf on files, and the files, closed.
-fn on_files(alloc: Global, files: Half, lines: &str) -> Result<(String, Half), Fail> {
-    match opened(alloc, files) {
-        Ok(connection) => on_connection(alloc, connection, lines),
-        Err(files) => Ok((String::from_str(alloc, "not opened\n")?, files)),
+/// What is told of a session beside what the client hears: where no player was lent the shelf, and where the
+/// session ended before its last line.
+fn words_of(step: Option<Step>) -> &'static str {
+    match step {
+        Some(Step::Open) => "not opened\n",
+        Some(Step::Over) => "no shelf\n",
+        Some(Step::Call) => "not told\n",
+        Some(Step::Close) | None => "",
     }
 }
 
-fn on_connection(
-    alloc: Global,
-    connection: Connection<FileStore<Fuse<Memory>>>,
-    lines: &str,
-) -> Result<(String, Half), Fail> {
-    match over(alloc, connection) {
-        Ok(mut shelf) => {
-            let told = session(alloc, &mut shelf, lines)?;
-            let (_, files) = closed(shelf.into_connection());
-            Ok((told, files))
-        }
-        Err((_, store)) => Ok((String::from_str(alloc, "no shelf\n")?, store.close())),
-    }
+/// What a session tells over a shelf on files.
+fn on_disks(alloc: Global, disks: &mut Disks, lines: &str) -> Result<String, Fail> {
+    let mut told = String::new(alloc);
+    let step = disks.run(alloc, Visit::Say(lines), &mut told);
+    told.push_str(words_of(step))?;
+    Ok(told)
 }
 
-/// The files after a session that is to tell this.
-fn tells(alloc: Global, files: Half, lines: &str, wanted: &str) -> Result<Half, Fail> {
-    let (told, files) = on_files(alloc, files, lines)?;
-    wants_text(alloc, told.as_str(), wanted)?;
-    Ok(files)
+/// Fails where a session over the files tells something else.
+fn tells(alloc: Global, disks: &mut Disks, lines: &str, wanted: &str) -> Result<(), Fail> {
+    let told = on_disks(alloc, disks, lines)?;
+    wants_text(alloc, told.as_str(), wanted)
 }
 
 const AGAIN: &str = "listplaylists
@@ -134,10 +134,10 @@ OK
 #[test]
 fn files_keep_lists_and_stickers(rt: HostRuntime) -> Result<(), Fail> {
     let alloc = rt.alloc();
-    let files = tells(alloc, empty(alloc), LISTS, LISTS_TELL)?;
-    let files = tells(alloc, files, AGAIN, AGAIN_TELLS)?;
-    tells(alloc, files, GONE, GONE_TELLS)?;
-    Ok(())
+    let mut disks = Disks::empty(alloc);
+    tells(alloc, &mut disks, LISTS, LISTS_TELL)?;
+    tells(alloc, &mut disks, AGAIN, AGAIN_TELLS)?;
+    tells(alloc, &mut disks, GONE, GONE_TELLS)
 }
 
 const SAVING: &str = "add a.wav
@@ -199,7 +199,7 @@ const BEFORE: &str = "x=s.wav,;a.wav:5;";
 const AFTER: &str = "x=s.wav,;y=a.wav,;a.wav:5;";
 
 /// What a run told whose log failed from some call on.
-#[derive(Clone, Copy, Debug, PartialEq, Eq)]
+#[derive(Clone, Copy, PartialEq, Eq)]
 enum Run {
     NotOpened,
     Fault,
@@ -217,41 +217,39 @@ fn run_of(told: &str) -> Run {
     }
 }
 
-/// Whether a shelf may show the text after such a run.
-fn may_show(run: Run, text: &str) -> bool {
+/// The two texts of which a shelf may show either after such a run, where the files were opened.
+fn texts_after(run: Run) -> Option<(&'static str, &'static str)> {
     match run {
-        Run::Fault => text == BEFORE || text == AFTER,
-        Run::Saved => text == AFTER,
-        Run::NotOpened | Run::Other => false,
+        Run::Fault => Some((BEFORE, AFTER)),
+        Run::Saved => Some((AFTER, AFTER)),
+        Run::NotOpened | Run::Other => None,
     }
 }
 
-/// Fails where a shelf over the files, opened again, shows what it may not after such a run.
-fn look_again(alloc: Global, run: Run, files: Half) -> Result<(), Fail> {
-    let text = written(alloc, &files)?;
-    wants(may_show(run, text.as_str()), "what was written")?;
-    let text = synced(alloc, files)?;
-    wants(may_show(run, text.as_str()), "what was synced")
+/// What is told of a session that saves a list, where it is one of the three that may be.
+fn told_of_save(alloc: Global, disks: &mut Disks) -> Result<Run, Fail> {
+    let told = on_disks(alloc, disks, SAVING)?;
+    let run = run_of(told.as_str());
+    wants(run != Run::Other, told.as_str())?;
+    Ok(run)
 }
 
 /// What is told where the log fails after so many calls. What a shelf then shows is looked at where the files
 /// were opened.
-fn saving(alloc: Global, files: Half) -> Result<Run, Fail> {
-    let (told, left) = on_files(alloc, files, SAVING)?;
-    let run = run_of(told.as_str());
-    wants(run != Run::Other, told.as_str())?;
-    if run != Run::NotOpened {
-        look_again(alloc, run, left)?;
+fn saving(alloc: Global, disks: &mut Disks) -> Result<Run, Fail> {
+    let run = told_of_save(alloc, disks)?;
+    if let Some(texts) = texts_after(run) {
+        look_again(alloc, disks, texts)?;
     }
     Ok(run)
 }
 
 /// How many calls of the log fail in the save, counting upwards until one comes after it.
 fn faults(alloc: Global) -> Result<u32, Fail> {
-    let files = filled(alloc)?;
+    let disks = filled(alloc)?;
     let mut faults = 0u32;
     for calls in 0..1_000u64 {
-        match saving(alloc, copied(alloc, &files, Side::Log, calls)?)? {
+        match saving(alloc, &mut disks.copied(alloc, Side::Log, calls)?)? {
             Run::Saved => return Ok(faults),
             Run::Fault => faults = faults.saturating_add(1),
             Run::NotOpened | Run::Other => {}

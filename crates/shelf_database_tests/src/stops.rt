@@ -6,21 +6,34 @@
 //! lost supply does, with what was synced alone. A stop before the call leaves the maps from before it, a
 //! stop in the call those from before it or after it, and a stop after it those from after it.
 
+use crate::player::session;
 use shelf::{Entry, Shelf, ShelfFault, UriList};
 use shelf_database::SqlShelf;
 use shelf_tests::calls::{add_uris, keep, uri_list, wants};
 use sqlite::{Alter, Connection, FileStore, Files, Options};
 use sqlite_disk::{Crash, Disk, Fuse, Memory};
 use std::alloc::{AllocError, Global};
+use std::mem;
 use std::process::Abort;
 use std::test::Fail;
 
 /// The log and the database, each with the count of calls after which it fails.
-pub(crate) type Half = Files<Fuse<Memory>>;
+///
+/// The tests see this type alone, and lend it: what it is made of is gone through by its own methods.
+pub(crate) struct Disks {
+    files: Files<Fuse<Memory>>,
+}
+
+// Written out, so that a proof goes through one call where it lets one go (docs/DECISIONS.md).
+impl Drop for Disks {
+    fn drop(self) {
+        let Disks { files: _ } = self;
+    }
+}
 
 /// The call of a run.
 #[derive(Clone, Copy, PartialEq, Eq)]
-enum Call {
+pub(crate) enum Call {
     /// None: the files are empty, and making the shelf writes.
     Over,
     Put,
@@ -54,13 +67,15 @@ struct Stops {
 
 /// What is done on a shelf between opening the files and closing them.
 #[derive(Clone, Copy)]
-enum Visit {
+pub(crate) enum Visit<'a> {
     /// The call of a run.
-    Make(Call),
+    Make(Call, &'a UriList),
     /// One list and one sticker are put on the shelf.
-    Fill,
+    Fill(&'a UriList),
     /// All that the shelf shows is told.
     Show,
+    /// What a client hears is told that comes to a new player and says these lines.
+    Say(&'a str),
 }
 
 fn before(call: Call) -> &'static str {
@@ -142,20 +157,31 @@ fn show<S: Shelf>(shelf: &mut S, shown: &mut String) -> Result<(), ShelfFault> {
 }
 
 fn run_visit<S: Shelf>(
+    alloc: Global,
     shelf: &mut S,
-    what: Visit,
-    uris: &UriList,
-    shown: &mut String,
+    what: Visit<'_>,
+    told: &mut String,
 ) -> Result<(), ShelfFault> {
     match what {
-        Visit::Make(call) => make(shelf, call, uris),
-        Visit::Fill => fill(shelf, uris),
-        Visit::Show => show(shelf, shown),
+        Visit::Make(call, uris) => make(shelf, call, uris),
+        Visit::Fill(uris) => fill(shelf, uris),
+        Visit::Show => show(shelf, told),
+        Visit::Say(lines) => Ok(session(alloc, shelf, lines, told)?),
     }
 }
 
+/// Whether a visit was not stopped. Here alone it is proved that this is a shelf.
+pub(crate) fn visited<S: Alter + Drop>(
+    alloc: Global,
+    shelf: &mut SqlShelf<S>,
+    what: Visit<'_>,
+    told: &mut String,
+) -> bool {
+    run_visit(alloc, shelf, what, told).is_ok()
+}
+
 /// The shelf over a connection, or else the step that was stopped, and the store.
-pub(crate) fn over<S: Alter + Drop>(
+fn over<S: Alter + Drop>(
     alloc: Global,
     connection: Connection<S>,
 ) -> Result<SqlShelf<S>, (Step, S)> {
@@ -165,26 +191,15 @@ pub(crate) fn over<S: Alter + Drop>(
     }
 }
 
-/// Whether a visit was not stopped. Here alone it is proved that this is a shelf.
-fn visited<S: Alter + Drop>(
-    shelf: &mut SqlShelf<S>,
-    what: Visit,
-    uris: &UriList,
-    shown: &mut String,
-) -> bool {
-    run_visit(shelf, what, uris, shown).is_ok()
-}
-
-/// The connection after a run that was not stopped, or else the step that was, and the store.
+/// The connection after a visit that was not stopped, or else the step that was, and the store.
 fn run_over<S: Alter + Drop>(
     alloc: Global,
     connection: Connection<S>,
-    what: Visit,
-    uris: &UriList,
-    shown: &mut String,
+    what: Visit<'_>,
+    told: &mut String,
 ) -> Result<Connection<S>, (Step, S)> {
     let mut shelf = over(alloc, connection)?;
-    let is_visited = visited(&mut shelf, what, uris, shown);
+    let is_visited = visited(alloc, &mut shelf, what, told);
     let connection = shelf.into_connection();
     if is_visited {
         Ok(connection)
@@ -193,7 +208,7 @@ fn run_over<S: Alter + Drop>(
     }
 }
 
-pub(crate) fn opened<D: Disk + Drop>(
+fn opened<D: Disk + Drop>(
     alloc: Global,
     files: Files<D>,
 ) -> Result<Connection<FileStore<D>>, Files<D>> {
@@ -206,12 +221,23 @@ pub(crate) fn opened<D: Disk + Drop>(
     }
 }
 
-pub(crate) fn closed<D: Disk + Drop>(
-    connection: Connection<FileStore<D>>,
-) -> (Option<Step>, Files<D>) {
+fn closed<D: Disk + Drop>(connection: Connection<FileStore<D>>) -> (Option<Step>, Files<D>) {
     match connection.close_files() {
         Ok(files) => (None, files),
         Err((_, store)) => (Some(Step::Close), store.close()),
+    }
+}
+
+/// The step that was stopped, if one was, and the files. Here alone it is proved that the files are a store.
+fn run_opened<D: Disk + Drop>(
+    alloc: Global,
+    connection: Connection<FileStore<D>>,
+    what: Visit<'_>,
+    told: &mut String,
+) -> (Option<Step>, Files<D>) {
+    match run_over(alloc, connection, what, told) {
+        Ok(connection) => closed(connection),
+        Err((step, store)) => (Some(step), store.close()),
     }
 }
 
@@ -219,17 +245,12 @@ pub(crate) fn closed<D: Disk + Drop>(
 fn run<D: Disk + Drop>(
     alloc: Global,
     files: Files<D>,
-    what: Visit,
-    uris: &UriList,
-    shown: &mut String,
+    what: Visit<'_>,
+    told: &mut String,
 ) -> (Option<Step>, Files<D>) {
-    let connection = match opened(alloc, files) {
-        Ok(connection) => connection,
-        Err(files) => return (Some(Step::Open), files),
-    };
-    match run_over(alloc, connection, what, uris, shown) {
-        Ok(connection) => closed(connection),
-        Err((step, store)) => (Some(step), store.close()),
+    match opened(alloc, files) {
+        Ok(connection) => run_opened(alloc, connection, what, told),
+        Err(files) => (Some(Step::Open), files),
     }
 }
 
@@ -241,64 +262,117 @@ fn fused(alloc: Global, bytes: &[u8], calls: u64) -> Result<Fuse<Memory>, Fail> 
     Ok(Fuse::new(file, calls))
 }
 
-/// Copies of the files, one of which fails after so many calls.
-pub(crate) fn copied(alloc: Global, files: &Half, side: Side, calls: u64) -> Result<Half, Fail> {
-    let (log, db) = match side {
-        Side::Log => (calls, u64::MAX),
-        Side::Database => (u64::MAX, calls),
-    };
-    Ok(Files {
-        log: fused(alloc, files.log.inner().bytes(), log)?,
-        db: fused(alloc, files.db.inner().bytes(), db)?,
-    })
-}
-
-pub(crate) fn empty(alloc: Global) -> Half {
+fn no_files(alloc: Global) -> Files<Fuse<Memory>> {
     Files {
         log: Fuse::new(Memory::new(alloc), u64::MAX),
         db: Fuse::new(Memory::new(alloc), u64::MAX),
     }
 }
 
-/// Files with one list and one sticker, closed.
-pub(crate) fn filled(alloc: Global) -> Result<Half, Fail> {
-    let uris = uri_list(alloc, &["s.wav"])?;
-    let mut shown = String::new(alloc);
-    match run(alloc, empty(alloc), Visit::Fill, &uris, &mut shown) {
-        (None, files) => Ok(files),
-        (Some(_), _) => Err(Fail::new("the files are not filled")),
+impl Disks {
+    pub(crate) fn empty(alloc: Global) -> Disks {
+        Disks {
+            files: no_files(alloc),
+        }
     }
+
+    /// Copies of the files, one of which fails after so many calls.
+    pub(crate) fn copied(&self, alloc: Global, side: Side, calls: u64) -> Result<Disks, Fail> {
+        let (log, db) = match side {
+            Side::Log => (calls, u64::MAX),
+            Side::Database => (u64::MAX, calls),
+        };
+        let log = fused(alloc, self.files.log.inner().bytes(), log)?;
+        let db = fused(alloc, self.files.db.inner().bytes(), db)?;
+        Ok(Disks {
+            files: Files { log, db },
+        })
+    }
+
+    /// Opens the files, visits the shelf and closes the files: the step that was stopped, if one was. Here
+    /// alone it is proved that these are disks.
+    pub(crate) fn run(
+        &mut self,
+        alloc: Global,
+        what: Visit<'_>,
+        told: &mut String,
+    ) -> Option<Step> {
+        let files = mem::replace(&mut self.files, no_files(alloc));
+        let (step, left) = run(alloc, files, what, told);
+        self.files = left;
+        step
+    }
+
+    fn crash(&mut self) {
+        self.files.log.crash();
+        self.files.db.crash();
+    }
+}
+
+/// Files with one list and one sticker, closed.
+pub(crate) fn filled(alloc: Global) -> Result<Disks, Fail> {
+    let mut disks = Disks::empty(alloc);
+    fill_disks(alloc, &mut disks)?;
+    Ok(disks)
+}
+
+fn fill_disks(alloc: Global, disks: &mut Disks) -> Result<(), Fail> {
+    let uris = uri_list(alloc, &["s.wav"])?;
+    let mut told = String::new(alloc);
+    let step = disks.run(alloc, Visit::Fill(&uris), &mut told);
+    wants(step.is_none(), "the files are not filled")
 }
 
 /// What a shelf over files that do not stop shows.
-fn text_of(alloc: Global, files: Half) -> Result<String, Fail> {
+fn text_of(alloc: Global, disks: &mut Disks) -> Result<String, Fail> {
     let mut shown = String::new(alloc);
-    let none = uri_list(alloc, &[])?;
-    match run(alloc, files, Visit::Show, &none, &mut shown) {
-        (None, _) => Ok(shown),
-        (Some(_), _) => Err(Fail::new("the files are not shown")),
-    }
+    let step = disks.run(alloc, Visit::Show, &mut shown);
+    wants(step.is_none(), "the files are not shown")?;
+    Ok(shown)
 }
 
 /// What the shelf shows with all that was written.
-pub(crate) fn written(alloc: Global, files: &Half) -> Result<String, Fail> {
-    text_of(alloc, copied(alloc, files, Side::Log, u64::MAX)?)
+fn written(alloc: Global, disks: &Disks) -> Result<String, Fail> {
+    text_of(alloc, &mut disks.copied(alloc, Side::Log, u64::MAX)?)
 }
 
 /// What the shelf shows with what was synced alone.
-pub(crate) fn synced(alloc: Global, files: Half) -> Result<String, Fail> {
-    let Files { mut log, mut db } = files;
-    log.crash();
-    db.crash();
-    text_of(alloc, Files { log, db })
+fn synced(alloc: Global, disks: &mut Disks) -> Result<String, Fail> {
+    disks.crash();
+    text_of(alloc, disks)
 }
 
-/// Whether the shelf may show the text after a stop in the step.
-fn may_show(step: Option<Step>, call: Call, text: &str) -> bool {
+/// Fails with the words where the text is neither of two.
+fn wants_either(text: &str, texts: (&str, &str), words: &str) -> Result<(), Fail> {
+    wants(text == texts.0 || text == texts.1, words)
+}
+
+fn look_at_written(alloc: Global, disks: &Disks, texts: (&str, &str)) -> Result<(), Fail> {
+    let text = written(alloc, disks)?;
+    wants_either(text.as_str(), texts, "what was written")
+}
+
+fn look_at_synced(alloc: Global, disks: &mut Disks, texts: (&str, &str)) -> Result<(), Fail> {
+    let text = synced(alloc, disks)?;
+    wants_either(text.as_str(), texts, "what was synced")
+}
+
+/// Fails where a shelf over the files, opened again, shows neither of two texts.
+pub(crate) fn look_again(
+    alloc: Global,
+    disks: &mut Disks,
+    texts: (&str, &str),
+) -> Result<(), Fail> {
+    look_at_written(alloc, disks, texts)?;
+    look_at_synced(alloc, disks, texts)
+}
+
+/// The two texts of which the shelf may show either after a stop in the step.
+fn texts_after(step: Option<Step>, call: Call) -> (&'static str, &'static str) {
     match step {
-        Some(Step::Open | Step::Over) => text == before(call),
-        Some(Step::Call) => text == before(call) || text == after(call),
-        Some(Step::Close) | None => text == after(call),
+        Some(Step::Open | Step::Over) => (before(call), before(call)),
+        Some(Step::Call) => (before(call), after(call)),
+        Some(Step::Close) | None => (after(call), after(call)),
     }
 }
 
@@ -312,33 +386,38 @@ fn count(stops: &mut Stops, step: Option<Step>) {
     }
 }
 
-/// The step that was stopped by the file after so many calls, if one was, where the shelf shows what it may
-/// after it.
-fn stopped(alloc: Global, files: Half, call: Call, uris: &UriList) -> Result<Option<Step>, Fail> {
-    let mut shown = String::new(alloc);
-    let (step, left) = run(alloc, files, Visit::Make(call), uris, &mut shown);
-    let text = written(alloc, &left)?;
-    wants(may_show(step, call, text.as_str()), "what was written")?;
-    let text = synced(alloc, left)?;
-    wants(may_show(step, call, text.as_str()), "what was synced")?;
+/// The step that was stopped, if one was, where the shelf shows what it may after it.
+fn stopped(
+    alloc: Global,
+    disks: &mut Disks,
+    call: Call,
+    uris: &UriList,
+) -> Result<Option<Step>, Fail> {
+    let mut told = String::new(alloc);
+    let step = disks.run(alloc, Visit::Make(call, uris), &mut told);
+    look_again(alloc, disks, texts_after(step, call))?;
     Ok(step)
+}
+
+/// What is on the disks before the call.
+fn disks_before(alloc: Global, call: Call) -> Result<Disks, Fail> {
+    match call {
+        Call::Over => Ok(Disks::empty(alloc)),
+        _ => filled(alloc),
+    }
 }
 
 /// Stops at each call of the file, counting upwards until a run ends without a stop.
 fn stops_in(alloc: Global, call: Call, side: Side) -> Result<Stops, Fail> {
     let uris = uri_list(alloc, &["a.wav", "b.wav"])?;
-    let files = match call {
-        Call::Over => empty(alloc),
-        _ => filled(alloc)?,
-    };
+    let disks = disks_before(alloc, call)?;
     let mut stops = Stops {
         over: 0,
         call: 0,
         close: 0,
     };
     for calls in 0..1_000u64 {
-        let files = copied(alloc, &files, side, calls)?;
-        let step = stopped(alloc, files, call, &uris)?;
+        let step = stopped(alloc, &mut disks.copied(alloc, side, calls)?, call, &uris)?;
         count(&mut stops, step);
         if step.is_none() {
             return Ok(stops);
