@@ -1,5 +1,5 @@
 //! What the thread of an output does.
-ghost use Rattle.std.specs.Prelude.{◌≡◌, ◌<◌, ◌||◌, List, IfSome};
+ghost use Rattle.std.specs.Prelude.{◌≡◌, ◌+◌, ◌<◌, ◌||◌, List, IfSome, min};
 ghost use Rattle.output_ring.specs.Rings.{SameDrainer, hand_of, has_failed, popped_of};
 ghost use Rattle.output_ring.specs.declared.frames.CutFrame.{CutFrame};
 ghost use Rattle.held_player.specs.Views.{TellsSomewhere, turn_of};
@@ -49,10 +49,11 @@ pub struct Draining<'h, L: Ledgers, O: Sink + Drop, G: Gate, R: Wait + Clock> {
     /// How many hands came since its last rest.
     streak: u64,
     ghost parts: { (0 < shares.written.parts) × (0 < shares.discarded.parts) },
+    ghost own: { seat.number ≡ 5 + min output 7 },
 }
 
 impl<'h, L: Ledgers, O: Sink + Drop, G: Gate, R: Wait + Clock> Draining<'h, L, O, G, R> {
-    ghost use Rattle.std.specs.Prelude.{◌≡◌, ◌<◌, ◌||◌, List, IfSome};
+    ghost use Rattle.std.specs.Prelude.{◌≡◌, ◌<◌, ◌||◌, List, None, IfSome};
     ghost use Rattle.output_ring.specs.Rings.{SameDrainer, hand_of, has_failed, popped_of};
     ghost use Rattle.output_ring.specs.declared.frames.CutFrame.{CutFrame};
     ghost use Rattle.held_player.specs.Views.{TellsSomewhere, turn_of};
@@ -148,6 +149,7 @@ impl<'h, L: Ledgers, O: Sink + Drop, G: Gate, R: Wait + Clock> Draining<'h, L, O
     fn tell(&mut self, fates: Fates) -> Option<Reported>
         ensures writer { (self.new.writer ≡ self.old.writer) × (self.new.failed ≡ self.old.failed) }
         ensures told { IfSome result (TellsSomewhere self.old.seat (turn_of self.old.output fates self.old.failed)) }
+        ensures untold { result ≡ None → self.new.shares ≡ self.old.shares }
     {
         let turn = self.house.turn(
             self.rt,

@@ -10,7 +10,7 @@ use Rattle.mpd_command.specs.declared.request.Request.{Request}
 use Rattle.mpd_text.specs.Answers.Answer.{ack_line}
 use Rattle.shelf.specs.declared.memory.MemShelf.{MemShelf}
 use Rattle.player_events.specs.Outcomes.{OutcomeData}
-use Rattle.idle_clients.specs.Clients.{closes}
+use Rattle.transitions.specs.Answers.{closes}
 use Rattle.partition.specs.History.{Chronicle, is_full, joined, joined_by}
 use Rattle.partition.specs.Image.{Image}
 use Rattle.partition.specs.Lent.{ServesAll}
@@ -23,7 +23,7 @@ use Rattle.player_events.specs.declared.event.Event.{Event}
 use Rattle.player_events.specs.declared.event.Event.TheVariants.{Line}
 use Rattle.player_events.specs.declared.event.LogEntry.{LogEntry}
 use Rattle.transitions.specs.declared.reply.Next.{Next}
-use Rattle.transitions.specs.declared.reply.Next.TheVariants.{Goes, Waits, Closes}
+use Rattle.transitions.specs.declared.reply.Next.TheVariants.{Goes, Waits, Closes, Kills}
 use Rattle.transitions.specs.declared.asked.Stand.TheVariants.{InList}
 use Rattle.partition.specs.declared.partition.PartitionFault.{PartitionFault}
 use Rattle.partition.specs.declared.partition.PartitionFault.TheVariants.{HistoryFull, CutsAtLimit, AtLimit, NoMemory}
@@ -63,15 +63,19 @@ goes_no_further : (next : Next) (refused : Bool) (end : List ℕ) → (refused |
 goes_no_further Goes true end e = refl
 goes_no_further Waits true end e = refl
 goes_no_further Closes true end e = refl
+goes_no_further Kills true end e = refl
 goes_no_further Goes false end e = cc
 goes_no_further Waits false end e = cc
 goes_no_further Closes false end e = refl
+goes_no_further Kills false end e = refl
 
 not_closed : (next : Next) (refused : Bool) → (refused || closes next) ≡ false → closes next ≡ false
 not_closed Goes refused e = refl
 not_closed Waits refused e = refl
 not_closed Closes true e = cc
 not_closed Closes false e = cc
+not_closed Kills true e = cc
+not_closed Kills false e = cc
 
 two_ifs : (closed ended : Bool) (any_closed any_ended : Bool) (end : List ℕ) → closed ≡ false → ended ≡ false
     → (if any_closed then codes "closed\n" else (if any_ended then [] else end))

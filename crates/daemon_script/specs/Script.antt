@@ -18,21 +18,19 @@ use Rattle.script_lines.specs.declared.limit.LimitName.{LimitName}
 use Rattle.script_lines.specs.declared.limit.LimitName.TheVariants.{MaxQueue, MaxVersion, MaxId, MaxCut, History}
 use Rattle.script_lines.specs.declared.step.Step.{Step}
 use Rattle.script_lines.specs.declared.step.Step.TheVariants.{Song, Limit, Gone, Scanned, Want as WantStep, Have as HaveStep, Failed as FailedStep, Turn as TurnStep, Window}
-use Rattle.transitions.specs.Answers.{Answer}
+use Rattle.transitions.specs.Answers.{Answer, closes}
 use Rattle.player_events.specs.Outcomes.{OutcomeData}
 use Rattle.status_commands.specs.Status.{notice_text}
 use Rattle.mpd_command.specs.Requests.{request_of, name_in}
 use Rattle.mpd_command.specs.declared.request.Request.{Request}
 use Rattle.mpd_command.specs.declared.request.Request.TheVariants.{Refused}
 use Rattle.mpd_text.specs.declared.answers.answer.ErrorNumber.TheVariants.{Argument}
-use Rattle.idle_clients.specs.Clients.{closes}
 use Rattle.player_events.specs.Events.{ends_list}
 use Rattle.partition.specs.Lists.{fault_text}
 use Rattle.transitions.specs.declared.asked.Stand.TheVariants.{Alone, InList}
 use Rattle.player_events.specs.declared.event.Event.{Event}
 use Rattle.player_events.specs.declared.event.Event.TheVariants.{Connect, Disconnect, Line, ScanResult, Want, Have, Failed, OutputTurn}
 use Rattle.transitions.specs.declared.reply.Next.{Next}
-use Rattle.transitions.specs.declared.reply.Next.TheVariants.{Goes, Waits, Closes}
 use Rattle.idle_clients.specs.declared.notices.Notice.{Notice}
 use Rattle.partition.specs.declared.partition.PartitionFault.{PartitionFault}
 use Rattle.partition.specs.declared.partition.PartitionFault.TheVariants.{HistoryFull, NoMemory}
@@ -107,9 +105,7 @@ unfoldable pub lines_for : ℕ → List ℕ → List ℕ
 lines_for number text = flat_map (numbered number) (lines_in_text text)
 
 abbrev pub closing : ℕ → Next → List ℕ
-closing number Goes = []
-closing number Waits = []
-closing number Closes = lines_for number (codes "closed\n")
+closing number next = if closes next then lines_for number (codes "closed\n") else []
 
 abbrev pub reply_for : ℕ → Answer → List ℕ
 reply_for number answer = lines_for number answer.text ++ closing number answer.next
@@ -199,9 +195,7 @@ found_at _ place = Enough
 
 -- a refusal ends a list with its own text
 abbrev pub closed_line : Next → List ℕ
-closed_line Goes = []
-closed_line Waits = []
-closed_line Closes = codes "closed\n"
+closed_line next = if closes next then codes "closed\n" else []
 
 -- what follows the answers of a list that ran: nothing where a refusal ended it, and `end` where all
 -- succeeded

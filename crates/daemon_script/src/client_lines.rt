@@ -15,7 +15,7 @@ use mpd_text::{Answer, ErrorNumber};
 use partition::PartitionFault;
 use player_events::{Event, Outcome};
 use std::alloc::{AllocError, Global};
-use transitions::{Next, Reply, Stand};
+use transitions::{Reply, Stand};
 
 /// What a client line found of memory, and whether its client was there when it was run.
 #[derive(Clone, Copy)]
@@ -226,10 +226,10 @@ fn push_reply(
     ensures { OnOk result (shown.new.items ≡ shown.old.items ++ reply_for number reply.now) }
 {
     push_lines(alloc, shown, number, reply.text().as_bytes())?;
-    match reply.next() {
-        Next::Goes | Next::Waits => Ok(()),
-        Next::Closes => push_lines(alloc, shown, number, b"closed\n"),
+    if reply.next().closes() {
+        push_lines(alloc, shown, number, b"closed\n")?;
     }
+    Ok(())
 }
 
 /// Appends notices, each with its client's number before its lines.

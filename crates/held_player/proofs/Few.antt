@@ -9,9 +9,9 @@ use Rattle.player_events.specs.declared.event.Event.{Event}
 use Rattle.player_events.specs.declared.event.LogEntry.{LogEntry}
 use Rattle.partition.specs.declared.partition.PartitionFault.{PartitionFault}
 use Rattle.player_state.specs.declared.state.Client.{Client}
-use Rattle.transitions.specs.Answers.{ResponseData}
+use Rattle.transitions.specs.Answers.{ResponseData, closes}
 use Rattle.player_events.specs.Outcomes.{OutcomeData}
-use Rattle.idle_clients.specs.Clients.{closes, is_other, notice_for, notice_to, notices_after, staying}
+use Rattle.idle_clients.specs.Clients.{is_other, notice_for, notice_to, notices_after, staying}
 use Rattle.partition.specs.Image.{Image}
 use Rattle.partition.specs.Lent.{Records}
 use Rattle.player_events.specs.Events.{with_store_reply}

@@ -24,8 +24,8 @@ use Rattle.player_state.specs.declared.state.Client.{Client}
 use Rattle.player_state.specs.declared.state.Library.{Library}
 use Rattle.player_state.specs.declared.state.Part.{Part}
 use Rattle.player_events.specs.declared.event.LogEntry.{LogEntry}
-use Rattle.transitions.specs.Answers.{ResponseData}
-use Rattle.idle_clients.specs.Clients.{clients_after, closes, is_other, move_of, moved, notice_for, notice_to, notified, staying, client_of}
+use Rattle.transitions.specs.Answers.{ResponseData, closes}
+use Rattle.idle_clients.specs.Clients.{clients_after, is_other, move_of, moved, notice_for, notice_to, notified, staying, client_of}
 use Rattle.status_commands.specs.Status.{Wish, wish_of}
 use Rattle.transitions.specs.Transitions.{CommandResult, TransitionData, departs}
 use Rattle.partition.specs.Image.{Image}

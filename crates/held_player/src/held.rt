@@ -4,7 +4,7 @@ use crate::changes::count_change;
 use crate::happen::{hear_end, hear_line, hear_news};
 use crate::new_books::{NewBooks, new_books};
 use crate::news::News;
-use crate::waiting::{drop_gone, put_all, take_first};
+use crate::waiting::{addressees, drop_gone, put_all, take_first};
 use counted_player::{Counted, Decoded, Discarded, Ledgers, NoSeat, Seat, Written};
 use frame_ledger::{Blanks as FrameBlanks, Books, OutputShares};
 use idle_clients::Notice;
@@ -86,7 +86,7 @@ impl<L: Ledgers> Model for Held<L> {
 }
 
 impl<L: Ledgers> Held<L> {
-    ghost use Rattle.std.specs.Prelude.{◌≡◌, ◌⊎◌, ◌+◌, ◌-◌, ◌<◌, ◌↔◌, [], ◌∷◌, ◌++◌, None, false, IfErr, IfOk, IfSome, IsErr, OnErr, OnOk};
+    ghost use Rattle.std.specs.Prelude.{◌≡◌, ◌⊎◌, ◌+◌, ◌-◌, ◌<◌, ◌↔◌, [], ◌∷◌, ◌++◌, None, false, IfErr, IfOk, IfSome, IsErr, OnErr, OnOk, map};
     ghost use Rattle.frame_ledger.specs.Shares.{HasAllParts, HasNoFrames};
     ghost use Rattle.held_player.specs.Views.{HandsOut, AnswersLine, IsRefusedFor, IsUnchangedOrFolded, IsUnwritten, Joins, JoinsAs, KeepsBooks, StopsLine, TellsSomewhere, notices_at, opened};
     ghost use Rattle.held_player.specs.Blanks.{AreFor};
@@ -337,6 +337,13 @@ impl<L: Ledgers> Held<L> {
         ensures { (result ≡ false) ↔ (self.now.waiting ≡ []) }
     {
         !self.waiting.is_empty()
+    }
+
+    /// The clients that notices wait for, in the order of the notices.
+    pub fn addressees(&self, alloc: Global) -> Result<Vec<u32>, AllocError>
+        ensures { IfOk result (λ clients. clients.items ≡ map (λ notice. notice.client) self.now.waiting) }
+    {
+        addressees(alloc, &self.waiting)
     }
 
     /// The song of the entry of the present queue that has this id. It is no event.

@@ -1,11 +1,12 @@
 //! The notices that wait to be handed out.
-ghost use Rattle.std.specs.Prelude.{◌≡◌, ◌+◌, ◌≤◌, ◌++◌, IfSome, length, vec_len, vec_capacity};
+ghost use Rattle.std.specs.Prelude.{◌≡◌, ◌+◌, ◌≤◌, ◌++◌, IfOk, IfSome, length, map, vec_len, vec_capacity};
 ghost use Rattle.held_player.specs.Lists.{notices_in};
 ghost use Rattle.held_player.specs.News.{kept_without};
 ghost use Rattle.held_player.specs.Waiting.{first_for, without_first, of_others};
 
 use idle_clients::Notice;
 use player_events::Outcome;
+use std::alloc::{AllocError, Global};
 
 /// Takes out the first notice of the client.
 pub(crate) fn take_first(notices: &mut Vec<Notice>, client: u32) -> Option<Notice>
@@ -20,6 +21,13 @@ pub(crate) fn take_first(notices: &mut Vec<Notice>, client: u32) -> Option<Notic
         }
     }
     None
+}
+
+/// The clients that notices are for, in the order of the notices.
+pub(crate) fn addressees(alloc: Global, notices: &[Notice]) -> Result<Vec<u32>, AllocError>
+    ensures { IfOk result (λ clients. clients.items ≡ map (λ notice. notice.client) notices.now) }
+{
+    notices.iter().map(|notice| notice.client).collect(alloc)
 }
 
 /// Puts these after the others. There is room.

@@ -191,6 +191,11 @@ impl<L: Ledgers> House<L> {
         self.held.lock(rt).outbox(client)
     }
 
+    /// The clients that notices wait for, all by one taking of the lock.
+    pub fn addressees(&self, rt: &impl Wait, alloc: Global) -> Result<Vec<u32>, AllocError> {
+        self.held.lock(rt).addressees(alloc)
+    }
+
     /// Frames of a job were decoded.
     ///
     /// # Errors

@@ -43,6 +43,17 @@ fn outbox<L: Ledgers>(rt: &impl Wait, house: &House<L>, client: u32) -> &'static
     }
 }
 
+/// For how many clients notices wait, and for whom the first does; 0 is nobody.
+fn addressees<L: Ledgers>(
+    rt: &impl Wait,
+    alloc: Global,
+    house: &House<L>,
+) -> Result<String, PartitionFault> {
+    let clients = house.addressees(rt, alloc)?;
+    let first = clients.first().copied().unwrap_or(0);
+    Ok(format!(in alloc; "{} for {first}\n", clients.len())?)
+}
+
 /// A client waits, another makes a change in a list, and the first goes before it is told.
 fn goes<L: Ledgers>(
     rt: &impl Wait,
@@ -54,7 +65,9 @@ fn goes<L: Ledgers>(
     says(rt, alloc, house, seat, 1, "idle")?;
     comes(rt, house, seat, 2)?;
     let mut heard = lists(rt, alloc, house, seat, 2, "setvol 40")?;
+    heard.push_str(addressees(rt, alloc, house)?.as_str())?;
     heard.push_str(news(rt, alloc, house, seat, News::Goes(1))?.as_str())?;
+    heard.push_str(addressees(rt, alloc, house)?.as_str())?;
     heard.push_str(outbox(rt, house, 1))?;
     Ok(heard)
 }
@@ -160,7 +173,9 @@ fn clients_come_and_go(rt: HostRuntime) -> Result<(), Fail> {
         &rt,
         told(&rt, rt.alloc()),
         "OK
+1 for 1
 heard
+0 for 0
 none
 no scan
 updating_db: 1

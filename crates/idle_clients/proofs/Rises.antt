@@ -9,8 +9,8 @@ use Rattle.idle_notes.specs.Notes.{fresh, waits, cancelled}
 use Rattle.transitions.specs.declared.reply.Move.{Move}
 use Rattle.transitions.specs.declared.reply.Move.TheVariants.{Stay, Wait, Learn, Resume, Join}
 use Rattle.player_state.specs.declared.state.Client.{Client}
-use Rattle.transitions.specs.Answers.{ResponseData}
-use Rattle.idle_clients.specs.Clients.{notified, is_other, at, joined, moved, closes, staying, move_of, clients_after, AllAbove, Rising}
+use Rattle.transitions.specs.Answers.{ResponseData, closes}
+use Rattle.idle_clients.specs.Clients.{notified, is_other, at, joined, moved, staying, move_of, clients_after, AllAbove, Rising}
 use Rattle.idle_clients.specs.Clients.{client_of}
 
 above_map : (f : Client → Client) → ((k : Client) → (f k).number ≡ k.number) → (n : ℕ) (ks : List Client) → AllAbove n ks → AllAbove n (map f ks)

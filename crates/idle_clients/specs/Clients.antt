@@ -24,13 +24,11 @@ use Rattle.player_core.specs.declared.state.Playback.TheVariants.{Stop, Play, Pa
 use Rattle.player_core.specs.Player.{PlayerState}
 use Rattle.transitions.specs.declared.reply.Move.{Move}
 use Rattle.transitions.specs.declared.reply.Move.TheVariants.{Stay, Wait, Learn, Resume, Join}
-use Rattle.transitions.specs.declared.reply.Next.{Next}
-use Rattle.transitions.specs.declared.reply.Next.TheVariants.{Goes, Waits, Closes}
 use Rattle.idle_clients.specs.declared.notices.Notice.{Notice}
 use Rattle.player_state.specs.declared.state.Client.{Client}
 use Rattle.player_state.specs.declared.state.Library.{Library}
 use Rattle.player_state.specs.declared.state.Part.{Part}
-use Rattle.transitions.specs.Answers.{ResponseData}
+use Rattle.transitions.specs.Answers.{ResponseData, closes}
 use Rattle.idle_clients.specs.declared.fingerprint.Options.{Options}
 use Rattle.player_state.specs.Outputs.{OutputsData}
 use Rattle.transitions.specs.Shelves.{changes_lists, changes_stickers}
@@ -187,11 +185,6 @@ moved number (Wait names) clients = map (at number (waits names)) clients
 moved number Learn clients = map (at number (λ p. fresh)) clients
 moved number Resume clients = map (at number cancelled) clients
 moved number Join clients = joined number clients
-
-abbrev pub closes : Next → Bool
-closes Goes = false
-closes Waits = false
-closes Closes = true
 
 -- a client whose answer closes it is gone, and makes no move
 abbrev pub staying : ℕ → ResponseData → List Client → List Client

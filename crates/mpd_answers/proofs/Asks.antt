@@ -1,8 +1,7 @@
 -- What is owed for what the house answers.
 use Rattle.std.proofs.Common.{◌≡◌, ℕ, zero, suc, ◌+◌, ◌<◌, inl, inr, Bool, true, List, [], ◌∷◌, ◌++◌, length, take, arith, Option, None, refl, sym, ap, subst, ◌∙◌}
-use Rattle.std.specs.Prelude.{nat_eq, ◌==◌, map, slice_index_or}
+use Rattle.std.specs.Prelude.{◌==◌, map, slice_index_or}
 use Rattle.std.proofs.lemmas.Bool.Decides.{nat_tests}
-use Rattle.std.specs.List.{list_any, position_or_len}
 use Rattle.command_lists.specs.Lists.{LineData}
 use Rattle.command_lists.specs.declared.list.CommandList.{CommandList}
 use Rattle.held_player.specs.Lists.{HandedList, StopsListSomewhere, TellsListSomewhere}
@@ -12,8 +11,7 @@ use Rattle.held_player.specs.Views.{Handed, IsUnwritten, StopsSomewhere}
 use Rattle.mpd_command.specs.Requests.{name_in}
 use Rattle.mpd_command.specs.declared.request.Request.{Request}
 use Rattle.mpd_text.specs.Answers.Answer.{ack_line}
-use Rattle.idle_clients.specs.Clients.{closes}
-use Rattle.partition.specs.Lists.{Stop, fault_text, stop_text, text_with}
+use Rattle.partition.specs.Lists.{Stop, fault_text, next_after, stop_text, text_with}
 use Rattle.transitions.specs.Shelves.{no_store_reply}
 use Rattle.player_events.specs.declared.event.Event.TheVariants.{Line}
 use Rattle.transitions.specs.declared.asked.Stand.TheVariants.{Alone}
@@ -22,9 +20,9 @@ use Rattle.partition.specs.declared.partition.PartitionFault.TheVariants.{NoMemo
 use Rattle.shelf.specs.Calls.{Call}
 use Rattle.shelf.specs.Maps.{Standing}
 use Rattle.mpd_answers.specs.declared.asker.Asker.{Asker}
-use Rattle.mpd_answers.specs.declared.asker.Sequel.{Sequel}
-use Rattle.mpd_answers.specs.declared.asker.Sequel.TheVariants.{Stays}
-use Rattle.mpd_answers.specs.Answers.{Answers, Caller, IsRead, is_kill, list_end, read_line, sequel}
+use Rattle.transitions.specs.declared.reply.Next.{Next}
+use Rattle.transitions.specs.declared.reply.Next.TheVariants.{Goes}
+use Rattle.mpd_answers.specs.Answers.{Answers, Caller, IsRead, list_end, read_line}
 use Rattle.mpd_answers.specs.Notices.{notice_bytes}
 use Rattle.mpd_answers.specs.Requests.{Single, Whole}
 use Rattle.mpd_answers.specs.Output.{IsOwed}
@@ -50,12 +48,12 @@ take_more f (x ∷ xs) (suc i) d h =
 
 module _ {S : Type 0} (standing : S → Standing) (failed : S → S → Call → Type 0) (asker : Asker) where
   -- there was no memory to read a line
-  pub line_unread : (before : Caller S) (line : LineData) (owed : List ℕ) → owed ≡ ack_line 52 0 [] (fault_text NoMemory) → IsOwed (Answers standing failed asker) before (Single line) owed Stays before
+  pub line_unread : (before : Caller S) (line : LineData) (owed : List ℕ) → owed ≡ ack_line 52 0 [] (fault_text NoMemory) → IsOwed (Answers standing failed asker) before (Single line) owed Goes before
   line_unread before line owed is = ([], owed, refl, ([], refl), inr ([], NoMemory, is, refl, refl, inl refl, inl (refl, refl)))
 
   -- a line was run
-  pub line_ran : (before after : Caller S) (line : LineData) (request : Request) (answered : Handed) (owed : List ℕ) (next : Sequel) → request ≡ read_line asker.may_kill line
-      → owed ≡ notice_bytes answered.front ++ answered.told.answer.text → next ≡ sequel (closes answered.told.answer.next) (is_kill request) → after.seat ≡ after_events before.seat 1
+  pub line_ran : (before after : Caller S) (line : LineData) (request : Request) (answered : Handed) (owed : List ℕ) (next : Next) → request ≡ read_line asker.may_kill line
+      → owed ≡ notice_bytes answered.front ++ answered.told.answer.text → next ≡ answered.told.answer.next → after.seat ≡ after_events before.seat 1
       → (before.seat.number < 4 → AnswersSomewhere standing failed before.shelf after.shelf before.seat.number before.seat.made (Line asker.client Alone request no_store_reply) answered.told.answer)
       → IsOwed (Answers standing failed asker) before (Single line) owed next after
   line_ran before after line request answered owed next read is follows made somewhere = (
@@ -66,7 +64,7 @@ module _ {S : Type 0} (standing : S → Standing) (failed : S → S → Call →
     inl (
       answered.told.answer,
       refl,
-      follows ∙ ap (λ (r : Request). sequel (closes answered.told.answer.next) (is_kill r)) read,
+      follows,
       made,
       λ few. subst (λ (r : Request). AnswersSomewhere standing failed before.shelf after.shelf before.seat.number before.seat.made (Line asker.client Alone r no_store_reply) answered.told.answer) read (somewhere few),
     ),
@@ -76,7 +74,7 @@ module _ {S : Type 0} (standing : S → Standing) (failed : S → S → Call →
   pub line_refused : (before after : Caller S) (line : LineData) (request : Request) (name owed : List ℕ) (fault : PartitionFault) → request ≡ read_line asker.may_kill line → name ≡ name_in request
       → owed ≡ ack_line 52 0 name (fault_text fault) → after.seat ≡ before.seat → IsUnwritten standing failed before.shelf after.shelf
       → (before.seat.number < 4 → StopsSomewhere standing failed before.shelf after.shelf before.seat.number before.seat.made (Line asker.client Alone request no_store_reply) fault)
-      → IsOwed (Answers standing failed asker) before (Single line) owed Stays after
+      → IsOwed (Answers standing failed asker) before (Single line) owed Goes after
   line_refused before after line request name owed fault read named is made unwritten somewhere =
       let stops : before.seat.number < 4
       → StopsSomewhere standing failed before.shelf after.shelf before.seat.number before.seat.made (Line asker.client Alone (read_line asker.may_kill line) no_store_reply) fault =
@@ -84,16 +82,16 @@ module _ {S : Type 0} (standing : S → Standing) (failed : S → S → Call →
       ([], owed, refl, ([], refl), inr (name, fault, is, refl, made, unwritten, inr (named ∙ ap name_in read, stops)))
 
   -- a list without lines
-  pub empty_list : (before : Caller S) (list : CommandList) (owed : List ℕ) → list.lines ≡ [] → owed ≡ list_end None → IsOwed (Answers standing failed asker) before (Whole list) owed Stays before
+  pub empty_list : (before : Caller S) (list : CommandList) (owed : List ℕ) → list.lines ≡ [] → owed ≡ list_end None → IsOwed (Answers standing failed asker) before (Whole list) owed Goes before
   empty_list before list owed none is = ([], owed, refl, ([], refl), inr (inr (none, is, refl, refl)))
 
   -- a list was run
-  pub list_ran : (before after : Caller S) (list : CommandList) (requests : List Request) (unread : Option ℕ) (answered : HandedList) (owed : List ℕ) (next : Sequel) (kill : ℕ) → IsRead list.lines asker.may_kill requests unread
-      → kill ≡ position_or_len is_kill requests → owed ≡ notice_bytes answered.front ++ text_with (list_end unread) answered.tolds
-      → next ≡ sequel (list_any (λ t. closes t.answer.next) answered.tolds) (nat_eq (length answered.tolds) (kill + 1)) → after.seat ≡ after_events before.seat (length answered.tolds)
+  pub list_ran : (before after : Caller S) (list : CommandList) (requests : List Request) (unread : Option ℕ) (answered : HandedList) (owed : List ℕ) (next : Next) → IsRead list.lines asker.may_kill requests unread
+      → owed ≡ notice_bytes answered.front ++ text_with (list_end unread) answered.tolds
+      → next ≡ next_after answered.tolds → after.seat ≡ after_events before.seat (length answered.tolds)
       → (before.seat.number < 4 → TellsListSomewhere standing failed before.shelf after.shelf before.seat.number before.seat.made asker.client list.form requests answered.tolds)
       → IsOwed (Answers standing failed asker) before (Whole list) owed next after
-  list_ran before after list requests unread answered owed next kill read first is follows made somewhere = (
+  list_ran before after list requests unread answered owed next read is follows made somewhere = (
     notice_bytes answered.front,
     text_with (list_end unread) answered.tolds,
     is,
@@ -104,7 +102,7 @@ module _ {S : Type 0} (standing : S → Standing) (failed : S → S → Call →
       answered.tolds,
       read,
       refl,
-      follows ∙ ap (λ (k : ℕ). sequel (list_any (λ t. closes t.answer.next) answered.tolds) (nat_eq (length answered.tolds) (k + 1))) first,
+      follows,
       made,
       somewhere,
     ),
@@ -114,6 +112,6 @@ module _ {S : Type 0} (standing : S → Standing) (failed : S → S → Call →
   pub list_stopped : (before after : Caller S) (list : CommandList) (requests : List Request) (unread : Option ℕ) (stop : Stop) (owed : List ℕ) → IsRead list.lines asker.may_kill requests unread
       → owed ≡ stop_text stop → after.seat ≡ after_events before.seat stop.done
       → (before.seat.number < 4 → StopsListSomewhere standing failed before.shelf after.shelf before.seat.number before.seat.made asker.client list.form requests stop)
-      → IsOwed (Answers standing failed asker) before (Whole list) owed Stays after
+      → IsOwed (Answers standing failed asker) before (Whole list) owed Goes after
   list_stopped before after list requests unread stop owed read is made somewhere =
       ([], owed, refl, ([], refl), inr (inl (requests, unread, stop, read, is, refl, made, somewhere)))

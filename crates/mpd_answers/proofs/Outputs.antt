@@ -2,7 +2,7 @@
 use Rattle.std.proofs.Common.{ℕ, List, [], ◌∷◌, ◌++◌, refl, sym, ap, subst, ◌∙◌, append_assoc, ◌+◌, Option, None, Some, append-nil}
 use Rattle.std.specs.List.{flat_map}
 use Rattle.std.proofs.lemmas.Grind.{flat_map-append}
-use Rattle.mpd_answers.specs.declared.asker.Sequel.{Sequel}
+use Rattle.transitions.specs.declared.reply.Next.{Next}
 use Rattle.mpd_answers.specs.Notices.{notice_text, AreNotices, notice_bytes}
 use Rattle.mpd_answers.specs.Output.{IsOutput, IsLastOutput, IsOutputOver}
 use Rattle.mpd_answers.specs.Requests.{Asking}
@@ -15,7 +15,7 @@ pub notices_join : (a b : List ℕ) → AreNotices a → AreNotices b → AreNot
 notices_join a b (xs, p) (ys, q) =
     (xs ++ ys, ap (λ (x : List ℕ). x ++ b) p ∙ ap (λ (y : List ℕ). flat_map notice_text xs ++ y) q ∙ sym (flat_map-append notice_text xs ys))
 
-module _ {P : Type 0} (A : P → Asking → List ℕ → Sequel → P → Type 0) where
+module _ {P : Type 0} (A : P → Asking → List ℕ → Next → P → Type 0) where
   pub notices_first : (a b : P) (asked : List Asking) (notices output : List ℕ) → AreNotices notices → IsOutput A a asked output b → IsOutput A a asked (notices ++ output) b
   notices_first a b [] notices output n (o, e) = (notices_join notices output n o, e)
   notices_first a b (r ∷ rs) notices output n (ns, text, rest, mid, is, are, answers, others) =
@@ -34,14 +34,14 @@ module _ {P : Type 0} (A : P → Asking → List ℕ → Sequel → P → Type 0
     join mid b c rs more rest after others o,
   )
 
-  pub join_last : (a b c : P) (asked more : List Asking) (last : Asking) (sequel : Sequel) (output next : List ℕ) → IsOutput A a asked output b → IsLastOutput A b more last sequel next c → IsLastOutput A a (asked ++ more) last sequel (output ++ next) c
-  join_last a b c asked more last sequel output after o (front, text, mid, is, goes, closes) =
+  pub join_last : (a b c : P) (asked more : List Asking) (last : Asking) (next : Next) (output after : List ℕ) → IsOutput A a asked output b → IsLastOutput A b more last next after c → IsLastOutput A a (asked ++ more) last next (output ++ after) c
+  join_last a b c asked more last next output after o (front, text, mid, is, goes, closes) =
       (output ++ front, text, mid, ap (λ (x : List ℕ). output ++ x) is ∙ sym (append_assoc output front text), join a b mid asked more output front o goes, closes)
 
-  pub joined : (a b c : P) (asked more : List Asking) (output next : List ℕ) → IsOutput A a asked output b
-      → (IsOutput A b more next c → IsOutput A a (asked ++ more) (output ++ next) c)
-      × ((last : Asking) (sequel : Sequel) → IsLastOutput A b more last sequel next c → IsLastOutput A a (asked ++ more) last sequel (output ++ next) c)
-  joined a b c asked more output after o = (λ p. join a b c asked more output after o p, λ last sequel p. join_last a b c asked more last sequel output after o p)
+  pub joined : (a b c : P) (asked more : List Asking) (output after : List ℕ) → IsOutput A a asked output b
+      → (IsOutput A b more after c → IsOutput A a (asked ++ more) (output ++ after) c)
+      × ((last : Asking) (next : Next) → IsLastOutput A b more last next after c → IsLastOutput A a (asked ++ more) last next (output ++ after) c)
+  joined a b c asked more output after o = (λ p. join a b c asked more output after o p, λ last next p. join_last a b c asked more last next output after o p)
 
   module _ (Grown : P → P → Type 0) (stays : (p : P) → Grown p p) (grows : (p q r : P) → Grown p q → Grown q r → Grown p r) where
     pub one_over : (a b : P) (asked : List Asking) (output : List ℕ) → IsOutput A a asked output b → IsOutputOver A Grown a asked output b

@@ -1,7 +1,6 @@
 -- What the player of one thread may answer to what a client asks for (MPD protocol reference, Responses and
 -- Command lists).
-use Rattle.std.specs.Prelude.{◌≡◌, ◌⊎◌, ◌<◌, ◌≤◌, ◌+◌, ℕ, nat_eq, Bool, false, true, List, [], length, map, take, codes, Option, Some, None}
-use Rattle.std.specs.List.{list_any, position_or_len}
+use Rattle.std.specs.Prelude.{◌≡◌, ◌⊎◌, ◌<◌, ◌≤◌, ◌+◌, ℕ, Bool, List, [], length, map, take, codes, Option, Some, None}
 use Rattle.command_lists.specs.Lists.{LineData}
 use Rattle.command_lists.specs.declared.list.CommandList.{CommandList}
 use Rattle.command_lists.specs.declared.list.ListLine.{ListLine}
@@ -11,17 +10,15 @@ use Rattle.counted_player.specs.Seats.{SeatCount, after_events}
 use Rattle.counted_player.specs.Counts.{AnswersSomewhere}
 use Rattle.held_player.specs.Views.{IsUnwritten, StopsSomewhere}
 use Rattle.mpd_command.specs.Requests.{name_in, request_of}
-use Rattle.mpd_command.specs.declared.command.Command.{Command}
-use Rattle.mpd_command.specs.declared.command.Command.TheVariants as command
-use Rattle.mpd_command.specs.declared.connection.ConnectionCommand.TheVariants as connection
 use Rattle.mpd_command.specs.declared.request.Request.{Request}
-use Rattle.mpd_command.specs.declared.request.Request.TheVariants.{Run, Refused}
+use Rattle.mpd_command.specs.declared.request.Request.TheVariants.{Refused}
 use Rattle.mpd_text.specs.Answers.Answer.{ack_line}
 use Rattle.mpd_text.specs.declared.answers.answer.ErrorNumber.TheVariants.{Argument}
 use Rattle.transitions.specs.Answers.{Answer}
+use Rattle.transitions.specs.declared.reply.Next.{Next}
+use Rattle.transitions.specs.declared.reply.Next.TheVariants.{Goes}
 use Rattle.player_events.specs.Outcomes.{OutcomeData}
-use Rattle.idle_clients.specs.Clients.{closes}
-use Rattle.partition.specs.Lists.{Stop, fault_text, stop_text, text_with}
+use Rattle.partition.specs.Lists.{Stop, fault_text, next_after, stop_text, text_with}
 use Rattle.transitions.specs.Shelves.{no_store_reply}
 use Rattle.player_events.specs.declared.event.Event.TheVariants.{Line}
 use Rattle.transitions.specs.declared.asked.Stand.TheVariants.{Alone}
@@ -30,8 +27,6 @@ use Rattle.partition.specs.declared.partition.PartitionFault.TheVariants.{NoMemo
 use Rattle.shelf.specs.Calls.{Call}
 use Rattle.shelf.specs.Maps.{Standing}
 use Rattle.mpd_answers.specs.declared.asker.Asker.{Asker}
-use Rattle.mpd_answers.specs.declared.asker.Sequel.{Sequel}
-use Rattle.mpd_answers.specs.declared.asker.Sequel.TheVariants.{Stays, Leaves, Kills}
 use Rattle.mpd_answers.specs.Requests.{Asking, Single, Whole}
 
 -- what a session is lent: a seat with its count, and a shelf
@@ -61,30 +56,6 @@ read_list_line may_kill line = read_line may_kill (line_of_list line)
 abbrev pub read_lines : Bool → List ListLine → List Request
 read_lines may_kill lines = map (λ line. read_line may_kill (line_of_list line)) lines
 
--- whether a command ends the daemon, where its client is closed by it
-abbrev pub is_kill_command : Command → Bool
-is_kill_command (command.Connection connection.Kill) = true
-is_kill_command _ = false
-
-abbrev pub is_kill : Request → Bool
-is_kill (Run name command) = is_kill_command command
-is_kill (Refused ack) = false
-
--- what follows an answer that closes its client, or does not
-abbrev pub sequel : Bool → Bool → Sequel
-sequel false kills = Stays
-sequel true false = Leaves
-sequel true true = Kills
-
--- what follows a list whose first request that would end the daemon stands at this place
-abbrev pub sequel_of_list : List OutcomeData → ℕ → Sequel
-sequel_of_list tolds kill = sequel (list_any (λ t. closes t.answer.next) tolds) (nat_eq (length tolds) (kill + 1))
-
--- Whether the last of so many requests that were run ends the daemon. A list ends there, so that it is the
--- first that would.
-abbrev pub kills_at : List Request → ℕ → Bool
-kills_at requests run = nat_eq run (position_or_len is_kill requests + 1)
-
 -- the requests of a list's lines, up to the one at this place, which there was no memory to read; of all of
 -- them where there is none
 abbrev pub IsRead : List ListLine → Bool → List Request → Option ℕ → Type 0
@@ -100,9 +71,9 @@ list_end (Some place) = ack_line 52 place [] (fault_text NoMemory)
 module _ {S : Type 0} (standing : S → Standing) (failed : S → S → Call → Type 0) (asker : Asker) where
   -- An answer that the player of one thread gives to the line, after some past in which the seat made so many
   -- events.
-  abbrev pub RunsLine : Caller S → LineData → List ℕ → Sequel → Caller S → Type 0
+  abbrev pub RunsLine : Caller S → LineData → List ℕ → Next → Caller S → Type 0
   RunsLine before line text next after =
-      (answer : Answer) × (text ≡ answer.text) × (next ≡ sequel (closes answer.next) (is_kill (read_line asker.may_kill line))) × (after.seat ≡ after_events before.seat 1)
+      (answer : Answer) × (text ≡ answer.text) × (next ≡ answer.next) × (after.seat ≡ after_events before.seat 1)
       × (before.seat.number < 4 → AnswersSomewhere standing failed before.shelf after.shelf before.seat.number before.seat.made (Line asker.client Alone (read_line asker.may_kill line) no_store_reply) answer)
 
   -- The line's event is refused after some past in which the seat made so many events: for the limit that it
@@ -114,33 +85,33 @@ module _ {S : Type 0} (standing : S → Standing) (failed : S → S → Call →
 
   -- Why the house did not run the line. There may have been no memory to read what command it names; else the
   -- player refuses its event so, after some past in which the seat made so many events.
-  abbrev pub RefusesLine : Caller S → LineData → List ℕ → Sequel → Caller S → Type 0
+  abbrev pub RefusesLine : Caller S → LineData → List ℕ → Next → Caller S → Type 0
   RefusesLine before line text next after =
-      (name : List ℕ) × (fault : PartitionFault) × (text ≡ ack_line 52 0 name (fault_text fault)) × (next ≡ Stays) × (after.seat ≡ before.seat)
+      (name : List ℕ) × (fault : PartitionFault) × (text ≡ ack_line 52 0 name (fault_text fault)) × (next ≡ Goes) × (after.seat ≡ before.seat)
       × IsUnwritten standing failed before.shelf after.shelf
       × (((name ≡ []) × (fault ≡ NoMemory)) ⊎ ((name ≡ name_in (read_line asker.may_kill line)) × StopsLine before line fault after))
 
   -- The answers to the lines of a list, or to those in front of one that there was no memory to read, up to
   -- the first that ends the list.
-  abbrev pub RunsList : Caller S → CommandList → List ℕ → Sequel → Caller S → Type 0
+  abbrev pub RunsList : Caller S → CommandList → List ℕ → Next → Caller S → Type 0
   RunsList before list text next after =
       (requests : List Request) × (unread : Option ℕ) × (tolds : List OutcomeData) × IsRead list.lines asker.may_kill requests unread × (text ≡ text_with (list_end unread) tolds)
-      × (next ≡ sequel (list_any (λ t. closes t.answer.next) tolds) (kills_at requests (length tolds))) × (after.seat ≡ after_events before.seat (length tolds))
+      × (next ≡ next_after tolds) × (after.seat ≡ after_events before.seat (length tolds))
       × (before.seat.number < 4 → TellsListSomewhere standing failed before.shelf after.shelf before.seat.number before.seat.made asker.client list.form requests tolds)
 
   -- The answers to the lines of a list before one that the house did not run, and why.
-  abbrev pub StopsList : Caller S → CommandList → List ℕ → Sequel → Caller S → Type 0
+  abbrev pub StopsList : Caller S → CommandList → List ℕ → Next → Caller S → Type 0
   StopsList before list text next after =
       (requests : List Request) × (unread : Option ℕ) × (stop : Stop) × IsRead list.lines asker.may_kill requests unread × (text ≡ stop_text stop)
-      × (next ≡ Stays) × (after.seat ≡ after_events before.seat stop.done)
+      × (next ≡ Goes) × (after.seat ≡ after_events before.seat stop.done)
       × (before.seat.number < 4 → StopsListSomewhere standing failed before.shelf after.shelf before.seat.number before.seat.made asker.client list.form requests stop)
 
   -- A list without lines is no event.
-  abbrev pub IsEmptyList : Caller S → CommandList → List ℕ → Sequel → Caller S → Type 0
-  IsEmptyList before list text next after = (list.lines ≡ []) × (text ≡ codes "OK\n") × (next ≡ Stays) × (after ≡ before)
+  abbrev pub IsEmptyList : Caller S → CommandList → List ℕ → Next → Caller S → Type 0
+  IsEmptyList before list text next after = (list.lines ≡ []) × (text ≡ codes "OK\n") × (next ≡ Goes) × (after ≡ before)
 
   -- One answer that is allowed for what is asked, what becomes of the client, and what the caller has then.
-  abbrev pub Answers : Caller S → Asking → List ℕ → Sequel → Caller S → Type 0
+  abbrev pub Answers : Caller S → Asking → List ℕ → Next → Caller S → Type 0
   Answers before (Single line) text next after = RunsLine before line text next after ⊎ RefusesLine before line text next after
   Answers before (Whole list) text next after =
       RunsList before list text next after ⊎ (StopsList before list text next after ⊎ IsEmptyList before list text next after)

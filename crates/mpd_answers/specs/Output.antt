@@ -1,26 +1,30 @@
 -- What a session writes for what its client asks (MPD protocol reference, Responses and Command lists).
-use Rattle.std.specs.Prelude.{◌≡◌, ℕ, List, [], ◌∷◌, ◌++◌}
-use Rattle.mpd_answers.specs.declared.asker.Sequel.{Sequel}
-use Rattle.mpd_answers.specs.declared.asker.Sequel.TheVariants.{Stays}
+use Rattle.std.specs.Prelude.{◌≡◌, ℕ, false, List, [], ◌∷◌, ◌++◌}
+use Rattle.transitions.specs.Answers.{closes}
+use Rattle.transitions.specs.declared.reply.Next.{Next}
 use Rattle.mpd_answers.specs.Notices.{AreNotices}
 use Rattle.mpd_answers.specs.Requests.{Asking}
 
 -- `P` is what the caller has, and changes with each answer.
-module _ {P : Type 0} (Answers : P → Asking → List ℕ → Sequel → P → Type 0) where
+module _ {P : Type 0} (Answers : P → Asking → List ℕ → Next → P → Type 0) where
+  -- an answer after which the session is open
+  abbrev pub AnswersOpen : P → Asking → List ℕ → P → Type 0
+  AnswersOpen p one text q = (next : Next) × (closes next ≡ false) × Answers p one text next q
+
   -- What is written for what leaves the session open: one answer each, in order, and notices in front of an
   -- answer or at the end.
   abbrev pub IsOutput : P → List Asking → List ℕ → P → Type 0
   IsOutput p [] output q = AreNotices output × (q ≡ p)
   IsOutput p (one ∷ more) output q =
-      (notices text rest : List ℕ) × (mid : P) × (output ≡ notices ++ (text ++ rest)) × AreNotices notices × Answers p one text Stays mid × IsOutput mid more rest q
+      (notices text rest : List ℕ) × (mid : P) × (output ≡ notices ++ (text ++ rest)) × AreNotices notices × AnswersOpen p one text mid × IsOutput mid more rest q
 
   -- What is written where the last of these closes it: nothing stands after that answer.
-  abbrev pub IsLastOutput : P → List Asking → Asking → Sequel → List ℕ → P → Type 0
+  abbrev pub IsLastOutput : P → List Asking → Asking → Next → List ℕ → P → Type 0
   IsLastOutput p asked last next output q =
       (front text : List ℕ) × (mid : P) × (output ≡ front ++ text) × IsOutput p asked front mid × Answers mid last text next q
 
   -- an answer that is owed, with the notice that waited in front
-  abbrev pub IsOwed : P → Asking → List ℕ → Sequel → P → Type 0
+  abbrev pub IsOwed : P → Asking → List ℕ → Next → P → Type 0
   IsOwed p one owed next q = (notices text : List ℕ) × (owed ≡ notices ++ text) × AreNotices notices × Answers p one text next q
 
   -- The same over many turns, between which others are served with the same seat and shelf: what the caller
@@ -29,13 +33,13 @@ module _ {P : Type 0} (Answers : P → Asking → List ℕ → Sequel → P → 
     abbrev pub IsOutputOver : P → List Asking → List ℕ → P → Type 0
     IsOutputOver p [] output q = AreNotices output × Grown p q
     IsOutputOver p (one ∷ more) output q =
-        (notices text rest : List ℕ) × (at mid : P) × (output ≡ notices ++ (text ++ rest)) × AreNotices notices × Grown p at × Answers at one text Stays mid × IsOutputOver mid more rest q
+        (notices text rest : List ℕ) × (at mid : P) × (output ≡ notices ++ (text ++ rest)) × AreNotices notices × Grown p at × AnswersOpen at one text mid × IsOutputOver mid more rest q
 
   -- What is written for some of what is asked, and then for the rest, is what is written for all of it.
   abbrev pub OutputsJoin : Type 0
   OutputsJoin = (p q r : P) (asked more : List Asking) (output then : List ℕ) → IsOutput p asked output q
       → (IsOutput q more then r → IsOutput p (asked ++ more) (output ++ then) r)
-      × ((last : Asking) (next : Sequel) → IsLastOutput q more last next then r → IsLastOutput p (asked ++ more) last next (output ++ then) r)
+      × ((last : Asking) (next : Next) → IsLastOutput q more last next then r → IsLastOutput p (asked ++ more) last next (output ++ then) r)
 
   -- What is written at once is written over many turns; and what is written in some turns, and then in
   -- others, is written in all.

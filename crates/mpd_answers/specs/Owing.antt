@@ -1,14 +1,15 @@
 -- The bytes of what a session owes its client.
-use Rattle.std.specs.Prelude.{ℕ, List, [], ◌++◌, Option, codes}
+use Rattle.std.specs.Prelude.{◌≡◌, ℕ, List, [], ◌++◌, Option, codes}
 use Rattle.mpd_text.specs.Answers.Answer.{ack_line}
-use Rattle.partition.specs.Lists.{fault_text, stop_text, text_with}
+use Rattle.partition.specs.Lists.{fault_text, next_after, stop_text, text_with}
 use Rattle.mpd_answers.specs.declared.owed.Owed.{Owed}
 use Rattle.mpd_answers.specs.declared.owed.Owed.TheVariants as owed
 use Rattle.mpd_answers.specs.Answers.{Answers, caller, list_end}
 use Rattle.mpd_answers.specs.Output.{IsOwed}
 use Rattle.mpd_answers.specs.Requests.{Asking}
 use Rattle.mpd_answers.specs.declared.asker.Asker.{Asker}
-use Rattle.mpd_answers.specs.declared.asker.Sequel.{Sequel}
+use Rattle.transitions.specs.declared.reply.Next.{Next}
+use Rattle.transitions.specs.declared.reply.Next.TheVariants.{Goes}
 use Rattle.counted_player.specs.Seats.{SeatCount}
 use Rattle.held_player.specs.Lists.{HandedList}
 use Rattle.held_player.specs.Views.{Handed}
@@ -32,7 +33,17 @@ owed_bytes owed.EmptyList = codes "OK\n"
 owed_bytes (owed.LineFault name fault) = ack_line 52 0 name.now (fault_text fault)
 owed_bytes (owed.ListFault stop) = stop_text stop
 
--- what is owed for what was asked, and what follows: an answer that the player of one thread may give to it
-abbrev pub IsOwedFor : {S : Type 0} → (S → Standing) → (S → S → Call → Type 0) → Asker → SeatCount → S → Asking → Owed × Sequel → SeatCount → S → Type 0
+-- what becomes of the client
+abbrev pub next_by : Owed → Next
+next_by (owed.Line answered) = answered.told.answer.next
+next_by (owed.List answered unread) = next_after answered.tolds
+next_by _ = Goes
+
+-- bytes stand where they stood, and perhaps more after them
+abbrev pub Grows : List ℕ → List ℕ → Type 0
+Grows old new = (more : List ℕ) × (new ≡ old ++ more)
+
+-- what is owed for what was asked, and what becomes of the client: an answer that the player of one thread may give to it
+abbrev pub IsOwedFor : {S : Type 0} → (S → Standing) → (S → S → Call → Type 0) → Asker → SeatCount → S → Asking → Owed → SeatCount → S → Type 0
 IsOwedFor standing failed asker seat shelf one owed seat' shelf' =
-    IsOwed (Answers standing failed asker) (caller seat shelf) one (owed_bytes owed.0) owed.1 (caller seat' shelf')
+    IsOwed (Answers standing failed asker) (caller seat shelf) one (owed_bytes owed) (next_by owed) (caller seat' shelf')

@@ -1,30 +1,24 @@
 //! What a session asks the house.
-ghost use Rattle.std.specs.Prelude.{◌≡◌, ◌≤◌, ◌+◌, ◌++◌, ◌∷◌, [], IfOk, OnErr, OnOk, length};
-ghost use Rattle.std.specs.List.{position_or_len};
+ghost use Rattle.std.specs.Prelude.{◌≡◌, ◌++◌, ◌∷◌, [], IfOk, OnErr, OnOk};
 ghost use Rattle.std.specs.Option.{option_copied};
-ghost use Rattle.mpd_answers.specs.Answers.{IsRead, is_kill as is_kill_in, list_end, read_line as read_line_of, sequel as sequel_of, read_list_line, sequel_of_list};
-ghost use Rattle.mpd_answers.specs.Notices.{notice_bytes};
-ghost use Rattle.mpd_answers.specs.Owing.{owed_bytes, IsOwedFor};
+ghost use Rattle.mpd_answers.specs.Answers.{IsRead, read_line as read_line_of, read_list_line};
+ghost use Rattle.mpd_answers.specs.Owing.{IsOwedFor};
 ghost use Rattle.mpd_answers.specs.Requests.{Single, Whole, asking_of};
-ghost use Rattle.idle_clients.specs.Clients.{closes};
-ghost use Rattle.partition.specs.Lists.{text_with};
 
-use crate::asker::{Asker, Sequel};
+use crate::asker::Asker;
 use crate::gatherer::{ClientRequest, text_of};
 use crate::owed::Owed;
 use command_lists::{CommandList, ListLine};
 use counted_player::{Ledgers, Seat};
-use held_player::{Answered, AnsweredList};
 use house::House;
-use mpd_command::{Ack, Command, ConnectionCommand, Request};
+use mpd_command::{Ack, Request};
 use mpd_text::{ErrorNumber, Text};
 use partition::PartitionFault;
 use shelf::Shelf;
 use std::alloc::{AllocError, Global};
 use std::sync::Wait;
-use transitions::Next;
 
-/// Asks the house, and gives what is owed for that, and what follows.
+/// Asks the house, and gives what is owed for that.
 pub fn ask<L: Ledgers, S: Shelf, R: Wait>(
     rt: &R,
     alloc: Global,
@@ -33,7 +27,7 @@ pub fn ask<L: Ledgers, S: Shelf, R: Wait>(
     shelf: &mut S,
     asker: Asker,
     asked: &ClientRequest,
-) -> (Owed, Sequel)
+) -> Owed
     ensures { IsOwedFor S.standing S.failed asker seat.old shelf.old (asking_of asked.now) result seat.new shelf.new }
 {
     match asked {
@@ -60,16 +54,16 @@ fn ask_line<L: Ledgers, S: Shelf, R: Wait>(
     shelf: &mut S,
     asker: Asker,
     line: Option<&str>,
-) -> (Owed, Sequel)
+) -> Owed
     ensures { IsOwedFor S.standing S.failed asker seat.old shelf.old (Single (option_copied line.entry)) result seat.new shelf.new }
 {
     let Ok(request) = read_line(alloc, asker.may_kill, line) else {
-        return (Owed::LineFault("", PartitionFault::NoMemory), Sequel::Stays);
+        return Owed::LineFault("", PartitionFault::NoMemory);
     };
-    let (name, kills) = (request.name(), is_kill(&request));
+    let name = request.name();
     match house.command(rt, seat, shelf, asker.client, request) {
-        Ok(answered) => of_line(answered, kills),
-        Err(fault) => (Owed::LineFault(name, fault), Sequel::Stays),
+        Ok(answered) => Owed::Line(answered),
+        Err(fault) => Owed::LineFault(name, fault),
     }
 }
 
@@ -82,18 +76,17 @@ fn ask_list<L: Ledgers, S: Shelf, R: Wait>(
     shelf: &mut S,
     asker: Asker,
     list: &CommandList,
-) -> (Owed, Sequel)
+) -> Owed
     ensures { IsOwedFor S.standing S.failed asker seat.old shelf.old (Whole list.now) result seat.new shelf.new }
 {
     let lines = list.lines.items();
     if lines.is_empty() {
-        return (Owed::EmptyList, Sequel::Stays);
+        return Owed::EmptyList;
     }
     let (requests, unread) = read_all(alloc, asker.may_kill, lines);
-    let kill = first_kill(&requests);
     match house.list(rt, seat, shelf, asker.client, list.form, requests) {
-        Ok(answered) => of_list(answered, unread, kill),
-        Err(fault) => (Owed::ListFault(fault), Sequel::Stays),
+        Ok(answered) => Owed::List(answered, unread),
+        Err(fault) => Owed::ListFault(fault),
     }
 }
 
@@ -140,60 +133,4 @@ fn push_request(
     };
     let request = read_line(alloc, may_kill, text)?;
     Ok(requests.push(request)?)
-}
-
-/// Whether a request ends the daemon, where its client is closed by it.
-fn is_kill(request: &Request) -> bool
-    ensures { result ≡ is_kill_in request.now }
-{
-    matches!(
-        request,
-        Request::Run(_, Command::Connection(ConnectionCommand::Kill))
-    )
-}
-
-/// The place of the first request that would end the daemon; their number where there is none.
-fn first_kill(requests: &[Request]) -> usize
-    ensures place { result ≡ position_or_len is_kill_in requests.now }
-    ensures within { result ≤ length requests.now }
-{
-    let mut place = 0;
-    for request in requests {
-        if is_kill(request) {
-            return place;
-        }
-        place += 1;
-    }
-    place
-}
-
-/// What is owed for a line that was run, which ends the daemon or does not where it closes its client.
-fn of_line(answered: Answered, kills: bool) -> (Owed, Sequel)
-    ensures owed { owed_bytes result.0 ≡ notice_bytes answered.front ++ answered.told.answer.text }
-    ensures sequel { result.1 ≡ sequel_of (closes answered.told.answer.next) kills }
-{
-    let closes = matches!(answered.reply().next(), Next::Closes);
-    (Owed::Line(answered), sequel(closes, kills))
-}
-
-/// What is owed for a list that was run, whose first request that would end the daemon stands at this place.
-fn of_list(answered: AnsweredList, unread: Option<usize>, kill: usize) -> (Owed, Sequel)
-    ensures owed { owed_bytes result.0 ≡ notice_bytes answered.front ++ text_with (list_end unread) answered.tolds }
-    ensures sequel { result.1 ≡ sequel_of_list answered.tolds kill }
-{
-    let outcome = answered.answers();
-    let closes = outcome.closes();
-    let kills = kill.checked_add(1) == Some(outcome.outcomes().len());
-    (Owed::List(answered, unread), sequel(closes, kills))
-}
-
-/// What follows an answer that closes its client or does not, of a request that ends the daemon or does not.
-fn sequel(closes: bool, kills: bool) -> Sequel
-    ensures { result ≡ sequel_of closes kills }
-{
-    match (closes, kills) {
-        (false, _) => Sequel::Stays,
-        (true, false) => Sequel::Leaves,
-        (true, true) => Sequel::Kills,
-    }
 }

@@ -7,7 +7,7 @@ mod gatherer;
 mod laws;
 mod owed;
 
-pub use asker::{Asker, Sequel};
+pub use asker::Asker;
 pub use asking::ask;
 pub use gatherer::{ClientRequest, Gatherer};
 pub use laws::{any_cut_of_lines, lines_ask_for, outputs_join, outputs_join_over};

@@ -1,10 +1,10 @@
 //! What a session owes its client and has not yet put after its unsent bytes, for want of memory.
-ghost use Rattle.std.specs.Prelude.{◌≡◌, ◌++◌, [], true, IfOk, OnOk};
+ghost use Rattle.std.specs.Prelude.{◌≡◌, ◌++◌, [], true, IfOk, OnErr, OnOk};
 ghost use Rattle.mpd_text.specs.Answers.Answer.{ack_line};
 ghost use Rattle.partition.specs.Lists.{fault_text};
 ghost use Rattle.mpd_answers.specs.Answers.{list_end};
 ghost use Rattle.mpd_answers.specs.Notices.{notice_bytes, notice_text};
-ghost use Rattle.mpd_answers.specs.Owing.{owed_bytes, line_bytes, list_bytes};
+ghost use Rattle.mpd_answers.specs.Owing.{Grows, line_bytes, list_bytes, next_by, owed_bytes};
 
 use held_player::{Answered, AnsweredList};
 use idle_clients::Notice;
@@ -62,6 +62,21 @@ impl Owed {
         matches!(self, Owed::Nothing)
     }
 
+    /// What becomes of its client.
+    pub fn next(&self) -> Next
+        ensures { result ≡ next_by self.now }
+    {
+        match self {
+            Owed::Line(answered) => answered.reply().next(),
+            Owed::List(answered, _) => answered.answers().next(),
+            Owed::Nothing
+            | Owed::Notice(_)
+            | Owed::EmptyList
+            | Owed::LineFault(_, _)
+            | Owed::ListFault(_) => Next::Goes,
+        }
+    }
+
     /// Whether its client waits for a notice once this is its answer; whether it waited before is given.
     pub fn leaves_waiting(&self, waited: bool) -> bool {
         match self {
@@ -70,9 +85,23 @@ impl Owed {
         }
     }
 
-    /// Its bytes, after others.
+    /// Its bytes, after others. Without memory nothing changes.
     pub fn push_to(&self, alloc: Global, bytes: &mut Vec<u8>) -> Result<(), AllocError>
         ensures ok { OnOk result (bytes.new.items ≡ bytes.old.items ++ owed_bytes self.now) }
+        ensures err { OnErr result (bytes.new.items ≡ bytes.old.items) }
+    {
+        let before = bytes.len();
+        let pushed = self.push_some_to(alloc, bytes);
+        if pushed.is_err() {
+            bytes.truncate(before);
+        }
+        pushed
+    }
+
+    /// The same, but that without memory the first of them may stand there.
+    fn push_some_to(&self, alloc: Global, bytes: &mut Vec<u8>) -> Result<(), AllocError>
+        ensures ok { OnOk result (bytes.new.items ≡ bytes.old.items ++ owed_bytes self.now) }
+        ensures err { OnErr result (Grows bytes.old.items bytes.new.items) }
     {
         match self {
             Owed::Nothing => Ok(()),
@@ -87,7 +116,8 @@ impl Owed {
 }
 
 fn push_notice(alloc: Global, notice: Notice, bytes: &mut Vec<u8>) -> Result<(), AllocError>
-    ensures { OnOk result (bytes.new.items ≡ bytes.old.items ++ notice_text notice) }
+    ensures ok { OnOk result (bytes.new.items ≡ bytes.old.items ++ notice_text notice) }
+    ensures err { OnErr result (bytes.new.items ≡ bytes.old.items) }
 {
     let mut answer = Answer::new(alloc);
     notice.names.push_lines(&mut answer)?;
@@ -97,7 +127,8 @@ fn push_notice(alloc: Global, notice: Notice, bytes: &mut Vec<u8>) -> Result<(),
 
 /// The notice that waited, if one did.
 fn push_front(alloc: Global, front: Option<Notice>, bytes: &mut Vec<u8>) -> Result<(), AllocError>
-    ensures { OnOk result (bytes.new.items ≡ bytes.old.items ++ notice_bytes front) }
+    ensures ok { OnOk result (bytes.new.items ≡ bytes.old.items ++ notice_bytes front) }
+    ensures err { OnErr result (bytes.new.items ≡ bytes.old.items) }
 {
     match front {
         Some(notice) => push_notice(alloc, notice, bytes),
@@ -107,7 +138,8 @@ fn push_front(alloc: Global, front: Option<Notice>, bytes: &mut Vec<u8>) -> Resu
 
 /// The answer to a line, with the notice that waited in front.
 fn push_line(alloc: Global, answered: &Answered, bytes: &mut Vec<u8>) -> Result<(), AllocError>
-    ensures { OnOk result (bytes.new.items ≡ bytes.old.items ++ line_bytes answered.now) }
+    ensures ok { OnOk result (bytes.new.items ≡ bytes.old.items ++ line_bytes answered.now) }
+    ensures err { OnErr result (Grows bytes.old.items bytes.new.items) }
 {
     let front = answered.front();
     push_front(alloc, front, bytes)?;
@@ -121,7 +153,8 @@ fn push_list(
     unread: Option<usize>,
     bytes: &mut Vec<u8>,
 ) -> Result<(), AllocError>
-    ensures { OnOk result (bytes.new.items ≡ bytes.old.items ++ list_bytes answered.now unread) }
+    ensures ok { OnOk result (bytes.new.items ≡ bytes.old.items ++ list_bytes answered.now unread) }
+    ensures err { OnErr result (Grows bytes.old.items bytes.new.items) }
 {
     let end = end_of(alloc, unread)?;
     push_front(alloc, answered.front(), bytes)?;
@@ -152,7 +185,8 @@ fn push_fault(
     fault: PartitionFault,
     bytes: &mut Vec<u8>,
 ) -> Result<(), AllocError>
-    ensures { OnOk result (bytes.new.items ≡ bytes.old.items ++ ack_line 52 0 command.now (fault_text fault)) }
+    ensures ok { OnOk result (bytes.new.items ≡ bytes.old.items ++ ack_line 52 0 command.now (fault_text fault)) }
+    ensures err { OnErr result (bytes.new.items ≡ bytes.old.items) }
 {
     let mut answer = Answer::new(alloc);
     answer.ack(ErrorNumber::System, 0, command, fault.text())?;

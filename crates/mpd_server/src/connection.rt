@@ -24,7 +24,9 @@ pub(crate) struct Connection {
     /// Whether something was not done for want of memory, which is tried again.
     is_starved: bool,
     /// Whether the player knows that the client is gone.
-    is_gone: bool,
+    is_known: bool,
+    /// Whether nothing more is written to the client.
+    is_over: bool,
     /// Until when a client that is closed may read its last answers.
     leaves_by: Option<Instant>,
 }
@@ -38,23 +40,11 @@ impl Drop for Connection {
             is_ready: _,
             is_ending: _,
             is_starved: _,
-            is_gone: _,
+            is_known: _,
+            is_over: _,
             leaves_by: _,
         } = self;
     }
-}
-
-/// What becomes of a connection.
-#[derive(Clone, Copy, Debug, PartialEq, Eq)]
-pub(crate) enum After {
-    /// It goes on.
-    Stays,
-    /// It is over.
-    Ends,
-    /// It is over, but the player does not know that its client is gone.
-    Leaves,
-    /// It is over, and so is the daemon.
-    Kills,
 }
 
 impl Connection {
@@ -65,7 +55,8 @@ impl Connection {
             is_ready: true,
             is_ending: false,
             is_starved: false,
-            is_gone: false,
+            is_known: false,
+            is_over: false,
             leaves_by: None,
         }
     }
@@ -96,6 +87,21 @@ impl Connection {
         self.session.may_wait()
     }
 
+    /// Whether its client ended the daemon.
+    pub(crate) fn has_killed(&self) -> bool {
+        self.session.end() == Some(End::Killed)
+    }
+
+    /// Whether its client is closed, and nothing more is written to it.
+    pub(crate) fn is_over(&self) -> bool {
+        self.is_over
+    }
+
+    /// Whether the player knows that the client is gone.
+    pub(crate) fn is_known(&self) -> bool {
+        self.is_known
+    }
+
     /// Gives the session its turn. Where nothing came by the socket, it is not read.
     pub(crate) fn turn<L: Ledgers, S: Shelf, R: Wait + Clock>(
         &mut self,
@@ -104,7 +110,7 @@ impl Connection {
         house: &House<L>,
         seat: &mut Seat<L>,
         shelf: &mut S,
-    ) -> After {
+    ) {
         let may_read = self.is_ready || self.is_starved;
         let mut reader = Counting::new(Inbox::new(&self.stream, may_read));
         let mut writer = Counting::new(&self.stream);
@@ -116,22 +122,15 @@ impl Connection {
         let Some(end) = self.session.end() else {
             self.is_starved = matches!(goes, Err(SessionFault::NoMemory));
             self.is_ready = may_read && !self.is_starved && (!is_drained || self.is_ending);
-            return After::Stays;
+            return;
         };
-        if end == End::Killed {
-            return After::Kills;
-        }
-        self.is_gone = self.is_gone || tells_gone(rt, client, house, seat, end);
+        self.is_known = self.is_known || knows_gone(rt, client, house, seat, end);
         self.is_ready = false;
-        self.is_starved = !has_blocked || !self.is_gone;
-        if self.session.has_unsent() && !has_failed && !gives_up(end) && !self.is_late(rt) {
-            return After::Stays;
-        }
-        if self.is_gone {
-            After::Ends
-        } else {
-            After::Leaves
-        }
+        self.is_starved = !has_blocked || !self.is_known;
+        self.is_over = !self.session.has_unsent()
+            || has_failed
+            || gives_up(end)
+            || self.is_late(rt);
     }
 
     /// Whether a client that is closed had its time to read its last answers. Where no clock can be read, it
@@ -155,14 +154,13 @@ fn gives_up(end: End) -> bool {
     matches!(end, End::ReadFault | End::WriteFault | End::Unsent)
 }
 
-/// Tells the player that a client is gone, but not where it was the player that closed it. Whether the player
-/// knows now.
-fn tells_gone<L: Ledgers, R: Wait>(
+/// Whether the player knows that a client is gone: it closed it by an answer, or it is told so now.
+fn knows_gone<L: Ledgers, R: Wait>(
     rt: &R,
     client: u32,
     house: &House<L>,
     seat: &mut Seat<L>,
     end: End,
 ) -> bool {
-    end == End::Left || house.notice(rt, seat, News::Goes(client)).is_ok()
+    matches!(end, End::Left | End::Killed) || house.notice(rt, seat, News::Goes(client)).is_ok()
 }

@@ -1,5 +1,5 @@
 //! The slots that clients have.
-use crate::connection::{After, Connection};
+use crate::connection::Connection;
 use counted_player::{Ledgers, Seat};
 use held_player::News;
 use house::House;
@@ -11,7 +11,6 @@ use shelf::Shelf;
 use std::alloc::Global;
 use std::sync::Wait;
 use std::time::Clock;
-use transitions::Next;
 
 /// A slot for one client at a time, which has the number of the slot.
 #[derive(Drop)]
@@ -73,6 +72,11 @@ impl Slot {
         }
     }
 
+    /// Whether its client is one of these and waits to be told something.
+    pub(crate) fn is_addressed(&self, clients: &[u32]) -> bool {
+        self.may_wait() && clients.contains(&self.client)
+    }
+
     /// Whether its client may have to be told something.
     pub(crate) fn may_wait(&self) -> bool {
         match &self.tenant {
@@ -106,7 +110,7 @@ impl Slot {
         let Ok(told) = house.notice(rt, seat, News::Comes(self.client)) else {
             return;
         };
-        if matches!(told.reply().next(), Next::Closes) {
+        if told.reply().next().closes() {
             return;
         }
         let asker = Asker {
@@ -134,23 +138,27 @@ impl Slot {
         seat: &mut Seat<L>,
         shelf: &mut S,
     ) -> bool {
-        let after = match &mut self.tenant {
-            Tenant::Nobody => After::Stays,
-            Tenant::Client(connection) => connection.turn(rt, self.client, house, seat, shelf),
-            Tenant::Gone => {
-                if house.notice(rt, seat, News::Goes(self.client)).is_ok() {
-                    After::Ends
+        let next = match &mut self.tenant {
+            Tenant::Nobody => return false,
+            Tenant::Client(connection) => {
+                connection.turn(rt, self.client, house, seat, shelf);
+                if connection.has_killed() || !connection.is_over() {
+                    return connection.has_killed();
+                }
+                if connection.is_known() {
+                    Tenant::Nobody
                 } else {
-                    After::Stays
+                    Tenant::Gone
                 }
             }
+            Tenant::Gone => {
+                if house.notice(rt, seat, News::Goes(self.client)).is_err() {
+                    return false;
+                }
+                Tenant::Nobody
+            }
         };
-        match after {
-            After::Stays => {}
-            After::Ends => self.let_to(Tenant::Nobody),
-            After::Leaves => self.let_to(Tenant::Gone),
-            After::Kills => return true,
-        }
+        self.let_to(next);
         false
     }
 }

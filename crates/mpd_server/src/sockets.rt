@@ -150,7 +150,7 @@ impl Server {
         for _ in rt.forever() {
             self.sleep()?;
             self.let_all_in(rt, alloc, house, seat, may_kill);
-            if self.visit_all(rt, house, seat, shelf) {
+            if self.visit_all(rt, alloc, house, seat, shelf) {
                 break;
             }
         }
@@ -234,6 +234,7 @@ impl Server {
     fn visit_all<L: Ledgers, S: Shelf, R: Wait + Clock>(
         &mut self,
         rt: &R,
+        alloc: Global,
         house: &House<L>,
         seat: &mut Seat<L>,
         shelf: &mut S,
@@ -243,8 +244,15 @@ impl Server {
                 return true;
             }
         }
+        // Without memory for this, each is told when the loop looks again.
+        let Ok(clients) = house.addressees(rt, alloc) else {
+            return false;
+        };
         for slot in &mut self.slots {
-            if slot.may_wait() && !slot.is_ready() && slot.visit(rt, house, seat, shelf) {
+            if slot.is_addressed(&clients)
+                && !slot.is_ready()
+                && slot.visit(rt, house, seat, shelf)
+            {
                 return true;
             }
         }

@@ -5,7 +5,7 @@ use Rattle.std.specs.Io.KnownBytes.{Consumes}
 use Rattle.command_lists.specs.Lists.{LineData}
 use Rattle.mpd_text.specs.Lines.Cut.{Split, split, split_from, then_split}
 use Rattle.mpd_text.specs.Lines.Split.{line_of}
-use Rattle.mpd_answers.specs.declared.asker.Sequel.{Sequel}
+use Rattle.transitions.specs.declared.reply.Next.{Next}
 use Rattle.mpd_session.specs.declared.end.End.{End}
 use Rattle.mpd_answers.specs.Requests.{Asking, ListState, Gathered}
 use Rattle.mpd_session.specs.Sessions.{Pending, Held, Coming, coming, coming_from, fed, read_on, then_read, ahead, Continues, StepsTo, Turns}
@@ -64,7 +64,7 @@ consumes_both (Some x) None c bs cs p q = absurd p
 consumes_both (Some x) (Some y) None bs cs p q = absurd q
 consumes_both (Some x) (Some y) (Some z) bs cs p q = p ∙ ap (λ (l : List ℕ). bs ++ l) q ∙ sym (append_assoc bs cs z)
 
-module _ {P : Type 0} (A : P → Asking → List ℕ → Sequel → P → Type 0) (cuts : Law) where
+module _ {P : Type 0} (A : P → Asking → List ℕ → Next → P → Type 0) (cuts : Law) where
   pub turns_both : (old mid new : Held) (a b c : P) (u u' u'' w w' w'' : Option (List ℕ)) → mid.ended ≡ None
       → Turns A old a u w mid b u' w' → Turns A mid b u' w' new c u'' w'' → Turns A old a u w new c u'' w''
   turns_both old mid new a b c u u' u'' w w' w'' e (read, consumes, (out, s, g)) (read', consumes', (out', t, h)) =

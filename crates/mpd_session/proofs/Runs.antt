@@ -1,12 +1,13 @@
 -- What a session says, one step after the other.
 use Rattle.std.proofs.Common.{◌≡◌, ◌≢◌, ℕ, ◌<◌, arith, Bool, inl, inr, List, [], ◌∷◌, ◌++◌, length, length-append, Option, None, Some, refl, sym, ap, subst, ◌∙◌, append_assoc, append-nil}
-use Rattle.std.specs.Prelude.{◌⊎◌}
+use Rattle.std.specs.Prelude.{◌⊎◌, false}
 use Rattle.std.specs.Io.KnownBytes.{Consumes}
 use Rattle.command_lists.specs.Lists.{LineData}
 use Rattle.mpd_text.specs.declared.lines.splitter.Line.{Line}
 use Rattle.mpd_text.specs.Lines.Split.{views}
-use Rattle.mpd_answers.specs.declared.asker.Sequel.{Sequel}
-use Rattle.mpd_answers.specs.declared.asker.Sequel.TheVariants.{Stays, Leaves, Kills}
+use Rattle.transitions.specs.Answers.{closes}
+use Rattle.transitions.specs.declared.reply.Next.{Next}
+use Rattle.transitions.specs.declared.reply.Next.TheVariants.{Goes, Waits, Closes, Kills}
 use Rattle.mpd_session.specs.declared.end.End.{End}
 use Rattle.mpd_session.specs.declared.end.End.TheVariants.{Left, Killed, LongLine, LargeList, Unsent, NoPeer, ReadFault, WriteFault}
 use Rattle.mpd_answers.specs.declared.gatherer.ClientRequest.{ClientRequest}
@@ -107,7 +108,7 @@ pub reads_split : (old mid new : Held) (u u' : Option (List ℕ)) → ReadsOn ol
 reads_split old mid new u u' (read, consumes, reads, said) is unsent ended =
     (read, consumes, subst (λ (x : Option End). ReadsTo x (coming (read_on old.pending read)) new) (sym ended) (split_to mid.ended (coming (read_on old.pending read)) mid new is reads), unsent ∙ said)
 
-module _ {P : Type 0} (A : P → Asking → List ℕ → Sequel → P → Type 0) where
+module _ {P : Type 0} (A : P → Asking → List ℕ → Next → P → Type 0) where
   pub stays : (c : Coming) (p : P) (notices : List ℕ) → AreNotices notices → Continues A c p c p notices
   stays c p notices n = ([], refl, (n, refl))
 
@@ -118,9 +119,9 @@ module _ {P : Type 0} (A : P → Asking → List ℕ → Sequel → P → Type 0
   stops_later whole rs asked a b c out next is o (front, more, js, p) =
       (rs ++ front, more, is ∙ ap (λ (q : List Asking). rs ++ q) js ∙ sym (append_assoc rs front more), join A a b c rs front out next o p)
 
-  ends_later : (sequel : Sequel) (whole : List Asking) (rs asked : List Asking) (a b c : P) (out next : List ℕ) → whole ≡ rs ++ asked → IsOutput A a rs out b → EndsAt A sequel asked b c next → EndsAt A sequel whole a c (out ++ next)
-  ends_later sequel whole rs asked a b c out next is o (front, more, last, js, p) =
-      (rs ++ front, more, last, is ∙ ap (λ (q : List Asking). rs ++ q) js ∙ sym (append_assoc rs front (last ∷ more)), join_last A a b c rs front last sequel out next o p)
+  ends_later : (next : Next) (whole : List Asking) (rs asked : List Asking) (a b c : P) (out after : List ℕ) → whole ≡ rs ++ asked → IsOutput A a rs out b → EndsAt A next asked b c after → EndsAt A next whole a c (out ++ after)
+  ends_later next whole rs asked a b c out after is o (front, more, last, js, p) =
+      (rs ++ front, more, last, is ∙ ap (λ (q : List Asking). rs ++ q) js ∙ sym (append_assoc rs front (last ∷ more)), join_last A a b c rs front last next out after o p)
 
   all_later : (whole left : Coming) (rs : List Asking) (a b c : P) (out next : List ℕ) → whole ≡ ahead rs left → IsOutput A a rs out b → IsOutput A b left.asked next c → IsOutput A a whole.asked (out ++ next) c
   all_later whole left rs a b c out next is o p =
@@ -128,7 +129,7 @@ module _ {P : Type 0} (A : P → Asking → List ℕ → Sequel → P → Type 0
 
   pub steps_later : (e : Option End) (whole left : Coming) (a b c : P) (new : Held) (out next : List ℕ) → Continues A whole a left b out → StepsTo A e left b new c next → StepsTo A e whole a new c (out ++ next)
   steps_later None whole left a b c new out next k s = joins whole left (coming new.pending) a b c out next k s
-  steps_later (Some Left) whole left a b c new out next (rs, is, o) s = ends_later Leaves whole.asked rs left.asked a b c out next (asked_in whole left rs is) o s
+  steps_later (Some Left) whole left a b c new out next (rs, is, o) s = ends_later Closes whole.asked rs left.asked a b c out next (asked_in whole left rs is) o s
   steps_later (Some Killed) whole left a b c new out next (rs, is, o) s = ends_later Kills whole.asked rs left.asked a b c out next (asked_in whole left rs is) o s
   steps_later (Some LongLine) whole left a b c new out next (rs, is, o) (p, n) = (all_later whole left rs a b c out next is o p, ap (λ (x : Coming). x.next) is ∙ n)
   steps_later (Some LargeList) whole left a b c new out next (rs, is, o) (p, n) = (all_later whole left rs a b c out next is o p, ap (λ (x : Coming). x.list) is ∙ n)
@@ -220,28 +221,28 @@ module _ {P : Type 0} (A : P → Asking → List ℕ → Sequel → P → Type 0
 
   -- Steps that answer what is asked.
 
-  answered_with : (a b : P) (r : Asking) (notices owed : List ℕ) → AreNotices notices → IsOwed A a r owed Stays b → IsOutput A a (r ∷ []) (notices ++ owed) b
-  answered_with a b r notices owed n (ns, text, is, are, answers) = (
+  answered_with : (a b : P) (r : Asking) (notices owed : List ℕ) (next : Next) → closes next ≡ false → AreNotices notices → IsOwed A a r owed next b → IsOutput A a (r ∷ []) (notices ++ owed) b
+  answered_with a b r notices owed next open_ n (ns, text, is, are, answers) = (
     notices ++ ns,
     text,
     [],
     b,
     ap (λ (x : List ℕ). notices ++ x) is ∙ sym (append_assoc notices ns text) ∙ ap (λ (x : List ℕ). (notices ++ ns) ++ x) (sym (append-nil text)),
     notices_join notices ns n are,
-    answers,
+    (next, open_, answers),
     (no_notices, refl),
   )
 
-  answered : (old new : Held) (a b : P) (r : Asking) (notices owed : List ℕ) → new.ended ≡ None → coming old.pending ≡ ahead (r ∷ []) (coming new.pending)
-      → AreNotices notices → IsOwed A a r owed Stays b → new.unsent ≡ (old.unsent ++ notices) ++ owed → Says A old a new b
-  answered old new a b r notices owed f one n is unsent = (
+  answered : (old new : Held) (a b : P) (r : Asking) (notices owed : List ℕ) (next : Next) → closes next ≡ false → new.ended ≡ None → coming old.pending ≡ ahead (r ∷ []) (coming new.pending)
+      → AreNotices notices → IsOwed A a r owed next b → new.unsent ≡ (old.unsent ++ notices) ++ owed → Says A old a new b
+  answered old new a b r notices owed next open_ f one n is unsent = (
     notices ++ owed,
-    subst (λ (x : Option End). StepsTo A x (coming old.pending) a new b (notices ++ owed)) (sym f) (r ∷ [], one, answered_with a b r notices owed n is),
+    subst (λ (x : Option End). StepsTo A x (coming old.pending) a new b (notices ++ owed)) (sym f) (r ∷ [], one, answered_with a b r notices owed next open_ n is),
     unsent ∙ append_assoc old.unsent notices owed,
   )
 
-  ends_at : (sequel : Sequel) (whole left : Coming) (a b : P) (r : Asking) (notices owed : List ℕ) → whole ≡ ahead (r ∷ []) left → AreNotices notices → IsOwed A a r owed sequel b → EndsAt A sequel whole.asked a b (notices ++ owed)
-  ends_at sequel whole left a b r notices owed one n (ns, text, is, are, answers) = (
+  ends_at : (next : Next) (whole left : Coming) (a b : P) (r : Asking) (notices owed : List ℕ) → whole ≡ ahead (r ∷ []) left → AreNotices notices → IsOwed A a r owed next b → EndsAt A next whole.asked a b (notices ++ owed)
+  ends_at next whole left a b r notices owed one n (ns, text, is, are, answers) = (
     [],
     left.asked,
     r,
@@ -250,12 +251,13 @@ module _ {P : Type 0} (A : P → Asking → List ℕ → Sequel → P → Type 0
   )
 
   -- something that was asked is answered
-  pub says_answer : (old new : Held) (a b : P) (r : Asking) (notices owed : List ℕ) (sequel : Sequel) → new.ended ≡ end_by sequel → coming old.pending ≡ ahead (r ∷ []) (coming new.pending)
-      → AreNotices notices → IsOwed A a r owed sequel b → new.unsent ≡ (old.unsent ++ notices) ++ owed → Says A old a new b
-  says_answer old new a b r notices owed Stays f one n is unsent = answered old new a b r notices owed f one n is unsent
-  says_answer old new a b r notices owed Leaves f one n is unsent = (
+  pub says_answer : (old new : Held) (a b : P) (r : Asking) (notices owed : List ℕ) (next : Next) → new.ended ≡ end_by next → coming old.pending ≡ ahead (r ∷ []) (coming new.pending)
+      → AreNotices notices → IsOwed A a r owed next b → new.unsent ≡ (old.unsent ++ notices) ++ owed → Says A old a new b
+  says_answer old new a b r notices owed Goes f one n is unsent = answered old new a b r notices owed Goes refl f one n is unsent
+  says_answer old new a b r notices owed Waits f one n is unsent = answered old new a b r notices owed Waits refl f one n is unsent
+  says_answer old new a b r notices owed Closes f one n is unsent = (
     notices ++ owed,
-    subst (λ (x : Option End). StepsTo A x (coming old.pending) a new b (notices ++ owed)) (sym f) (ends_at Leaves (coming old.pending) (coming new.pending) a b r notices owed one n is),
+    subst (λ (x : Option End). StepsTo A x (coming old.pending) a new b (notices ++ owed)) (sym f) (ends_at Closes (coming old.pending) (coming new.pending) a b r notices owed one n is),
     unsent ∙ append_assoc old.unsent notices owed,
   )
   says_answer old new a b r notices owed Kills f one n is unsent = (
@@ -278,12 +280,12 @@ module _ {P : Type 0} (A : P → Asking → List ℕ → Sequel → P → Type 0
       says_line old new a h over notices goes (ap (λ (p : Pending). p.list) is) large ended
       (took old mid new h ls one same some takes is ∙ ap (λ (r : Option ClientRequest). ahead (askings_of r) (coming new.pending)) none) are (unsent ∙ told_is)
 
-  pub step_answer : (old mid new last : Held) (a c : P) (h : ListState) (ls : List LineData) (one : ClientRequest) (given : Option ClientRequest) (items held owed : List ℕ) (sequel : Sequel) → last ≡ new → mid.pending ≡ old.pending → TellsOf old.unsent mid.unsent → old.pending.lines ≢ []
-      → Takes mid.pending.list mid.pending.lines given h ls → given ≡ Some one → new.pending ≡ pend h ls mid.pending.next mid.pending.piece → IsOwed A a (asking_of one) owed sequel c → new.ended ≡ end_by sequel
+  pub step_answer : (old mid new last : Held) (a c : P) (h : ListState) (ls : List LineData) (one : ClientRequest) (given : Option ClientRequest) (items held owed : List ℕ) (next : Next) → last ≡ new → mid.pending ≡ old.pending → TellsOf old.unsent mid.unsent → old.pending.lines ≢ []
+      → Takes mid.pending.list mid.pending.lines given h ls → given ≡ Some one → new.pending ≡ pend h ls mid.pending.next mid.pending.piece → IsOwed A a (asking_of one) owed next c → new.ended ≡ end_by next
       → new.unsent ≡ items ++ owed → mid.unsent ≡ items ++ held → held ≡ [] → Says A old a last c
-  step_answer old mid new last a c h ls one given items held owed sequel e same (notices, are, told_is) some takes is pends owes ended unsent middle none =
+  step_answer old mid new last a c h ls one given items held owed next e same (notices, are, told_is) some takes is pends owes ended unsent middle none =
       subst (λ (x : Held). Says A old a x c) (sym e)
-      (says_answer old new a c (asking_of one) notices owed sequel ended
+      (says_answer old new a c (asking_of one) notices owed next ended
       (took old mid new h ls given same some takes pends ∙ ap (λ (r : Option ClientRequest). ahead (askings_of r) (coming new.pending)) is) are owes
       (told_eq new.unsent items held owed owed unsent refl none ∙ ap (λ (x : List ℕ). x ++ owed) (sym middle ∙ told_is)))
 
@@ -338,7 +340,7 @@ module _ {P : Type 0} (A : P → Asking → List ℕ → Sequel → P → Type 0
   turns_sent old mid new a b u u' w w' w'' (read, consumes, r) s = (read, consumes, runs_sent (with_read old read) mid new a b w w' w'' r s)
 
 -- The same where what the caller is asked for is named by an equal value.
-module _ {P Q : Type 0} (F : Q → P → Asking → List ℕ → Sequel → P → Type 0) (q q' : Q) (e : q' ≡ q) where
+module _ {P Q : Type 0} (F : Q → P → Asking → List ℕ → Next → P → Type 0) (q q' : Q) (e : q' ≡ q) where
   pub turns_run_as : (old mid new : Held) (a b c : P) (u u' w w' w'' : Option (List ℕ)) → mid.ended ≡ None → Turns (F q) old a u w mid b u' w' → Runs (F q') mid b w' new c w'' → Turns (F q) old a u w new c u' w''
   turns_run_as old mid new a b c u u' w w' w'' goes t r =
       turns_run (F q) old mid new a b c u u' w w' w'' goes t (subst (λ (x : Q). Runs (F x) mid b w' new c w'') e r)

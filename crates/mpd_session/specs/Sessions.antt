@@ -6,8 +6,8 @@ use Rattle.mpd_text.specs.Lines.Split.{line_of, views}
 use Rattle.counted_devices.specs.declared.call_counts.CallCounts.{CallCounts}
 use Rattle.command_lists.specs.Lists.{LineData}
 use Rattle.mpd_answers.specs.declared.asker.Asker.{Asker}
-use Rattle.mpd_answers.specs.declared.asker.Sequel.{Sequel}
-use Rattle.mpd_answers.specs.declared.asker.Sequel.TheVariants.{Stays, Leaves, Kills}
+use Rattle.transitions.specs.declared.reply.Next.{Next}
+use Rattle.transitions.specs.declared.reply.Next.TheVariants.{Goes, Waits, Closes, Kills}
 use Rattle.mpd_session.specs.declared.conversation.Conversation.{Conversation}
 use Rattle.mpd_session.specs.declared.end.End.{End}
 use Rattle.mpd_session.specs.declared.end.End.TheVariants.{Left, Killed, LongLine, LargeList, Unsent, NoPeer, ReadFault, WriteFault}
@@ -76,7 +76,7 @@ abbrev pub with_read : Held → List ℕ → Held
 with_read h bytes = record { pending = read_on h.pending bytes; unsent = h.unsent; ended = h.ended }
 
 -- `P` is what the caller has, and changes with each answer.
-module _ {P : Type 0} (Answers : P → Asking → List ℕ → Sequel → P → Type 0) where
+module _ {P : Type 0} (Answers : P → Asking → List ℕ → Next → P → Type 0) where
   -- The first of what was asked is answered, and the rest is left.
   abbrev pub Continues : Coming → P → Coming → P → List ℕ → Type 0
   Continues whole p left q output = (asked : List Asking) × (whole ≡ ahead asked left) × IsOutput Answers p asked output q
@@ -86,14 +86,14 @@ module _ {P : Type 0} (Answers : P → Asking → List ℕ → Sequel → P → 
   StopsIn asked p q output = (front more : List Asking) × (asked ≡ front ++ more) × IsOutput Answers p front output q
 
   -- This was asked, and its answer is the last.
-  abbrev pub EndsAt : Sequel → List Asking → P → P → List ℕ → Type 0
+  abbrev pub EndsAt : Next → List Asking → P → P → List ℕ → Type 0
   EndsAt next asked p q output =
       (front more : List Asking) × (last : Asking) × (asked ≡ front ++ last ∷ more) × IsLastOutput Answers p front last next output q
 
   -- what was answered where a session was closed
   abbrev pub EndsBy : End → Coming → P → P → List ℕ → List ℕ → Type 0
   -- by an answer
-  EndsBy Left whole p q output unsent = EndsAt Leaves whole.asked p q output
+  EndsBy Left whole p q output unsent = EndsAt Closes whole.asked p q output
   EndsBy Killed whole p q output unsent = EndsAt Kills whole.asked p q output
   -- by a line that is too long: all before it is answered
   EndsBy LongLine whole p q output unsent = IsOutput Answers p whole.asked output q × (whole.next ≡ None)
@@ -210,9 +210,11 @@ Blames (Some ReadFault) reader reader' writer writer' = HasFailedSince reader re
 Blames (Some WriteFault) reader reader' writer writer' = HasFailedSince writer writer'
 Blames _ reader reader' writer writer' = Unit {0}
 
-abbrev pub end_by : Sequel → Option End
-end_by Stays = None
-end_by Leaves = Some Left
+-- the end of a session by what becomes of its client after an answer
+abbrev pub end_by : Next → Option End
+end_by Goes = None
+end_by Waits = None
+end_by Closes = Some Left
 end_by Kills = Some Killed
 
 abbrev pub end_in_list : Bool → Option End

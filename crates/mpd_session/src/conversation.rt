@@ -14,14 +14,14 @@ use crate::unsent::Unsent;
 use counted_devices::{Sink, Source};
 use counted_player::{Ledgers, Seat};
 use house::House;
-use mpd_answers::{Asker, Gatherer, Owed, Sequel, ask};
+use mpd_answers::{Asker, Gatherer, Owed, ask};
 use mpd_text::{Line, SplitFault, Splitter};
 use shelf::Shelf;
 use std::alloc::{AllocError, Global};
 use std::collections::VecDeque;
 use std::io::ErrorKind;
 use std::sync::Wait;
-use transitions::Reply;
+use transitions::{Next, Reply};
 
 /// The most bytes that are held unsent after a turn (this profile's).
 const MAX_UNSENT: usize = 16_777_216;
@@ -205,22 +205,23 @@ impl Conversation {
         ensures held { held_of self.new ≡ held_of self.old }
         ensures nothing { OnOk result (owed_bytes self.new.owed ≡ []) }
     {
-        let mut bytes = Vec::new(self.alloc);
-        self.owed.push_to(self.alloc, &mut bytes)?;
-        self.unsent.push(bytes.as_slice())?;
+        self.unsent.push(&self.owed)?;
         self.owed = Owed::Nothing;
         Ok(())
     }
 
-    /// Takes the notice that waits.
+    /// Takes the notice that waits; where its client waits for none, no lock is taken for it.
     fn tell<L: Ledgers, R: Wait>(&mut self, rt: &R, house: &House<L>) -> Result<(), AllocError>
         requires { owed_bytes self.old.owed ≡ [] }
         ensures frame { KeepsAllButTold self.old self.new }
         ensures told { TellsOf (held_of self.old).unsent (held_of self.new).unsent }
         ensures nothing { OnOk result (owed_bytes self.new.owed ≡ []) }
     {
+        if !self.waits {
+            return Ok(());
+        }
         let notice = house.outbox(rt, self.asker.client);
-        self.waits = self.waits && notice.is_none();
+        self.waits = notice.is_none();
         self.owed = Owed::of_notice(notice);
         self.settle()
     }
@@ -333,10 +334,10 @@ impl Conversation {
             self.ended = end_in_list(self.gatherer.is_over());
             return Ok(());
         };
-        let (owed, sequel) = ask(rt, self.alloc, house, seat, shelf, self.asker, &asked);
+        let owed = ask(rt, self.alloc, house, seat, shelf, self.asker, &asked);
         self.waits = owed.leaves_waiting(self.waits);
+        self.ended = end_by(owed.next());
         self.owed = owed;
-        self.ended = end_by(sequel);
         self.settle()
     }
 
@@ -445,15 +446,15 @@ fn answer_of(ended: Option<End>, all: bool) -> Result<Goes, SessionFault>
     }
 }
 
-/// The end of a session by what follows an answer.
-fn end_by(sequel: Sequel) -> Option<End>
-    ensures end { result ≡ end_by_lem sequel }
+/// The end of a session by what becomes of its client after an answer.
+fn end_by(next: Next) -> Option<End>
+    ensures end { result ≡ end_by_lem next }
     ensures blameless { BlamesNone result }
 {
-    match sequel {
-        Sequel::Stays => None,
-        Sequel::Leaves => Some(End::Left),
-        Sequel::Kills => Some(End::Killed),
+    match next {
+        Next::Goes | Next::Waits => None,
+        Next::Closes => Some(End::Left),
+        Next::Kills => Some(End::Killed),
     }
 }
 

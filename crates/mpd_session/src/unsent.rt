@@ -1,4 +1,5 @@
 //! Bytes that wait to be written.
+use mpd_answers::Owed;
 use std::alloc::{AllocError, Global};
 use std::marker::Model;
 
@@ -27,6 +28,7 @@ impl Model for Unsent {
 
 impl Unsent {
     ghost use Rattle.std.specs.Prelude.{◌≡◌, ◌≤◌, ◌++◌, drop, length, IfOk, OnErr, OnOk};
+    ghost use Rattle.mpd_answers.specs.Owing.{owed_bytes};
 
     pub(crate) fn of(alloc: Global, bytes: &[u8]) -> Result<Unsent, AllocError>
         ensures { IfOk result (λ u. u ≡ bytes.now) }
@@ -44,12 +46,12 @@ impl Unsent {
         &self.bytes[self.written..]
     }
 
-    /// Puts bytes after the others. Without memory nothing changes.
-    pub(crate) fn push(&mut self, bytes: &[u8]) -> Result<(), AllocError>
-        ensures ok { OnOk result (self.new ≡ self.old ++ bytes.now) }
+    /// Puts what is owed after the others. Without memory nothing changes.
+    pub(crate) fn push(&mut self, owed: &Owed) -> Result<(), AllocError>
+        ensures ok { OnOk result (self.new ≡ self.old ++ owed_bytes owed.now) }
         ensures err { OnErr result (self.new ≡ self.old) }
     {
-        self.bytes.extend_from_slice(bytes)
+        owed.push_to(self.alloc, &mut self.bytes)
     }
 
     /// Drops the first bytes, which are written. Where none is left, a large buffer is let go.

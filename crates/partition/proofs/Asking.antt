@@ -23,11 +23,11 @@ use Rattle.transitions.specs.declared.asked.Stand.{Stand}
 use Rattle.transitions.specs.declared.asked.Stand.TheVariants.{Alone, InList}
 use Rattle.player_state.specs.declared.state.Client.{Client}
 use Rattle.player_state.specs.declared.state.Part.{Part}
-use Rattle.transitions.specs.Answers.{Answer, ResponseData, refused_by_shelf, refuses, shut, stays, tells}
+use Rattle.transitions.specs.Answers.{Answer, ResponseData, refused_by_shelf, refuses, shut, stays, tells, closes}
 use Rattle.transitions.specs.Shelves.{is_written}
 use Rattle.transitions.specs.declared.shelf_calls.StoreReply.{StoreReply}
 use Rattle.shelf.specs.declared.faults.ShelfFault.{ShelfFault}
-use Rattle.idle_clients.specs.Clients.{closes, notified, at, moved, move_of}
+use Rattle.idle_clients.specs.Clients.{notified, at, moved, move_of}
 use Rattle.status_commands.specs.Status.{Wish, ToWait, ToGoOn, granted, resumes, wish_of}
 use Rattle.transitions.specs.Transitions.{TransitionData}
 use Rattle.idle_clients.specs.Clients.{client_of}

@@ -24,9 +24,9 @@ use Rattle.transitions.specs.declared.reply.Move.TheVariants.{Stay, Wait, Learn,
 use Rattle.idle_clients.specs.declared.notices.Notice.{Notice}
 use Rattle.player_state.specs.declared.state.Client.{Client}
 use Rattle.player_state.specs.declared.state.Part.{Part}
-use Rattle.transitions.specs.Answers.{ResponseData, refused_by_shelf, stays}
+use Rattle.transitions.specs.Answers.{ResponseData, refused_by_shelf, stays, closes}
 use Rattle.status_commands.specs.Status.{Wish, ToWait, ToGoOn, wish_of}
-use Rattle.idle_clients.specs.Clients.{notified, is_other, at, moved, notice_to, notice_for, notices_after, clients_after, staying, move_of, closes, AllAbove, Rising}
+use Rattle.idle_clients.specs.Clients.{notified, is_other, at, moved, notice_to, notice_for, notices_after, clients_after, staying, move_of, AllAbove, Rising}
 use Rattle.transitions.specs.Transitions.{TransitionData}
 use Rattle.idle_clients.specs.Clients.{client_of}
 use Rattle.partition.specs.Step.{absent, result_of, ends_by, once_written, transition_of, transition_line, transition_wished, written_transition, speaker, mover}

@@ -8,7 +8,8 @@ use Rattle.idle_notes.specs.declared.subsystem.Subsystem.{Subsystem}
 use Rattle.idle_notes.specs.Sets.{none, union, has}
 use Rattle.player_events.specs.declared.event.LogEntry.{LogEntry}
 use Rattle.player_state.specs.declared.state.Client.{Client}
-use Rattle.idle_clients.specs.Clients.{notified, closes, AllAbove, Rising}
+use Rattle.idle_clients.specs.Clients.{notified, AllAbove, Rising}
+use Rattle.transitions.specs.Answers.{closes}
 use Rattle.partition.specs.History.{replay}
 use Rattle.partition.specs.Image.{Image}
 use Rattle.transitions.specs.Transitions.{TransitionData}

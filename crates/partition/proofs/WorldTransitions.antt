@@ -24,8 +24,8 @@ use Rattle.transitions.specs.declared.reply.Move.TheVariants.{Wait, Learn}
 use Rattle.transitions.specs.declared.reply.Next.TheVariants.{Goes, Waits}
 use Rattle.idle_clients.specs.declared.notices.Notice.{Notice}
 use Rattle.player_state.specs.declared.state.Client.{Client}
-use Rattle.transitions.specs.Answers.{ResponseData}
-use Rattle.idle_clients.specs.Clients.{notified, move_of, closes, options, playing, Rising}
+use Rattle.transitions.specs.Answers.{ResponseData, closes}
+use Rattle.idle_clients.specs.Clients.{notified, move_of, options, playing, Rising}
 use Rattle.status_commands.specs.Status.{idles}
 use Rattle.player_state.specs.Effects.{Change, change_of, channels_after, outputs_after, player_after, volume_after}
 use Rattle.partition.specs.Image.{Image}

@@ -17,7 +17,8 @@ use Rattle.player_events.specs.declared.event.LogEntry.{LogEntry}
 use Rattle.player_state.specs.declared.state.Client.{Client}
 use Rattle.transitions.specs.declared.shelf_calls.ShelfWrite.{ShelfWrite}
 use Rattle.partition.specs.declared.state.Setup.{Setup}
-use Rattle.idle_clients.specs.Clients.{Watched, raised, notified, closes, Rising}
+use Rattle.idle_clients.specs.Clients.{Watched, raised, notified, Rising}
+use Rattle.transitions.specs.Answers.{closes}
 use Rattle.partition.specs.History.{made_of, replay}
 use Rattle.player_state.specs.Effects.{Change, ByEdit, ByStep, change_of, channels_after, outputs_after, player_after, queue_after, volume_after}
 use Rattle.partition.specs.Image.{Image, opening}

@@ -1,6 +1,6 @@
 -- Command lists (MPD protocol reference, Command lists; that each command is an event of its own is this
 -- profile's).
-use Rattle.std.specs.Prelude.{◌≡◌, ℕ, ◌+◌, ◌<◌, true, false, List, [], ◌∷◌, ◌++◌, length, map, take, codes, slice_get, slice_index_or, None, if◌then◌else◌}
+use Rattle.std.specs.Prelude.{◌≡◌, ℕ, ◌+◌, ◌-◌, ◌<◌, true, false, List, [], ◌∷◌, ◌++◌, length, map, take, codes, slice_get, slice_index_or, Option, Some, None, if◌then◌else◌}
 use Rattle.std.specs.List.{flat_map, list_any}
 use Rattle.std.specs.Option.{ForSome}
 use Rattle.command_lists.specs.declared.word.ListForm.{ListForm}
@@ -11,6 +11,8 @@ use Rattle.player_events.specs.declared.event.Event.{Event}
 use Rattle.player_events.specs.declared.event.Event.TheVariants.{Line}
 use Rattle.player_events.specs.declared.event.LogEntry.{LogEntry}
 use Rattle.transitions.specs.declared.asked.Stand.TheVariants.{InList}
+use Rattle.transitions.specs.declared.reply.Next.{Next}
+use Rattle.transitions.specs.declared.reply.Next.TheVariants.{Goes}
 use Rattle.partition.specs.declared.partition.PartitionFault.{PartitionFault}
 use Rattle.partition.specs.declared.partition.PartitionFault.TheVariants.{HistoryFull, CutsAtLimit, AtLimit, NoMemory}
 use Rattle.player_core.specs.declared.fault.PlayerFault.{PlayerFault}
@@ -55,6 +57,15 @@ pub record AreEntries (seat : ℕ) (i : Image) (client : ℕ) (form : ListForm) 
 abbrev pub EntriesAre : Type 0
 EntriesAre = (seat : ℕ) (i : Image) (client : ℕ) (form : ListForm) (place : ℕ) (requests : List Answered)
     → AreEntries seat i client form place requests (entries_of seat i client form place requests)
+
+-- what becomes of a client that was told this last, or nothing at all
+abbrev pub next_in : Option OutcomeData → Next
+next_in None = Goes
+next_in (Some told) = told.answer.next
+
+-- what becomes of a client after the last of its list's commands that was run
+abbrev pub next_after : List OutcomeData → Next
+next_after tolds = next_in (slice_get tolds (length tolds - 1))
 
 -- answers side by side
 abbrev pub answers_of : List OutcomeData → List ℕ

@@ -1,7 +1,7 @@
 //! One event after the other, each kept with what it made clients hear.
 ghost use Rattle.std.specs.Prelude.{◌≡◌, ◌⊎◌, ◌<◌, ◌≤◌, ◌+◌, ◌++◌, ◌∷◌, [], None, count_by, length, map, vec_len, vec_capacity, IfErr, IfOk, OnErr, OnOk, not, true, false, nat_le, slice_index_or};
 ghost use Rattle.partition.specs.declared.partition.PartitionFault.{PartitionFault};
-ghost use Rattle.idle_clients.specs.Clients.{closes as closes_lem, notified};
+ghost use Rattle.idle_clients.specs.Clients.{notified};
 ghost use Rattle.partition.specs.Image.{counted, image_of_state};
 ghost use Rattle.partition.specs.Lent.{HasCause, IsRefusedIn, IsUnwrittenBy, IsWriteReply, RecordsIn, ServesEvent, TurnsByWriteOf};
 ghost use Rattle.partition.specs.Applying.{AddsEntry, GrowsBy, HearsRefusal, IsAlone, IsImageAfter, IsWithinLimits, PassesNoLimit, RefusesEvent, answer_to, clients_told, image_after, notices_by, notices_of, notices_told, outcome_with, report_by, telling_of};
@@ -29,7 +29,7 @@ use player_events::{Event, LogEntry, Outcome};
 use player_state::{Client, Library, Part, done};
 use shelf::{Shelf, ShelfFault};
 use std::alloc::{AllocError, Global};
-use transitions::{Next, Refusals, Response, ShelfWrite, StoreReply, Telling, Transition};
+use transitions::{Refusals, Response, ShelfWrite, StoreReply, Telling, Transition};
 
 /// What an event made clients hear; the notices twice, to hand out and to keep.
 #[derive(Drop)]
@@ -470,7 +470,7 @@ fn tell_clients(
     ensures few { length (listed notices.new) ≤ count_by is_waiting clients.old.items }
     ensures none { raised_in raised.now ≡ nothing → listed notices.new ≡ [] }
 {
-    let closing = closes(response.next());
+    let closing = response.next().closes();
     if closing {
         leave(clients, number);
     }
@@ -497,15 +497,6 @@ fn tell_all(clients: &mut [Client], raised: &Raised, notices: &mut Notices)
     }
     list_notices(clients, raised, notices);
     notify_all(clients, raised);
-}
-
-fn closes(next: Next) -> bool
-    ensures { result ≡ closes_lem next }
-{
-    match next {
-        Next::Goes | Next::Waits => false,
-        Next::Closes => true,
-    }
 }
 
 /// Whether the daemon has ended, after an event.

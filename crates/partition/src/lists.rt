@@ -2,7 +2,7 @@
 ghost use Rattle.std.specs.Prelude.{◌≡◌, ◌++◌, ℕ, List, OnErr, OnOk};
 ghost use Rattle.partition.specs.Lists.{answers_of};
 ghost use Rattle.std.specs.List.{list_any};
-ghost use Rattle.idle_clients.specs.Clients.{closes};
+ghost use Rattle.transitions.specs.Answers.{closes};
 ghost use Rattle.player_events.specs.Events.{ends_list};
 
 use crate::partition::PartitionFault;
@@ -28,7 +28,7 @@ impl Model for ListOutcome {
 }
 
 impl ListOutcome {
-    ghost use Rattle.partition.specs.Lists.{list_text, text_with};
+    ghost use Rattle.partition.specs.Lists.{list_text, next_after, text_with};
 
     /// The outcome of each command that was run.
     pub fn outcomes(&self) -> &[Outcome]
@@ -43,7 +43,17 @@ impl ListOutcome {
     {
         self.outcomes
             .iter()
-            .any(|outcome| matches!(outcome.reply().next(), Next::Closes))
+            .any(|outcome| outcome.reply().next().closes())
+    }
+
+    /// What becomes of the client after the last command that was run.
+    pub fn next(&self) -> Next
+        ensures { result ≡ next_after self.now }
+    {
+        match self.outcomes.last() {
+            Some(outcome) => outcome.reply().next(),
+            None => Next::Goes,
+        }
     }
 
     /// Appends the whole answer, by one growth: the commands' answers, and `OK` if all succeeded. Without

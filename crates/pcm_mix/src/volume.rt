@@ -5,11 +5,14 @@ ghost use Rattle.pcm_mix.specs.Samples.{gained};
 use crate::Frame;
 
 /// Sets frames to a volume in percent, from 0 to 100: each sample becomes `sample * volume / 100`, rounded
-/// toward zero.
+/// toward zero. The full volume leaves them.
 pub fn gain(frames: &mut [Frame], volume: u8)
     requires { volume ≤ 100 }
     ensures { frames.new ≡ map (map (gained volume)) frames.old }
 {
+    if volume == 100 {
+        return;
+    }
     for frame in frames.iter_mut() {
         *frame = gained_frame(*frame, volume);
     }

@@ -7,7 +7,7 @@ use Rattle.transitions.specs.Shelves.{no_store_reply}
 use Rattle.transitions.specs.declared.asked.Stand.{Stand}
 use Rattle.transitions.specs.declared.asked.Stand.TheVariants.{Alone}
 use Rattle.transitions.specs.declared.shelf_calls.StoreReply.{StoreReply}
-use Rattle.idle_clients.specs.Clients.{closes}
+use Rattle.transitions.specs.Answers.{closes}
 use Rattle.player_events.specs.declared.event.Event.{Event}
 use Rattle.player_events.specs.declared.event.Event.TheVariants.{Line}
 use Rattle.player_events.specs.Outcomes.{OutcomeData}

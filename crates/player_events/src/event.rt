@@ -11,7 +11,7 @@ use player_state::Report;
 use shelf::ShelfFault;
 use song_db::SharedDb;
 use std::marker::Model;
-use transitions::{Next, Reply, Stand, StoreReply};
+use transitions::{Reply, Stand, StoreReply};
 
 /// Something that happens to the player. Each is applied whole.
 pub enum Event {
@@ -137,7 +137,7 @@ impl Outcome {
     pub fn ends_list(&self) -> bool
         ensures { result ≡ ends_list self.now }
     {
-        self.reply.is_refusal() || matches!(self.reply.next(), Next::Closes)
+        self.reply.is_refusal() || self.reply.next().closes()
     }
 
     /// What is told to a part of the daemon that is no client.

@@ -95,7 +95,7 @@ fn after(next: Next) -> &'static str {
     match next {
         Next::Goes => "",
         Next::Waits => "waits\n",
-        Next::Closes => "closed\n",
+        Next::Closes | Next::Kills => "closed\n",
     }
 }
 

@@ -8,7 +8,7 @@ use Rattle.mpd_command.specs.Names.{all_names, is_forbidden}
 use Rattle.mpd_text.specs.Answers.Answer.{pair_line}
 use Rattle.mpd_text.specs.Songs.Tags.{tag_names, tag_text}
 use Rattle.transitions.specs.Answers.{Answer, succeeds}
-use Rattle.transitions.specs.CommandResults.{closes_client, only}
+use Rattle.transitions.specs.CommandResults.{closes_client, ends_daemon, only}
 use Rattle.transitions.specs.Transitions.{CommandResult}
 use Rattle.transitions.specs.declared.asked.Asked.{Asked}
 use Rattle.mpd_command.specs.declared.connection.ConnectionCommand.{ConnectionCommand}
@@ -47,7 +47,7 @@ not_commands asked allow_kill = succeeds asked.stand (command_lines allow_kill t
 unfoldable pub result_of : Asked → ConnectionCommand → CommandResult
 result_of asked connection.Close = closes_client asked
 result_of asked (connection.Commands allow_kill) = only (commands asked allow_kill)
-result_of asked connection.Kill = closes_client asked
+result_of asked connection.Kill = ends_daemon asked
 result_of asked (connection.NotCommands allow_kill) = only (not_commands asked allow_kill)
 result_of asked connection.Ping = only (ping asked)
 result_of asked connection.TagTypes = only (tag_types asked)

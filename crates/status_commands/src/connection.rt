@@ -22,7 +22,7 @@ pub fn run(alloc: Global, asked: Asked, part: &Part, command: &ConnectionCommand
     match command {
         ConnectionCommand::Close => Transition::closes_client(alloc, asked),
         ConnectionCommand::Commands(allow_kill) => Ok(Transition::only(commands(alloc, asked, *allow_kill)?)),
-        ConnectionCommand::Kill => Transition::closes_client(alloc, asked),
+        ConnectionCommand::Kill => Transition::ends_daemon(alloc, asked),
         ConnectionCommand::NotCommands(allow_kill) => Ok(Transition::only(not_commands(alloc, asked, *allow_kill)?)),
         ConnectionCommand::Ping => Ok(Transition::only(ping(alloc, asked)?)),
         ConnectionCommand::TagTypes => Ok(Transition::only(tag_types(alloc, asked)?)),

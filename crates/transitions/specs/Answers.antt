@@ -11,7 +11,7 @@ use Rattle.mpd_command.specs.Requests.{text_of_name}
 use Rattle.transitions.specs.declared.reply.Move.{Move}
 use Rattle.transitions.specs.declared.reply.Move.TheVariants.{Stay}
 use Rattle.transitions.specs.declared.reply.Next.{Next}
-use Rattle.transitions.specs.declared.reply.Next.TheVariants.{Goes, Closes}
+use Rattle.transitions.specs.declared.reply.Next.TheVariants.{Goes, Waits, Closes, Kills}
 use Rattle.transitions.specs.declared.asked.Asked.{Asked}
 use Rattle.transitions.specs.declared.asked.Stand.{Stand}
 use Rattle.transitions.specs.declared.asked.Stand.TheVariants.{Alone, InList}
@@ -74,9 +74,24 @@ refused_by_shelf stand name NoSticker = refuses stand name NoExist (codes "no su
 refused_by_shelf stand name StoreFault = refuses stand name System (codes "store fault")
 refused_by_shelf stand name NoMemory = refuses stand name System (codes "store fault")
 
+-- whether an answer closes its client
+abbrev pub closes : Next → Bool
+closes Goes = false
+closes Waits = false
+closes Closes = true
+closes Kills = true
+
+-- no bytes
+abbrev pub silence : Next → Answer
+silence next = record { text = codes ""; next = next; refused = false }
+
 -- closed, without bytes
 abbrev pub shut : Answer
-shut = record { text = codes ""; next = Closes; refused = false }
+shut = silence Closes
+
+-- the same where the daemon ends as well
+abbrev pub shut_down : Answer
+shut_down = silence Kills
 
 -- an answer to a client that makes no move
 abbrev pub stays : Answer → ResponseData

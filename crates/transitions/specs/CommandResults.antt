@@ -5,7 +5,7 @@ use Rattle.mpd_text.specs.declared.answers.answer.ErrorNumber.TheVariants.{Argum
 use Rattle.song_queue.specs.declared.edit.Edit.{Edit}
 use Rattle.player_state.specs.declared.effect.CommandEffect.{CommandEffect}
 use Rattle.player_state.specs.declared.effect.CommandEffect.TheVariants.{Rests, Edits, Leaves}
-use Rattle.transitions.specs.Answers.{Answer, refuses_command, shut, succeeds}
+use Rattle.transitions.specs.Answers.{Answer, refuses_command, shut, shut_down, succeeds}
 use Rattle.transitions.specs.declared.asked.Asked.{Asked}
 use Rattle.player_state.specs.declared.scan.ScanMove.TheVariants.{Stay, Begin}
 use Rattle.transitions.specs.declared.shelf_calls.ShelfWrite.{ShelfWrite}
@@ -57,3 +57,7 @@ bad_name asked name = refusal asked Argument (codes "bad name \"" ++ name ++ cod
 -- the client is gone, without an answer
 abbrev pub closes_client : Asked → CommandResult
 closes_client asked = record (only shut) { effect = Leaves asked.client }
+
+-- the client is gone, without an answer, and the daemon ends
+abbrev pub ends_daemon : Asked → CommandResult
+ends_daemon asked = record (only shut_down) { effect = Leaves asked.client }

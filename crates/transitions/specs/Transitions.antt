@@ -54,9 +54,13 @@ quiet response = record { effect = ByCommand Rests; scan = Stay; written = Unwri
 abbrev pub only_written : TransitionData → TransitionData
 only_written t = record (quiet t.response) { written = t.written }
 
--- a client goes, with its channels and its messages
+-- a client goes, with its channels and its messages, which is answered so
+abbrev pub leaves : ℕ → ResponseData → TransitionData
+leaves number response = record (quiet response) { effect = ByCommand (Leaves number) }
+
+-- a client goes without an answer
 abbrev pub departs : ℕ → TransitionData
-departs number = record (quiet (stays shut)) { effect = ByCommand (Leaves number) }
+departs number = leaves number (stays shut)
 
 -- an event that comes from no client is answered by its report alone
 abbrev pub no_response : ResponseData

@@ -14,6 +14,22 @@ pub enum Next {
     Waits,
     /// It is gone.
     Closes,
+    /// It is gone, and the daemon ends.
+    Kills,
+}
+
+impl Next {
+    ghost use Rattle.transitions.specs.Answers.{closes};
+
+    /// Whether its client is gone.
+    pub fn closes(self) -> bool
+        ensures { result ≡ closes self }
+    {
+        match self {
+            Next::Goes | Next::Waits => false,
+            Next::Closes | Next::Kills => true,
+        }
+    }
 }
 
 /// What an event does to what is pending for the client that it comes from.

@@ -2,7 +2,7 @@
 ghost use Rattle.std.specs.Prelude.{◌≡◌, OnOk, ◌++◌, codes};
 ghost use Rattle.std.specs.String.{string_bytes};
 ghost use Rattle.mpd_command.specs.Requests.{text_of_name};
-ghost use Rattle.transitions.specs.Answers.{Responds, ending, refuses as refuses_lem, refuses_command, response_of, shut as shut_lem, stays, succeeds as succeeds_lem, tells as tells_lem};
+ghost use Rattle.transitions.specs.Answers.{Responds, ending, refuses as refuses_lem, refuses_command, response_of, shut as shut_lem, shut_down as shut_down_lem, silence as silence_lem, stays, succeeds as succeeds_lem, tells as tells_lem};
 
 use crate::asked::{Asked, Stand};
 use crate::reply::{Move, Next, Reply};
@@ -173,10 +173,20 @@ fn name_text(name: Option<Name>) -> &'static str
 pub fn shut(alloc: Global) -> Result<Response, AllocError>
     ensures { Responds result (stays shut_lem) }
 {
-    Response::of(
-        SharedText::of(String::new(alloc))?,
-        Next::Closes,
-        false,
-        Move::Stay,
-    )
+    silence(alloc, Next::Closes)
+}
+
+/// Closed, without bytes, where the daemon ends as well.
+pub fn shut_down(alloc: Global) -> Result<Response, AllocError>
+    ensures { Responds result (stays shut_down_lem) }
+{
+    silence(alloc, Next::Kills)
+}
+
+/// No bytes, and what becomes of the client.
+fn silence(alloc: Global, next: Next) -> Result<Response, AllocError>
+    ensures { Responds result (stays (silence_lem next)) }
+{
+    let nothing = SharedText::of(String::new(alloc))?;
+    Response::of(nothing, next, false, Move::Stay)
 }

@@ -1,16 +1,16 @@
 //! What an event is to do, found out before anything changes.
 ghost use Rattle.std.specs.Prelude.{◌≡◌, if◌then◌else◌, true, false, IfOk, IsErrOf, OnOk, OnErr};
-ghost use Rattle.transitions.specs.CommandResults.{begins_scan as begins_scan_lem, bad_index as bad_index_lem, bad_name as bad_name_lem, closes_client as closes_client_lem, does as does_lem, edits, no_such_song as no_such_song_lem, not_playing as not_playing_lem, refusal, shows as shows_lem, writes as writes_lem};
+ghost use Rattle.transitions.specs.CommandResults.{begins_scan as begins_scan_lem, bad_index as bad_index_lem, bad_name as bad_name_lem, closes_client as closes_client_lem, does as does_lem, edits, ends_daemon as ends_daemon_lem, no_such_song as no_such_song_lem, not_playing as not_playing_lem, refusal, shows as shows_lem, writes as writes_lem};
 ghost use Rattle.player_state.specs.Effects.{part_after};
 ghost use Rattle.player_state.specs.Libraries.{library_after};
 ghost use Rattle.player_state.specs.Fits.{Fits};
 ghost use Rattle.transitions.specs.Shelves.{is_written};
 ghost use Rattle.player_state.specs.declared.report.Report.{Report};
-ghost use Rattle.transitions.specs.Transitions.{IsDecidedBy, acts as acts_lem, acts_unless as acts_unless_lem, departs as departs_lem, keeps_all_numbers, only_written, or_ended as or_ended_lem, quiet, report_of, no_response};
+ghost use Rattle.transitions.specs.Transitions.{IsDecidedBy, acts as acts_lem, acts_unless as acts_unless_lem, departs as departs_lem, keeps_all_numbers, leaves as leaves_lem, only_written, or_ended as or_ended_lem, quiet, report_of, no_response};
 
 use crate::asked::Asked;
 use crate::reply::Move;
-use crate::response::{Response, refuses, shows, shut, succeeds, tells};
+use crate::response::{Response, refuses, shows, shut, shut_down, succeeds, tells};
 use crate::shelf_calls::ShelfWrite;
 use mpd_text::{Answer, ErrorNumber};
 use player_core::PlayerFault;
@@ -162,13 +162,7 @@ impl Transition {
     pub fn departs(alloc: Global, client: u32) -> Result<Transition, AllocError>
         ensures { IfOk result (λ transition. transition ≡ departs_lem client) }
     {
-        Ok(Transition {
-            effect: Effect::ByCommand(CommandEffect::Leaves(client)),
-            scan: ScanMove::Stay,
-            written: ShelfWrite::Nothing,
-            response: shut(alloc)?,
-            report: Report::Nothing,
-        })
+        Ok(Transition::leaves(client, shut(alloc)?))
     }
 
     /// The client that asks is gone, without an answer.
@@ -176,6 +170,26 @@ impl Transition {
         ensures { IsDecidedBy result (closes_client_lem asked) }
     {
         Transition::departs(alloc, asked.client)
+    }
+
+    /// The client that asks is gone, without an answer, and the daemon ends.
+    pub fn ends_daemon(alloc: Global, asked: Asked) -> Result<Transition, AllocError>
+        ensures { IsDecidedBy result (ends_daemon_lem asked) }
+    {
+        Ok(Transition::leaves(asked.client, shut_down(alloc)?))
+    }
+
+    /// A client is gone, which is answered so.
+    fn leaves(client: u32, response: Response) -> Transition
+        ensures { result ≡ leaves_lem client response }
+    {
+        Transition {
+            effect: Effect::ByCommand(CommandEffect::Leaves(client)),
+            scan: ScanMove::Stay,
+            written: ShelfWrite::Nothing,
+            response,
+            report: Report::Nothing,
+        }
     }
 
     /// What writes to the shelf does nothing else.

@@ -11,7 +11,7 @@ returns-in_default g c =
 pub returns-in-Ok-command : goal.returns-in-Ok-command
 returns-in-Ok-command g c =
     line_ran g.S.Shelf.standing g.S.Shelf.failed c.args.asker (caller c.args.seat.now c.args.shelf.now) (caller c.command.new.seat c.command.new.shelf) (option_copied c.args.line) c.in-Ok.request c.in-Ok-command.answered
-    _ _ c.in-Ok.ensures c.of_line.ensures.owed (search rules) c.in-Ok-command.ensures.made c.in-Ok-command.ensures.somewhere
+    _ _ c.in-Ok.ensures refl refl c.in-Ok-command.ensures.made c.in-Ok-command.ensures.somewhere
 
 pub returns-in-Err : goal.returns-in-Err
 returns-in-Err g c =

@@ -10,7 +10,7 @@ returns-then-is_empty g c =
 pub returns-in-Ok : goal.returns-in-Ok
 returns-in-Ok g c =
     list_ran g.S.Shelf.standing g.S.Shelf.failed c.args.asker (caller c.args.seat.now c.args.shelf.now) (caller c.list.new.seat c.list.new.shelf) c.args.list.now c.read_all-requests.result.0.items c.read_all-requests.result.1 c.in-Ok.answered
-    _ _ c.first_kill-kill.result (search rules) (search rules) c.of_list.ensures.owed c.of_list.ensures.sequel c.in-Ok.ensures.made c.in-Ok.ensures.somewhere
+    _ _ (search rules) refl refl c.in-Ok.ensures.made c.in-Ok.ensures.somewhere
 
 pub returns-in-Err : goal.returns-in-Err
 returns-in-Err g c =
