@@ -43,7 +43,8 @@ next_by _ = Goes
 abbrev pub Grows : List ℕ → List ℕ → Type 0
 Grows old new = (more : List ℕ) × (new ≡ old ++ more)
 
--- what is owed for what was asked, and what becomes of the client: an answer that the player of one thread may give to it
+-- what is owed for what was asked, and what becomes of the client: an answer that the player of one thread
+-- may give to it
 abbrev pub IsOwedFor : {S : Type 0} → (S → Standing) → (S → S → Call → Type 0) → Asker → SeatCount → S → Asking → Owed → SeatCount → S → Type 0
 IsOwedFor standing failed asker seat shelf one owed seat' shelf' =
     IsOwed (Answers standing failed asker) (caller seat shelf) one (owed_bytes owed) (next_by owed) (caller seat' shelf')
