@@ -1,6 +1,6 @@
 -- What a list's commands make of the player and its shelf, by the entries that join its history.
 use Rattle.std.proofs.Common.{◌≡◌, ℕ, zero, suc, ◌+◌, ◌<◌, Bool, true, false, List, [], ◌∷◌, ◌++◌, length, map, take, drop, Option, Some, None, refl, ap, sym, ◌∙◌, append-nil, take-append-drop, arith, if◌then◌else◌}
-use Rattle.std.specs.Prelude.{◌||◌, ◌==◌, slice_get, slice_index_or, codes}
+use Rattle.std.specs.Prelude.{◌||◌, ◌==◌, ◌-◌, slice_get, slice_index_or, codes}
 use Rattle.std.specs.List.{list_any}
 use Rattle.std.specs.Option.{ForSome}
 use Rattle.std.proofs.lemmas.Bool.{eq-eqb, ne_eqb}
@@ -14,7 +14,7 @@ use Rattle.transitions.specs.Answers.{closes}
 use Rattle.partition.specs.History.{Chronicle, is_full, joined, joined_by}
 use Rattle.partition.specs.Image.{Image}
 use Rattle.partition.specs.Lent.{ServesAll}
-use Rattle.partition.specs.Lists.{Answered, entries_of, fault_text, AllWithin, RunsList, Stop, StopsList}
+use Rattle.partition.specs.Lists.{Answered, entries_of, fault_text, next_after, next_in, AllWithin, RunsList, Stop, StopsList}
 use Rattle.player_events.specs.Events.{ends_list}
 use Rattle.transitions.specs.Shelves.{no_store_reply}
 use Rattle.player_events.specs.Events.{with_store_reply}
@@ -59,7 +59,7 @@ abbrev stopped_to : Shelved Image → List LogEntry → List ℕ → ListRun (Sh
 stopped_to left entries ending = record { player = left; tolds = tolds_of entries; ending = ending }
 
 goes_no_further : (next : Next) (refused : Bool) (end : List ℕ) → (refused || closes next) ≡ true
-    → closed_line next ≡ (if closes next || false then codes "closed\n" else (if (refused || closes next) || false then [] else end))
+    → closed_line next ≡ (if closes next then codes "closed\n" else (if (refused || closes next) || false then [] else end))
 goes_no_further Goes true end e = refl
 goes_no_further Waits true end e = refl
 goes_no_further Closes true end e = refl
@@ -77,12 +77,31 @@ not_closed Closes false e = cc
 not_closed Kills true e = cc
 not_closed Kills false e = cc
 
-two_ifs : (closed ended : Bool) (any_closed any_ended : Bool) (end : List ℕ) → closed ≡ false → ended ≡ false
-    → (if any_closed then codes "closed\n" else (if any_ended then [] else end))
-    ≡ (if closed || any_closed then codes "closed\n" else (if ended || any_ended then [] else end))
-two_ifs true ended any_closed any_ended end c e = cc
-two_ifs false true any_closed any_ended end c e = cc
-two_ifs false false any_closed any_ended end c e = refl
+goes_to_end : (closed ended : Bool) (end : List ℕ) → closed ≡ false → ended ≡ false
+    → end ≡ (if closed then codes "closed\n" else (if ended || false then [] else end))
+goes_to_end true ended end c e = cc
+goes_to_end false true end c e = cc
+goes_to_end false false end c e = refl
+
+goes_past : (closed ended any_ended : Bool) (end : List ℕ) → ended ≡ false
+    → (if closed then codes "closed\n" else (if any_ended then [] else end))
+    ≡ (if closed then codes "closed\n" else (if ended || any_ended then [] else end))
+goes_past closed true any_ended end e = cc
+goes_past true false any_ended end e = refl
+goes_past false false any_ended end e = refl
+
+-- the last answer of several is that of all but the first
+last_of_more : (t u : OutcomeData) (us : List OutcomeData) → next_after (t ∷ u ∷ us) ≡ next_after (u ∷ us)
+last_of_more t u us =
+    let places : length (t ∷ u ∷ us) - 1 ≡ suc (length (u ∷ us) - 1) = omega arith in
+    ap (λ (k : ℕ). next_in (slice_get (t ∷ u ∷ us) k)) places
+
+-- a command that does not end its list leaves to those after it what follows the answers
+ending_after : (t : OutcomeData) (ts : List OutcomeData) (end : List ℕ) → ends_list t ≡ false → ending_of end ts ≡ ending_of end (t ∷ ts)
+ending_after t [] end e = goes_to_end (closes t.answer.next) (ends_list t) end (not_closed t.answer.next t.answer.refused e) e
+ending_after t (u ∷ us) end e =
+    goes_past (closes (next_after (u ∷ us))) (ends_list t) (list_any ends_list (u ∷ us)) end e
+    ∙ ap (λ (next : Next). if closes next then codes "closed\n" else (if ends_list t || list_any ends_list (u ∷ us) then [] else end)) (sym (last_of_more t u us))
 
 -- the event of a request of a list
 abbrev event_at : ℕ → ListForm → ℕ → Answered → Event
@@ -137,11 +156,10 @@ whole old new c number form place (a ∷ more) end within serves =
           ap (λ (s : MemShelf). record { player = beside d s; tolds = t ∷ []; ending = closed_line t.answer.next }) (sym last)
           ∙ ap (λ (ending : List ℕ). record { player = beside d new; tolds = t ∷ []; ending = ending }) (goes_no_further t.answer.next t.answer.refused end e)
       | false ↦ λ e fits last.
-          let open_ = not_closed t.answer.next t.answer.refused e in
           before c new first others (ending_of end (tolds_of others)) rest
           (whole mid new d number form (place + 1) more end fits last)
           ∙ ap (λ (ending : List ℕ). ran_to c new (first ∷ others) ending)
-          (two_ifs (closes t.answer.next) (ends_list t) (list_any (λ (u : OutcomeData). closes u.answer.next) (tolds_of others)) (list_any ends_list (tolds_of others)) end open_ e)
+          (ending_after t (tolds_of others) end e)
     ] in
     one c old mid number form place a (asked_of more) ample end (goes c (Line number (InList form place) a.0 no_store_reply) old mid a.1 serves.1)
     ∙ ap (λ (fault : Option PartitionFault). list_step images (beside c old) place a.0 fault (beside d mid) t rest) within.0

@@ -26,7 +26,7 @@ use Rattle.mpd_command.specs.declared.request.Request.{Request}
 use Rattle.mpd_command.specs.declared.request.Request.TheVariants.{Refused}
 use Rattle.mpd_text.specs.declared.answers.answer.ErrorNumber.TheVariants.{Argument}
 use Rattle.player_events.specs.Events.{ends_list}
-use Rattle.partition.specs.Lists.{fault_text}
+use Rattle.partition.specs.Lists.{fault_text, next_after}
 use Rattle.transitions.specs.declared.asked.Stand.TheVariants.{Alone, InList}
 use Rattle.player_events.specs.declared.event.Event.{Event}
 use Rattle.player_events.specs.declared.event.Event.TheVariants.{Connect, Disconnect, Line, ScanResult, Want, Have, Failed, OutputTurn}
@@ -197,10 +197,10 @@ found_at _ place = Enough
 abbrev pub closed_line : Next → List ℕ
 closed_line next = if closes next then codes "closed\n" else []
 
--- what follows the answers of a list that ran: nothing where a refusal ended it, and `end` where all
--- succeeded
+-- what follows the answers of a list that ran: that its last answer closed the client, nothing where a
+-- refusal ended it, and `end` where all succeeded
 abbrev pub ending_of : List ℕ → List OutcomeData → List ℕ
-ending_of end tolds = if list_any (λ t. closes t.answer.next) tolds then codes "closed\n" else (if list_any ends_list tolds then [] else end)
+ending_of end tolds = if closes (next_after tolds) then codes "closed\n" else (if list_any ends_list tolds then [] else end)
 
 -- a command that was run, and the rest of its list, which is run unless this ended it
 abbrev pub list_goes : {P : Type 0} → P → OutcomeData → ListRun P → ListRun P

@@ -137,7 +137,7 @@ fn whole_answer(alloc: Global, outcome: &ListOutcome, end: &str) -> Result<Vec<u
     ensures { IfOk result (λ answer. answer.items ≡ whole_answer_of end.now outcome.now) }
 {
     let mut answer = Vec::new(alloc);
-    if outcome.closes() {
+    if outcome.next().closes() {
         outcome.push_text_with("", &mut answer)?;
         answer.extend_from_slice(b"closed\n")?;
     } else {

@@ -9,7 +9,7 @@ use Rattle.partition.specs.Image.{Image, opening}
 use Rattle.partition.specs.Legal.{Stands}
 use Rattle.partition.specs.World.{Trace, image_of, trace_after}
 use Rattle.partition.proofs.Flags.{flags_stand}
-use Rattle.partition.proofs.Traces.{all_raise, all_tell, all_heard}
+use Rattle.partition.proofs.Traces.{all_raise, all_tell, all_outcomes}
 use Rattle.partition.proofs.Worlds.{replays_worlds}
 
 pub stands : (setup : Setup) (library : Library) (history : List LogEntry) (i : Image) → 1 ≤ setup.limits.max_version
@@ -24,6 +24,6 @@ stands setup library history i above leads rightly =
       raises = all_raise setup library history above;
       tells = all_tell setup library history above;
       told = rightly;
-      heard = all_heard setup library history above rightly;
+      outcomes = all_outcomes setup library history above rightly;
       rising = subst (λ (j : Image). Rising j.clients) (sym world) law.1;
     }

@@ -12,7 +12,7 @@ use Rattle.player_state.specs.Effects.{Change, change_of}
 use Rattle.partition.specs.Image.{Image, opening}
 use Rattle.partition.specs.Step.{transition, told, next_image}
 use Rattle.partition.specs.World.{WorldTransition, Trace, image_of, trace_after_event, trace_from, opening_trace, trace_after}
-use Rattle.partition.specs.Notices.{Raises, Tells, EachWorldTransition, AreHeard, store_reply_at, heard_then}
+use Rattle.partition.specs.Notices.{Raises, Tells, EachWorldTransition, AreOutcomes, outcome_at, outcome_in}
 use Rattle.partition.proofs.WorldTransitions.{world_transition_of, raises, tells}
 use Rattle.partition.proofs.Worlds.{some_past, image_of-step, rising-step, opens}
 
@@ -40,30 +40,30 @@ pub all_tell : (setup : Setup) (library : Library) (history : List LogEntry) →
     → EachWorldTransition Tells (trace_after (opening setup library) history).world_transitions
 all_tell setup library history above = each_from Tells tells (opening_trace (opening setup library)) [] history above (omega arith) tt tt
 
-one_heard : (trace : Trace) (done : List LogEntry) (h : LogEntry) → h.told ≡ told (image_of trace done) h.event → store_reply_at (world_transition_of trace done h.event) ≡ heard_then h
+one_outcome : (trace : Trace) (done : List LogEntry) (h : LogEntry) → h.told ≡ told (image_of trace done) h.event → outcome_at (world_transition_of trace done h.event) ≡ outcome_in h
 unfolding told
-one_heard trace done h e = ap (λ (t : OutcomeData). (h.event, t)) (sym e)
+one_outcome trace done h e = ap (λ (t : OutcomeData). (h.event, t)) (sym e)
 
-heard_from : (trace : Trace) (done hs : List LogEntry) → 1 ≤ trace.world.limits.max_version → 0 < length trace.world.past → Rising (image_of trace done).clients
+outcomes_from : (trace : Trace) (done hs : List LogEntry) → 1 ≤ trace.world.limits.max_version → 0 < length trace.world.past → Rising (image_of trace done).clients
     → AreTold (image_of trace done) hs
-    → map store_reply_at (reverse (trace_from done trace hs).world_transitions) ≡ map store_reply_at (reverse trace.world_transitions) ++ map heard_then hs
-heard_from trace done [] above some rising told = sym (append-nil (map store_reply_at (reverse trace.world_transitions)))
-heard_from trace done (h ∷ hs) above some rising told =
+    → map outcome_at (reverse (trace_from done trace hs).world_transitions) ≡ map outcome_at (reverse trace.world_transitions) ++ map outcome_in hs
+outcomes_from trace done [] above some rising told = sym (append-nil (map outcome_at (reverse trace.world_transitions)))
+outcomes_from trace done (h ∷ hs) above some rising told =
     let m : WorldTransition = world_transition_of trace done h.event in
-    let was : List (Event × OutcomeData) = map store_reply_at (reverse trace.world_transitions) in
-    let rest : List (Event × OutcomeData) = map heard_then hs in
+    let was : List (Event × OutcomeData) = map outcome_at (reverse trace.world_transitions) in
+    let rest : List (Event × OutcomeData) = map outcome_in hs in
     let next_is : next_image h.seat (image_of trace done) h.event ≡ image_of (trace_after_event done trace h.event) (done ++ h ∷ []) =
     sym (image_of-step trace done h.event above some rising h refl) in
     let more =
-    heard_from (trace_after_event done trace h.event) (done ++ h ∷ []) hs above (some_past trace.world.past (change_in trace done h.event) some)
+    outcomes_from (trace_after_event done trace h.event) (done ++ h ∷ []) hs above (some_past trace.world.past (change_in trace done h.event) some)
     (rising-step trace done h.event above some rising h) (subst (λ (i : Image). AreTold i hs) next_is told.1) in
-    let last : map store_reply_at (reverse (m ∷ trace.world_transitions)) ≡ was ++ store_reply_at m ∷ [] =
-    ap (map store_reply_at) (reverse-append (m ∷ []) trace.world_transitions) ∙ map-append store_reply_at (reverse trace.world_transitions) (m ∷ []) in
-    more ∙ ap (λ (l : List (Event × OutcomeData)). l ++ rest) last ∙ append_assoc was (store_reply_at m ∷ []) rest
-    ∙ ap (λ (x : Event × OutcomeData). was ++ x ∷ rest) (one_heard trace done h told.0)
+    let last : map outcome_at (reverse (m ∷ trace.world_transitions)) ≡ was ++ outcome_at m ∷ [] =
+    ap (map outcome_at) (reverse-append (m ∷ []) trace.world_transitions) ∙ map-append outcome_at (reverse trace.world_transitions) (m ∷ []) in
+    more ∙ ap (λ (l : List (Event × OutcomeData)). l ++ rest) last ∙ append_assoc was (outcome_at m ∷ []) rest
+    ∙ ap (λ (x : Event × OutcomeData). was ++ x ∷ rest) (one_outcome trace done h told.0)
 
 -- what was told at the events of a history is what their transitions tell
-pub all_heard : (setup : Setup) (library : Library) (history : List LogEntry) → 1 ≤ setup.limits.max_version → AreTold (opening setup library) history
-    → AreHeard (trace_after (opening setup library) history).world_transitions history
-all_heard setup library history above told =
-    heard_from (opening_trace (opening setup library)) [] history above (omega arith) tt (subst (λ (i : Image). AreTold i history) (opens setup library above) told)
+pub all_outcomes : (setup : Setup) (library : Library) (history : List LogEntry) → 1 ≤ setup.limits.max_version → AreTold (opening setup library) history
+    → AreOutcomes (trace_after (opening setup library) history).world_transitions history
+all_outcomes setup library history above told =
+    outcomes_from (opening_trace (opening setup library)) [] history above (omega arith) tt (subst (λ (i : Image). AreTold i history) (opens setup library above) told)

@@ -10,7 +10,7 @@ use Rattle.partition.specs.declared.state.Setup.{Setup}
 use Rattle.idle_clients.specs.Clients.{Rising}
 use Rattle.partition.specs.History.{Chronicle, HistoryStep, replay, AreTold, AreToldBy, after_all, begun, events_among}
 use Rattle.partition.specs.Image.{Image, opening}
-use Rattle.partition.specs.Notices.{Raises, Tells, EachWorldTransition, AreHeard}
+use Rattle.partition.specs.Notices.{Raises, Tells, EachWorldTransition, AreOutcomes}
 use Rattle.partition.specs.Since.{HasPendingSince, books_of_all, world_transitions_of}
 use Rattle.partition.specs.World.{WorldTransition, IsPending, pending_for, image_of, trace_after}
 
@@ -29,7 +29,7 @@ pub record Stands (opened : Image) (history : List LogEntry) (i : Image) : Type 
   pub raises : EachWorldTransition (λ world_transition earlier. Raises world_transition) (trace_after opened history).world_transitions
   pub tells : EachWorldTransition Tells (trace_after opened history).world_transitions
   pub told : AreTold opened history
-  pub heard : AreHeard (trace_after opened history).world_transitions history
+  pub outcomes : AreOutcomes (trace_after opened history).world_transitions history
   pub rising : Rising i.clients
 
 -- The player was opened with some settings and songs, and some events came before the base. The base stands

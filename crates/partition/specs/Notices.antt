@@ -130,14 +130,14 @@ abbrev pub EachWorldTransition : (WorldTransition → List WorldTransition → T
 EachWorldTransition P [] = Unit {0}
 EachWorldTransition P (world_transition ∷ earlier) = P world_transition earlier × EachWorldTransition P earlier
 
--- an event, and what clients heard at it
-abbrev pub store_reply_at : WorldTransition → Event × OutcomeData
-store_reply_at world_transition = (world_transition.event, record { answer = world_transition.transition.response.answer; notices = world_transition.notices; report = world_transition.report })
+-- an event, and what was told at it
+abbrev pub outcome_at : WorldTransition → Event × OutcomeData
+outcome_at world_transition = (world_transition.event, record { answer = world_transition.transition.response.answer; notices = world_transition.notices; report = world_transition.report })
 
-abbrev pub heard_then : LogEntry → Event × OutcomeData
-heard_then log_entry = (log_entry.event, log_entry.told)
+abbrev pub outcome_in : LogEntry → Event × OutcomeData
+outcome_in log_entry = (log_entry.event, log_entry.told)
 
 -- the events of a history, and what was told at each, are those of the transitions, the latest of which is
 -- first
-abbrev pub AreHeard : List WorldTransition → List LogEntry → Type 0
-AreHeard world_transitions history = map store_reply_at (reverse world_transitions) ≡ map heard_then history
+abbrev pub AreOutcomes : List WorldTransition → List LogEntry → Type 0
+AreOutcomes world_transitions history = map outcome_at (reverse world_transitions) ≡ map outcome_in history

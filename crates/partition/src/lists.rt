@@ -2,7 +2,6 @@
 ghost use Rattle.std.specs.Prelude.{◌≡◌, ◌++◌, ℕ, List, OnErr, OnOk};
 ghost use Rattle.partition.specs.Lists.{answers_of};
 ghost use Rattle.std.specs.List.{list_any};
-ghost use Rattle.transitions.specs.Answers.{closes};
 ghost use Rattle.player_events.specs.Events.{ends_list};
 
 use crate::partition::PartitionFault;
@@ -35,15 +34,6 @@ impl ListOutcome {
         ensures { result.now ≡ self.now }
     {
         &self.outcomes
-    }
-
-    /// Whether the client is closed.
-    pub fn closes(&self) -> bool
-        ensures { result ≡ list_any (λ t. closes t.answer.next) self.now }
-    {
-        self.outcomes
-            .iter()
-            .any(|outcome| outcome.reply().next().closes())
     }
 
     /// What becomes of the client after the last command that was run.
