@@ -229,8 +229,8 @@ impl Server {
         }
     }
 
-    /// Gives each client a turn for which there is something to do, and then hands out what the others are to
-    /// be told. True where a client ends the daemon.
+    /// Gives each client a turn for which there is something to do, and then, where one idles, hands out what
+    /// the others are to be told. True where a client ends the daemon.
     fn visit_all<L: Ledgers, S: Shelf, R: Wait + Clock>(
         &mut self,
         rt: &R,
@@ -244,6 +244,19 @@ impl Server {
                 return true;
             }
         }
+        self.slots.iter().any(|slot| slot.may_wait())
+            && self.hand_out(rt, alloc, house, seat, shelf)
+    }
+
+    /// Gives each client a turn for which a notice waits. True where a client ends the daemon.
+    fn hand_out<L: Ledgers, S: Shelf, R: Wait + Clock>(
+        &mut self,
+        rt: &R,
+        alloc: Global,
+        house: &House<L>,
+        seat: &mut Seat<L>,
+        shelf: &mut S,
+    ) -> bool {
         // Without memory for this, each is told when the loop looks again.
         let Ok(clients) = house.addressees(rt, alloc) else {
             return false;
