@@ -5,7 +5,6 @@ use Rattle.shelf.specs.Calls.{Call}
 use Rattle.shelf.specs.Maps.{Standing}
 use Rattle.player_events.specs.declared.event.Event.{Event}
 use Rattle.transitions.specs.declared.shelf_calls.StoreReply.{StoreReply}
-use Rattle.transitions.specs.Answers.{Answer}
 use Rattle.player_events.specs.Outcomes.{OutcomeData}
 use Rattle.partition.specs.History.{Chronicle}
 use Rattle.partition.specs.Image.{Image, no_events}
@@ -50,15 +49,16 @@ done_in (Err stop) = stop.done
 abbrev pub AreEnabled : List Bool → Image → Type 0
 AreEnabled outputs i = (output : ℕ) → output < 8 → slice_index_or outputs output false ≡ is_enabled i.part.outputs output
 
-module _ {S : Type 0} (standing : S → Standing) (failed : S → S → Call → Type 0) where
-  -- An answer that the player of one thread gives to the event after some past in which the seat made so many
-  -- events, by what the lent shelf answered, which answered and changed as that past and the event say.
-  abbrev pub AnswersSomewhere : S → S → ℕ → ℕ → Event → Answer → Type 0
-  AnswersSomewhere old new seat made event answer =
-      (past : Chronicle) × IsPast past × (own_in seat past.present ≡ made)
-      × ((heard : StoreReply) × (answer ≡ (told past.present (with_store_reply event heard)).answer)
-      × Serves standing failed old new (question past.present event) (writing past.present event heard) heard)
+-- A past that a caller may find, who made so many events: one in which its seat made just these. Events of
+-- the house's own threads are not counted in their seats.
+abbrev pub MayFind : SeatCount → Chronicle → Type 0
+MayFind seat past = IsPast past × (seat.number < 4 → own_in seat.number past.present ≡ seat.made)
 
-  -- the same for the seat of a caller; of a thread of the house nothing is said
-  abbrev pub AnswersSeat : S → S → SeatCount → Event → OutcomeData → Type 0
-  AnswersSeat old new seat event told = seat.number < 4 → AnswersSomewhere old new seat.number seat.made event told.answer
+module _ {S : Type 0} (standing : S → Standing) (failed : S → S → Call → Type 0) where
+  -- What the player of one thread answers to the event after some past that the caller may find, by what the
+  -- lent shelf answered, which answered and changed as that past and the event say.
+  abbrev pub AnswersSomewhere : S → S → SeatCount → Event → OutcomeData → Type 0
+  AnswersSomewhere old new seat event outcome =
+      (past : Chronicle) × MayFind seat past
+      × ((heard : StoreReply) × (outcome.answer ≡ (told past.present (with_store_reply event heard)).answer)
+      × Serves standing failed old new (question past.present event) (writing past.present event heard) heard)

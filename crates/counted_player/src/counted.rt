@@ -56,7 +56,7 @@ impl<L: Ledgers> Counted<L> {
     ghost use Rattle.partition.specs.Step.{limit_of, told as told_of};
     ghost use Rattle.partition.specs.Steps.{RefusesStep, entry};
     ghost use Rattle.player_events.specs.Events.{is_line};
-    ghost use Rattle.counted_player.specs.Counts.{done_in, AnswersSeat, AreEnabled, IsFresh, own_in, song_of};
+    ghost use Rattle.counted_player.specs.Counts.{done_in, AnswersSomewhere, AreEnabled, IsFresh, own_in, song_of};
     ghost use Rattle.counted_player.specs.Seats.{after_events};
     ghost use Rattle.song_queue.specs.State.{queue_of};
 
@@ -96,7 +96,7 @@ impl<L: Ledgers> Counted<L> {
         ensures made { OnOk result (seat.new ≡ after_events seat.old 1) }
         ensures seat { OnErr result (seat.new ≡ seat.old) }
         ensures refused { IfErr result (Refuses S.standing S.failed self.old self.new shelf.old shelf.new seat.old.number event) }
-        ensures somewhere { IfOk result (AnswersSeat S.standing S.failed shelf.old shelf.new seat.old event) }
+        ensures somewhere { IfOk result (AnswersSomewhere S.standing S.failed shelf.old shelf.new seat.old event) }
     {
         let Counted { partition, seats } = self;
         let _past = partition.history();

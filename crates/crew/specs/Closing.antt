@@ -1,29 +1,23 @@
 -- What a close answers.
-use Rattle.std.specs.Prelude.{ℕ, ◌≡◌}
-use Rattle.output_ring.specs.declared.feeder.Feeder.{Feeder}
-use Rattle.output_ring.specs.declared.drainer.Drainer.{Drainer}
-use Rattle.output_ring.specs.Rings.{EndsFeeder, SameDrainer}
+use Rattle.std.specs.Prelude.{◌≡◌, ◌+◌, List}
+use Rattle.frame_ledger.specs.declared.books.OutputShares.{OutputShares}
+use Rattle.held_player.specs.declared.held.CrewShares.{CrewShares}
+use Rattle.held_player.specs.declared.ended_ring.EndedRing.{EndedRing}
 use Rattle.held_player.specs.declared.settlement.Settlement.{Settlement}
-use Rattle.held_player.specs.Settling.{AreOfSomePast, Settles, numbers_in}
-use Rattle.crew.specs.declared.output.OutputLeft.{OutputLeft}
+use Rattle.held_player.specs.Settling.{ClosesBooks}
+use Rattle.output_ring.specs.Rings.{EndsFeeder, SameDrainer}
 use Rattle.crew.specs.declared.output.OutputRun.{OutputRun}
+use Rattle.crew_steps.specs.Each.{Each}
 
--- A settlement is of the two ends of this ring, and of the books that hold the frames given after some past;
--- its answer is right of them.
-pub record SettlesRing {L : Type 0} (feeder : Feeder) (drainer : Drainer) (output : ℕ) (s : Settlement L) : Type 0 where
-  pub feeder_ends : EndsFeeder feeder s.end.value
-  pub drainer_ends : SameDrainer drainer s.drainer.value
-  pub given : AreOfSomePast (numbers_in s.books.value)
-  pub settles : Settles s.end.value s.drainer.value output (numbers_in s.books.value) s.result
+-- the shares gain one part of each of their ledgers
+abbrev pub GainsOnePart : {W X : Type 0} → OutputShares W X → OutputShares W X → Type 0
+GainsOnePart old new = (new.written.parts ≡ old.written.parts + 1) × (new.discarded.parts ≡ old.discarded.parts + 1)
 
--- what an output's run is settled with
-abbrev pub SettlesRun : {L : Type 0} → ℕ → OutputRun L → Settlement L → Type 0
-SettlesRun output run s = SettlesRing run.first.value run.handle.promise.0.value output s
+-- the ring whose two ends came back from the threads is that of the output that ran
+abbrev pub LeavesRun : {L : Type 0} → OutputRun L → EndedRing → Type 0
+LeavesRun run ring = EndsFeeder run.first.value ring.end × SameDrainer run.handle.promise.0.value ring.drainer
 
--- What was left is of the ring of this output.
-abbrev pub LeavesRun : {L : Type 0} → OutputRun L → OutputLeft L → Type 0
-LeavesRun run left = (left.first ≡ run.first) × SameDrainer run.handle.promise.0.value left.end.drainer
-
--- what is settled of what an output left
-abbrev pub SettlesLeft : {L : Type 0} → ℕ → OutputLeft L → Settlement L → Type 0
-SettlesLeft output left s = SettlesRing left.first.value left.end.drainer output s
+-- Each output that ran left its ring, all shares came back, and the rings are settled, one after the other,
+-- against the books of some past, which sum to those shares. Which rings these are the settlements say.
+abbrev pub ClosesRuns : {L : Type 0} → List (OutputRun L) → List (Settlement L) → Type 0
+ClosesRuns {L} runs results = (rings : List EndedRing) × (shares : CrewShares L) × Each LeavesRun runs rings × ClosesBooks shares rings results

@@ -1,7 +1,6 @@
 -- Of which feeder and drainer the thread of an output is.
 use Rattle.output_ring.specs.declared.feeder.Feeder.{Feeder}
 use Rattle.output_ring.specs.declared.drainer.Drainer.{Drainer}
-use Rattle.crew.specs.declared.output.OutputLeft.{OutputLeft}
 use Rattle.crew.specs.declared.output.OutputRun.{OutputRun}
 
 module _ {L : Type 0} where
@@ -11,6 +10,3 @@ module _ {L : Type 0} where
 
   abbrev pub drainer_of_run : OutputRun L → Drainer
   drainer_of_run r = r.handle.promise.0.value
-
-  abbrev pub first_of_left : OutputLeft L → Feeder
-  first_of_left l = l.first.value

@@ -3,6 +3,7 @@
 
 mod ending;
 mod output;
+mod output_runs;
 mod output_start;
 mod outputs;
 mod scanner;
@@ -11,6 +12,7 @@ mod start;
 
 pub use ending::{close, let_go};
 pub use output::OutputRun;
+pub use output_runs::OutputRuns;
 pub use outputs::start_outputs;
 pub use scanner::{Scanner, start_scanner};
 pub use start::{Crew, start_decoder};

@@ -1,8 +1,11 @@
-//! What is had of an output's thread.
+//! What is had of the outputs' threads.
+ghost use Rattle.frame_ledger.specs.Shares.{HasOnePart};
 ghost use Rattle.output_ring.specs.Rings.{AreEnds, SameDrainer};
 
-use counted_player::Ledgers;
+use counted_player::{Discarded, Ledgers, Written};
 use crew_steps::OutputEnd;
+use frame_ledger::OutputShares;
+use held_player::EndedRing;
 use output_ring::{Drainer, Feeder};
 use std::snapshot::Snapshot;
 use std::thread::{Promise, PromisedHandle};
@@ -23,10 +26,10 @@ pub struct OutputRun<L: Ledgers> {
     ghost pair: { AreEnds first.value handle.promise.0.value },
 }
 
-/// What an output's thread handed back, with the feeder that its ring began with.
+/// What an output's thread leaves: its ring, of which the feeder has ended too, and its shares.
 #[derive(Drop)]
-pub struct OutputLeft<L: Ledgers> {
-    pub end: OutputEnd<L>,
-    pub first: Snapshot<Feeder>,
-    ghost pair: { AreEnds first.value end.drainer },
+pub(crate) struct OutputLeft<L: Ledgers> {
+    pub(crate) ring: EndedRing,
+    pub(crate) shares: OutputShares<Written<L>, Discarded<L>>,
+    ghost parts: { HasOnePart shares },
 }

@@ -1,5 +1,6 @@
 //! The start of an output's thread.
-ghost use Rattle.std.specs.Prelude.{◌≡◌, ◌<◌, IfOk};
+ghost use Rattle.std.specs.Prelude.{◌≡◌, IfOk};
+ghost use Rattle.frame_ledger.specs.Shares.{HasOnePart};
 ghost use Rattle.output_ring.specs.Rings.{SameDrainer};
 
 use crate::output::{OfDrainer, OutputRun};
@@ -23,7 +24,7 @@ struct Post<L: Ledgers, O, G> {
     output: usize,
     writer: O,
     shares: OutputShares<Written<L>, Discarded<L>>,
-    ghost parts: { (0 < shares.written.parts) × (0 < shares.discarded.parts) },
+    ghost parts: { HasOnePart shares },
 }
 
 /// Drains frames until the end.
@@ -70,7 +71,7 @@ fn start_thread<
 }
 
 /// Starts the thread of an output, and gives the decoder's end of its ring.
-pub fn start_output<
+pub(crate) fn start_output<
     L: Ledgers + Send + Sync + 'static,
     O: Sink + Drop + Send + 'static,
     G: Gate + Drop + Send + Sync + 'static,
@@ -83,7 +84,7 @@ pub fn start_output<
     output_setup: OutputSetup<O>,
     shares: OutputShares<Written<L>, Discarded<L>>,
 ) -> Result<(OutputRun<L>, Feeder), AllocError>
-    requires { (0 < shares.written.parts) × (0 < shares.discarded.parts) }
+    requires { HasOnePart shares }
     ensures { IfOk result (λ r. (r.0.first.value ≡ output_setup.feeder) × (r.0.handle.promise.0.value ≡ output_setup.drainer) × (r.1 ≡ output_setup.feeder)) }
 {
     let OutputSetup {

@@ -1,17 +1,16 @@
 //! The threads of all outputs.
-ghost use Rattle.std.specs.Prelude.{◌≡◌, ◌<◌, map, IfOk, vec_len};
-ghost use Rattle.frame_ledger.specs.Shares.{HasPartsFor};
+ghost use Rattle.std.specs.Prelude.{◌≡◌, ◌≤◌, map, IfOk, vec_len};
+ghost use Rattle.frame_ledger.specs.Shares.{AreEmpty, HasPartsBut};
 ghost use Rattle.crew.specs.Rows.{first_of_run, drainer_of_run};
 ghost use Rattle.crew_steps.specs.OutputSetups.{feeder_of_setup, drainer_of_setup};
 
-use crate::output::OutputRun;
+use crate::output_runs::OutputRuns;
 use crate::output_start::start_output;
 use counted_devices::Sink;
 use counted_player::{Discarded, Ledgers, Written};
 use crew_steps::{Gate, OutputSetup};
 use frame_ledger::OutputShares;
 use house::House;
-use output_ring::Feeder;
 use std::alloc::{AllocError, Global};
 use std::sync::{Arc, Wait};
 use std::thread::Threads;
@@ -30,12 +29,13 @@ pub fn start_outputs<
     gate: &Arc<G, Global>,
     output_setups: Vec<OutputSetup<O>>,
     shares: OutputShares<Written<L>, Discarded<L>>,
-) -> Result<(Vec<OutputRun<L>>, Vec<Feeder>), AllocError>
-    requires parts { HasPartsFor (vec_len output_setups) shares }
-    ensures runs { IfOk result (λ r. map first_of_run r.0.items ≡ map feeder_of_setup output_setups.items) }
-    ensures drainers { IfOk result (λ r. map drainer_of_run r.0.items ≡ map drainer_of_setup output_setups.items) }
-    ensures feeders { IfOk result (λ r. r.1.items ≡ map feeder_of_setup output_setups.items) }
-    ensures count { IfOk result (λ r. (vec_len r.0 ≡ vec_len output_setups) × (vec_len r.1 ≡ vec_len output_setups)) }
+) -> Result<OutputRuns<L>, AllocError>
+    requires few { vec_len output_setups ≤ 8 }
+    requires parts { HasPartsBut 0 shares }
+    requires empty { AreEmpty shares }
+    ensures runs { IfOk result (λ r. map first_of_run r.runs.items ≡ map feeder_of_setup output_setups.items) }
+    ensures drainers { IfOk result (λ r. map drainer_of_run r.runs.items ≡ map drainer_of_setup output_setups.items) }
+    ensures count { IfOk result (λ r. vec_len r.runs ≡ vec_len output_setups) }
 {
     let OutputShares {
         mut written,
@@ -44,19 +44,17 @@ pub fn start_outputs<
     let mut runs = Vec::new(alloc);
     let mut feeders = Vec::new(alloc);
     for output_setup in output_setups {
-        let (run, feeder) = start_output(
-            rt,
-            house,
-            gate,
-            runs.len(),
-            output_setup,
-            OutputShares {
-                written: written.split_off(1, 0),
-                discarded: discarded.split_off(1, 0),
-            },
-        )?;
+        let one = OutputShares {
+            written: written.split_off(1, 0),
+            discarded: discarded.split_off(1, 0),
+        };
+        let (run, feeder) = start_output(rt, house, gate, runs.len(), output_setup, one)?;
         runs.push(run)?;
         feeders.push(feeder)?;
     }
-    Ok((runs, feeders))
+    Ok(OutputRuns {
+        runs,
+        feeders,
+        shares: OutputShares { written, discarded },
+    })
 }

@@ -1,14 +1,17 @@
 //! The start of the decoder.
-ghost use Rattle.std.specs.Prelude.{◌≡◌, ◌<◌, ◌≤◌, IfOk, [], map, vec_len, vec_capacity};
+ghost use Rattle.std.specs.Prelude.{◌≡◌, ◌≤◌, IfOk, [], map, vec_len, vec_capacity};
+ghost use Rattle.frame_ledger.specs.Shares.{HasPartsBut};
 ghost use Rattle.crew_steps.specs.Each.{Each};
 ghost use Rattle.crew.specs.Rows.{first_of_run};
 ghost use Rattle.output_ring.specs.Rings.{EndsFeeder};
 
-use crate::output::{OutputLeft, OutputRun};
+use crate::output::OutputRun;
+use crate::output_runs::OutputRuns;
 use counted_devices::Media;
-use counted_player::{Decoded, Ledgers};
-use crew_steps::{Decoder, SongSource};
-use held_player::Settlement;
+use counted_player::{Decoded, Discarded, Ledgers, Written};
+use crew_steps::{Decoder, DecoderEnd, SongSource};
+use frame_ledger::OutputShares;
+use held_player::{EndedRing, Settlement};
 use house::House;
 use output_ring::{Feeder, FeederEnd};
 use std::alloc::{AllocError, Global};
@@ -23,23 +26,26 @@ use std::time::Clock;
 #[derive(Drop)]
 pub struct OfFeeders(pub Snapshot<Vec<Feeder>>);
 
-impl Promise<Vec<FeederEnd>> for OfFeeders {
-    ghost kept_by = { λ p r. Each EndsFeeder p.0.value.items r.items };
+impl<L: Ledgers> Promise<DecoderEnd<L>> for OfFeeders {
+    ghost kept_by = { λ p r. Each EndsFeeder p.0.value.items r.ends.items };
 }
 
-/// The decoder and the outputs that run. The feeder at each place is of the ring of the output there.
+/// The decoder and the outputs that run. The feeder at each place is of the ring of the output there. The
+/// crew has all shares: those that its threads will hand back, and the rest.
 #[derive(Drop)]
 pub struct Crew<L: Ledgers> {
-    pub(crate) decoder: PromisedHandle<Vec<FeederEnd>, OfFeeders>,
+    pub(crate) decoder: PromisedHandle<DecoderEnd<L>, OfFeeders>,
     pub(crate) outputs: Vec<OutputRun<L>>,
     pub(crate) scanner: Option<JoinHandle<()>>,
-    /// Room for what the outputs leave, and for what they are settled with, so that nothing can fail after
+    pub(crate) shares: OutputShares<Written<L>, Discarded<L>>,
+    /// Room for the rings that have ended, and for what they are settled with, so that nothing can fail after
     /// the end.
-    pub(crate) lefts: Vec<OutputLeft<L>>,
+    pub(crate) ended: Vec<EndedRing>,
     pub(crate) results: Vec<Settlement<L>>,
     ghost rings: { map first_of_run outputs.items ≡ decoder.promise.0.value.items },
     ghost few: { vec_len outputs ≤ 8 },
-    ghost places: { (lefts.items ≡ []) × (vec_len outputs ≤ vec_capacity lefts) },
+    ghost parts: { HasPartsBut (vec_len outputs) shares },
+    ghost places: { (ended.items ≡ []) × (vec_len outputs ≤ vec_capacity ended) },
     ghost room: { (results.items ≡ []) × (vec_len outputs ≤ vec_capacity results) },
 }
 
@@ -52,7 +58,7 @@ struct Bench<L: Ledgers, S> {
     share: Share<Decoded<L>>,
     /// Room for the ends of the feeders.
     room: Vec<FeederEnd>,
-    ghost part: { 0 < share.parts },
+    ghost part: { share.parts ≡ 1 },
 }
 
 /// Decodes until the end, and finishes the feeders. There is room for their ends.
@@ -61,9 +67,9 @@ fn decode<L: Ledgers, S: SongSource<M> + Drop, M: Media + Drop, R: Wait + Clock 
     house: Arc<House<L>, Global>,
     bench: Bench<L, S>,
     feeders: Vec<Feeder>,
-) -> Vec<FeederEnd>
+) -> DecoderEnd<L>
     requires { (bench.room.items ≡ []) × (vec_len feeders ≤ vec_capacity bench.room) }
-    ensures { Each EndsFeeder feeders.items result.items }
+    ensures { Each EndsFeeder feeders.items result.ends.items }
 {
     let Bench {
         alloc,
@@ -87,7 +93,7 @@ fn start_thread<
     house: Arc<House<L>, Global>,
     bench: Bench<L, S>,
     feeders: Vec<Feeder>,
-) -> Result<PromisedHandle<Vec<FeederEnd>, OfFeeders>, AllocError>
+) -> Result<PromisedHandle<DecoderEnd<L>, OfFeeders>, AllocError>
     requires { (bench.room.items ≡ []) × (vec_len feeders ≤ vec_capacity bench.room) }
     ensures { IfOk result (λ handle. handle.promise.0.value ≡ feeders) }
 {
@@ -95,9 +101,9 @@ fn start_thread<
     let handle = thread::spawn_with(
         &rt,
         of_feeders,
-        move || -> Vec<FeederEnd>
+        move || -> DecoderEnd<L>
             requires { (bench.room.items ≡ []) × (vec_len feeders ≤ vec_capacity bench.room) }
-            ensures { Each EndsFeeder feeders.items result.items }
+            ensures { Each EndsFeeder feeders.items result.ends.items }
         { decode::<L, S, M, R>(rt, house, bench, feeders) },
     )?;
     Ok(handle)
@@ -106,7 +112,7 @@ fn start_thread<
 /// Room for what the threads leave.
 #[derive(Drop)]
 struct Rooms<L: Ledgers> {
-    lefts: Vec<OutputLeft<L>>,
+    ended: Vec<EndedRing>,
     results: Vec<Settlement<L>>,
     ends: Vec<FeederEnd>,
 }
@@ -117,18 +123,18 @@ fn make_rooms<L: Ledgers>(
     outputs: usize,
     feeders: usize,
 ) -> Result<Rooms<L>, AllocError>
-    ensures lefts { IfOk result (λ r. (r.lefts.items ≡ []) × (outputs ≤ vec_capacity r.lefts)) }
+    ensures ended { IfOk result (λ r. (r.ended.items ≡ []) × (outputs ≤ vec_capacity r.ended)) }
     ensures results { IfOk result (λ r. (r.results.items ≡ []) × (outputs ≤ vec_capacity r.results)) }
     ensures ends { IfOk result (λ r. (r.ends.items ≡ []) × (feeders ≤ vec_capacity r.ends)) }
 {
-    let mut lefts = Vec::new(alloc);
-    lefts.reserve(outputs)?;
+    let mut ended = Vec::new(alloc);
+    ended.reserve(outputs)?;
     let mut results = Vec::new(alloc);
     results.reserve(outputs)?;
     let mut ends = Vec::new(alloc);
     ends.reserve(feeders)?;
     Ok(Rooms {
-        lefts,
+        ended,
         results,
         ends,
     })
@@ -151,20 +157,23 @@ pub fn start_decoder<
     house: &Arc<House<L>, Global>,
     source: S,
     rate: u32,
-    outputs: Vec<OutputRun<L>>,
-    feeders: Vec<Feeder>,
+    outputs: OutputRuns<L>,
     share: Share<Decoded<L>>,
 ) -> Result<Crew<L>, AllocError>
-    requires part { 0 < share.parts }
-    requires few { vec_len outputs ≤ 8 }
-    requires rings { map first_of_run outputs.items ≡ feeders.items }
-    ensures { IfOk result (λ crew. crew.outputs ≡ outputs) }
+    requires part { share.parts ≡ 1 }
+    requires few { vec_len outputs.runs ≤ 8 }
+    ensures { IfOk result (λ crew. crew.outputs ≡ outputs.runs) }
 {
+    let OutputRuns {
+        runs,
+        feeders,
+        shares,
+    } = outputs;
     let Rooms {
-        lefts,
+        ended,
         results,
         ends: room,
-    } = make_rooms(alloc, outputs.len(), feeders.len())?;
+    } = make_rooms(alloc, runs.len(), feeders.len())?;
     let house = Arc::try_clone(house)?;
     let bench = Bench {
         alloc,
@@ -176,9 +185,10 @@ pub fn start_decoder<
     let decoder = start_thread::<L, S, M, R>(rt, house, bench, feeders)?;
     Ok(Crew {
         decoder,
-        outputs,
+        outputs: runs,
         scanner: None,
-        lefts,
+        shares,
+        ended,
         results,
     })
 }

@@ -47,7 +47,15 @@ pub struct Decoder<'h, L: Ledgers, S: SongSource<M> + Drop, M: Media + Drop, R: 
     streak: u64,
     /// How often it rested since a frame went into a ring.
     vain: u32,
-    ghost part: { 0 < share.parts },
+    ghost part: { share.parts ≡ 1 },
+}
+
+/// What a decoder's thread hands back.
+#[derive(Drop)]
+pub struct DecoderEnd<L: Ledgers> {
+    pub ends: Vec<FeederEnd>,
+    pub share: Share<Decoded<L>>,
+    ghost part: { share.parts ≡ 1 },
 }
 
 /// What a decoder does next.
@@ -85,7 +93,7 @@ impl<'h, L: Ledgers, S: SongSource<M> + Drop, M: Media + Drop, R: Wait + Clock> 
         rate: u32,
         share: Share<Decoded<L>>,
     ) -> Self
-        requires { 0 < share.parts }
+        requires { share.parts ≡ 1 }
     {
         Decoder {
             rt,
@@ -102,14 +110,18 @@ impl<'h, L: Ledgers, S: SongSource<M> + Drop, M: Media + Drop, R: Wait + Clock> 
     }
 
     /// Decodes until the end, and finishes the feeders, whatever they owe. There is room for their ends.
-    pub fn run(self, feeders: Vec<Feeder>, room: Vec<FeederEnd>) -> Vec<FeederEnd>
+    pub fn run(self, feeders: Vec<Feeder>, room: Vec<FeederEnd>) -> DecoderEnd<L>
         requires { (room.items ≡ []) × (vec_len feeders ≤ vec_capacity room) }
-        ensures { Each EndsFeeder feeders.items result.items }
+        ensures { Each EndsFeeder feeders.items result.ends.items }
     {
         let mut decoder = self;
         let mut feeders = feeders;
         decoder.keep_decoding(&mut feeders);
-        finish_all(feeders, room)
+        let ends = finish_all(feeders, room);
+        DecoderEnd {
+            ends,
+            share: decoder.share,
+        }
     }
 
     /// Decodes until the end.

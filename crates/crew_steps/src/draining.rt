@@ -1,5 +1,6 @@
 //! What the thread of an output does.
 ghost use Rattle.std.specs.Prelude.{◌≡◌, ◌+◌, ◌<◌, ◌||◌, List, IfSome, min};
+ghost use Rattle.frame_ledger.specs.Shares.{HasOnePart};
 ghost use Rattle.output_ring.specs.Rings.{SameDrainer, hand_of, has_failed, popped_of};
 ghost use Rattle.output_ring.specs.declared.frames.CutFrame.{CutFrame};
 ghost use Rattle.held_player.specs.Views.{TellsSomewhere, turn_of};
@@ -48,12 +49,13 @@ pub struct Draining<'h, L: Ledgers, O: Sink + Drop, G: Gate, R: Wait + Clock> {
     seen: u64,
     /// How many hands came since its last rest.
     streak: u64,
-    ghost parts: { (0 < shares.written.parts) × (0 < shares.discarded.parts) },
+    ghost parts: { HasOnePart shares },
     ghost own: { seat.number ≡ 5 + min output 7 },
 }
 
 impl<'h, L: Ledgers, O: Sink + Drop, G: Gate, R: Wait + Clock> Draining<'h, L, O, G, R> {
     ghost use Rattle.std.specs.Prelude.{◌≡◌, ◌<◌, ◌||◌, List, None, IfSome};
+    ghost use Rattle.frame_ledger.specs.Shares.{HasOnePart};
     ghost use Rattle.output_ring.specs.Rings.{SameDrainer, hand_of, has_failed, popped_of};
     ghost use Rattle.output_ring.specs.declared.frames.CutFrame.{CutFrame};
     ghost use Rattle.held_player.specs.Views.{TellsSomewhere, turn_of};
@@ -68,7 +70,7 @@ impl<'h, L: Ledgers, O: Sink + Drop, G: Gate, R: Wait + Clock> Draining<'h, L, O
         writer: O,
         shares: OutputShares<Written<L>, Discarded<L>>,
     ) -> Self
-        requires { (0 < shares.written.parts) × (0 < shares.discarded.parts) }
+        requires { HasOnePart shares }
     {
         Draining {
             rt,

@@ -13,7 +13,7 @@ mod output_setup;
 mod song_source;
 mod songs;
 
-pub use decoder::Decoder;
+pub use decoder::{Decoder, DecoderEnd};
 pub use draining::Draining;
 pub use folder::Folder;
 pub use new_rings::output_setups;

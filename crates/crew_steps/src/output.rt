@@ -1,5 +1,5 @@
 //! What an output is let go on by, and what is left of it.
-ghost use Rattle.std.specs.Prelude.{◌<◌};
+ghost use Rattle.frame_ledger.specs.Shares.{HasOnePart};
 
 use counted_player::{Discarded, Ledgers, Written};
 use frame_ledger::OutputShares;
@@ -25,5 +25,5 @@ impl Gate for Open {
 pub struct OutputEnd<L: Ledgers> {
     pub drainer: Drainer,
     pub shares: OutputShares<Written<L>, Discarded<L>>,
-    ghost parts: { (0 < shares.written.parts) × (0 < shares.discarded.parts) },
+    ghost parts: { HasOnePart shares },
 }

@@ -215,22 +215,13 @@ fn run_day<
     let Ok(mut seat) = house.seat(&rt) else {
         return Err(PartitionFault::NoMemory);
     };
-    let (runs, feeders) = start_outputs(rt, alloc, &house, &gate, output_setups, shares.outputs)?;
+    let outputs = start_outputs(rt, alloc, &house, &gate, output_setups, shares.outputs)?;
     let opened = shared(alloc, AtomicU32::new(0))?;
     let files = Files {
         tunes,
         opened: Arc::try_clone(&opened)?,
     };
-    let mut crew = start_decoder(
-        rt,
-        alloc,
-        &house,
-        files,
-        8_000,
-        runs,
-        feeders,
-        shares.decoded,
-    )?;
+    let mut crew = start_decoder(rt, alloc, &house, files, 8_000, outputs, shares.decoded)?;
     start_scanner(rt, alloc, &house, &mut crew, scanner)?;
     let heard = plays(&rt, alloc, &house, &mut seat, script.as_str(), watch);
     match close(&rt, &house, &mut seat, crew) {

@@ -1,5 +1,5 @@
 -- The shares of the books of frames.
-use Rattle.std.specs.Prelude.{◌≡◌, ◌<◌, ℕ}
+use Rattle.std.specs.Prelude.{◌≡◌, ◌+◌, ℕ}
 use Rattle.frame_ledger.specs.declared.books.OutputShares.{OutputShares}
 
 -- the shares of outputs have as many parts as before
@@ -15,7 +15,14 @@ HasAllParts decoded outputs = (decoded ≡ 1) × (outputs.written.parts ≡ 9) �
 abbrev pub HasNoFrames : {W X : Type 0} → ℕ → OutputShares W X → Type 0
 HasNoFrames decoded outputs = (decoded ≡ 0) × (outputs.written.amount ≡ 0) × (outputs.discarded.amount ≡ 0)
 
--- the shares have a part for each of so many outputs, and one more, and no frames are in them
-abbrev pub HasPartsFor : {W X : Type 0} → ℕ → OutputShares W X → Type 0
-HasPartsFor outputs shares =
-    (outputs < shares.written.parts) × (outputs < shares.discarded.parts) × (shares.written.amount ≡ 0) × (shares.discarded.amount ≡ 0)
+-- the shares have one part of each of their ledgers
+abbrev pub HasOnePart : {W X : Type 0} → OutputShares W X → Type 0
+HasOnePart outputs = (outputs.written.parts ≡ 1) × (outputs.discarded.parts ≡ 1)
+
+-- the shares have all parts of their ledgers but those of so many outputs, which have one part each
+abbrev pub HasPartsBut : {W X : Type 0} → ℕ → OutputShares W X → Type 0
+HasPartsBut count outputs = (outputs.written.parts + count ≡ 9) × (outputs.discarded.parts + count ≡ 9)
+
+-- no frames are in the shares of outputs
+abbrev pub AreEmpty : {W X : Type 0} → OutputShares W X → Type 0
+AreEmpty outputs = (outputs.written.amount ≡ 0) × (outputs.discarded.amount ≡ 0)

@@ -7,6 +7,7 @@ use Rattle.counted_player.specs.declared.ledgers.Ledgers.{Ghosts}
 use Rattle.partition.proofs.Crosses.{◌⨟◌}
 use Rattle.frame_ledger.proofs.books.Books.TheSendSync as books
 use Rattle.counted_player.proofs.seat.Seat.TheSendSync as seat
+use Rattle.held_player.proofs.all_shares.AllShares.TheSendSync as all_shares
 use Rattle.held_player.specs.contracts.held.Held as Held
 use Rattle.held_player.specs.contracts.held.Held.TheInside as HeldInside
 use Rattle.counted_player.proofs.Crosses.{counted_send}
@@ -21,6 +22,6 @@ module _ (L : RattleType) (l : Ghosts L.Denot) where
       search parts depth 60 fits 20000 ⨟
       search (books.the_send, parts) depth 60 fits 20000 ⨟
       search (seat.the_send, parts) depth 60 fits 20000 ⨟
-      search parts depth 60 fits 20000 ⨟
+      search (all_shares.the_send, parts) depth 60 fits 20000 ⨟
       search parts depth 60 fits 20000 ⨟
       tt))

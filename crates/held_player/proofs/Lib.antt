@@ -1,5 +1,6 @@
 pub mod Crosses
 pub mod Few
+pub mod InTurn
 pub mod StoreReply
 pub mod ListRooms
 pub mod Opening

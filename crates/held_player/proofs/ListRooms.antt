@@ -1,5 +1,5 @@
 -- The room for the notices of command lists, and what lists leave of the books of frames.
-use Rattle.std.proofs.Common.{◌≡◌, inr, ℕ, ◌+◌, ◌<◌, ◌≤◌, List, [], ◌∷◌, length, map, take, refl, ap, sym, ◌∙◌, arith}
+use Rattle.std.proofs.Common.{◌≡◌, inr, ℕ, ◌+◌, ◌≤◌, List, [], ◌∷◌, length, map, take, refl, ap, sym, ◌∙◌, arith}
 use Rattle.std.specs.Prelude.{Result, Ok, Err, IfErr, IfOk}
 use Rattle.command_lists.specs.declared.word.ListForm.{ListForm}
 use Rattle.mpd_command.specs.declared.request.Request.{Request}
@@ -8,10 +8,10 @@ use Rattle.shelf.specs.Maps.{Standing}
 use Rattle.player_events.specs.declared.event.LogEntry.{LogEntry}
 use Rattle.player_events.specs.Outcomes.{OutcomeData}
 use Rattle.partition.specs.History.{Chronicle}
-use Rattle.partition.specs.Legal.{IsPast}
 use Rattle.partition.specs.Lists.{RunsList, Stop, StopsList, entries_of}
 use Rattle.held_player.specs.Lists.{StopsHere, StopsListSomewhere, TellsListSomewhere, notices_in}
-use Rattle.counted_player.specs.Counts.{own_in}
+use Rattle.counted_player.specs.Counts.{MayFind}
+use Rattle.counted_player.specs.Seats.{SeatCount}
 use Rattle.held_player.proofs.Quiet.{few_entries, few_wait}
 
 take_whole : {X : Type 0} (xs : List X) → take (length xs) xs ≡ xs
@@ -50,15 +50,16 @@ module _ {S : Type 0} (standing : S → Standing) (failed : S → S → Call →
   here (Ok tolds) stops = tt
   here (Err stop) stops = inr stops
 
-  -- what is told somewhere before a list stops
-  pub somewhere_here : (r : Result (List OutcomeData) Stop) (made : ℕ) → IsPast before → (seat < 4 → own_in seat before.present ≡ made)
-      → IfErr r (λ stop. StopsHere standing failed before after old new seat client form requests stop)
-      → IfErr r (λ stop. seat < 4 → StopsListSomewhere standing failed old new seat made client form requests stop)
-  somewhere_here (Ok tolds) made legal own stops = tt
-  somewhere_here (Err stop) made legal own stops = λ low. (before, legal, own low, (after, stops))
+-- what is told or refused after the past that a list was begun in
+module _ {S : Type 0} (standing : S → Standing) (failed : S → S → Call → Type 0) (before after : Chronicle) (old new : S) (seat : SeatCount) (client : ℕ) (form : ListForm) (requests : List Request) where
+  pub somewhere_here : (r : Result (List OutcomeData) Stop) → MayFind seat before
+      → IfErr r (λ stop. StopsHere standing failed before after old new seat.number client form requests stop)
+      → IfErr r (λ stop. StopsListSomewhere standing failed old new seat client form requests stop)
+  somewhere_here (Ok tolds) found stops = tt
+  somewhere_here (Err stop) found stops = (before, found, (after, stops))
 
-  pub somewhere_run : (r : Result (List OutcomeData) Stop) (made : ℕ) → IsPast before → (seat < 4 → own_in seat before.present ≡ made)
-      → IfOk r (λ tolds. RunsList standing failed before after old new seat client form requests tolds)
-      → IfOk r (λ tolds. seat < 4 → TellsListSomewhere standing failed old new seat made client form requests tolds)
-  somewhere_run (Ok tolds) made legal own runs = λ low. (before, legal, own low, (after, runs))
-  somewhere_run (Err stop) made legal own runs = tt
+  pub somewhere_run : (r : Result (List OutcomeData) Stop) → MayFind seat before
+      → IfOk r (λ tolds. RunsList standing failed before after old new seat.number client form requests tolds)
+      → IfOk r (λ tolds. TellsListSomewhere standing failed old new seat client form requests tolds)
+  somewhere_run (Ok tolds) found runs = (before, found, (after, runs))
+  somewhere_run (Err stop) found runs = tt

@@ -1,5 +1,5 @@
 -- Command lists under one taking of the lock.
-use Rattle.std.specs.Prelude.{ℕ, ◌≡◌, ◌⊎◌, ◌<◌, List, [], Option, map, slice_index_or}
+use Rattle.std.specs.Prelude.{ℕ, ◌≡◌, ◌⊎◌, List, [], Option, map, slice_index_or}
 use Rattle.std.specs.Global.{Vec}
 use Rattle.std.specs.List.{flat_map}
 use Rattle.command_lists.specs.declared.word.ListForm.{ListForm}
@@ -11,9 +11,8 @@ use Rattle.idle_clients.specs.declared.notices.Notice.{Notice}
 use Rattle.partition.specs.declared.partition.PartitionFault.TheVariants.{NoMemory}
 use Rattle.player_events.specs.Outcomes.{OutcomeData}
 use Rattle.partition.specs.History.{Chronicle}
-use Rattle.partition.specs.Legal.{IsPast}
 use Rattle.partition.specs.Lists.{RunsList, Stop, StopsList}
-use Rattle.counted_player.specs.Counts.{own_in}
+use Rattle.counted_player.specs.Counts.{MayFind}
 use Rattle.counted_player.specs.Seats.{SeatCount}
 
 -- what a command list is answered with: its client's waiting notice, and what each of its events told
@@ -30,12 +29,12 @@ abbrev pub unbegun : List Request → Stop
 unbegun requests = record { done = 0; tolds = []; command = slice_index_or (map name_in requests) 0 []; cause = NoMemory }
 
 module _ {S : Type 0} (standing : S → Standing) (failed : S → S → Call → Type 0) where
-  -- What the player of one thread tells at the commands of a list, one after the other, after some past in
-  -- which the seat made so many events; the lent shelf answered and changed as that says.
-  abbrev pub TellsListSomewhere : S → S → ℕ → ℕ → ℕ → ListForm → List Request → List OutcomeData → Type 0
-  TellsListSomewhere old new seat made client form requests tolds =
-      (past : Chronicle) × IsPast past × (own_in seat past.present ≡ made)
-      × ((after : Chronicle) × RunsList standing failed past after old new seat client form requests tolds)
+  -- What the player of one thread tells at the commands of a list, one after the other, after some past that
+  -- the caller may find; the lent shelf answered and changed as that says.
+  abbrev pub TellsListSomewhere : S → S → SeatCount → ℕ → ListForm → List Request → List OutcomeData → Type 0
+  TellsListSomewhere old new seat client form requests tolds =
+      (past : Chronicle) × MayFind seat past
+      × ((after : Chronicle) × RunsList standing failed past after old new seat.number client form requests tolds)
 
   -- What a list leaves that stopped: before it was begun, for want of memory, all is as it was; else what the
   -- player says.
@@ -44,15 +43,14 @@ module _ {S : Type 0} (standing : S → Standing) (failed : S → S → Call →
       ((stop ≡ unbegun requests) × ((after ≡ before) × (new ≡ old))) ⊎ StopsList standing failed before after old new seat client form requests stop
 
   -- What the player of one thread tells at the commands before one that is refused there.
-  abbrev pub StopsListSomewhere : S → S → ℕ → ℕ → ℕ → ListForm → List Request → Stop → Type 0
-  StopsListSomewhere old new seat made client form requests stop =
-      (past : Chronicle) × IsPast past × (own_in seat past.present ≡ made)
-      × ((after : Chronicle) × StopsHere past after old new seat client form requests stop)
+  abbrev pub StopsListSomewhere : S → S → SeatCount → ℕ → ListForm → List Request → Stop → Type 0
+  StopsListSomewhere old new seat client form requests stop =
+      (past : Chronicle) × MayFind seat past
+      × ((after : Chronicle) × StopsHere past after old new seat.number client form requests stop)
 
-  -- the same for the seat of a caller; of a thread of the house nothing is said
+  -- the same of the requests that a caller hands in
   abbrev pub TellsList : S → S → SeatCount → ℕ → ListForm → Vec Request → List OutcomeData → Type 0
-  TellsList old new seat client form requests tolds =
-      seat.number < 4 → TellsListSomewhere old new seat.number seat.made client form requests.items tolds
+  TellsList old new seat client form requests tolds = TellsListSomewhere old new seat client form requests.items tolds
 
   abbrev pub StopsIn : S → S → SeatCount → ℕ → ListForm → Vec Request → Stop → Type 0
-  StopsIn old new seat client form requests stop = seat.number < 4 → StopsListSomewhere old new seat.number seat.made client form requests.items stop
+  StopsIn old new seat client form requests stop = StopsListSomewhere old new seat client form requests.items stop

@@ -1,8 +1,7 @@
 -- What a settlement of an output answers.
-use Rattle.std.specs.Prelude.{ℕ, ◌≡◌, ◌↔◌, ◌+◌, List, Result, Err, IfOk, IsNone, IsOk, IsSome, slice_index, if◌then◌else◌}
+use Rattle.std.specs.Prelude.{ℕ, ◌≡◌, ◌↔◌, ◌+◌, List, [], ◌∷◌, Result, Err, IfOk, IsNone, IsOk, IsSome, length, slice_index, sum, if◌then◌else◌}
 use Rattle.frame_ledger.specs.Balance.{Agrees, Balances, has_room, raised}
 use Rattle.frame_ledger.specs.declared.books.Books.{Books}
-use Rattle.frame_ledger.specs.declared.books.OutputShares.{OutputShares}
 use Rattle.frame_ledger.specs.declared.settlement.SettleFault.{SettleFault}
 use Rattle.frame_ledger.specs.declared.settlement.SettleFault.TheVariants.{Unsettled}
 use Rattle.frame_ledger.specs.declared.settlement.Settled.{Settled}
@@ -13,6 +12,9 @@ use Rattle.output_ring.specs.declared.frames.CutFrame.{CutFrame}
 use Rattle.partition.specs.History.{Chronicle}
 use Rattle.partition.specs.Legal.{IsPast}
 use Rattle.player_state.specs.Outputs.{FrameBooks}
+use Rattle.held_player.specs.declared.held.CrewShares.{CrewShares}
+use Rattle.held_player.specs.declared.ended_ring.EndedRing.{EndedRing}
+use Rattle.held_player.specs.declared.settlement.Settlement.{Settlement}
 
 -- the books once the fates of an output that no turn told of are counted in both of them, or in none where
 -- they do not fit
@@ -22,12 +24,6 @@ with_fates drainer output books = record {
   written = if has_room books.written books.discarded (unreported_of drainer) then raised books.written output (unreported_of drainer).written else books.written;
   discarded = if has_room books.written books.discarded (unreported_of drainer) then raised books.discarded output (unreported_of drainer).discarded else books.discarded;
 }
-
--- the shares grow by the fates that are counted
-abbrev pub GrowByFates : {W X : Type 0} → OutputShares W X → OutputShares W X → Drainer → FrameBooks → Type 0
-GrowByFates old new drainer books =
-    (new.written.amount ≡ old.written.amount + (if has_room books.written books.discarded (unreported_of drainer) then (unreported_of drainer).written else 0))
-    × (new.discarded.amount ≡ old.discarded.amount + (if has_room books.written books.discarded (unreported_of drainer) then (unreported_of drainer).discarded else 0))
 
 -- where the books agree with the ring, an output is settled
 abbrev pub SettlesWhereAgreed : FeederEnd → Drainer → FrameBooks → ℕ → Result Settled SettleFault → Type 0
@@ -55,6 +51,37 @@ numbers_in books = record { decoded = books.decoded; written = books.written; di
 abbrev pub AreNumbersOf : {E W X : Type 0} → Books E W X → FrameBooks → Type 0
 AreNumbersOf books numbers = (books.decoded ≡ numbers.decoded) × (books.written ≡ numbers.written) × (books.discarded ≡ numbers.discarded)
 
--- the decoded frames are those of some past
-abbrev pub AreOfSomePast : FrameBooks → Type 0
-AreOfSomePast books = (past : Chronicle) × IsPast past × (books.decoded ≡ past.present.shared.books.decoded)
+-- each book has a number of each of eight outputs
+abbrev pub HaveAllOutputs : FrameBooks → Type 0
+HaveAllOutputs books = (length books.decoded ≡ 8) × (length books.written ≡ 8) × (length books.discarded ≡ 8)
+
+-- whole shares have what the books sum to
+abbrev pub AreSumsOf : {L : Type 0} → CrewShares L → FrameBooks → Type 0
+AreSumsOf shares books =
+    (shares.decoded.amount ≡ sum books.decoded) × (shares.outputs.written.amount ≡ sum books.written) × (shares.outputs.discarded.amount ≡ sum books.discarded)
+
+-- the books once these rings, from that of output n on, were settled one after the other
+abbrev pub settled_books : ℕ → List EndedRing → FrameBooks → FrameBooks
+settled_books n [] books = books
+settled_books n (ring ∷ rings) books = settled_books (n + 1) rings (with_fates ring.drainer n books)
+
+-- An output's ring is settled against these books: the settlement names its very ends and these books, and is
+-- right of them.
+pub record SettlesRing {L : Type 0} (output : ℕ) (books : FrameBooks) (ring : EndedRing) (s : Settlement L) : Type 0 where
+  pub end : s.end.value ≡ ring.end
+  pub drainer : s.drainer.value ≡ ring.drainer
+  pub found : numbers_in s.books.value ≡ books
+  pub settles : Settles ring.end ring.drainer output books s.result
+
+-- Rings, from that of output n on, are settled one after the other: the first against these books, each other
+-- one against those that the settlements before it left.
+abbrev pub SettlesInTurn : {L : Type 0} → ℕ → FrameBooks → List EndedRing → List (Settlement L) → Type 0
+SettlesInTurn n books [] [] = Unit {0}
+SettlesInTurn n books [] (s ∷ ss) = ⊥
+SettlesInTurn n books (ring ∷ rings) [] = ⊥
+SettlesInTurn n books (ring ∷ rings) (s ∷ ss) = SettlesRing n books ring s × SettlesInTurn (n + 1) (with_fates ring.drainer n books) rings ss
+
+-- After some past the whole shares have what its books sum to, and all rings are settled against those.
+abbrev pub ClosesBooks : {L : Type 0} → CrewShares L → List EndedRing → List (Settlement L) → Type 0
+ClosesBooks shares rings results =
+    (past : Chronicle) × IsPast past × AreSumsOf shares past.present.shared.books × SettlesInTurn 0 past.present.shared.books rings results

@@ -1,5 +1,5 @@
 -- What contracts see of what the lock holds, and what a caller learns who cannot see it.
-use Rattle.std.specs.Prelude.{ℕ, ◌≡◌, ◌⊎◌, ◌+◌, ◌<◌, ◌≤◌, ◌^◌, Bool, true, false, List, [], Option, None, slice_index_or, sum, if◌then◌else◌}
+use Rattle.std.specs.Prelude.{ℕ, ◌≡◌, ◌⊎◌, ◌+◌, ◌<◌, ◌≤◌, ◌^◌, Bool, true, false, List, [], Option, None, sum, if◌then◌else◌}
 use Rattle.shelf.specs.Calls.{Call}
 use Rattle.shelf.specs.Maps.{Standing}
 use Rattle.player_events.specs.declared.event.Event.{Event}
@@ -10,21 +10,20 @@ use Rattle.partition.specs.declared.partition.PartitionFault.{PartitionFault}
 use Rattle.partition.specs.declared.partition.PartitionFault.TheVariants.{HistoryFull, NoMemory}
 use Rattle.player_events.specs.Outcomes.{OutcomeData}
 use Rattle.partition.specs.History.{Chronicle, is_full, joined_by, with_room}
-use Rattle.partition.specs.Legal.{IsPast}
 use Rattle.partition.specs.Lent.{RecordsOnce, Refuses}
 use Rattle.player_state.specs.Outputs.{FrameBooks, empty_books}
 use Rattle.partition.specs.Refusals.{MayRefuse}
 use Rattle.transitions.specs.Shelves.{LeavesUnchanged, no_store_reply}
 use Rattle.partition.specs.Step.{limit_of, next_image, told}
 use Rattle.counted_player.specs.Seats.{SeatCount}
-use Rattle.counted_player.specs.Counts.{AnswersSeat, AreEnabled, own_in}
+use Rattle.counted_player.specs.Counts.{AnswersSomewhere, AreEnabled, MayFind}
 use Rattle.frame_ledger.specs.declared.books.OutputShares.{OutputShares}
 use Rattle.mpd_command.specs.declared.request.Request.{Request}
 use Rattle.output_ring.specs.declared.frames.Fates.{Fates}
 use Rattle.transitions.specs.declared.asked.Stand.TheVariants.{Alone}
 
--- the player with its history; the notices that wait to be handed out; the books of frames; whether an output
--- was settled, whose last fates then stand in the books of written and discarded frames, though no event told
+-- the player with its history; the notices that wait to be handed out; the books of frames; whether the outputs
+-- were settled, whose last fates then stand in the books of written and discarded frames, though no event told
 -- of them; and how many seats are free
 pub record View : Type 0 where
   pub player : Chronicle
@@ -100,21 +99,13 @@ abbrev pub KeepsFates : View → View → Type 0
 KeepsFates old new =
     (new.books.written ≡ old.books.written) × (new.books.discarded ≡ old.books.discarded) × (new.is_settled ≡ old.is_settled) × (new.free ≡ old.free)
 
--- the decoded frames are as before, and whether an output was settled
+-- the decoded frames are as before, and whether the outputs were settled
 abbrev pub KeepsDecoded : View → View → Type 0
 KeepsDecoded old new = (new.books.decoded ≡ old.books.decoded) × (new.is_settled ≡ old.is_settled) × (new.free ≡ old.free)
 
 -- nothing happened to a player: no notice waits, no frame was booked, and all seats are free
 abbrev pub opened : Chronicle → View
 opened player = record { player = player; waiting = []; books = empty_books; is_settled = false; free = 4 }
-
--- the books of written and discarded frames after a turn: those of the player, unless an output was settled
-abbrev pub books_now : View → Chronicle → FrameBooks
-books_now view player = record {
-  decoded = view.books.decoded;
-  written = if view.is_settled then view.books.written else player.present.shared.books.written;
-  discarded = if view.is_settled then view.books.discarded else player.present.shared.books.discarded;
-}
 
 -- shares of outputs grow by as much as their books
 abbrev pub GrowAsBooks : {W X : Type 0} → OutputShares W X → OutputShares W X → FrameBooks → FrameBooks → Type 0
@@ -134,11 +125,6 @@ IsRefusedFor before seat event fault = ((fault ≡ HistoryFull) × (is_full befo
 -- the same of the turn of an output
 abbrev pub IsTurnRefused : View → SeatCount → Event → PartitionFault → Type 0
 IsTurnRefused view seat event fault = IsRefusedFor view.player seat.number event fault
-
--- A past that a caller may find, who made so many events: one in which its seat made just these. Events of
--- the house's own threads are not counted in their seats.
-abbrev pub MayFind : SeatCount → Chronicle → Type 0
-MayFind seat past = IsPast past × (seat.number < 4 → own_in seat.number past.present ≡ seat.made)
 
 -- what the player of one thread tells at the event after some past that the caller may find
 abbrev pub TellsSomewhere : SeatCount → Event → OutcomeData → Type 0
@@ -166,23 +152,22 @@ module _ {S : Type 0} (standing : S → Standing) (failed : S → S → Call →
   Stops before after old new seat event fault =
       ((fault ≡ NoMemory) × ((after ≡ before) × (new ≡ old))) ⊎ Refuses standing failed before after old new seat event fault
 
-  -- why the event may be refused after some past in which the seat made so many events, and what that leaves
-  -- of the lent shelf
-  abbrev pub StopsSomewhere : S → S → ℕ → ℕ → Event → PartitionFault → Type 0
-  StopsSomewhere old new seat made event fault =
-      (past : Chronicle) × IsPast past × (own_in seat past.present ≡ made) × ((after : Chronicle) × Stops past after old new seat event fault)
+  -- why the event may be refused after some past that the caller may find, and what that leaves of the lent
+  -- shelf
+  abbrev pub StopsSomewhere : S → S → SeatCount → Event → PartitionFault → Type 0
+  StopsSomewhere old new seat event fault =
+      (past : Chronicle) × MayFind seat past × ((after : Chronicle) × Stops past after old new seat.number event fault)
 
   -- nothing was written to the lent shelf
   abbrev pub IsUnwritten : S → S → Type 0
   IsUnwritten old new = (new ≡ old) ⊎ LeavesUnchanged standing failed old new
 
-  -- a line of a client, by the seat of a caller, is refused or answered so; of a thread of the house nothing is said
+  -- a line of a client is refused or answered so
   abbrev pub StopsClient : S → S → SeatCount → ℕ → Request → PartitionFault → Type 0
-  StopsClient old new seat client request fault =
-      seat.number < 4 → StopsSomewhere old new seat.number seat.made (line_of client request) fault
+  StopsClient old new seat client request fault = StopsSomewhere old new seat (line_of client request) fault
 
   abbrev pub HandsOut : S → S → SeatCount → ℕ → Request → Handed → Type 0
-  HandsOut old new seat client request handed = AnswersSeat standing failed old new seat (line_of client request) handed.told
+  HandsOut old new seat client request handed = AnswersSomewhere standing failed old new seat (line_of client request) handed.told
 
   -- a line of a client joined the history, which is folded first where it is full, or was refused
   abbrev pub AnswersLine : View → View → S → S → SeatCount → ℕ → Request → OutcomeData → Type 0
@@ -192,6 +177,6 @@ module _ {S : Type 0} (standing : S → Standing) (failed : S → S → Call →
   abbrev pub StopsLine : View → View → S → S → SeatCount → ℕ → Request → PartitionFault → Type 0
   StopsLine before after old new seat client request fault = Stops before.player after.player old new seat.number (line_of client request) fault
 
-  -- a line of a client, by the seat of a caller, is told so
+  -- a line of a client is told so
   abbrev pub TellsClient : S → S → SeatCount → ℕ → Request → OutcomeData → Type 0
-  TellsClient old new seat client request told = AnswersSeat standing failed old new seat (line_of client request) told
+  TellsClient old new seat client request told = AnswersSomewhere standing failed old new seat (line_of client request) told

@@ -2,32 +2,28 @@
 ghost use Rattle.held_player.specs.Settling.{numbers_in};
 ghost use Rattle.held_player.specs.Views.{GrowAsBooks, AreNoFewer};
 ghost use Rattle.frame_ledger.specs.Shares.{KeepsParts};
-ghost use Rattle.std.specs.Prelude.{◌≡◌, ◌+◌, ◌<◌, ◌≤◌, ◌^◌, false, if◌then◌else◌, length, sum};
+ghost use Rattle.std.specs.Prelude.{◌≡◌, ◌+◌, ◌<◌, ◌≤◌, ◌^◌, length, sum};
 
 use counted_player::{Decoded, Discarded, Ledgers, Written};
 use frame_ledger::{Books as Tallies, OutputShares};
 
-/// The fates that a turn told of join the books; once an output was settled, they join them no more.
+/// The fates that a turn told of join the books.
 pub(crate) fn book_fates<L: Ledgers>(
     books: &mut Tallies<Decoded<L>, Written<L>, Discarded<L>>,
     shares: &mut OutputShares<Written<L>, Discarded<L>>,
-    is_settled: bool,
     written: [u64; 8],
     discarded: [u64; 8],
 )
     requires outputs { (length books.old.written ≡ 8) × (length books.old.discarded ≡ 8) }
-    requires grown { is_settled ≡ false → AreNoFewer (numbers_in books.old) written discarded }
+    requires grown { AreNoFewer (numbers_in books.old) written discarded }
     requires room { (sum written < 2 ^ 63) × (sum discarded < 2 ^ 63) }
     requires parts { (0 < shares.old.written.parts) × (0 < shares.old.discarded.parts) }
     ensures decoded { books.new.decoded ≡ books.old.decoded }
-    ensures written { books.new.written ≡ (if is_settled then books.old.written else written) }
-    ensures discarded { books.new.discarded ≡ (if is_settled then books.old.discarded else discarded) }
+    ensures written { books.new.written ≡ written }
+    ensures discarded { books.new.discarded ≡ discarded }
     ensures shares { GrowAsBooks shares.old shares.new (numbers_in books.old) (numbers_in books.new) }
     ensures parts { KeepsParts shares.old shares.new }
 {
-    if is_settled {
-        return;
-    }
     books.written.raise_to(&mut shares.written, &written);
     books.discarded.raise_to(&mut shares.discarded, &discarded);
 }

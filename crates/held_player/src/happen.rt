@@ -9,7 +9,7 @@ ghost use Rattle.player_events.specs.declared.event.Event.TheVariants.{End, Line
 ghost use Rattle.transitions.specs.declared.asked.Stand.TheVariants.{Alone};
 ghost use Rattle.held_player.specs.News.{event_of};
 ghost use Rattle.counted_player.specs.Seats.{after_events};
-ghost use Rattle.counted_player.specs.Counts.{own_in, AnswersSeat};
+ghost use Rattle.counted_player.specs.Counts.{own_in, AnswersSomewhere};
 ghost use Rattle.held_player.specs.Views.{IsRefusedFor, IsUnchangedOrFolded, IsUnwritten, Stops, TellsSomewhere, entry, CanCount, CountsOn, Joins, line_of, turn_of, TellsClient};
 
 use crate::news::News;
@@ -40,7 +40,7 @@ pub(crate) fn happen<L: Ledgers, S: Shelf>(
     ensures refused { IfErr result (Stops S.standing S.failed counted.old counted.new shelf.old shelf.new seat.old.number event) }
     ensures waiting { waiting.new.items ≡ waiting.old.items }
     ensures room { IfOk result (λ outcome. vec_len waiting.new + length outcome.notices ≤ vec_capacity waiting.new) }
-    ensures somewhere { IfOk result (AnswersSeat S.standing S.failed shelf.old shelf.new seat.old event) }
+    ensures somewhere { IfOk result (AnswersSomewhere S.standing S.failed shelf.old shelf.new seat.old event) }
 {
     counted.check(seat);
     if waiting.reserve(counted.clients().len()).is_err() {

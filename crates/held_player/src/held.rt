@@ -1,4 +1,5 @@
 //! What lies under the house's lock.
+use crate::all_shares::AllShares;
 use crate::answered::{Answered, Reported};
 use crate::changes::count_change;
 use crate::happen::{hear_end, hear_line, hear_news};
@@ -41,8 +42,8 @@ pub struct Held<L: Ledgers> {
     pub(crate) waiting: Vec<Notice>,
     pub(crate) books: Books<Decoded<L>, Written<L>, Discarded<L>>,
     pub(crate) free: Vec<Seat<L>>,
-    /// Whether an output was settled, whose last fates no event told of.
-    pub(crate) is_settled: bool,
+    /// All shares, once the outputs are settled, whose last fates no event told of.
+    pub(crate) closed: Option<AllShares<L>>,
     /// How often something changed that a thread at rest is woken for; it begins anew after its greatest
     /// value. No contract speaks of it.
     pub(crate) changes: u64,
@@ -57,15 +58,15 @@ impl<L: Ledgers> Drop for Held<L> {
             waiting: _,
             books: _,
             free: _,
-            is_settled: _,
+            closed: _,
             changes: _,
         } = self;
     }
 }
 
 impl<L: Ledgers> Model for Held<L> {
-    ghost use Rattle.std.specs.Prelude.{◌≡◌, ◌<◌, All, false, length, vec_len};
-    ghost use Rattle.held_player.specs.Settling.{numbers_in};
+    ghost use Rattle.std.specs.Prelude.{◌≡◌, ◌<◌, All, None, is_some, vec_len};
+    ghost use Rattle.held_player.specs.Settling.{HaveAllOutputs, numbers_in};
     ghost use Rattle.held_player.specs.Views.{View};
 
     ghost Value = { View };
@@ -76,12 +77,12 @@ impl<L: Ledgers> Model for Held<L> {
 
     ghost coded = { Prim.hlevel (codes, filter.the_row.coded) };
 
-    ghost view = { λ h. record { player = h.counted; waiting = h.waiting.items; books = numbers_in h.books; is_settled = h.is_settled; free = vec_len h.free } };
+    ghost view = { λ h. record { player = h.counted; waiting = h.waiting.items; books = numbers_in h.books; is_settled = is_some h.closed; free = vec_len h.free } };
 
     ghost invariant = { λ h. (h.books.decoded ≡ h.counted.present.shared.books.decoded)
-        × (h.is_settled ≡ false → h.books.written ≡ h.counted.present.shared.books.written)
-        × (h.is_settled ≡ false → h.books.discarded ≡ h.counted.present.shared.books.discarded)
-        × (length h.books.decoded ≡ 8) × (length h.books.written ≡ 8) × (length h.books.discarded ≡ 8)
+        × (h.closed ≡ None → h.books.written ≡ h.counted.present.shared.books.written)
+        × (h.closed ≡ None → h.books.discarded ≡ h.counted.present.shared.books.discarded)
+        × HaveAllOutputs (numbers_in h.books)
         × All (λ s. (s.number < 4) × (s.made ≡ 0)) h.free.items };
 }
 
@@ -128,7 +129,7 @@ impl<L: Ledgers> Held<L> {
             waiting: Vec::new(alloc),
             books,
             free,
-            is_settled: false,
+            closed: None,
             changes: 0,
         };
         Ok((held, shares))
@@ -151,15 +152,15 @@ impl<L: Ledgers> Held<L> {
         }
     }
 
-    /// The events of the window. The value is a past's, and the books of frames are its numbers; once an
-    /// output was settled, those of written and discarded frames also count what no event told of.
+    /// The events of the window. The value is a past's, and the books of frames are its numbers; once the
+    /// outputs were settled, those of written and discarded frames also count what no event told of.
     pub fn history(&self) -> &[LogEntry]
         ensures window { result.now ≡ self.now.player.window }
         ensures legal { IsPast self.now.player }
         ensures decoded { self.now.books.decoded ≡ self.now.player.present.shared.books.decoded }
         ensures books { self.now.is_settled ≡ false → self.now.books ≡ self.now.player.present.shared.books }
     {
-        let _is_settled = self.is_settled;
+        let _is_open = self.closed.is_none();
         self.counted.history()
     }
 
@@ -210,7 +211,7 @@ impl<L: Ledgers> Held<L> {
             waiting,
             books: _books,
             free: _free,
-            is_settled: _is_settled,
+            closed: _closed,
             changes,
         } = self;
         let wake_fingerprint = counted.wake_fingerprint();
@@ -247,7 +248,7 @@ impl<L: Ledgers> Held<L> {
             waiting,
             books: _books,
             free: _free,
-            is_settled: _is_settled,
+            closed: _closed,
             changes,
         } = self;
         let wake_fingerprint = counted.wake_fingerprint();
@@ -286,7 +287,7 @@ impl<L: Ledgers> Held<L> {
             waiting,
             books: _books,
             free: _free,
-            is_settled: _is_settled,
+            closed: _closed,
             changes,
         } = self;
         let outcome = hear_end(counted, waiting, seat)?;
@@ -308,7 +309,7 @@ impl<L: Ledgers> Held<L> {
             waiting: _waiting,
             books: _books,
             free: _free,
-            is_settled: _is_settled,
+            closed: _closed,
             changes: _changes,
         } = self;
         counted.compact_if_large();

@@ -2,8 +2,10 @@
 //! frames.
 #![tactic(auto)]
 
+mod all_shares;
 mod answered;
 mod changes;
+mod ended_ring;
 mod fates;
 mod fed;
 mod happen;
@@ -17,6 +19,7 @@ mod settlement;
 mod waiting;
 
 pub use answered::{Answered, AnsweredList, Reported};
+pub use ended_ring::EndedRing;
 pub use fed::Fed;
 pub use held::{Blanks, CrewShares, Held};
 pub use news::News;

@@ -55,7 +55,7 @@ impl<L: Ledgers> Held<L> {
             waiting,
             books: _books,
             free: _free,
-            is_settled: _is_settled,
+            closed: _closed,
             changes,
         } = self;
         let wake_fingerprint = counted.wake_fingerprint();

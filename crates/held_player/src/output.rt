@@ -1,31 +1,29 @@
 //! Frames under the lock: what is decoded, and what outputs wrote and discarded.
+use crate::all_shares::AllShares;
 use crate::answered::Reported;
 use crate::changes::count_change;
+use crate::ended_ring::EndedRing;
 use crate::fates::book_fates;
 use crate::fed::Fed;
 use crate::happen::{hear_frames, hear_turn};
-use crate::held::Held;
-use crate::settlement::Settlement;
+use crate::held::{CrewShares, Held};
+use crate::settlement::{Settlement, audit_all, settle_rings, show_open};
 use crate::waiting::put_all;
 use counted_player::{Decoded, Discarded, Ledgers, Seat, Written};
-use frame_ledger::{OutputShares, SettleFault, Settled, settle};
-use output_ring::{Drainer, Fates, FeederEnd};
+use frame_ledger::OutputShares;
+use output_ring::Fates;
 use partition::PartitionFault;
-use std::snapshot::Snapshot;
 use std::sync::ledger::Share;
 
 impl<L: Ledgers> Held<L> {
-    ghost use Rattle.frame_ledger.specs.Shares.{KeepsParts};
-    ghost use Rattle.std.specs.Prelude.{◌≡◌, ◌+◌, ◌<◌, ◌++◌, ◌↔◌, Err, None, true, false, sum, IfErr, IfOk, IsNone, OnErr, OnOk, if◌then◌else◌};
-    ghost use Rattle.frame_ledger.specs.Balance.{Balances};
-    ghost use Rattle.frame_ledger.specs.declared.settlement.SettleFault.TheVariants.{Unsettled};
-    ghost use Rattle.output_ring.specs.Rings.{AreEndsAfter};
+    ghost use Rattle.frame_ledger.specs.Shares.{HasAllParts, KeepsParts};
+    ghost use Rattle.std.specs.Prelude.{◌≡◌, ◌+◌, ◌<◌, ◌≤◌, ◌++◌, [], None, true, false, sum, IfErr, IfOk, OnErr, OnOk, vec_len, vec_capacity};
     ghost use Rattle.partition.specs.Legal.{IsPast};
     ghost use Rattle.partition.specs.Step.{limit_of, told as told_of};
     ghost use Rattle.player_events.specs.declared.event.Event.TheVariants.{Have};
     ghost use Rattle.counted_player.specs.Seats.{after_events};
-    ghost use Rattle.held_player.specs.Settling.{AreOfSomePast, Settles, numbers_in, AreNumbers, GrowByFates, SettlesWhereAgreed, with_fates};
-    ghost use Rattle.held_player.specs.Views.{IsRefusedFor, IsUnchangedOrFolded, GrowAsBooks, KeepsDecoded, KeepsFates, books_now, turn_of, JoinsFed, JoinsTurn, IsWithinLimits, IsTurnRefused};
+    ghost use Rattle.held_player.specs.Settling.{AreSumsOf, SettlesInTurn, settled_books};
+    ghost use Rattle.held_player.specs.Views.{IsRefusedFor, IsUnchangedOrFolded, GrowAsBooks, KeepsDecoded, KeepsFates, turn_of, JoinsFed, JoinsTurn, IsWithinLimits, IsTurnRefused};
     ghost use Rattle.counted_player.specs.Counts.{own_in, AreEnabled};
 
     /// Frames of a job were decoded. Where they are not stale, they are for each output that is enabled: its
@@ -68,7 +66,7 @@ impl<L: Ledgers> Held<L> {
             waiting,
             books,
             free: _free,
-            is_settled: _is_settled,
+            closed: _closed,
             changes,
         } = self;
         let outputs = counted.enabled();
@@ -86,7 +84,7 @@ impl<L: Ledgers> Held<L> {
     }
 
     /// An output had its turn: it wrote and discarded so many frames since its last one. Its books and the
-    /// shares grow by them, unless an output was settled before.
+    /// shares grow by them.
     ///
     /// # Errors
     ///
@@ -109,10 +107,10 @@ impl<L: Ledgers> Held<L> {
         ensures kept { OnErr result (self.new.waiting ≡ self.old.waiting) }
         ensures made { OnOk result (seat.new ≡ after_events seat.old 1) }
         ensures seat { OnErr result (seat.new ≡ seat.old) }
-        // The books of written and discarded frames are the player's, until an output is settled.
+        // The outputs are not settled while one has its turn, so the books are the player's.
+        ensures open { self.old.is_settled ≡ false }
         ensures decoded { KeepsDecoded self.old self.new }
-        ensures written { OnOk result (self.new.books.written ≡ (books_now self.old self.new.player).written) }
-        ensures discarded { OnOk result (self.new.books.discarded ≡ (books_now self.old self.new.player).discarded) }
+        ensures books { OnOk result (self.new.books ≡ self.new.player.present.shared.books) }
         ensures shares { GrowAsBooks shares.old shares.new self.old.books self.new.books }
         ensures parts { KeepsParts shares.old shares.new }
         ensures same { OnErr result ((self.new.books ≡ self.old.books) × (shares.new ≡ shares.old)) }
@@ -125,15 +123,16 @@ impl<L: Ledgers> Held<L> {
             waiting,
             books,
             free: _free,
-            is_settled,
+            closed,
             changes,
         } = self;
+        show_open(closed, &mut shares.written);
         let wake_fingerprint = counted.wake_fingerprint();
         let outcome = hear_turn(counted, waiting, seat, output, told_fates, failed)?;
         put_all(waiting, outcome.notices());
         let written = counted.written();
         let discarded = counted.discarded();
-        book_fates(books, shares, *is_settled, written, discarded);
+        book_fates(books, shares, written, discarded);
         count_change(changes, counted.wake_fingerprint() != wake_fingerprint);
         Ok(Reported {
             outcome,
@@ -141,41 +140,30 @@ impl<L: Ledgers> Held<L> {
         })
     }
 
-    /// Compares the books of an output with its ring, once the fates that no turn told of are counted in
-    /// them. It takes no memory.
+    /// Compares the books of all outputs with their rings, one after the other from the first on, once the fates
+    /// that no turn told of are counted in them. All shares come back, so that no frame is counted after it,
+    /// and the books sum to them. It takes no memory: there is room for the results.
     ///
-    /// # Errors
-    ///
-    /// `Unsettled` where the feeder's end has no token, `Mismatch` where a book says otherwise than the ring
-    /// or would pass 2^63-1.
-    pub fn settle(
+    /// Of an output it answers `Unsettled` where the feeder's end has no token, `Mismatch` where a book says
+    /// otherwise than the ring or would pass 2^63-1.
+    pub fn settle_all(
         &mut self,
-        end: FeederEnd,
-        drainer: Drainer,
-        output: usize,
-        shares: &mut OutputShares<Written<L>, Discarded<L>>,
-    ) -> Result<Settled, SettleFault>
-        requires ends { AreEndsAfter end drainer }
-        requires output { output < 8 }
-        requires parts { (0 < shares.old.written.parts) × (0 < shares.old.discarded.parts) }
+        shares: CrewShares<L>,
+        rings: Vec<EndedRing>,
+        room: Vec<Settlement<L>>,
+    ) -> Vec<Settlement<L>>
+        requires whole { HasAllParts shares.decoded.parts shares.outputs }
+        requires few { vec_len rings ≤ 8 }
+        requires room { (room.items ≡ []) × (vec_len rings ≤ vec_capacity room) }
         ensures legal { IsPast self.old.player }
-        ensures given { self.old.books.decoded ≡ self.old.player.present.shared.books.decoded }
-        ensures told { self.old.is_settled ≡ false → self.old.books ≡ self.old.player.present.shared.books }
-        ensures player { self.new.player ≡ self.old.player }
-        ensures waiting { self.new.waiting ≡ self.old.waiting }
+        // It was not done before, so the books are the player's.
+        ensures open { self.old.is_settled ≡ false }
+        ensures given { self.old.books ≡ self.old.player.present.shared.books }
+        ensures sums { AreSumsOf shares self.old.books }
+        ensures settles { SettlesInTurn 0 self.old.books rings.items result.items }
+        ensures player { (self.new.player ≡ self.old.player) × (self.new.waiting ≡ self.old.waiting) }
+        ensures books { self.new.books ≡ settled_books 0 rings.items self.old.books }
         ensures settled { (self.new.is_settled ≡ true) × (self.new.free ≡ self.old.free) }
-        // At `Ok` the numbers are the ring's and the books'.
-        ensures balances { IfOk result (λ s. Balances end drainer s) }
-        ensures books { IfOk result (AreNumbers self.new.books output) }
-        // It fails only for want of the token, or where the books differ.
-        ensures unsettled { (result ≡ Err Unsettled) ↔ IsNone end.finished }
-        ensures agrees { SettlesWhereAgreed end drainer self.old.books output result }
-        // The unreported fates are counted, in both books or in none.
-        ensures decoded { self.new.books.decoded ≡ self.old.books.decoded }
-        ensures written { self.new.books.written ≡ (with_fates drainer output self.old.books).written }
-        ensures discarded { self.new.books.discarded ≡ (with_fates drainer output self.old.books).discarded }
-        ensures amounts { GrowByFates shares.old shares.new drainer self.old.books }
-        ensures kept { KeepsParts shares.old shares.new }
     {
         // What the lock found is a past's, with its numbers.
         let _window = self.history();
@@ -185,37 +173,14 @@ impl<L: Ledgers> Held<L> {
             waiting: _waiting,
             books,
             free: _free,
-            is_settled,
+            closed,
             changes: _changes,
         } = self;
-        *is_settled = true;
-        settle(end, drainer, books, output, shares)
-    }
-
-    /// Likewise, and hands out what it compared.
-    pub fn settlement(
-        &mut self,
-        end: FeederEnd,
-        drainer: Drainer,
-        output: usize,
-        shares: &mut OutputShares<Written<L>, Discarded<L>>,
-    ) -> Settlement<L>
-        requires ends { AreEndsAfter end drainer }
-        requires output { output < 8 }
-        requires parts { (0 < shares.old.written.parts) × (0 < shares.old.discarded.parts) }
-        ensures ends { (result.end.value ≡ end) × (result.drainer.value ≡ drainer) }
-        ensures settles { Settles end drainer output (numbers_in result.books.value) result.result }
-        ensures given { AreOfSomePast (numbers_in result.books.value) }
-        ensures kept { KeepsParts shares.old shares.new }
-    {
-        let books = Snapshot::of(&self.books);
-        let (seen_end, seen_drainer) = (Snapshot::of(&end), Snapshot::of(&drainer));
-        let result = self.settle(end, drainer, output, shares);
-        Settlement {
-            result,
-            end: seen_end,
-            drainer: seen_drainer,
-            books,
-        }
+        let mut shares = shares;
+        show_open(closed, &mut shares.outputs.written);
+        audit_all(books, &mut shares);
+        let results = settle_rings(books, &mut shares.outputs, rings, room);
+        *closed = Some(AllShares { shares });
+        results
     }
 }

@@ -1,15 +1,14 @@
 //! The house: one lock, which any thread with a seat takes.
 ghost use Rattle.frame_ledger.specs.Shares.{HasAllParts, HasNoFrames, KeepsParts};
-ghost use Rattle.std.specs.Prelude.{◌≡◌, ◌+◌, ◌<◌, IfErr, IfOk, IfSome, OnErr, OnOk, length};
+ghost use Rattle.std.specs.Prelude.{◌≡◌, ◌+◌, ◌<◌, ◌≤◌, [], IfErr, IfOk, IfSome, OnErr, OnOk, length, vec_len, vec_capacity};
 ghost use Rattle.held_player.specs.Blanks.{AreFor};
-ghost use Rattle.output_ring.specs.Rings.{AreEndsAfter};
 ghost use Rattle.partition.specs.History.{Chronicle};
 ghost use Rattle.partition.specs.Legal.{IsPast};
 ghost use Rattle.player_events.specs.declared.event.Event.TheVariants.{End, Have};
 ghost use Rattle.held_player.specs.Lists.{StopsIn, TellsList};
 ghost use Rattle.held_player.specs.News.{event_of};
 ghost use Rattle.counted_player.specs.Seats.{after_events};
-ghost use Rattle.held_player.specs.Settling.{AreOfSomePast, Settles, numbers_in};
+ghost use Rattle.held_player.specs.Settling.{ClosesBooks};
 ghost use Rattle.counted_player.specs.Counts.{IsFresh, IsSongSomewhere};
 ghost use Rattle.held_player.specs.Views.{IsUnwritten, RefusesSomewhere, TellsSomewhere, HandsOut, StopsClient, turn_of, FeedsShare};
 
@@ -17,11 +16,11 @@ use command_lists::ListForm;
 use counted_player::{Decoded, Discarded, Ledgers, NoSeat, Seat, Written};
 use frame_ledger::OutputShares;
 use held_player::{
-    Answered, AnsweredList, Blanks, CrewShares, Fed, Held, News, Reported, Settlement,
+    Answered, AnsweredList, Blanks, CrewShares, EndedRing, Fed, Held, News, Reported, Settlement,
 };
 use idle_clients::Notice;
 use mpd_command::Request;
-use output_ring::{Drainer, Fates, FeederEnd};
+use output_ring::Fates;
 use partition::{ListFault, Partition, PartitionFault};
 use shelf::Shelf;
 use song_db::SharedSong;
@@ -259,24 +258,21 @@ impl<L: Ledgers> House<L> {
         told
     }
 
-    /// Compares the books of an output with its ring. What it answers is as [`Held::settle`] answers.
-    pub fn settle(
+    /// Compares the books of all outputs with their rings, once all shares are back. What it answers is as
+    /// [`Held::settle_all`] answers.
+    pub fn settle_all(
         &self,
         rt: &impl Wait,
-        end: FeederEnd,
-        drainer: Drainer,
-        output: usize,
-        shares: &mut OutputShares<Written<L>, Discarded<L>>,
-    ) -> Settlement<L>
-        requires ends { AreEndsAfter end drainer }
-        requires output { output < 8 }
-        requires parts { (0 < shares.old.written.parts) × (0 < shares.old.discarded.parts) }
-        ensures ends { (result.end.value ≡ end) × (result.drainer.value ≡ drainer) }
-        ensures settles { Settles end drainer output (numbers_in result.books.value) result.result }
-        ensures given { AreOfSomePast (numbers_in result.books.value) }
-        ensures kept { KeepsParts shares.old shares.new }
+        shares: CrewShares<L>,
+        rings: Vec<EndedRing>,
+        room: Vec<Settlement<L>>,
+    ) -> Vec<Settlement<L>>
+        requires whole { HasAllParts shares.decoded.parts shares.outputs }
+        requires few { vec_len rings ≤ 8 }
+        requires room { (room.items ≡ []) × (vec_len rings ≤ vec_capacity room) }
+        ensures { ClosesBooks shares rings.items result.items }
     {
-        self.held.lock(rt).settlement(end, drainer, output, shares)
+        self.held.lock(rt).settle_all(shares, rings, room)
     }
 
     /// The end: from now on nothing is decoded and no scan begins. Each thread of the house is told of it at

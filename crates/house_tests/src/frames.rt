@@ -1,20 +1,20 @@
 //! Frames of a job under the lock: fed, written, and settled.
-ghost use Rattle.frame_ledger.specs.Shares.{KeepsParts};
-ghost use Rattle.std.specs.Prelude.{◌≡◌, ◌<◌, IfOk};
+ghost use Rattle.frame_ledger.specs.Shares.{HasAllParts, KeepsParts};
+ghost use Rattle.std.specs.Prelude.{◌≡◌, ◌<◌, ◌≤◌, [], IfOk, vec_len, vec_capacity};
 ghost use Rattle.held_player.specs.Blanks.{AreFor};
-ghost use Rattle.output_ring.specs.Rings.{AreEndsAfter, SameDrainer};
+ghost use Rattle.output_ring.specs.Rings.{SameDrainer};
 
 use crate::rooms::{blanks, comes, opened, says};
 use crate::wanted::wants;
 use counted_devices::{FailAt, FailurePoint};
 use counted_player::{Decoded, Discarded, Ledgers, Seat, Written};
 use frame_ledger::OutputShares;
-use held_player::{Blanks, News};
+use held_player::{Blanks, CrewShares, EndedRing, News, Settlement};
 use house::House;
-use output_ring::{Cut, Drainer, Fates, FeederEnd, Live, ring};
+use output_ring::{Cut, Drainer, Fates, Live, ring};
 use partition::PartitionFault;
 use player_state::Report;
-use std::alloc::Global;
+use std::alloc::{AllocError, Global};
 use std::marker::Brand;
 use std::sync::Wait;
 use std::sync::ledger::Share;
@@ -120,10 +120,9 @@ fn ends_told<L: Ledgers>(
     house: &House<L>,
     seat: &mut Seat<L>,
     shares: &mut OutputShares<Written<L>, Discarded<L>>,
-) -> Result<(FeederEnd, Drainer), PartitionFault>
+) -> Result<EndedRing, PartitionFault>
     requires { (0 < shares.old.written.parts) × (0 < shares.old.discarded.parts) }
-    ensures ends { IfOk result (λ r. AreEndsAfter r.0 r.1) }
-    ensures parts { KeepsParts shares.old shares.new }
+    ensures { KeepsParts shares.old shares.new }
 {
     let mut out = FailAt::new(Vec::new(alloc), FailurePoint::Never);
     let (mut feeder, mut drainer) = ring(alloc, 8192, 512)?;
@@ -133,26 +132,56 @@ fn ends_told<L: Ledgers>(
     turns(rt, alloc, house, seat, shares, 0, drainer.fates())?;
     drainer.reported();
     writes_out(&mut drainer, &mut out, 2);
-    Ok((feeder.finish(), drainer))
+    Ok(EndedRing {
+        end: feeder.finish(),
+        drainer,
+    })
 }
 
-/// What an output is settled with: its frames decoded, written, discarded and left.
+/// This ring and another that took nothing, and room for what both are settled with.
+fn two_rings<L: Ledgers>(
+    alloc: Global,
+    first: EndedRing,
+) -> Result<(Vec<EndedRing>, Vec<Settlement<L>>), AllocError>
+    ensures rings { IfOk result (λ r. vec_len r.0 ≡ 2) }
+    ensures room { IfOk result (λ r. (r.1.items ≡ []) × (2 ≤ vec_capacity r.1)) }
+{
+    let (feeder, drainer) = ring(alloc, 8192, 512)?;
+    let mut rings = Vec::new(alloc);
+    rings.push(first)?;
+    rings.push(EndedRing {
+        end: feeder.finish(),
+        drainer,
+    })?;
+    let mut room = Vec::new(alloc);
+    room.reserve(2)?;
+    Ok((rings, room))
+}
+
+/// What two outputs are settled with: their frames decoded, written, discarded and left.
 fn settled<L: Ledgers>(
     rt: &impl Wait,
     alloc: Global,
     house: &House<L>,
     seat: &mut Seat<L>,
-    shares: &mut OutputShares<Written<L>, Discarded<L>>,
+    shares: CrewShares<L>,
 ) -> Result<String, PartitionFault>
-    requires { (0 < shares.old.written.parts) × (0 < shares.old.discarded.parts) }
+    requires { HasAllParts shares.decoded.parts shares.outputs }
 {
-    let (end, drainer) = ends_told(rt, alloc, house, seat, shares)?;
-    match house.settle(rt, end, drainer, 0, shares).result {
-        Ok(s) => {
-            Ok(format!(in alloc; "{} {} {} {}\n", s.decoded, s.written, s.discarded, s.left)?)
-        }
-        Err(_) => Ok(String::from_str(alloc, "not settled\n")?),
+    let mut shares = shares;
+    let first = ends_told(rt, alloc, house, seat, &mut shares.outputs)?;
+    let (rings, room) = two_rings::<L>(alloc, first)?;
+    let mut told = String::new(alloc);
+    for settlement in &house.settle_all(rt, shares, rings, room) {
+        let line = match &settlement.result {
+            Ok(s) => {
+                format!(in alloc; "{} {} {} {}\n", s.decoded, s.written, s.discarded, s.left)?
+            }
+            Err(_) => String::from_str(alloc, "not settled\n")?,
+        };
+        told.push_str(line.as_str())?;
     }
+    Ok(told)
 }
 
 /// A song plays, and its first frames are decoded once.
@@ -211,7 +240,7 @@ fn evening<L: Ledgers>(
         nothing,
     )?;
     heard.push_str(live.as_str())?;
-    let last = settled(rt, alloc, &house, &mut seat, &mut shares.outputs)?;
+    let last = settled(rt, alloc, &house, &mut seat, shares)?;
     heard.push_str(last.as_str())?;
     Ok(heard)
 }
@@ -231,6 +260,7 @@ stale
 live 0 false false
 live 1 true false
 1024 512 512 0
+0 0 0 0
 ",
     );
     Ok(())

@@ -7,14 +7,11 @@ use Rattle.command_lists.specs.declared.list.CommandList.{CommandList}
 use Rattle.held_player.specs.Lists.{HandedList, StopsListSomewhere, TellsListSomewhere}
 use Rattle.counted_player.specs.Seats.{after_events}
 use Rattle.counted_player.specs.Counts.{AnswersSomewhere}
-use Rattle.held_player.specs.Views.{Handed, IsUnwritten, StopsSomewhere}
+use Rattle.held_player.specs.Views.{Handed, IsUnwritten, StopsSomewhere, line_of}
 use Rattle.mpd_command.specs.Requests.{name_in}
 use Rattle.mpd_command.specs.declared.request.Request.{Request}
 use Rattle.mpd_text.specs.Answers.Answer.{ack_line}
 use Rattle.partition.specs.Lists.{Stop, fault_text, next_after, stop_text, text_with}
-use Rattle.transitions.specs.Shelves.{no_store_reply}
-use Rattle.player_events.specs.declared.event.Event.TheVariants.{Line}
-use Rattle.transitions.specs.declared.asked.Stand.TheVariants.{Alone}
 use Rattle.partition.specs.declared.partition.PartitionFault.{PartitionFault}
 use Rattle.partition.specs.declared.partition.PartitionFault.TheVariants.{NoMemory}
 use Rattle.shelf.specs.Calls.{Call}
@@ -54,7 +51,7 @@ module _ {S : Type 0} (standing : S → Standing) (failed : S → S → Call →
   -- a line was run
   pub line_ran : (before after : Caller S) (line : LineData) (request : Request) (answered : Handed) (owed : List ℕ) (next : Next) → request ≡ read_line asker.may_kill line
       → owed ≡ notice_bytes answered.front ++ answered.told.answer.text → next ≡ answered.told.answer.next → after.seat ≡ after_events before.seat 1
-      → (before.seat.number < 4 → AnswersSomewhere standing failed before.shelf after.shelf before.seat.number before.seat.made (Line asker.client Alone request no_store_reply) answered.told.answer)
+      → AnswersSomewhere standing failed before.shelf after.shelf before.seat (line_of asker.client request) answered.told
       → IsOwed (Answers standing failed asker) before (Single line) owed next after
   line_ran before after line request answered owed next read is follows made somewhere = (
     notice_bytes answered.front,
@@ -62,23 +59,22 @@ module _ {S : Type 0} (standing : S → Standing) (failed : S → S → Call →
     is,
     a_notice answered.front,
     inl (
-      answered.told.answer,
+      answered.told,
       refl,
       follows,
       made,
-      λ few. subst (λ (r : Request). AnswersSomewhere standing failed before.shelf after.shelf before.seat.number before.seat.made (Line asker.client Alone r no_store_reply) answered.told.answer) read (somewhere few),
+      subst (λ (r : Request). AnswersSomewhere standing failed before.shelf after.shelf before.seat (line_of asker.client r) answered.told) read somewhere,
     ),
   )
 
   -- the house did not run a line
   pub line_refused : (before after : Caller S) (line : LineData) (request : Request) (name owed : List ℕ) (fault : PartitionFault) → request ≡ read_line asker.may_kill line → name ≡ name_in request
       → owed ≡ ack_line 52 0 name (fault_text fault) → after.seat ≡ before.seat → IsUnwritten standing failed before.shelf after.shelf
-      → (before.seat.number < 4 → StopsSomewhere standing failed before.shelf after.shelf before.seat.number before.seat.made (Line asker.client Alone request no_store_reply) fault)
+      → StopsSomewhere standing failed before.shelf after.shelf before.seat (line_of asker.client request) fault
       → IsOwed (Answers standing failed asker) before (Single line) owed Goes after
   line_refused before after line request name owed fault read named is made unwritten somewhere =
-      let stops : before.seat.number < 4
-      → StopsSomewhere standing failed before.shelf after.shelf before.seat.number before.seat.made (Line asker.client Alone (read_line asker.may_kill line) no_store_reply) fault =
-      λ few. subst (λ (r : Request). StopsSomewhere standing failed before.shelf after.shelf before.seat.number before.seat.made (Line asker.client Alone r no_store_reply) fault) read (somewhere few) in
+      let stops : StopsSomewhere standing failed before.shelf after.shelf before.seat (line_of asker.client (read_line asker.may_kill line)) fault =
+      subst (λ (r : Request). StopsSomewhere standing failed before.shelf after.shelf before.seat (line_of asker.client r) fault) read somewhere in
       ([], owed, refl, ([], refl), inr (name, fault, is, refl, made, unwritten, inr (named ∙ ap name_in read, stops)))
 
   -- a list without lines
@@ -89,7 +85,7 @@ module _ {S : Type 0} (standing : S → Standing) (failed : S → S → Call →
   pub list_ran : (before after : Caller S) (list : CommandList) (requests : List Request) (unread : Option ℕ) (answered : HandedList) (owed : List ℕ) (next : Next) → IsRead list.lines asker.may_kill requests unread
       → owed ≡ notice_bytes answered.front ++ text_with (list_end unread) answered.tolds
       → next ≡ next_after answered.tolds → after.seat ≡ after_events before.seat (length answered.tolds)
-      → (before.seat.number < 4 → TellsListSomewhere standing failed before.shelf after.shelf before.seat.number before.seat.made asker.client list.form requests answered.tolds)
+      → TellsListSomewhere standing failed before.shelf after.shelf before.seat asker.client list.form requests answered.tolds
       → IsOwed (Answers standing failed asker) before (Whole list) owed next after
   list_ran before after list requests unread answered owed next read is follows made somewhere = (
     notice_bytes answered.front,
@@ -111,7 +107,7 @@ module _ {S : Type 0} (standing : S → Standing) (failed : S → S → Call →
   -- a list stopped
   pub list_stopped : (before after : Caller S) (list : CommandList) (requests : List Request) (unread : Option ℕ) (stop : Stop) (owed : List ℕ) → IsRead list.lines asker.may_kill requests unread
       → owed ≡ stop_text stop → after.seat ≡ after_events before.seat stop.done
-      → (before.seat.number < 4 → StopsListSomewhere standing failed before.shelf after.shelf before.seat.number before.seat.made asker.client list.form requests stop)
+      → StopsListSomewhere standing failed before.shelf after.shelf before.seat asker.client list.form requests stop
       → IsOwed (Answers standing failed asker) before (Whole list) owed Goes after
   list_stopped before after list requests unread stop owed read is made somewhere =
       ([], owed, refl, ([], refl), inr (inl (requests, unread, stop, read, is, refl, made, somewhere)))

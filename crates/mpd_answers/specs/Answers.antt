@@ -8,20 +8,16 @@ use Rattle.command_lists.specs.declared.list.ListLine.TheVariants.{Text, NotText
 use Rattle.held_player.specs.Lists.{StopsListSomewhere, TellsListSomewhere}
 use Rattle.counted_player.specs.Seats.{SeatCount, after_events}
 use Rattle.counted_player.specs.Counts.{AnswersSomewhere}
-use Rattle.held_player.specs.Views.{IsUnwritten, StopsSomewhere}
+use Rattle.held_player.specs.Views.{IsUnwritten, StopsSomewhere, line_of}
 use Rattle.mpd_command.specs.Requests.{name_in, request_of}
 use Rattle.mpd_command.specs.declared.request.Request.{Request}
 use Rattle.mpd_command.specs.declared.request.Request.TheVariants.{Refused}
 use Rattle.mpd_text.specs.Answers.Answer.{ack_line}
 use Rattle.mpd_text.specs.declared.answers.answer.ErrorNumber.TheVariants.{Argument}
-use Rattle.transitions.specs.Answers.{Answer}
 use Rattle.transitions.specs.declared.reply.Next.{Next}
 use Rattle.transitions.specs.declared.reply.Next.TheVariants.{Goes}
 use Rattle.player_events.specs.Outcomes.{OutcomeData}
 use Rattle.partition.specs.Lists.{Stop, fault_text, next_after, stop_text, text_with}
-use Rattle.transitions.specs.Shelves.{no_store_reply}
-use Rattle.player_events.specs.declared.event.Event.TheVariants.{Line}
-use Rattle.transitions.specs.declared.asked.Stand.TheVariants.{Alone}
 use Rattle.partition.specs.declared.partition.PartitionFault.{PartitionFault}
 use Rattle.partition.specs.declared.partition.PartitionFault.TheVariants.{NoMemory}
 use Rattle.shelf.specs.Calls.{Call}
@@ -69,22 +65,19 @@ list_end None = codes "OK\n"
 list_end (Some place) = ack_line 52 place [] (fault_text NoMemory)
 
 module _ {S : Type 0} (standing : S → Standing) (failed : S → S → Call → Type 0) (asker : Asker) where
-  -- An answer that the player of one thread gives to the line, after some past in which the seat made so many
-  -- events.
+  -- An answer that the player of one thread gives to the line, after some past that the seat may find.
   abbrev pub RunsLine : Caller S → LineData → List ℕ → Next → Caller S → Type 0
   RunsLine before line text next after =
-      (answer : Answer) × (text ≡ answer.text) × (next ≡ answer.next) × (after.seat ≡ after_events before.seat 1)
-      × (before.seat.number < 4 → AnswersSomewhere standing failed before.shelf after.shelf before.seat.number before.seat.made (Line asker.client Alone (read_line asker.may_kill line) no_store_reply) answer)
+      (outcome : OutcomeData) × (text ≡ outcome.answer.text) × (next ≡ outcome.answer.next) × (after.seat ≡ after_events before.seat 1)
+      × AnswersSomewhere standing failed before.shelf after.shelf before.seat (line_of asker.client (read_line asker.may_kill line)) outcome
 
-  -- The line's event is refused after some past in which the seat made so many events: for the limit that it
-  -- would pass, for a window that cannot be folded, or for want of memory.
+  -- The line's event is refused after some past that the seat may find: for the limit that it would pass, for
+  -- a window that cannot be folded, or for want of memory.
   abbrev pub StopsLine : Caller S → LineData → PartitionFault → Caller S → Type 0
-  StopsLine before line fault after =
-      before.seat.number < 4
-      → StopsSomewhere standing failed before.shelf after.shelf before.seat.number before.seat.made (Line asker.client Alone (read_line asker.may_kill line) no_store_reply) fault
+  StopsLine before line fault after = StopsSomewhere standing failed before.shelf after.shelf before.seat (line_of asker.client (read_line asker.may_kill line)) fault
 
   -- Why the house did not run the line. There may have been no memory to read what command it names; else the
-  -- player refuses its event so, after some past in which the seat made so many events.
+  -- player refuses its event so, after some past that the seat may find.
   abbrev pub RefusesLine : Caller S → LineData → List ℕ → Next → Caller S → Type 0
   RefusesLine before line text next after =
       (name : List ℕ) × (fault : PartitionFault) × (text ≡ ack_line 52 0 name (fault_text fault)) × (next ≡ Goes) × (after.seat ≡ before.seat)
@@ -97,14 +90,14 @@ module _ {S : Type 0} (standing : S → Standing) (failed : S → S → Call →
   RunsList before list text next after =
       (requests : List Request) × (unread : Option ℕ) × (tolds : List OutcomeData) × IsRead list.lines asker.may_kill requests unread × (text ≡ text_with (list_end unread) tolds)
       × (next ≡ next_after tolds) × (after.seat ≡ after_events before.seat (length tolds))
-      × (before.seat.number < 4 → TellsListSomewhere standing failed before.shelf after.shelf before.seat.number before.seat.made asker.client list.form requests tolds)
+      × TellsListSomewhere standing failed before.shelf after.shelf before.seat asker.client list.form requests tolds
 
   -- The answers to the lines of a list before one that the house did not run, and why.
   abbrev pub StopsList : Caller S → CommandList → List ℕ → Next → Caller S → Type 0
   StopsList before list text next after =
       (requests : List Request) × (unread : Option ℕ) × (stop : Stop) × IsRead list.lines asker.may_kill requests unread × (text ≡ stop_text stop)
       × (next ≡ Goes) × (after.seat ≡ after_events before.seat stop.done)
-      × (before.seat.number < 4 → StopsListSomewhere standing failed before.shelf after.shelf before.seat.number before.seat.made asker.client list.form requests stop)
+      × StopsListSomewhere standing failed before.shelf after.shelf before.seat asker.client list.form requests stop
 
   -- A list without lines is no event.
   abbrev pub IsEmptyList : Caller S → CommandList → List ℕ → Next → Caller S → Type 0

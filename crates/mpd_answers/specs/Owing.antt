@@ -1,5 +1,5 @@
 -- The bytes of what a session owes its client.
-use Rattle.std.specs.Prelude.{◌≡◌, ℕ, List, [], ◌++◌, Option, codes}
+use Rattle.std.specs.Prelude.{◌≡◌, ℕ, Bool, true, false, List, [], ◌++◌, Option, codes}
 use Rattle.mpd_text.specs.Answers.Answer.{ack_line}
 use Rattle.partition.specs.Lists.{fault_text, next_after, stop_text, text_with}
 use Rattle.mpd_answers.specs.declared.owed.Owed.{Owed}
@@ -9,7 +9,7 @@ use Rattle.mpd_answers.specs.Output.{IsOwed}
 use Rattle.mpd_answers.specs.Requests.{Asking}
 use Rattle.mpd_answers.specs.declared.asker.Asker.{Asker}
 use Rattle.transitions.specs.declared.reply.Next.{Next}
-use Rattle.transitions.specs.declared.reply.Next.TheVariants.{Goes}
+use Rattle.transitions.specs.declared.reply.Next.TheVariants.{Goes, Waits}
 use Rattle.counted_player.specs.Seats.{SeatCount}
 use Rattle.held_player.specs.Lists.{HandedList}
 use Rattle.held_player.specs.Views.{Handed}
@@ -38,6 +38,16 @@ abbrev pub next_by : Owed → Next
 next_by (owed.Line answered) = answered.told.answer.next
 next_by (owed.List answered unread) = next_after answered.tolds
 next_by _ = Goes
+
+abbrev pub is_waiting : Next → Bool
+is_waiting Waits = true
+is_waiting _ = false
+
+-- Whether the client waits for a notice after this, where it waited before or did not: an answer to a line says
+-- so, and nothing else begins or ends a wait.
+abbrev pub waits_after : Owed → Bool → Bool
+waits_after (owed.Line answered) waited = is_waiting answered.told.answer.next
+waits_after _ waited = waited
 
 -- bytes stand where they stood, and perhaps more after them
 abbrev pub Grows : List ℕ → List ℕ → Type 0

@@ -4,7 +4,7 @@ ghost use Rattle.mpd_text.specs.Answers.Answer.{ack_line};
 ghost use Rattle.partition.specs.Lists.{fault_text};
 ghost use Rattle.mpd_answers.specs.Answers.{list_end};
 ghost use Rattle.mpd_answers.specs.Notices.{notice_bytes, notice_text};
-ghost use Rattle.mpd_answers.specs.Owing.{Grows, line_bytes, list_bytes, next_by, owed_bytes};
+ghost use Rattle.mpd_answers.specs.Owing.{Grows, line_bytes, list_bytes, next_by, owed_bytes, waits_after};
 
 use held_player::{Answered, AnsweredList};
 use idle_clients::Notice;
@@ -78,7 +78,9 @@ impl Owed {
     }
 
     /// Whether its client waits for a notice once this is its answer; whether it waited before is given.
-    pub fn leaves_waiting(&self, waited: bool) -> bool {
+    pub fn leaves_waiting(&self, waited: bool) -> bool
+        ensures { result ≡ waits_after self.now waited }
+    {
         match self {
             Owed::Line(answered) => matches!(answered.reply().next(), Next::Waits),
             _ => waited,

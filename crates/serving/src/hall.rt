@@ -1,5 +1,5 @@
 //! A house with nobody in it yet.
-ghost use Rattle.std.specs.Prelude.{◌≡◌, ◌<◌};
+ghost use Rattle.frame_ledger.specs.Shares.{AreEmpty, HasAllParts};
 ghost use Rattle.held_player.specs.Blanks.{AreFor};
 ghost use Rattle.counted_player.specs.Counts.{IsFresh};
 
@@ -16,9 +16,8 @@ pub(crate) struct Hall<L: Ledgers> {
     pub(crate) house: Arc<House<L>, Global>,
     pub(crate) seat: Seat<L>,
     pub(crate) shares: CrewShares<L>,
-    ghost decoded: { 0 < shares.decoded.parts },
-    ghost written: { (8 < shares.outputs.written.parts) × (shares.outputs.written.amount ≡ 0) },
-    ghost discarded: { (8 < shares.outputs.discarded.parts) × (shares.outputs.discarded.amount ≡ 0) },
+    ghost parts: { HasAllParts shares.decoded.parts shares.outputs },
+    ghost empty: { AreEmpty shares.outputs },
 }
 
 /// The house of a player to which nothing happened.

@@ -1,5 +1,6 @@
 //! The run of a daemon, whatever its threads work with.
-ghost use Rattle.std.specs.Prelude.{◌≡◌, ◌<◌, ◌≤◌, vec_len};
+ghost use Rattle.frame_ledger.specs.Shares.{AreEmpty, HasAllParts};
+ghost use Rattle.std.specs.Prelude.{◌≤◌, vec_len};
 
 use crate::fault::DaemonFault;
 use crate::gear::Gear;
@@ -93,24 +94,14 @@ fn start_crew<
     manner: Manner,
 ) -> Result<Crew<L>, AllocError>
     requires few { vec_len writers ≤ 8 }
-    requires decoded { 0 < shares.decoded.parts }
-    requires written { (8 < shares.outputs.written.parts) × (shares.outputs.written.amount ≡ 0) }
-    requires discarded { (8 < shares.outputs.discarded.parts) × (shares.outputs.discarded.amount ≡ 0) }
+    requires parts { HasAllParts shares.decoded.parts shares.outputs }
+    requires empty { AreEmpty shares.outputs }
 {
     let CrewShares { decoded, outputs } = shares;
     let rings = output_setups(alloc, manner.ring, writers)?;
     let gate = shared(alloc, Open)?;
-    let (runs, feeders) = start_outputs(rt, alloc, house, &gate, rings, outputs)?;
-    start_decoder::<L, N, M, R>(
-        rt,
-        alloc,
-        house,
-        source,
-        manner.rate,
-        runs,
-        feeders,
-        decoded,
-    )
+    let outputs = start_outputs(rt, alloc, house, &gate, rings, outputs)?;
+    start_decoder::<L, N, M, R>(rt, alloc, house, source, manner.rate, outputs, decoded)
 }
 
 /// Ends the threads, and prints what became of each output's frames.

@@ -15,5 +15,5 @@ returns-clause-room g c =
 
 pub returns-clause-somewhere : goal.returns-clause-somewhere
 returns-clause-somewhere g c =
-    subst (λ (s : SeatCount). IfOk c.apply.result (λ outcome. s.number < 4 → AnswersSomewhere g.S.Shelf.standing g.S.Shelf.failed c.args.shelf.now c.apply.new.shelf s.number s.made c.args.event outcome.answer))
+    subst (λ (s : SeatCount). IfOk c.apply.result (AnswersSomewhere g.S.Shelf.standing g.S.Shelf.failed c.args.shelf.now c.apply.new.shelf s c.args.event))
     c.check.ensures.same.1 c.apply.ensures.somewhere

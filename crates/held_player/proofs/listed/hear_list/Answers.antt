@@ -28,16 +28,16 @@ returns-clause-err g c =
 
 pub returns-clause-somewhere : goal.returns-clause-somewhere
 returns-clause-somewhere g c =
-    somewhere_run g.S.Shelf.standing g.S.Shelf.failed c.args.counted.now c.run_list.new.self c.args.shelf.now c.run_list.new.shelf c.args.seat.now.number c.args.client c.args.form c.args.requests.items
-    c.run_list.result c.args.seat.now.made c.check.ensures.legal c.check.ensures.found
+    somewhere_run g.S.Shelf.standing g.S.Shelf.failed c.args.counted.now c.run_list.new.self c.args.shelf.now c.run_list.new.shelf c.args.seat.now c.args.client c.args.form c.args.requests.items
+    c.run_list.result (c.check.ensures.legal, c.check.ensures.found)
     (all_runs_at g.S.Shelf.standing g.S.Shelf.failed c.check.new.self c.args.counted.now c.args.shelf.now c.run_list.new.shelf c.check.new.seat.number c.args.seat.now.number
     c.check.ensures.same.0 (ap (λ (s : SeatCount). s.number) c.check.ensures.same.1) c.run_list.new.self c.args.client c.args.form c.args.requests.items c.run_list.result c.run_list.ensures.ok)
 
 pub returns-clause-stopped : goal.returns-clause-stopped
 returns-clause-stopped g c =
-    somewhere_here g.S.Shelf.standing g.S.Shelf.failed c.args.counted.now c.run_list.new.self c.args.shelf.now c.run_list.new.shelf c.args.seat.now.number c.args.client c.args.form c.args.requests.items
-    c.run_list.result c.args.seat.now.made c.check.ensures.legal c.check.ensures.found (returns-clause-err g c)
+    somewhere_here g.S.Shelf.standing g.S.Shelf.failed c.args.counted.now c.run_list.new.self c.args.shelf.now c.run_list.new.shelf c.args.seat.now c.args.client c.args.form c.args.requests.items
+    c.run_list.result (c.check.ensures.legal, c.check.ensures.found) (returns-clause-err g c)
 
 pub returns-then-is_err-clause-stopped : goal.returns-then-is_err-clause-stopped
-returns-then-is_err-clause-stopped g c = λ low.
-    (c.args.counted.now, c.check.ensures.legal, c.check.ensures.found low, (c.args.counted.now, inl (c.unbegun.ensures ∙ ap unbegun c.deref.ensures.value, (refl, refl))))
+returns-then-is_err-clause-stopped g c =
+    (c.args.counted.now, (c.check.ensures.legal, c.check.ensures.found), (c.args.counted.now, inl (c.unbegun.ensures ∙ ap unbegun c.deref.ensures.value, (refl, refl))))

@@ -1,4 +1,4 @@
-use Rattle.std.proofs.Common.{◌≡◌, ◌+◌, ◌<◌, ◌^◌, ◌∙◌, refl, ap, sym, subst}
+use Rattle.std.proofs.Common.{◌≡◌, ◌+◌, ◌<◌, ◌^◌, ◌∙◌, ap, sym, subst}
 use Rattle.std.specs.Prelude.{slice_index_or}
 use Rattle.partition.specs.History.{Chronicle}
 use Rattle.partition.specs.Image.{Image}
@@ -36,9 +36,12 @@ returns-clause-ok g c =
     (c.number.ensures.number ∙ ap (λ (s : SeatCount). s.number) c.audit.ensures.seat) c.apply.new.self.present c.apply.new.self.window c.args.event c.in_ok-outcome.outcome c.in_ok-outcome.ensures.ok
 
 pub returns-clause-somewhere : goal.returns-clause-somewhere
-returns-clause-somewhere g c = λ low.
-    answers g.S.Shelf.standing g.S.Shelf.failed c.args.self.now c.args.self.now c.apply.new.self.present c.apply.new.self.window c.args.shelf.now c.apply.new.shelf
-    c.args.seat.now.number c.args.seat.now.made c.args.event c.in_ok-outcome.outcome refl (subst IsPast c.self.view_is c.history-past.ensures.legal)
-    (found_at c.self.inside.partition c.args.self.now c.self.inside.seats c.args.seat.now.number c.args.seat.now.made c.self.view_is c.self.invariant c.audit.ensures.found low)
+returns-clause-somewhere g c =
+    answers g.S.Shelf.standing g.S.Shelf.failed c.args.self.now c.apply.new.self.present c.apply.new.self.window c.args.shelf.now c.apply.new.shelf
+    c.args.seat.now c.args.event c.in_ok-outcome.outcome (
+      subst IsPast c.self.view_is c.history-past.ensures.legal,
+      λ low.
+          found_at c.self.inside.partition c.args.self.now c.self.inside.seats c.args.seat.now.number c.args.seat.now.made c.self.view_is c.self.invariant c.audit.ensures.found low,
+    )
     (records_at g.S.Shelf.standing g.S.Shelf.failed c.self.inside.partition c.args.self.now c.args.shelf.now c.apply.new.shelf c.number.result c.args.seat.now.number c.self.view_is
     (c.number.ensures.number ∙ ap (λ (s : SeatCount). s.number) c.audit.ensures.seat) c.apply.new.self.present c.apply.new.self.window c.args.event c.in_ok-outcome.outcome c.in_ok-outcome.ensures.ok)

@@ -10,8 +10,6 @@ invariant_of-held g c =
       books.0 ∙ sym (ap (λ (b : FrameBooks). b.decoded) empty),
       (λ e. books.1 ∙ sym (ap (λ (b : FrameBooks). b.written) empty)),
       (λ e. books.2 ∙ sym (ap (λ (b : FrameBooks). b.discarded) empty)),
-      ap length books.0,
-      ap length books.1,
-      ap length books.2,
+      (ap length books.0, ap length books.1, ap length books.2),
       c.in-Ok.ensures.free.0,
     )

@@ -1,0 +1,19 @@
+//! The threads of all outputs, which run.
+ghost use Rattle.std.specs.Prelude.{◌≡◌, map, vec_len};
+ghost use Rattle.frame_ledger.specs.Shares.{HasPartsBut};
+ghost use Rattle.crew.specs.Rows.{first_of_run};
+
+use crate::output::OutputRun;
+use counted_player::{Discarded, Ledgers, Written};
+use frame_ledger::OutputShares;
+use output_ring::Feeder;
+
+/// The threads of all outputs, the feeder of each one's ring, and the parts of the shares that no output has.
+#[derive(Drop)]
+pub struct OutputRuns<L: Ledgers> {
+    pub runs: Vec<OutputRun<L>>,
+    pub feeders: Vec<Feeder>,
+    pub shares: OutputShares<Written<L>, Discarded<L>>,
+    ghost rings: { map first_of_run runs.items ≡ feeders.items },
+    ghost parts: { HasPartsBut (vec_len runs) shares },
+}
