@@ -1,11 +1,12 @@
 -- What an event asks of the lent shelf, and what it makes of the shelf's two maps (MPD protocol reference,
 -- Stored playlists, Stickers).
-use Rattle.std.specs.Prelude.{◌≡◌, ⊤, ℕ, Bool, true, false, List, Option, Some, None, Result, Ok, Err, IfOk}
+use Rattle.std.specs.Prelude.{◌≡◌, ⊤, ℕ, Bool, true, false, List, Option, Some, None, is_some, Result, Ok, Err, IfOk}
 use Rattle.shelf.specs.declared.faults.ShelfFault.{ShelfFault}
 use Rattle.shelf.specs.declared.faults.ShelfFault.TheVariants.{NoMemory, StoreFault}
 use Rattle.shelf.specs.Calls as calls
 use Rattle.shelf.specs.Calls.{Call}
-use Rattle.shelf.specs.Maps.{Maps, Standing, Trusted, Turns, Answers, AnswersAll, AreKeys, AreEntries, with_list, with_renamed, with_sticker, with_stickers, no_stickers, no_refusal, refusal_of_list, refusal_of_put, refusal_of_create, refusal_of_rename, refusal_of_set, refusal_of_sticker}
+use Rattle.shelf.specs.Shelf.{AnswersCall, maps_once_done}
+use Rattle.shelf.specs.Maps.{Maps, Standing, Trusted, Turns, AreKeys, AreEntries, no_refusal, refusal_of_list, refusal_of_sticker}
 use Rattle.transitions.specs.declared.shelf_calls.StoreReply.{StoreReply}
 use Rattle.transitions.specs.declared.shelf_calls.Read.{Read}
 use Rattle.transitions.specs.declared.shelf_calls.Read.TheVariants as read_variant
@@ -25,15 +26,19 @@ pub data Question : Type 0 where
 abbrev pub no_store_reply : StoreReply
 no_store_reply = record { read = read_variant.Nothing; refused = None }
 
+-- the call of the shelf by which it is written, if one is made
+abbrev pub call_of : ShelfWrite → Option Call
+call_of Nothing = None
+call_of (Put name uris changes) = Some (calls.Put name uris)
+call_of (Create name uris) = Some (calls.Create name uris)
+call_of (Rename name new) = Some (calls.Rename name new)
+call_of (Remove name) = Some (calls.Remove name)
+call_of (SetSticker uri name value changes) = Some (calls.SetSticker uri name value)
+call_of (DeleteSticker uri name) = Some (calls.DeleteSticker uri name)
+call_of (DeleteStickers uri) = Some (calls.DeleteStickers uri)
+
 abbrev pub is_written : ShelfWrite → Bool
-is_written Nothing = false
-is_written (Put name uris changes) = true
-is_written (Create name uris) = true
-is_written (Rename name new) = true
-is_written (Remove name) = true
-is_written (SetSticker uri name value changes) = true
-is_written (DeleteSticker uri name) = true
-is_written (DeleteStickers uri) = true
+is_written write = is_some (call_of write)
 
 -- whether what is written makes the stored playlists others
 abbrev pub changes_lists : ShelfWrite → Bool
@@ -57,16 +62,14 @@ changes_stickers (SetSticker uri name value changes) = changes
 changes_stickers (DeleteSticker uri name) = true
 changes_stickers (DeleteStickers uri) = true
 
+-- the maps once a call is done, if one is made
+abbrev pub maps_by : Option Call → Maps → Maps
+maps_by None m = m
+maps_by (Some call) m = maps_once_done call m
+
 -- the maps once it is written
 abbrev pub maps_after : ShelfWrite → Maps → Maps
-maps_after Nothing m = m
-maps_after (Put name uris changes) m = with_list m name (Some uris)
-maps_after (Create name uris) m = with_list m name (Some uris)
-maps_after (Rename name new) m = with_renamed m name new
-maps_after (Remove name) m = with_list m name None
-maps_after (SetSticker uri name value changes) m = with_sticker m uri name (Some value)
-maps_after (DeleteSticker uri name) m = with_sticker m uri name None
-maps_after (DeleteStickers uri) m = with_stickers m uri no_stickers
+maps_after write m = maps_by (call_of write) m
 
 -- A call that asks is refused for its cause in the maps, or for the store. Want of memory is no answer: it
 -- refuses the event itself.
@@ -121,16 +124,14 @@ abbrev pub answered : Option ShelfFault → Result ⊤ ShelfFault
 answered None = Ok tt
 answered (Some fault) = Err fault
 
+-- what a call answers, if one is made
+abbrev pub IsAnsweredBy : (Call → Type 0) → Maps → Option Call → Result ⊤ ShelfFault → Type 0
+IsAnsweredBy failed m None result = result ≡ Ok tt
+IsAnsweredBy failed m (Some call) result = AnswersCall (failed call) m call result
+
 -- What is written is done, or refused for its cause in the maps, or for the store.
 abbrev pub IsAnswered : (Call → Type 0) → Maps → ShelfWrite → Result ⊤ ShelfFault → Type 0
-IsAnswered failed m Nothing result = result ≡ Ok tt
-IsAnswered failed m (Put name uris changes) result = Answers (failed (calls.Put name uris)) (refusal_of_put name) result
-IsAnswered failed m (Create name uris) result = Answers (failed (calls.Create name uris)) (refusal_of_create m name) result
-IsAnswered failed m (Rename name new) result = Answers (failed (calls.Rename name new)) (refusal_of_rename m name new) result
-IsAnswered failed m (Remove name) result = Answers (failed (calls.Remove name)) (refusal_of_list m name) result
-IsAnswered failed m (SetSticker uri name value changes) result = Answers (failed (calls.SetSticker uri name value)) (refusal_of_set name) result
-IsAnswered failed m (DeleteSticker uri name) result = Answers (failed (calls.DeleteSticker uri name)) (refusal_of_sticker m uri name) result
-IsAnswered failed m (DeleteStickers uri) result = AnswersAll (failed (calls.DeleteStickers uri)) (m.stickers uri) result
+IsAnswered failed m write result = IsAnsweredBy failed m (call_of write) result
 
 -- whether something is to be written and was not refused
 abbrev pub is_ok_write : ShelfWrite → Result ⊤ ShelfFault → Bool
