@@ -1,5 +1,5 @@
 //! Frames of a file.
-ghost use Rattle.std.specs.Prelude.{◌≡◌, ◌⊎◌, ◌≤◌, ◌<◌, ◌+◌, ◌*◌, ◌^◌, length, IfOk, IfErr};
+ghost use Rattle.std.specs.Prelude.{◌≡◌, ◌⊎◌, ◌≤◌, ◌<◌, ◌+◌, ◌*◌, ◌^◌, length, vec_len, IfOk, IfErr};
 ghost use Rattle.counted_devices.specs.CallCounts.{NoFewer};
 ghost use Rattle.wave.specs.Devices.{ReadFaultHasCause};
 ghost use Rattle.wave.specs.Formats.{frames_of};
@@ -11,13 +11,15 @@ use crate::format::Layout;
 use crate::head::Head;
 use counted_devices::Media;
 use pcm_mix::{Frame, from_bytes};
-use std::alloc::Global;
+use std::alloc::{AllocError, Global};
 
 /// A file and its head.
 #[derive(Drop)]
 pub struct Reader<R> {
     media: R,
     head: Head,
+    /// The bytes that were read last: their room serves for the next.
+    bytes: Option<Vec<u8>>,
 }
 
 impl<R> Reader<R> {
@@ -26,7 +28,11 @@ impl<R> Reader<R> {
         ensures media { result.media ≡ media }
         ensures head { result.head ≡ head }
     {
-        Reader { media, head }
+        Reader {
+            media,
+            head,
+            bytes: None,
+        }
     }
 
     /// The file's head.
@@ -64,11 +70,25 @@ impl<R: Media> Reader<R> {
         let block = depth.width() * channels.count();
         let first = from.min(self.head.frames);
         let wanted = (n as u64).min(self.head.frames - first);
-        let mut bytes = vec![in alloc; 0u8; wanted as usize * block]?;
+        let mut bytes = sized(alloc, self.bytes.take(), wanted as usize * block)?;
         let place = self.head.place + first * block as u64;
         let got = read_at(&mut self.media, limit, place, &mut bytes)?;
-        decoded(alloc, &bytes.as_slice()[..got], self.head.layout)
+        let frames = decoded(alloc, &bytes.as_slice()[..got], self.head.layout);
+        self.bytes = Some(bytes);
+        frames
     }
+}
+
+/// So many bytes, in room that is kept if there is some.
+fn sized(alloc: Global, kept: Option<Vec<u8>>, len: usize) -> Result<Vec<u8>, AllocError>
+    ensures len { IfOk result (λ bytes. vec_len bytes ≡ len) }
+{
+    let mut bytes = match kept {
+        Some(bytes) => bytes,
+        None => Vec::new(alloc),
+    };
+    bytes.resize(len, 0)?;
+    Ok(bytes)
 }
 
 /// The whole frames of bytes.

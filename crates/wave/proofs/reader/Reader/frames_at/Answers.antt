@@ -19,10 +19,10 @@ returns-clause-value g c =
     let read : take c.in_ok-got.got c.as_slice.result.now ≡ take (c.min-wanted.result * b) (drop (head.place + c.min-first.result * b) bytes) =
     ap (take c.in_ok-got.got) slice ∙ filled ∙ ap (λ k. take k (drop (head.place + c.min-first.result * (c.width.result * c.count.result)) bytes)) long
     ∙ ap (λ n. take (c.min-wanted.result * n) (drop (head.place + c.min-first.result * n) bytes)) block in
-    subst (λ (xs : List (List ℤ)). IfOk c.decoded.result (λ frames. frames.items ≡ xs))
+    subst (λ (xs : List (List ℤ)). IfOk c.decoded-frames.result (λ frames. frames.items ≡ xs))
     (frames_are head.layout.depth head.layout.channels (take c.in_ok-got.got c.as_slice.result.now) bytes head.place (head.frames * b) c.args.from c.args.n c.min-first.result c.min-wanted.result
     (positive head.layout.depth head.layout.channels) first wanted read)
-    c.decoded.ensures.value) c.in_ok-got.ensures.value
+    c.decoded-frames.ensures.value) c.in_ok-got.ensures.value
 
 pub returns-clause-count : goal.returns-clause-count
 returns-clause-count g c =
@@ -32,4 +32,4 @@ returns-clause-count g c =
     let long : length c.read_at.new.buf ≡ c.min-wanted.result * (c.width.result * c.count.result) = omega (arith, c.read_at.auto.buf, c.deref_mut.ensures.len, c.in_ok-bytes.ensures.len) in
     let few : length (take c.in_ok-got.got c.as_slice.result.now) ≤ c.min-wanted.result * b =
     simp length-take (omega (arith, c.in_ok-got.ensures.bound, long ∙ ap (λ n. c.min-wanted.result * n) block)) in
-    ok_map c.decoded.result (λ frames e. rw e (omega (arith, few_frames layout (take c.in_ok-got.got c.as_slice.result.now) c.min-wanted.result few))) c.decoded.ensures.value
+    ok_map c.decoded-frames.result (λ frames e. rw e (omega (arith, few_frames layout (take c.in_ok-got.got c.as_slice.result.now) c.min-wanted.result few))) c.decoded-frames.ensures.value
