@@ -48,7 +48,7 @@ impl<L: Ledgers> Model for Counted<L> {
 }
 
 impl<L: Ledgers> Counted<L> {
-    ghost use Rattle.std.specs.Prelude.{◌≡◌, ◌⊎◌, ◌+◌, ◌<◌, [], ◌∷◌, ◌++◌, None, false, IfErr, IfOk, OnErr, OnOk};
+    ghost use Rattle.std.specs.Prelude.{◌≡◌, ◌⊎◌, ◌+◌, ◌<◌, ◌↔◌, [], ◌∷◌, ◌++◌, None, true, false, IfErr, IfOk, OnErr, OnOk};
     ghost use Rattle.partition.specs.History.{folded, joined_by, with_room};
     ghost use Rattle.partition.specs.Legal.{IsPast};
     ghost use Rattle.partition.specs.Lent.{Refuses, RecordsOnce};
@@ -59,6 +59,7 @@ impl<L: Ledgers> Counted<L> {
     ghost use Rattle.counted_player.specs.Counts.{done_in, AnswersSomewhere, AreEnabled, IsFresh, own_in, song_of};
     ghost use Rattle.counted_player.specs.Seats.{after_events};
     ghost use Rattle.song_queue.specs.State.{queue_of};
+    ghost use Rattle.player_core.specs.declared.state.Playback.TheVariants.{Play};
 
     /// A player of which no seat made an event yet.
     pub fn new(partition: Partition, seats: SeatBooks<L>) -> Self
@@ -184,7 +185,9 @@ impl<L: Ledgers> Counted<L> {
     }
 
     /// Whether a song is being played.
-    pub fn plays(&self) -> bool {
+    pub fn plays(&self) -> bool
+        ensures { (result ≡ true) ↔ (self.now.present.part.player.playback ≡ Play) }
+    {
         matches!(self.partition.player().playback(), Playback::Play)
     }
 

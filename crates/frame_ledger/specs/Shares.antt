@@ -6,8 +6,8 @@ use Rattle.frame_ledger.specs.declared.books.OutputShares.{OutputShares}
 abbrev pub KeepsParts : {W X : Type 0} → OutputShares W X → OutputShares W X → Type 0
 KeepsParts old new = (new.written.parts ≡ old.written.parts) × (new.discarded.parts ≡ old.discarded.parts)
 
--- the shares have all parts of their ledgers: one of decoded frames; of written and of discarded ones a part for
--- each of eight outputs, and one more
+-- the shares have all parts of their ledgers: one of decoded frames; of written and of discarded ones a part
+-- for each of eight outputs, and one more
 abbrev pub HasAllParts : {W X : Type 0} → ℕ → OutputShares W X → Type 0
 HasAllParts decoded outputs = (decoded ≡ 1) × (outputs.written.parts ≡ 9) × (outputs.discarded.parts ≡ 9)
 

@@ -22,9 +22,9 @@ use Rattle.mpd_command.specs.declared.request.Request.{Request}
 use Rattle.output_ring.specs.declared.frames.Fates.{Fates}
 use Rattle.transitions.specs.declared.asked.Stand.TheVariants.{Alone}
 
--- the player with its history; the notices that wait to be handed out; the books of frames; whether the outputs
--- were settled, whose last fates then stand in the books of written and discarded frames, though no event told
--- of them; and how many seats are free
+-- the player with its history; the notices that wait to be handed out; the books of frames; whether the
+-- outputs were settled, whose last fates then stand in the books of written and discarded frames, though no
+-- event told of them; and how many seats are free
 pub record View : Type 0 where
   pub player : Chronicle
   pub waiting : List Notice

@@ -87,7 +87,7 @@ impl<L: Ledgers> Model for Held<L> {
 }
 
 impl<L: Ledgers> Held<L> {
-    ghost use Rattle.std.specs.Prelude.{◌≡◌, ◌⊎◌, ◌+◌, ◌-◌, ◌<◌, ◌↔◌, [], ◌∷◌, ◌++◌, None, false, IfErr, IfOk, IfSome, IsErr, OnErr, OnOk, map};
+    ghost use Rattle.std.specs.Prelude.{◌≡◌, ◌⊎◌, ◌+◌, ◌-◌, ◌<◌, ◌↔◌, [], ◌∷◌, ◌++◌, None, true, false, IfErr, IfOk, IfSome, IsErr, OnErr, OnOk, map};
     ghost use Rattle.frame_ledger.specs.Shares.{HasAllParts, HasNoFrames};
     ghost use Rattle.held_player.specs.Views.{HandsOut, AnswersLine, IsRefusedFor, IsUnchangedOrFolded, IsUnwritten, Joins, JoinsAs, KeepsBooks, StopsLine, TellsSomewhere, notices_at, opened};
     ghost use Rattle.held_player.specs.Blanks.{AreFor};
@@ -95,6 +95,7 @@ impl<L: Ledgers> Held<L> {
     ghost use Rattle.partition.specs.Legal.{IsPast};
     ghost use Rattle.partition.specs.Step.{limit_of, told as told_of};
     ghost use Rattle.player_events.specs.declared.event.Event.TheVariants.{End};
+    ghost use Rattle.player_core.specs.declared.state.Playback.TheVariants.{Play};
     ghost use Rattle.held_player.specs.News.{event_of, kept_at};
     ghost use Rattle.counted_player.specs.Seats.{after_events};
     ghost use Rattle.counted_player.specs.Counts.{IsFresh, own_in, song_of};
@@ -329,7 +330,9 @@ impl<L: Ledgers> Held<L> {
     }
 
     /// Whether a song is being played.
-    pub fn plays(&self) -> bool {
+    pub fn plays(&self) -> bool
+        ensures { (result ≡ true) ↔ (self.now.player.present.part.player.playback ≡ Play) }
+    {
         self.counted.plays()
     }
 

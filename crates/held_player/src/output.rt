@@ -140,9 +140,9 @@ impl<L: Ledgers> Held<L> {
         })
     }
 
-    /// Compares the books of all outputs with their rings, one after the other from the first on, once the fates
-    /// that no turn told of are counted in them. All shares come back, so that no frame is counted after it,
-    /// and the books sum to them. It takes no memory: there is room for the results.
+    /// Compares the books of all outputs with their rings, one after the other from the first on, once the
+    /// fates that no turn told of are counted in them. All shares come back, so that no frame is counted
+    /// after it, and the books sum to them. It takes no memory: there is room for the results.
     ///
     /// Of an output it answers `Unsettled` where the feeder's end has no token, `Mismatch` where a book says
     /// otherwise than the ring or would pass 2^63-1.

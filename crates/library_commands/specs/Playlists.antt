@@ -1,5 +1,5 @@
--- The commands of stored playlists, and what each asks the shelf (MPD protocol reference, Stored playlists; that
--- names are looked at before the shelf is asked is this profile's).
+-- The commands of stored playlists, and what each asks the shelf (MPD protocol reference, Stored playlists;
+-- that names are looked at before the shelf is asked is this profile's).
 use Rattle.std.specs.Prelude.{ℕ, ◌+◌, ◌==◌, nat_lt, Bool, true, not, ◌&&◌, List, [], ◌∷◌, ◌++◌, Option, Some, None, length, if◌then◌else◌, codes}
 use Rattle.std.specs.List.{remove as remove_at}
 use Rattle.std.specs.Str.{bytes_eq}

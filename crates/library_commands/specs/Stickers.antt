@@ -1,5 +1,5 @@
--- The commands of stickers, and what each asks the shelf (MPD protocol reference, Stickers; that songs and names
--- are looked at before the shelf is asked is this profile's).
+-- The commands of stickers, and what each asks the shelf (MPD protocol reference, Stickers; that songs and
+-- names are looked at before the shelf is asked is this profile's).
 use Rattle.std.specs.Prelude.{ℕ, Bool, true, not, ◌&&◌, ◌||◌, List, Option, Some, None, is_some, if◌then◌else◌, Result}
 use Rattle.std.specs.declared.alloc.AllocError.{AllocError}
 use Rattle.std.specs.Str.{bytes_eq}

@@ -1,5 +1,5 @@
-//! The commands of stickers (MPD protocol reference, Stickers). What the shelf answered to a command's question is
-//! there; what is to be written is part of the transition.
+//! The commands of stickers (MPD protocol reference, Stickers). What the shelf answered to a command's
+//! question is there; what is to be written is part of the transition.
 ghost use Rattle.std.specs.Prelude.{◌≡◌, IfOk, not};
 ghost use Rattle.std.specs.Option.{option_copied};
 ghost use Rattle.player_state.specs.declared.effect.Effect.TheVariants.{ByCommand};

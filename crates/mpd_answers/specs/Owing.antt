@@ -43,8 +43,8 @@ abbrev pub is_waiting : Next → Bool
 is_waiting Waits = true
 is_waiting _ = false
 
--- Whether the client waits for a notice after this, where it waited before or did not: an answer to a line says
--- so, and nothing else begins or ends a wait.
+-- Whether the client waits for a notice after this, where it waited before or did not: an answer to a line
+-- says so, and nothing else begins or ends a wait.
 abbrev pub waits_after : Owed → Bool → Bool
 waits_after (owed.Line answered) waited = is_waiting answered.told.answer.next
 waits_after _ waited = waited

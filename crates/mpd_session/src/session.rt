@@ -38,8 +38,8 @@ impl Session {
     ghost use Rattle.mpd_session.specs.Sessions.{Blames, HasRunAll, IsWithinLimits, StaysClosed, Turns, opening};
     ghost use Rattle.mpd_session.specs.declared.end.End.{End};
 
-    /// The session of a client that the player let in, and what it was greeted with. Nothing was read, and the
-    /// greeting is not written yet.
+    /// The session of a client that the player let in, and what it was greeted with. Nothing was read, and
+    /// the greeting is not written yet.
     pub fn new(alloc: Global, asker: Asker, greeting: &Reply) -> Result<Session, AllocError>
         ensures { IfOk result (λ s. s ≡ record { asker = asker; held = opening greeting.now.text }) }
     {

@@ -15,22 +15,22 @@ use Rattle.play_order.specs.Ends.{after_next, id_of, next_after_removal, round_a
 abbrev pub HaveOwnIds : List Entry → Type 0
 HaveOwnIds entries = AllPairs (λ a b. a.id ≢ b.id) entries
 
--- one entry comes before another: by a higher priority; where the priorities are equal, by a lower rank; where
--- the ranks are equal too, by a lower id
+-- one entry comes before another: by a higher priority; where the priorities are equal, by a lower rank;
+-- where the ranks are equal too, by a lower id
 pub data Precedes (ranks : List Rank) (a b : Entry) : Type 0 where
   ByPriority : b.priority < a.priority → Precedes ranks a b
   ByRank : a.priority ≡ b.priority → rank_of ranks a.id < rank_of ranks b.id → Precedes ranks a b
   ById : a.priority ≡ b.priority → rank_of ranks a.id ≡ rank_of ranks b.id → a.id < b.id → Precedes ranks a b
 
--- a strict order: no entry comes before itself, one that comes before another comes before those after it, and
--- of two entries with different ids one comes before the other
+-- a strict order: no entry comes before itself, one that comes before another comes before those after it,
+-- and of two entries with different ids one comes before the other
 pub record PrecedesIsOrder : Type 0 where
   pub apart : (ranks : List Rank) (a : Entry) → ¬ Precedes ranks a a
   pub through : (ranks : List Rank) (a b c : Entry) → Precedes ranks a b → Precedes ranks b c → Precedes ranks a c
   pub total : (ranks : List Rank) (a b : Entry) → a.id ≢ b.id → Precedes ranks a b ⊎ Precedes ranks b a
 
--- the least entry of those whose ids were not played: it stands in the queue, was not played, and comes before
--- each other entry that was not played
+-- the least entry of those whose ids were not played: it stands in the queue, was not played, and comes
+-- before each other entry that was not played
 pub record IsLeastUnplayed (ranks : List Rank) (played : List ℕ) (entries : List Entry) (chosen : Entry) : Type 0 where
   pub in_queue : Contains entries chosen
   pub unplayed : ¬ Contains played chosen.id
@@ -123,7 +123,8 @@ pub record RenewsRound (before after : RoundState) (left : List Entry) (entry : 
   pub generator : after.generator ≡ generator_after before.generator (ids_of left)
   pub played : after.played ≡ option_to_list (id_of entry)
 
--- what becomes of a round where an entry of those that are left follows, or none: it goes on until all were played
+-- what becomes of a round where an entry of those that are left follows, or none: it goes on until all were
+-- played
 pub data BecomesRound (before after : RoundState) (entries left : List Entry) : Option Entry → Type 0 where
   GoesOn :
       (entry : Entry)
@@ -186,8 +187,8 @@ EndFollowsPlace modes entries place entry =
 abbrev RemovalFollowsPlace : Bool → List Entry → ℕ → ℕ → Option Entry → Type 0
 RemovalFollowsPlace repeat entries from end entry = FollowsInQueue repeat entries (left_by entries from end) end entry
 
--- where the order is not random the entry at the next place follows, at the end of a song (also of one that is
--- consumed) and where entries are taken out
+-- where the order is not random the entry at the next place follows, at the end of a song (also of one that
+-- is consumed) and where entries are taken out
 pub record FollowsPlaces : Type 0 where
   pub at_end :
       (modes : Modes) (round : RoundState) (entries : List Entry) (place : ℕ) (song : Entry)

@@ -1,6 +1,7 @@
--- What the steps of a player start, and what they leave, said once more: in the words of the rules (MPD protocol
--- reference, Playback options; Controlling playback; which steps cut and start, and what a deletion leads to, are
--- this profile's). `Follows` says what the order gives, in random order and in that of the queue.
+-- What the steps of a player start, and what they leave, said once more: in the words of the rules (MPD
+-- protocol reference, Playback options; Controlling playback; which steps cut and start, and what a deletion
+-- leads to, are this profile's). `Follows` says what the order gives, in random order and in that of the
+-- queue.
 use Rattle.std.specs.Prelude.{ℕ, ◌≡◌, ◌≢◌, ◌+◌, ◌<◌, ◌≤◌, ◌⊎◌, ◌↔◌, Bool, true, false, not, ◌==◌, List, [], length, filter, slice_get, Contains, Option, Some, None}
 use Rattle.song_queue.specs.declared.entry.Entry.{Entry}
 use Rattle.play_order.specs.declared.modes.Modes.{Modes}
@@ -13,7 +14,8 @@ use Rattle.player_core.specs.declared.state.Playback.TheVariants.{Stop, Play, Pa
 use Rattle.player_core.specs.Player.{PlayerState, Stepped, stays}
 use Rattle.player_core.specs.Steps as steps
 
--- a step starts an entry at a frame: it is current, in random order the last that was played, and no job is left
+-- a step starts an entry at a frame: it is current, in random order the last that was played, and no job is
+-- left
 pub record Starts (before after : PlayerState) (state : Playback) (entry : Entry) (frame : ℕ) : Type 0 where
   pub current : after.current ≡ Some entry.id
   pub playback : after.playback ≡ state
@@ -117,8 +119,8 @@ EndsStopForACause =
     → slice_get entries place ≡ Some song
     → EndsByRule p entries song place frame (steps.ended p entries song.id frame)
 
--- the end of the song at a place by `next`: what follows plays from its first frame, whatever single is, and there
--- is a cut
+-- the end of the song at a place by `next`: what follows plays from its first frame, whatever single is, and
+-- there is a cut
 pub record NextByRule (before : PlayerState) (entries : List Entry) (place : ℕ) (end : Stepped) : Type 0 where
   pub queue : end.edit ≡ Some (left_after before.modes.consume entries place)
   pub consume : ConsumesOnce before.modes end.player.modes
@@ -160,7 +162,8 @@ pub data IsPlaceBefore (repeat : Bool) (entries : List Entry) (place : ℕ) (ent
 abbrev pub played_beside : List ℕ → ℕ → List ℕ
 played_beside played id = filter (λ other. not (other == id)) played
 
--- the entry that `previous` goes back to in random order: the last of those played beside the song, else the song
+-- the entry that `previous` goes back to in random order: the last of those played beside the song, else the
+-- song
 pub data IsPlayedBefore (played : List ℕ) (entries : List Entry) (song entry : Entry) : Type 0 where
   PlayedBefore :
       Contains entries entry
@@ -177,8 +180,8 @@ IsBeforeBy false p entries song place entry = IsPlaceBefore p.modes.repeat entri
 abbrev pub IsBefore : PlayerState → List Entry → Entry → ℕ → Entry → Type 0
 IsBefore p = IsBeforeBy p.modes.random p
 
--- in random order the song that was current is no longer played, but where it starts again; of each other song it
--- stays as it was, and so do the ranks
+-- in random order the song that was current is no longer played, but where it starts again; of each other
+-- song it stays as it was, and so do the ranks
 pub record LeavesPlayed (before after : PlayerState) (song entry : Entry) : Type 0 where
   pub leaves : entry.id ≢ song.id → ¬ Contains after.round.played song.id
   pub others : (id : ℕ) → id ≢ song.id → Contains after.round.played id ↔ Contains before.round.played id
@@ -201,7 +204,8 @@ abbrev pub PlayedAreQueued : List ℕ → List Entry → Type 0
 PlayedAreQueued played entries =
     (id : ℕ) → Contains played id → (entry : Entry) × Contains entries entry × (entry.id ≡ id)
 
--- `previous` consumes nothing: it has a player as its result, and no queue; with no current song it does nothing
+-- `previous` consumes nothing: it has a player as its result, and no queue; with no current song it does
+-- nothing
 pub record PreviousConsumesNothing : Type 0 where
   pub song :
       (p : PlayerState) (entries : List Entry) (song : Entry) (place : ℕ)
@@ -223,8 +227,8 @@ pub record GoesOnWithout (before after : PlayerState) (entries : List Entry) (fr
   pub cuts : after.cuts ≡ before.cuts + 1
   pub modes : after.modes ≡ before.modes
 
--- the song is deleted while the player is stopped: there is then no current song, the round forgets the entries that
--- are gone, and nothing else changes
+-- the song is deleted while the player is stopped: there is then no current song, the round forgets the
+-- entries that are gone, and nothing else changes
 pub record StaysStopped (before after : PlayerState) (entries left : List Entry) : Type 0 where
   pub round : ForgetsGone before.round after.round entries left
   pub rest : after ≡ record before { current = None; round = after.round }
@@ -274,8 +278,8 @@ pub data NothingAhead (before after : PlayerState) (left : List Entry) : Type 0 
       → AllWerePlayed before.round.played left
       → NothingAhead before after left
 
--- what `peek` gives while a song plays is what its natural end starts; where it gives none, the end stops the player
--- or needs a new round
+-- what `peek` gives while a song plays is what its natural end starts; where it gives none, the end stops
+-- the player or needs a new round
 pub record PeekForetells : Type 0 where
   pub some :
       (p : PlayerState) (entries : List Entry) (song entry : Entry) (frame : ℕ)
@@ -290,7 +294,8 @@ pub record PeekForetells : Type 0 where
       → steps.peek p entries ≡ None
       → NothingAhead p (steps.ended p entries song.id frame).player (left_after p.modes.consume entries place)
 
--- an opening starts an entry, with a cut; where the queue is empty nothing starts, and nothing but the round changes
+-- an opening starts an entry, with a cut; where the queue is empty nothing starts, and nothing but the round
+-- changes
 pub data OpensWith (before after : PlayerState) (entries : List Entry) : Option Entry → Type 0 where
   FirstStarts :
       (entry : Entry)
@@ -299,8 +304,8 @@ pub data OpensWith (before after : PlayerState) (entries : List Entry) : Option 
       → OpensWith before after entries (Some entry)
   NothingStarts : entries ≡ [] → after ≡ record before { round = after.round } → OpensWith before after entries None
 
--- the player begins with no current song: in random order with what follows as if repeat were on, else with the first
--- entry of the queue
+-- the player begins with no current song: in random order with what follows as if repeat were on, else with
+-- the first entry of the queue
 pub record Opens (before after : PlayerState) (entries : List Entry) : Type 0 where
   pub entry : Option Entry
   pub at_random : before.modes.random ≡ true → FollowsInRound true before.round entries entry
@@ -308,16 +313,16 @@ pub record Opens (before after : PlayerState) (entries : List Entry) : Type 0 wh
   pub in_order : before.modes.random ≡ false → entry ≡ slice_get entries 0
   pub starts : OpensWith before after entries entry
 
--- an entry starts from its first frame, with a cut; in random order it is the last that was played, and the round goes
--- on
+-- an entry starts from its first frame, with a cut; in random order it is the last that was played, and the
+-- round goes on
 pub record StartsAnew (before after : PlayerState) (entries : List Entry) (entry : Entry) : Type 0 where
   pub starts : Starts before after Play entry 0
   pub cuts : after.cuts ≡ before.cuts + 1
   pub at_random : before.modes.random ≡ true → KeepsRound before.round after.round entries entries entry
   pub in_order : before.modes.random ≡ false → after.round ≡ before.round
 
--- `play` changes nothing while a song plays, and plays on after a pause; stopped, it starts the current song, or where
--- there is none, what the order begins with; of an entry it starts that one
+-- `play` changes nothing while a song plays, and plays on after a pause; stopped, it starts the current
+-- song, or where there is none, what the order begins with; of an entry it starts that one
 pub record PlayBegins : Type 0 where
   pub playing : (p : PlayerState) (entries : List Entry) → p.playback ≡ Play → steps.play p entries ≡ p
   pub paused :

@@ -1,5 +1,5 @@
--- What a round of a random order comes to, `next` by `next` (MPD protocol reference, Playback options, `random`;
--- rounds are this profile's).
+-- What a round of a random order comes to, `next` by `next` (MPD protocol reference, Playback options,
+-- `random`; rounds are this profile's).
 use Rattle.std.specs.Prelude.{ℕ, ◌≡◌, ◌≢◌, ◌<◌, ◌≤◌, zero, suc, true, List, length, slice_get, Contains, Some}
 use Rattle.song_queue.specs.declared.entry.Entry.{Entry}
 use Rattle.play_order.specs.declared.modes.Consume.TheVariants as consume
@@ -27,7 +27,8 @@ pub record GoesAtRandom (p : PlayerState) (entries : List Entry) : Type 0 where
 abbrev pub left_to_play : PlayerState → List Entry → ℕ
 left_to_play p entries = length (unplayed p.round.played entries)
 
--- the `next` after so many others starts an entry that was not played in the round, and that none of them started
+-- the `next` after so many others starts an entry that was not played in the round, and that none of them
+-- started
 pub record StartsAnother (p : PlayerState) (entries : List Entry) (earlier : ℕ) : Type 0 where
   pub entry : Entry
   pub queued : Contains entries entry
@@ -59,8 +60,8 @@ pub record RoundsPlayEachOnce : Type 0 where
 abbrev pub played_after : Stepped → List ℕ
 played_after end = end.player.round.played
 
--- each song that was played in a round stays one of the queue: where a song ends by itself or by `next`, where
--- `previous` goes back, where an entry starts, and where entries are deleted
+-- each song that was played in a round stays one of the queue: where a song ends by itself or by `next`,
+-- where `previous` goes back, where an entry starts, and where entries are deleted
 pub record PlayedStayQueued : Type 0 where
   pub ended :
       (p : PlayerState) (entries : List Entry) (song : Entry) (place frame : ℕ)

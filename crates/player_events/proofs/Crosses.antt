@@ -1,5 +1,5 @@
--- An event may go to another thread. A filter is a tree that holds itself, and `search` does not go through it: so
--- each type between a filter and an event has its lemma.
+-- An event may go to another thread. A filter is a tree that holds itself, and `search` does not go through
+-- it: so each type between a filter and an event has its lemma.
 use denote.Param.Send.{IsSend, sendable}
 use denote.Param.SendFields.{declared_send, variants_send}
 use Rattle.std.proofs.Crossing.{crosses}

@@ -62,7 +62,8 @@ module _ (old new : Standing) where
   abbrev pub TellsText : List ℕ → List ℕ → Result (String Global) ShelfFault → Type 0
   TellsText uri name result = Trusted old new → IfOk result (λ text. old.maps.stickers uri name ≡ Some (string_bytes text))
 
-  -- where the store is trusted, a success tells all entries of a part of the maps, by rising bytes of the keys
+  -- where the store is trusted, a success tells all entries of a part of the maps, by rising bytes of the
+  -- keys
   abbrev pub TellsEntries : (Maps → List ℕ → Option (List ℕ)) → Result (Vec Entry) ShelfFault → Type 0
   TellsEntries part result =
       Trusted old new → IfOk result (λ entries. AreEntries (part old.maps) (map entry_texts entries.items))
