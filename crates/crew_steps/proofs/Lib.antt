@@ -1,6 +1,9 @@
+pub mod Decodings
 pub mod Eaches
+pub mod Heard
 pub mod Places
-pub mod Whole
 pub mod Pushes
-pub mod Wanted
+pub mod Spans
 pub mod Turns
+pub mod Wanted
+pub mod Whole

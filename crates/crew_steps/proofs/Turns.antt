@@ -1,19 +1,18 @@
 -- What an output does at one turn.
 use Rattle.std.proofs.Common.{◌≡◌, inl, inr, ℕ, ◌+◌, ◌++◌, take, Bool, List, [], refl, sym, ap, subst, ◌∙◌, append_assoc, Option}
 use Rattle.std.proofs.lemmas.List.{append-nil}
-use Rattle.output_ring.specs.Rings.{SameDrainer, fates_of, hand_of, has_failed, popped_of, settled_of, totals_of, unreported_of}
+use Rattle.output_ring.specs.Rings.{KeepsAllButReport, SameDrainer, fates_of, hand_of, has_failed, popped_of, settled_of, totals_of, unreported_of}
 use Rattle.output_ring.specs.declared.drainer.Drainer.{Drainer}
 use Rattle.output_ring.specs.declared.frames.CutFrame.{CutFrame}
 use Rattle.output_ring.specs.declared.frames.Fates.{Fates}
 use Rattle.output_ring.specs.declared.frames.Totals.{Totals}
-use Rattle.player_core.specs.declared.state as player
 use Rattle.player_events.specs.Outcomes.{OutcomeData}
 use Rattle.player_events.specs.declared.event.Event.TheVariants.{OutputTurn}
 use Rattle.player_state.specs.declared.report.Report.{Report}
 use Rattle.player_state.specs.declared.report.Report.TheVariants.{Nothing, ToScan, ScanEnded, ToDecode, ToFeed, ToPlay, Ended}
 use Rattle.counted_player.specs.Seats.{SeatCount}
 use Rattle.held_player.specs.Views.{TellsSomewhere}
-use Rattle.crew_steps.specs.Turns.{Drains, Obeys, Keeps, Plays, Pops}
+use Rattle.crew_steps.specs.Turns.{DoesAs, Drains, Obeys, Plays, Pops}
 
 same_refl : (d : Drainer) → SameDrainer d d
 same_refl d = ((refl, refl, refl, refl), refl)
@@ -43,36 +42,30 @@ module _ {W : Type 0} (contents : W → Option (List ℕ)) where
   pub idle : (seat : SeatCount) (output : ℕ) (failed : Bool) (old new : Drainer) (w : W) (came : List CutFrame) → Pops old new came → Drains contents seat output failed old w new w
   idle seat output failed old new w came pops = inl ((pops.fates, refl), pops.unreported)
 
-  obeys_other : (r : Report) (old new : Drainer) (w : W) → ((live : player.Live.Live) → r ≡ ToPlay live → ⊥) → Keeps contents old w new w → Obeys contents r old w new w
-  obeys_other Nothing old new w other keeps = keeps
-  obeys_other (ToScan scan) old new w other keeps = keeps
-  obeys_other (ScanEnded ends) old new w other keeps = keeps
-  obeys_other (ToDecode job) old new w other keeps = keeps
-  obeys_other (ToFeed feed) old new w other keeps = keeps
-  obeys_other (ToPlay live) old new w other keeps = absurd (other live refl)
-  obeys_other Ended old new w other keeps = keeps
+  -- what the hand got, the frames got that were in it and those that came
+  obeys : (r : Report) (old reported new : Drainer) (w was v : W) (came : List CutFrame) → popped_of reported ≡ popped_of old ++ came → hand_of reported ≡ hand_of old ++ came → fates_of reported ≡ fates_of old → has_failed reported ≡ has_failed old
+      → was ≡ w → DoesAs contents r reported was new v → Obeys contents r old w new v
+  obeys Nothing old reported new w was v came popped hand fates fault same does = (does.0 ∙ fates, does.1 ∙ same)
+  obeys (ToScan scan) old reported new w was v came popped hand fates fault same does = (does.0 ∙ fates, does.1 ∙ same)
+  obeys (ScanEnded ends) old reported new w was v came popped hand fates fault same does = (does.0 ∙ fates, does.1 ∙ same)
+  obeys (ToDecode job) old reported new w was v came popped hand fates fault same does = (does.0 ∙ fates, does.1 ∙ same)
+  obeys (ToFeed feed) old reported new w was v came popped hand fates fault same does = (does.0 ∙ fates, does.1 ∙ same)
+  obeys (ToPlay live) old reported new w was v came popped hand fates fault same does = (
+    came,
+    does.0 ∙ popped,
+    subst (λ (b : Bool). Plays contents live (hand_of old ++ came) b w new v) fault
+        (subst (λ (l : List CutFrame). Plays contents live l (has_failed reported) w new v) hand
+        (subst (λ (u : W). Plays contents live (hand_of reported) (has_failed reported) u new v) same does.1)),
+  )
+  obeys Ended old reported new w was v came popped hand fates fault same does = (does.0 ∙ fates, does.1 ∙ same)
 
-  module _ (seat : SeatCount) (output : ℕ) (failed : Bool) (old mid reported : Drainer) (w : W) (came : List CutFrame) (outcome : OutcomeData) (f : Fates) where
-    -- the end was told
-    pub ended : Pops old mid came → f ≡ unreported_of mid → TellsSomewhere seat (OutputTurn output f.written f.discarded failed) outcome
-        → ((live : player.Live.Live) → outcome.report ≡ ToPlay live → ⊥) → totals_of reported ≡ totals_of mid → popped_of reported ≡ popped_of mid → (v : W) → v ≡ w → Drains contents seat output failed old w reported v
-    ended pops is tells other totals popped v same =
-        let kept : fates_of reported ≡ fates_of mid = fates_kept mid reported totals popped in
-        inr (outcome, subst (λ (g : Fates). TellsSomewhere seat (OutputTurn output g.written g.discarded failed) outcome) (is ∙ pops.unreported) tells, subst (λ (u : W). Obeys contents outcome.report old w reported u) (sym same) (obeys_other outcome.report old reported w other (kept ∙ pops.fates, refl)))
-
-    -- what the frames are for was told
-    pub played : (live : player.Live.Live) → Pops old mid came → f ≡ unreported_of mid → TellsSomewhere seat (OutputTurn output f.written f.discarded failed) outcome
-        → outcome.report ≡ ToPlay live → popped_of reported ≡ popped_of mid → hand_of reported ≡ hand_of mid → has_failed reported ≡ has_failed mid
-        → (new : Drainer) → popped_of new ≡ popped_of reported → (was v last : W) → was ≡ w → last ≡ v → Plays contents live (hand_of reported) (has_failed reported) was new v → Drains contents seat output failed old w new last
-    played live pops is tells told popped hand fault new same was v last before after plays =
-        let all : popped_of new ≡ popped_of old ++ came = same ∙ popped ∙ pops.popped in
-        let plain : Plays contents live (hand_of old ++ came) (has_failed old) w new v =
-        subst (λ (b : Bool). Plays contents live (hand_of old ++ came) b w new v) (fault ∙ pops.failed)
-        (subst (λ (l : List CutFrame). Plays contents live l (has_failed reported) w new v) (hand ∙ pops.hand)
-        (subst (λ (u : W). Plays contents live (hand_of reported) (has_failed reported) u new v) before plays)) in
-        inr (
-          outcome,
-          subst (λ (g : Fates). TellsSomewhere seat (OutputTurn output g.written g.discarded failed) outcome) (is ∙ pops.unreported) tells,
-          subst (λ (u : W). Obeys contents outcome.report old w new u) (sym after)
-              (subst (λ (r : Report). Obeys contents r old w new v) (sym told) (came, all, plain)),
-        )
+  -- an output told of its fates, and did as it was told
+  pub obeyed : (seat : SeatCount) (output : ℕ) (failed : Bool) (old mid reported new : Drainer) (w was v : W) (came : List CutFrame) (outcome : OutcomeData) (f : Fates) → Pops old mid came → f ≡ unreported_of mid
+      → TellsSomewhere seat (OutputTurn output f.written f.discarded failed) outcome → KeepsAllButReport mid reported → was ≡ w → DoesAs contents outcome.report reported was new v → Drains contents seat output failed old w new v
+  obeyed seat output failed old mid reported new w was v came outcome f pops is tells kept same does =
+      let fates : fates_of reported ≡ fates_of old = fates_kept mid reported kept.0 kept.1 ∙ pops.fates in
+      inr (
+        outcome,
+        subst (λ (g : Fates). TellsSomewhere seat (OutputTurn output g.written g.discarded failed) outcome) (is ∙ pops.unreported) tells,
+        obeys outcome.report old reported new w was v came (kept.1 ∙ pops.popped) (kept.2 ∙ pops.hand) fates (kept.5 ∙ pops.failed) same does,
+      )

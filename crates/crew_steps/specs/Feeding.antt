@@ -1,15 +1,21 @@
 -- What the rings of the outputs take of a job's frames (this profile's).
-use Rattle.std.specs.Prelude.{ℕ, ℤ, ◌≡◌, ◌+◌, ◌++◌, Bool, false, ◌&&◌, ◌==◌, nat_le, nat_lt, min, List, [], length, Option, Some, None, slice_index_or, if◌then◌else◌}
+use Rattle.std.specs.Prelude.{ℕ, ℤ, ◌≡◌, ◌⊎◌, ◌+◌, ◌++◌, Bool, false, ◌&&◌, ◌==◌, nat_le, nat_lt, min, List, [], length, Option, Some, None, slice_index_or, if◌then◌else◌}
 use Rattle.output_ring.specs.Frames.{with_cut}
 use Rattle.output_ring.specs.Rings.{SameFeeder, owed_of, taken_of}
 use Rattle.output_ring.specs.declared.feeder.Feeder.{Feeder}
 use Rattle.output_ring.specs.declared.frames.CutFrame.{CutFrame}
 use Rattle.pcm_mix.specs.Blocks.{FadingData, block_of}
 use Rattle.player_core.specs.declared.state.FadePart.{FadePart}
+use Rattle.player_core.specs.declared.state.Job.{Job}
+use Rattle.player_events.specs.declared.event.Event.{Event}
+use Rattle.player_events.specs.declared.event.Event.TheVariants.{Failed}
 use Rattle.player_state.specs.declared.report.Feed.{Feed}
 use Rattle.player_state.specs.declared.report.Report.{Report}
 use Rattle.player_state.specs.declared.report.Report.TheVariants.{ToFeed}
-use Rattle.held_player.specs.Views.{FedData}
+use Rattle.counted_player.specs.Seats.{SeatCount}
+use Rattle.held_player.specs.Views.{FedData, FeedsSomewhere}
+use Rattle.crew_steps.specs.Each.{EachAt}
+use Rattle.crew_steps.specs.Sounds.{AreOpenFor, IsShut, OpenSongs, ReadsJob}
 
 -- no frame waits for room in the ring
 abbrev pub OwesNothing : Feeder → Type 0
@@ -45,15 +51,28 @@ abbrev pub feed_told : Report → Option Feed
 feed_told (ToFeed feed) = feed
 feed_told _ = None
 
-abbrev pub feed_in : Option FedData → Option Feed
-feed_in None = None
-feed_in (Some fed) = feed_told fed.told.report
-
-abbrev pub outputs_in : Option FedData → List Bool
-outputs_in None = []
-outputs_in (Some fed) = fed.outputs
-
 -- the frames that the outputs are handed, of the cut and at the volume that they are fed with
 abbrev pub handed : Option Feed → Option FadePart → List (List ℤ) → List (List ℤ) → List CutFrame
 handed None fade others frames = []
 handed (Some feed) fade others frames = with_cut (record { number = feed.cut }) (block_at feed.volume fade others frames)
+
+-- Each ring of an output that the frames are for took them, mixed with the job's fade, of the cut and at the
+-- volume that was told of these very frames; none took any where they were stale.
+abbrev pub HandsOut : Option FadePart → List (List ℤ) → List (List ℤ) → FedData → List Feeder → List Feeder → Type 0
+HandsOut fade frames others fed old new = EachAt (TakesItsOwn fed.outputs (handed (feed_told fed.told.report) fade others frames)) 0 old new
+
+-- It was told that so many frames of a job are decoded, and these were handed out as it was told of them.
+abbrev pub Feeds : SeatCount → ℕ → ℕ → Job → List (List ℤ) → List (List ℤ) → List Feeder → List Feeder → Type 0
+Feeds seat share_before share_after job frames others old new =
+    (fed : FedData) × FeedsSomewhere seat job.number (length frames) fed share_before share_after × HandsOut job.fade frames others fed old new
+
+-- A job whose song failed gave no ring a frame, and that song is not open any more; of another the frames
+-- that its songs have were read, told of, and handed out as it was told.
+abbrev pub DoesJob : OpenSongs → SeatCount → ℕ → ℕ → Job → List Feeder → List Feeder → Type 0
+DoesJob songs seat share_before share_after job old new =
+    ((new ≡ old) × ((partner : Bool) × IsShut songs job partner))
+    ⊎ (AreOpenFor songs job × ((frames : List (List ℤ)) × (others : List (List ℤ)) × ReadsJob songs job frames others × Feeds seat share_before share_after job frames others old new))
+
+-- the event that a song of a job has failed: its own, or the one that it fades into
+abbrev pub failure_of : ℕ → Bool → Event
+failure_of number partner = Failed number partner

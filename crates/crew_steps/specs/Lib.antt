@@ -1,4 +1,8 @@
 pub mod Each
-pub mod OutputSetups
 pub mod Feeding
+pub mod OpenSongs
+pub mod OutputSetups
+pub mod Shown
+pub mod Songs
+pub mod Sounds
 pub mod Turns

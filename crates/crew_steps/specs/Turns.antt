@@ -28,6 +28,11 @@ pub record Pops (old new : Drainer) (came : List CutFrame) : Type 0 where
 abbrev pub live_at : player.Live.Live → ring.Live.Live
 live_at live = record { cut = record { number = live.cut }; enabled = live.enabled; paused = live.paused; ended = false }
 
+-- whether an output goes on after it was told this
+abbrev pub goes_on : Report → Bool
+goes_on (ToPlay live) = true
+goes_on _ = false
+
 -- what an output tells at its turn: how many frames got which fate since it told last, and whether its writer
 -- failed
 abbrev pub turn_of : ℕ → Drainer → Bool → Event
@@ -47,7 +52,12 @@ module _ {W : Type 0} (contents : W → Option (List ℕ)) where
   abbrev pub Keeps : Drainer → W → Drainer → W → Type 0
   Keeps old before new after = (fates_of new ≡ fates_of old) × (after ≡ before)
 
-  -- an output obeys what its turn was told; at the end it keeps all frames
+  -- an output does with its hand what its turn was told; at the end it keeps all frames
+  abbrev pub DoesAs : Report → Drainer → W → Drainer → W → Type 0
+  DoesAs (ToPlay live) old before new after = (popped_of new ≡ popped_of old) × Plays live (hand_of old) (has_failed old) before new after
+  DoesAs _ old before new after = Keeps old before new after
+
+  -- the same of the frames that came into its hand before
   abbrev pub Obeys : Report → Drainer → W → Drainer → W → Type 0
   Obeys (ToPlay live) old before new after = (came : List CutFrame) × (popped_of new ≡ popped_of old ++ came) × Plays live (hand_of old ++ came) (has_failed old) before new after
   Obeys _ old before new after = Keeps old before new after

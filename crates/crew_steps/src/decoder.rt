@@ -1,8 +1,6 @@
 //! The thread that decodes.
-ghost use Rattle.std.specs.Prelude.{◌≡◌, ◌<◌, ◌≤◌, [], All, vec_len, vec_capacity};
-ghost use Rattle.output_ring.specs.Rings.{EndsFeeder, SameFeeder};
-ghost use Rattle.crew_steps.specs.Each.{Each, EachAt};
-ghost use Rattle.crew_steps.specs.Feeding.{OwesNothing, TakesItsOwn, TakesNone, feed_in, feed_told, handed, outputs_in};
+ghost use Rattle.std.specs.Prelude.{◌≡◌, ◌<◌, All};
+ghost use Rattle.crew_steps.specs.Feeding.{HandsOut, OwesNothing, feed_told};
 
 use crate::feeders::{finish_all, push_all, take_all};
 use crate::mixing::mix_block;
@@ -10,10 +8,11 @@ use crate::song_source::SongSource;
 use crate::songs::{JobFrames, NoFrames, Songs};
 use counted_devices::Media;
 use counted_player::{Decoded, Ledgers, Seat};
-use held_player::{Fed, News};
+use held_player::{Fed, News, Reported};
 use house::House;
 use output_ring::{Cut, Feeder, FeederEnd};
-use player_core::Job;
+use partition::PartitionFault;
+use player_core::{FadePart, Job};
 use player_state::{Feed, Report};
 use std::alloc::Global;
 use std::sync::Wait;
@@ -77,11 +76,16 @@ impl<'h, L: Ledgers, S: SongSource<M> + Drop, M: Media + Drop, R: Wait + Clock> 
     M,
     R,
 > {
-    ghost use Rattle.std.specs.Prelude.{◌≡◌, ◌<◌, ◌≤◌, [], All, false, vec_len, vec_capacity};
+    ghost use Rattle.std.specs.Prelude.{◌≡◌, ◌<◌, ◌≤◌, [], All, false, true, not, IfErr, IfOk, OnErr, OnOk, vec_len, vec_capacity};
     ghost use Rattle.output_ring.specs.Rings.{EndsFeeder, SameFeeder};
     ghost use Rattle.player_core.specs.declared.state.Job.{Job};
+    ghost use Rattle.player_events.specs.declared.event.Event.TheVariants.{Want};
+    ghost use Rattle.held_player.specs.Views.{FeedsShare, TellsSomewhere};
     ghost use Rattle.crew_steps.specs.Each.{Each};
-    ghost use Rattle.crew_steps.specs.Feeding.{OwesNothing, TakesNone};
+    ghost use Rattle.crew_steps.specs.Feeding.{DoesJob, Feeds, OwesNothing, TakesNone, failure_of};
+    ghost use Rattle.crew_steps.specs.Shown.{songs_of};
+    ghost use Rattle.crew_steps.specs.Songs.{Fails, IsFaultOf};
+    ghost use Rattle.crew_steps.specs.Sounds.{AreOpenFor, IsShut, ReadsJob, is_partner, is_song, song_at};
     ghost use Rattle.crew_steps.specs.declared.decoder.Next.TheVariants.{Decodes};
 
     /// A decoder of songs of this rate.
@@ -158,10 +162,7 @@ impl<'h, L: Ledgers, S: SongSource<M> + Drop, M: Media + Drop, R: Wait + Clock> 
     fn ask(&mut self, owes: bool) -> Next
         ensures { (job : Job) → result ≡ Decodes job → owes ≡ false }
     {
-        let wanted = self
-            .house
-            .notice(self.rt, &mut self.seat, News::Wants(owes));
-        let Ok(told) = wanted else {
+        let Ok(told) = self.want(owes) else {
             self.pause();
             return Next::Again;
         };
@@ -173,6 +174,14 @@ impl<'h, L: Ledgers, S: SongSource<M> + Drop, M: Media + Drop, R: Wait + Clock> 
                 Next::Again
             }
         }
+    }
+
+    /// Asks for a job, and says whether frames still wait.
+    fn want(&mut self, owes: bool) -> Result<Reported, PartitionFault>
+        ensures { IfOk result (TellsSomewhere self.old.seat (Want owes)) }
+    {
+        self.house
+            .notice(self.rt, &mut self.seat, News::Wants(owes))
     }
 
     /// Moves frames into the rings, and says whether some still wait.
@@ -195,24 +204,41 @@ impl<'h, L: Ledgers, S: SongSource<M> + Drop, M: Media + Drop, R: Wait + Clock> 
     }
 
     /// Decodes a job, and hands its frames to the outputs that they are for.
-    #[tactic(auto, using(crate::proofs::Eaches::each_unchanged, crate::proofs::Pushes::each_fed))]
+    #[tactic(auto, using(crate::proofs::Eaches::each_unchanged, crate::proofs::Decodings::failed))]
     fn decode(&mut self, feeders: &mut Vec<Feeder>, job: &Job)
         requires { All OwesNothing feeders.old.items }
-        ensures { Each SameFeeder feeders.old.items feeders.new.items }
+        ensures rings { Each SameFeeder feeders.old.items feeders.new.items }
+        ensures decodes { DoesJob (songs_of self.new.songs) self.old.seat self.old.share.amount self.new.share.amount job.now feeders.old.items feeders.new.items }
+        ensures rate { self.new.songs.rate ≡ self.old.songs.rate }
     {
         self.streak = self.streak.saturating_add(1);
         match self.read(job) {
-            Ok(read) => {
-                let fed = self.have(job.number, read.frames.len() as u64);
-                hand_out(feeders, job, read, &fed);
+            Ok(read) => self.feed(feeders, job, read),
+            Err(partner) => {
+                let _told = self.tell_failure(job.number, partner);
             }
-            Err(partner) => self.tell_failure(job.number, partner),
         }
+    }
+
+    /// Tells that the frames of a job are decoded, and hands them out as it is told.
+    #[tactic(auto, using(crate::proofs::Decodings::feeds))]
+    fn feed(&mut self, feeders: &mut Vec<Feeder>, job: &Job, read: JobFrames)
+        requires { All OwesNothing feeders.old.items }
+        ensures feeds { Feeds self.old.seat self.old.share.amount self.new.share.amount job.now read.frames.items read.others.items feeders.old.items feeders.new.items }
+        ensures songs { self.new.songs ≡ self.old.songs }
+    {
+        let fed = self.have(job.number, read.frames.len() as u64);
+        hand_out(feeders, job, read, &fed);
     }
 
     /// Reads the frames of a job; where there is no memory, again after a while. Its failure tells whether
     /// the partner has failed.
-    fn read(&mut self, job: &Job) -> Result<JobFrames, bool> {
+    fn read(&mut self, job: &Job) -> Result<JobFrames, bool>
+        ensures open { OnOk result (AreOpenFor (songs_of self.new.songs) job.now) }
+        ensures read { IfOk result (λ read. ReadsJob (songs_of self.new.songs) job.now read.frames.items read.others.items) }
+        ensures failed { IfErr result (IsShut (songs_of self.new.songs) job.now) }
+        ensures kept { (self.new.seat ≡ self.old.seat) × (self.new.share ≡ self.old.share) × (self.new.songs.rate ≡ self.old.songs.rate) }
+    {
         let rt = self.rt;
         for _ in rt.forever() {
             match self.try_to_read(job) {
@@ -221,25 +247,60 @@ impl<'h, L: Ledgers, S: SongSource<M> + Drop, M: Media + Drop, R: Wait + Clock> 
                 Err(NoFrames::NoMemory) => self.pause(),
             }
         }
-        Err(false)
+        unreachable!()
     }
 
     /// Reads the frames of a job, and opens its songs where they are not open yet.
-    fn try_to_read(&mut self, job: &Job) -> Result<JobFrames, NoFrames> {
-        if !self.songs.is_current(job.id) {
-            self.open(job.id, false)?;
-        }
-        if let Some(fade) = job.fade {
-            if !self.songs.is_partner(fade.partner) {
-                self.open(fade.partner, true)?;
-            }
-        }
+    fn try_to_read(&mut self, job: &Job) -> Result<JobFrames, NoFrames>
+        ensures open { OnOk result (AreOpenFor (songs_of self.new.songs) job.now) }
+        ensures read { IfOk result (λ read. ReadsJob (songs_of self.new.songs) job.now read.frames.items read.others.items) }
+        ensures failed { IfErr result (Fails (songs_of self.new.songs) job.now) }
+        ensures kept { (self.new.seat ≡ self.old.seat) × (self.new.share ≡ self.old.share) × (self.new.songs.rate ≡ self.old.songs.rate) }
+    {
+        self.open_current(job.id)?;
+        self.open_partner(job.fade)?;
         self.songs.frames_of(self.alloc, job)
+    }
+
+    /// Opens the song of this id as the current one, unless it is open.
+    fn open_current(&mut self, id: u32) -> Result<(), NoFrames>
+        ensures open { OnOk result (is_song id (songs_of self.new.songs).current ≡ true) }
+        ensures shut { OnErr result (is_song id (songs_of self.new.songs).current ≡ false) }
+        ensures fault { IfErr result (IsFaultOf false) }
+        ensures kept { (self.new.seat ≡ self.old.seat) × (self.new.share ≡ self.old.share) × (self.new.songs.rate ≡ self.old.songs.rate) }
+    {
+        if self.songs.is_current(id) {
+            return Ok(());
+        }
+        self.open(id, false)
+    }
+
+    /// Opens the song that a job fades into as the partner, if it fades, unless it is open.
+    fn open_partner(&mut self, fade: Option<FadePart>) -> Result<(), NoFrames>
+        ensures open { OnOk result (is_partner fade (songs_of self.new.songs).partner ≡ true) }
+        ensures shut { OnErr result (is_partner fade (songs_of self.new.songs).partner ≡ false) }
+        ensures fault { IfErr result (IsFaultOf true) }
+        ensures current { (songs_of self.new.songs).current ≡ (songs_of self.old.songs).current }
+        ensures kept { (self.new.seat ≡ self.old.seat) × (self.new.share ≡ self.old.share) × (self.new.songs.rate ≡ self.old.songs.rate) }
+    {
+        let Some(part) = fade else {
+            return Ok(());
+        };
+        if self.songs.is_partner(part.partner) {
+            return Ok(());
+        }
+        self.open(part.partner, true)
     }
 
     /// Opens the song of an entry of the queue, as the current one or as its partner. One that left the queue
     /// has failed.
-    fn open(&mut self, id: u32, partner: bool) -> Result<(), NoFrames> {
+    fn open(&mut self, id: u32, partner: bool) -> Result<(), NoFrames>
+        ensures open { OnOk result (is_song id (song_at partner (songs_of self.new.songs)) ≡ true) }
+        ensures other { song_at (not partner) (songs_of self.new.songs) ≡ song_at (not partner) (songs_of self.old.songs) }
+        ensures fault { IfErr result (IsFaultOf partner) }
+        ensures shut { OnErr result (songs_of self.new.songs ≡ songs_of self.old.songs) }
+        ensures kept { (self.new.seat ≡ self.old.seat) × (self.new.share ≡ self.old.share) × (self.new.songs.rate ≡ self.old.songs.rate) }
+    {
         match self.house.song(self.rt, id) {
             Ok(Some(song)) => self.songs.open(self.alloc, id, &song, partner),
             Ok(None) => Err(NoFrames::Failed(partner)),
@@ -248,32 +309,39 @@ impl<'h, L: Ledgers, S: SongSource<M> + Drop, M: Media + Drop, R: Wait + Clock> 
     }
 
     /// Tells that frames of a job are decoded; where that is refused, again after a while.
-    fn have(&mut self, number: u64, frames: u64) -> Option<Fed> {
+    fn have(&mut self, number: u64, frames: u64) -> Fed
+        ensures told { FeedsShare self.old.seat number frames self.old.share.amount self.new.share.amount result }
+        ensures songs { self.new.songs ≡ self.old.songs }
+    {
         let rt = self.rt;
         for _ in rt.forever() {
             match self
                 .house
                 .have(rt, &mut self.seat, number, frames, &mut self.share)
             {
-                Ok(fed) => return Some(fed),
+                Ok(fed) => return fed,
                 Err(_) => self.pause(),
             }
         }
-        None
+        unreachable!()
     }
 
     /// Tells that a song of a job cannot be read; where that is refused, again after a while.
-    fn tell_failure(&mut self, number: u64, partner: bool) {
+    fn tell_failure(&mut self, number: u64, partner: bool) -> Reported
+        ensures told { TellsSomewhere self.old.seat (failure_of number partner) result }
+        ensures songs { self.new.songs ≡ self.old.songs }
+    {
         let rt = self.rt;
         for _ in rt.forever() {
             match self
                 .house
                 .notice(rt, &mut self.seat, News::Failed(number, partner))
             {
-                Ok(_) => return,
+                Ok(told) => return told,
                 Err(_) => self.pause(),
             }
         }
+        unreachable!()
     }
 
     /// Rests until something changes. While frames still leave the rings it looks by time, since nothing
@@ -303,13 +371,10 @@ impl<'h, L: Ledgers, S: SongSource<M> + Drop, M: Media + Drop, R: Wait + Clock> 
 /// Mixes the frames of a job that was accepted, and hands them to the outputs that they are for. Nothing
 /// waits for room in their rings.
 #[tactic(auto, using(crate::proofs::Pushes::none_fed))]
-fn hand_out(feeders: &mut Vec<Feeder>, job: &Job, read: JobFrames, fed: &Option<Fed>)
+fn hand_out(feeders: &mut Vec<Feeder>, job: &Job, read: JobFrames, fed: &Fed)
     requires { All OwesNothing feeders.old.items }
-    ensures { EachAt (TakesItsOwn (outputs_in fed.now) (handed (feed_in fed.now) job.now.fade read.others.items read.frames.items)) 0 feeders.old.items feeders.new.items }
+    ensures { HandsOut job.now.fade read.frames.items read.others.items fed.now feeders.old.items feeders.new.items }
 {
-    let Some(fed) = fed else {
-        return;
-    };
     let Some(feed) = feed_of(fed) else {
         return;
     };

@@ -59,7 +59,7 @@ impl<'h, L: Ledgers, O: Sink + Drop, G: Gate, R: Wait + Clock> Draining<'h, L, O
     ghost use Rattle.output_ring.specs.Rings.{SameDrainer, hand_of, has_failed, popped_of};
     ghost use Rattle.output_ring.specs.declared.frames.CutFrame.{CutFrame};
     ghost use Rattle.held_player.specs.Views.{TellsSomewhere, turn_of};
-    ghost use Rattle.crew_steps.specs.Turns.{Drains, Plays, Pops};
+    ghost use Rattle.crew_steps.specs.Turns.{DoesAs, Drains, Plays, Pops, goes_on};
 
     /// The output of this number.
     pub fn new(
@@ -109,7 +109,7 @@ impl<'h, L: Ledgers, O: Sink + Drop, G: Gate, R: Wait + Clock> Draining<'h, L, O
 
     /// Where the gate lets it, pops frames, has a turn, and writes the frames out as it was told. False at
     /// the end.
-    #[tactic(auto, using(crate::proofs::Turns::idle))]
+    #[tactic(auto, using(crate::proofs::Turns::idle, crate::proofs::Turns::obeyed))]
     fn drain_once(&mut self, drainer: &mut Drainer) -> bool
         ensures ring { SameDrainer drainer.old drainer.new }
         ensures drains { Drains O.contents self.old.seat self.old.output self.old.failed drainer.old self.old.writer drainer.new self.new.writer }
@@ -125,6 +125,16 @@ impl<'h, L: Ledgers, O: Sink + Drop, G: Gate, R: Wait + Clock> Draining<'h, L, O
             return true;
         };
         drainer.reported();
+        self.obey(drainer, popped, &told)
+    }
+
+    /// Gives the frames of the hand the fates that its turn was told. False at the end.
+    fn obey(&mut self, drainer: &mut Drainer, popped: usize, told: &Reported) -> bool
+        ensures ring { SameDrainer drainer.old drainer.new }
+        ensures does { DoesAs O.contents told.now.report drainer.old self.old.writer drainer.new self.new.writer }
+        ensures failed { self.old.failed ≡ has_failed drainer.old → self.new.failed ≡ has_failed drainer.new }
+        ensures goes { result ≡ goes_on told.now.report }
+    {
         let Report::ToPlay(live) = told.report() else {
             return false;
         };

@@ -3,7 +3,7 @@ ghost use Rattle.std.specs.Prelude.{◌≡◌, ◌≤◌, [], All, false, length
 ghost use Rattle.output_ring.specs.Frames.{with_cut};
 ghost use Rattle.output_ring.specs.Rings.{EndsFeeder};
 ghost use Rattle.crew_steps.specs.Each.{Each, EachAt};
-ghost use Rattle.crew_steps.specs.Feeding.{OwesNothing, TakesIf, TakesItsOwn, TakesNone};
+ghost use Rattle.crew_steps.specs.Feeding.{OwesNothing, TakesItsOwn, TakesNone};
 
 use held_player::Fed;
 use output_ring::{Cut, Feeder, FeederEnd};
@@ -18,19 +18,34 @@ pub struct Pushed {
     pub waits: bool,
 }
 
+impl Pushed {
+    ghost use Rattle.std.specs.Prelude.{◌≡◌, ◌||◌};
+
+    /// What came of it in rings of both.
+    fn joined(self, other: Pushed) -> Pushed
+        ensures moves { result.moves ≡ (self.moves || other.moves) }
+        ensures waits { result.waits ≡ (self.waits || other.waits) }
+    {
+        Pushed {
+            moves: self.moves || other.moves,
+            waits: self.waits || other.waits,
+        }
+    }
+}
+
 /// Moves frames into each ring as it has room.
 pub fn push_all(feeders: &mut Vec<Feeder>) -> Pushed
     ensures kept { Each TakesNone feeders.old.items feeders.new.items }
     ensures waits { result.waits ≡ false → All OwesNothing feeders.new.items }
 {
-    let mut moves = false;
-    let mut waits = false;
+    let mut pushed = Pushed {
+        moves: false,
+        waits: false,
+    };
     for i in 0..feeders.len() {
-        let pushed = push_one(&mut feeders[i]);
-        moves |= pushed.moves;
-        waits |= pushed.waits;
+        pushed = pushed.joined(push_one(&mut feeders[i]));
     }
-    Pushed { moves, waits }
+    pushed
 }
 
 /// The ring of each output that the frames are for takes them as a block. Nothing waits for room in any.
@@ -40,18 +55,17 @@ pub fn take_all(feeders: &mut Vec<Feeder>, frames: &[Frame], cut: Cut, fed: &Fed
     ensures { EachAt (TakesItsOwn fed.now.outputs (with_cut cut frames.now)) 0 feeders.old.items feeders.new.items }
 {
     for i in 0..feeders.len() {
-        let is_fed = fed.is_for(i);
-        take_one(&mut feeders[i], frames, cut, is_fed);
+        take_one(&mut feeders[i], frames, cut, fed, i);
     }
 }
 
-/// A ring that is fed takes a block. Nothing waits for room in it.
-fn take_one(feeder: &mut Feeder, frames: &[Frame], cut: Cut, is_fed: bool)
+/// The ring of an output that the frames are for takes them as a block. Nothing waits for room in it.
+fn take_one(feeder: &mut Feeder, frames: &[Frame], cut: Cut, fed: &Fed, output: usize)
     requires most { length frames.now ≤ 1024 }
     requires idle { OwesNothing feeder.old }
-    ensures { TakesIf is_fed (with_cut cut frames.now) feeder.old feeder.new }
+    ensures { TakesItsOwn fed.now.outputs (with_cut cut frames.now) output feeder.old feeder.new }
 {
-    if is_fed {
+    if fed.is_for(output) {
         feeder.take(frames, cut);
     }
 }

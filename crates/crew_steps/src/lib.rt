@@ -8,6 +8,7 @@ mod feeders;
 mod folder;
 mod mixing;
 mod new_rings;
+mod open_song;
 mod output;
 mod output_setup;
 mod song_source;

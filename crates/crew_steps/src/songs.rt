@@ -1,17 +1,17 @@
 //! The songs that are being decoded.
-ghost use Rattle.std.specs.Prelude.{◌≡◌, ◌≤◌, IfOk, length, vec_len};
+ghost use Rattle.std.specs.Prelude.{◌≡◌, ◌≤◌, ◌⊎◌, IfOk, IfErr, vec_len};
+ghost use Rattle.crew_steps.specs.OpenSongs.{HasFault, opened_in};
+ghost use Rattle.crew_steps.specs.Sounds.{AreOfSome, IsMeant, is_song};
 
+use crate::open_song::{OpenSong, WIDTH};
 use crate::song_source::{SongFault, SongSource};
 use counted_devices::Media;
 use output_ring::MOST_FRAMES;
 use pcm_mix::Frame;
-use player_core::Job;
+use player_core::{FadePart, Job};
 use song_db::SharedSong;
 use std::alloc::Global;
-use wave::{Reader, WaveFault, read_head};
-
-/// How many frames are read of a file at a time: 32 KiB of 16-bit stereo.
-const WIDTH: usize = 8_192;
+use wave::{WaveFault, read_head};
 
 /// Why a job has no frames.
 #[derive(Clone, Copy, Debug, PartialEq, Eq)]
@@ -20,39 +20,6 @@ pub(crate) enum NoFrames {
     NoMemory,
     /// The song cannot be read, or where this is so, its partner in a fade.
     Failed(bool),
-}
-
-/// A song that is open, and frames of it that were read together.
-#[derive(Drop)]
-struct OpenSong<M: Media + Drop> {
-    id: u32,
-    reader: Reader<M>,
-    first: u64,
-    frames: Vec<Frame>,
-}
-
-impl<M: Media + Drop> OpenSong<M> {
-    ghost use Rattle.std.specs.Prelude.{◌≤◌, IfOk, length};
-
-    /// The frames from a place on, as many as are asked for, or fewer where the song has no more.
-    fn frames_at(&mut self, alloc: Global, from: u64, count: usize) -> Result<&[Frame], WaveFault>
-        ensures { IfOk result (λ frames. length frames.now ≤ count) }
-    {
-        if !self.has(from, count) {
-            self.frames = self.reader.frames_at(alloc, from, WIDTH)?;
-            self.first = from;
-        }
-        let start = (from.saturating_sub(self.first) as usize).min(self.frames.len());
-        let end = start.saturating_add(count).min(self.frames.len());
-        Ok(&self.frames[start..end])
-    }
-
-    /// Whether the frames that were read together have these.
-    fn has(&self, from: u64, count: usize) -> bool {
-        from >= self.first
-            && from.saturating_add(count as u64)
-                <= self.first.saturating_add(self.frames.len() as u64)
-    }
 }
 
 /// The frames of a job, and of the song that it fades into, if it fades.
@@ -70,10 +37,21 @@ pub(crate) struct Songs<S: SongSource<M> + Drop, M: Media + Drop> {
     rate: u32,
     current: Option<OpenSong<M>>,
     partner: Option<OpenSong<M>>,
+    ghost current_meant: { IsMeant rate (opened_in current) },
+    ghost partner_meant: { IsMeant rate (opened_in partner) },
 }
 
 impl<S: SongSource<M> + Drop, M: Media + Drop> Songs<S, M> {
-    pub(crate) fn new(source: S, rate: u32) -> Songs<S, M> {
+    ghost use Rattle.std.specs.Prelude.{◌≡◌, ◌≤◌, ◌⊎◌, ◌||◌, Bool, true, false, None, Some, Err, IfOk, IfErr, IsOk, OnErr, OnOk, if◌then◌else◌, not, vec_len};
+    ghost use Rattle.crew_steps.specs.OpenSongs.{HasFault, opened, opened_in};
+    ghost use Rattle.crew_steps.specs.Shown.{songs_of};
+    ghost use Rattle.crew_steps.specs.Songs.{Fails, IsFaultOf, IsShort};
+    ghost use Rattle.crew_steps.specs.Sounds.{AreOfSome, IsMeant, OthersOf, ReadsJob, is_song, song_at};
+    ghost use Rattle.crew_steps.specs.declared.songs.NoFrames.{NoFrames};
+
+    pub(crate) fn new(source: S, rate: u32) -> Songs<S, M>
+        ensures { result.rate ≡ rate }
+    {
         Songs {
             source,
             rate,
@@ -84,7 +62,12 @@ impl<S: SongSource<M> + Drop, M: Media + Drop> Songs<S, M> {
 
     /// Whether the current song has this id; a partner that has it becomes the current song where that has
     /// another.
-    pub(crate) fn is_current(&mut self, id: u32) -> bool {
+    pub(crate) fn is_current(&mut self, id: u32) -> bool
+        ensures open { result ≡ (is_song id (opened_in self.old.current) || is_song id (opened_in self.old.partner)) }
+        ensures current { result ≡ is_song id (opened_in self.new.current) }
+        ensures kept { result ≡ false → songs_of self.new ≡ songs_of self.old }
+        ensures rate { self.new.rate ≡ self.old.rate }
+    {
         if !is_of(&self.current, id) && is_of(&self.partner, id) {
             self.current = self.partner.take();
         }
@@ -92,7 +75,9 @@ impl<S: SongSource<M> + Drop, M: Media + Drop> Songs<S, M> {
     }
 
     /// Whether the partner has this id.
-    pub(crate) fn is_partner(&self, id: u32) -> bool {
+    pub(crate) fn is_partner(&self, id: u32) -> bool
+        ensures { result ≡ is_song id (songs_of self.now).partner }
+    {
         is_of(&self.partner, id)
     }
 
@@ -103,10 +88,20 @@ impl<S: SongSource<M> + Drop, M: Media + Drop> Songs<S, M> {
         id: u32,
         song: &SharedSong,
         partner: bool,
-    ) -> Result<(), NoFrames> {
+    ) -> Result<(), NoFrames>
+        ensures open { OnOk result (is_song id (song_at partner (songs_of self.new)) ≡ true) }
+        ensures other { song_at (not partner) (songs_of self.new) ≡ song_at (not partner) (songs_of self.old) }
+        ensures fault { IfErr result (IsFaultOf partner) }
+        ensures kept { OnErr result (songs_of self.new ≡ songs_of self.old) }
+        ensures rate { self.new.rate ≡ self.old.rate }
+    {
         match self.opened(alloc, id, song) {
             Ok(opened) => {
-                self.put(Some(opened), partner);
+                if partner {
+                    self.partner = Some(opened);
+                } else {
+                    self.current = Some(opened);
+                }
                 Ok(())
             }
             Err(SongFault::NoMemory) => Err(NoFrames::NoMemory),
@@ -114,64 +109,98 @@ impl<S: SongSource<M> + Drop, M: Media + Drop> Songs<S, M> {
         }
     }
 
+    /// The song of an entry of the queue, as its file begins.
     fn opened(
         &mut self,
         alloc: Global,
         id: u32,
         song: &SharedSong,
-    ) -> Result<OpenSong<M>, SongFault> {
+    ) -> Result<OpenSong<M>, SongFault>
+        ensures id { IfOk result (λ song. (opened song).id ≡ id) }
+        ensures meant { IfOk result (λ song. IsMeant self.old.rate (Some (opened song))) }
+        ensures kept { (self.new.current ≡ self.old.current) × (self.new.partner ≡ self.old.partner) × (self.new.rate ≡ self.old.rate) }
+    {
         let mut file = self.source.open(alloc, song.song().uri())?;
         match read_head(alloc, &mut file, self.rate) {
-            Ok(head) => Ok(OpenSong {
-                id,
-                reader: Reader::new(file, head),
-                first: 0,
-                frames: Vec::new(alloc),
-            }),
+            Ok(head) => Ok(OpenSong::new(alloc, id, file, head)),
             Err(WaveFault::NoMemory) => Err(SongFault::NoMemory),
             Err(_) => Err(SongFault::Unopened),
         }
     }
 
-    fn put(&mut self, song: Option<OpenSong<M>>, partner: bool) {
+    /// Closes the current song, or its partner.
+    fn close(&mut self, partner: bool)
+        ensures closed { song_at partner (songs_of self.new) ≡ None }
+        ensures other { song_at (not partner) (songs_of self.new) ≡ song_at (not partner) (songs_of self.old) }
+        ensures rate { self.new.rate ≡ self.old.rate }
+    {
         if partner {
-            self.partner = song;
+            self.partner = None;
         } else {
-            self.current = song;
+            self.current = None;
         }
     }
 
     /// The frames of a job whose songs are open. One that fails is closed, so that its file is opened anew
     /// when it is played again.
-    pub(crate) fn frames_of(&mut self, alloc: Global, job: &Job) -> Result<JobFrames, NoFrames> {
+    pub(crate) fn frames_of(&mut self, alloc: Global, job: &Job) -> Result<JobFrames, NoFrames>
+        ensures read { IfOk result (λ read. ReadsJob (songs_of self.old) job.now read.frames.items read.others.items) }
+        ensures kept { OnOk result (songs_of self.new ≡ songs_of self.old) }
+        ensures failed { IfErr result (Fails (songs_of self.new) job.now) }
+        ensures rate { self.new.rate ≡ self.old.rate }
+    {
         let read = self.read_frames(alloc, job);
         if let Err(NoFrames::Failed(partner)) = &read {
-            self.put(None, *partner);
+            self.close(*partner);
         }
         read
     }
 
-    /// The frames of a job. A partner that has fewer than the job's song fails.
-    fn read_frames(&mut self, alloc: Global, job: &Job) -> Result<JobFrames, NoFrames> {
+    /// The frames of a job.
+    #[tactic(auto, using(crate::proofs::Heard::heard))]
+    fn read_frames(&mut self, alloc: Global, job: &Job) -> Result<JobFrames, NoFrames>
+        ensures read { IfOk result (λ read. ReadsJob (songs_of self.old) job.now read.frames.items read.others.items) }
+        ensures kept { songs_of self.new ≡ songs_of self.old }
+        ensures song { result ≡ Err (NoFrames.Failed false) → HasFault self.old.current self.new.current }
+        ensures fades { result ≡ Err (NoFrames.Failed true) → job.now.fade ≡ None → ⊥ }
+        ensures rate { self.new.rate ≡ self.old.rate }
+    {
         let count = (job.count as usize).min(MOST_FRAMES);
         let frames = frames_in(alloc, &mut self.current, job.from, count, false)?;
-        let Some(fade) = job.fade else {
-            return Ok(JobFrames {
-                frames,
-                others: Vec::new(alloc),
-            });
+        let others = self.others_of(alloc, job.fade, frames.len())?;
+        Ok(JobFrames { frames, others })
+    }
+
+    /// As many frames of the song that a job fades into. A partner that has fewer fails.
+    #[tactic(auto, using(crate::proofs::Heard::others_heard, crate::proofs::Heard::others_short))]
+    fn others_of(
+        &mut self,
+        alloc: Global,
+        fade: Option<FadePart>,
+        count: usize,
+    ) -> Result<Vec<Frame>, NoFrames>
+        ensures others { count ≤ WIDTH → IfOk result (λ others. OthersOf self.old.rate fade (opened_in self.old.partner) count others.items) }
+        ensures none { fade ≡ None → IsOk result }
+        ensures cause { count ≤ WIDTH → result ≡ Err (NoFrames.Failed true) → HasFault self.old.partner self.new.partner ⊎ IsShort self.old.rate fade (opened_in self.old.partner) count }
+        ensures fault { IfErr result (IsFaultOf true) }
+        ensures kept { (self.new.current ≡ self.old.current) × (opened_in self.new.partner ≡ opened_in self.old.partner) × (self.new.rate ≡ self.old.rate) }
+    {
+        let Some(fade) = fade else {
+            return Ok(Vec::new(alloc));
         };
-        let others = frames_in(alloc, &mut self.partner, fade.index, frames.len(), true)?;
-        if others.len() < frames.len() {
+        let others = frames_in(alloc, &mut self.partner, fade.index, count, true)?;
+        if others.len() < count {
             return Err(NoFrames::Failed(true));
         }
-        Ok(JobFrames { frames, others })
+        Ok(others)
     }
 }
 
-fn is_of<M: Media + Drop>(song: &Option<OpenSong<M>>, id: u32) -> bool {
+fn is_of<M: Media + Drop>(song: &Option<OpenSong<M>>, id: u32) -> bool
+    ensures { result ≡ is_song id (opened_in song.now) }
+{
     match song {
-        Some(song) => song.id == id,
+        Some(song) => song.is(id),
         None => false,
     }
 }
@@ -184,24 +213,18 @@ fn frames_in<M: Media + Drop>(
     count: usize,
     partner: bool,
 ) -> Result<Vec<Frame>, NoFrames>
-    ensures { IfOk result (λ frames. vec_len frames ≤ count) }
+    ensures value { count ≤ WIDTH → IfOk result (λ frames. AreOfSome (opened_in song.old) from count frames.items) }
+    ensures count { IfOk result (λ frames. vec_len frames ≤ count) }
+    ensures fault { IfErr result (λ fault. (fault ≡ NoFrames.NoMemory) ⊎ (fault ≡ NoFrames.Failed partner)) }
+    ensures cause { result ≡ Err (NoFrames.Failed partner) → HasFault song.old song.new }
+    ensures song { opened_in song.new ≡ opened_in song.old }
 {
     let Some(song) = song else {
         return Err(NoFrames::Failed(partner));
     };
     match song.frames_at(alloc, from, count) {
-        Ok(frames) => copied(alloc, frames),
+        Ok(frames) => Ok(frames),
         Err(WaveFault::NoMemory) => Err(NoFrames::NoMemory),
         Err(_) => Err(NoFrames::Failed(partner)),
-    }
-}
-
-fn copied(alloc: Global, frames: &[Frame]) -> Result<Vec<Frame>, NoFrames>
-    ensures { IfOk result (λ own. own.items ≡ frames.now) }
-{
-    let mut own = Vec::new(alloc);
-    match own.extend_from_slice(frames) {
-        Ok(()) => Ok(own),
-        Err(_) => Err(NoFrames::NoMemory),
     }
 }

@@ -1,6 +1,6 @@
 use Rattle.std.proofs.Common.{rules, arith, ◌≡◌, ◌+◌, subst, sym, ◌∙◌}
 use Rattle.output_ring.specs.Frames.{with_cut}
-use Rattle.crew_steps.specs.Feeding.{OwesNothing, TakesIf, TakesItsOwn}
+use Rattle.crew_steps.specs.Feeding.{OwesNothing, TakesItsOwn}
 use Rattle.crew_steps.proofs.Places.{next_holds, so_far_all, so_far_next, so_far_none}
 use Rattle.crew_steps.proofs.feeders.take_all.Goals as goal
 
@@ -17,8 +17,7 @@ loop-i-preserved c =
     let frames = with_cut c.args.cut c.args.frames.now in
     let here : c.loop-i.i ≡ 0 + c.loop-i.i = omega arith in
     so_far_next (TakesItsOwn c.args.fed.now.outputs frames) c.loop-i.i 0 c.loop-i.i c.args.feeders.now.items c.loop-i.feeders.items c.index_mut.result.now c.take_one.new.feeder here (search rules)
-    (λ x is. subst (λ z. TakesItsOwn c.args.fed.now.outputs frames c.loop-i.i z c.take_one.new.feeder) (c.index_mut.ensures.value ∙ sym is)
-    (subst (λ b. TakesIf b frames c.index_mut.result.now c.take_one.new.feeder) c.is_for-is_fed.ensures c.take_one.ensures))
+    (λ x is. subst (λ z. TakesItsOwn c.args.fed.now.outputs frames c.loop-i.i z c.take_one.new.feeder) (c.index_mut.ensures.value ∙ sym is) c.take_one.ensures)
     c.loop-i.invariant
 
 pub returns : goal.returns

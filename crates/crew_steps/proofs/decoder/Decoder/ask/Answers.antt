@@ -6,4 +6,4 @@ use Rattle.crew_steps.proofs.decoder.Decoder.ask.Goals as goal
 pub returns-in-ToDecode-Some : goal.returns-in-ToDecode-Some
 returns-in-ToDecode-Some g c = λ job is.
     let told : c.in-Ok.told.report ≡ ToDecode (Some c.in-ToDecode-Some.job) = cc in
-    owes_none c.args.self.now.seat c.args.owes c.in-Ok.told c.in-ToDecode-Some.job c.in-Ok.ensures.somewhere told
+    owes_none c.args.self.now.seat c.args.owes c.in-Ok.told c.in-ToDecode-Some.job c.in-Ok.ensures told

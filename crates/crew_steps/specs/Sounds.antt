@@ -1,0 +1,84 @@
+-- What is heard of songs that are open (this profile's).
+use Rattle.std.specs.Prelude.{ℕ, ℤ, ◌≡◌, ◌-◌, ◌==◌, Bool, true, false, List, [], length, take, drop, min, Option, Some, None, Ok, if◌then◌else◌}
+use Rattle.std.specs.Option.{ForSome}
+use Rattle.player_core.specs.declared.state.Job.{Job}
+use Rattle.player_core.specs.declared.state.FadePart.{FadePart}
+use Rattle.wave.specs.declared.head.Head.{Head}
+use Rattle.wave.specs.Meanings.{frames_in, wave_in}
+use Rattle.wave.specs.Waves.{Wave, wave_of}
+
+-- a song that is open: its id, its file's bytes, where they are known, and the file's head
+pub record Opened : Type 0 where
+  pub id : ℕ
+  pub known : Option (List ℕ)
+  pub head : Head
+
+-- the songs that are open, at a rate: the current one, and the one that it fades into
+pub record OpenSongs : Type 0 where
+  pub rate : ℕ
+  pub current : Option Opened
+  pub partner : Option Opened
+
+-- frames that were read together stand in the file from a place on
+abbrev pub StandFrom : Option (List ℕ) → Head → ℕ → List (List ℤ) → Type 0
+StandFrom known head first frames = ForSome known (λ bytes. frames ≡ take (length frames) (drop first (frames_in bytes head)))
+
+-- frames that were read together hold so many from a place on, or as many as the file has there
+abbrev pub Hold : Opened → ℕ → List (List ℤ) → ℕ → ℕ → Type 0
+Hold song first frames from count =
+    ForSome song.known (λ bytes. take count (drop (from - first) frames) ≡ take count (drop from (frames_in bytes song.head)))
+
+-- these are so many frames of a song from a place on, or as many as its file has there
+abbrev pub AreOf : Opened → ℕ → ℕ → List (List ℤ) → Type 0
+AreOf song from count frames = ForSome song.known (λ bytes. frames ≡ take count (drop from (frames_in bytes song.head)))
+
+abbrev pub AreOfSome : Option Opened → ℕ → ℕ → List (List ℤ) → Type 0
+AreOfSome None from count frames = ⊥
+AreOfSome (Some song) from count frames = AreOf song from count frames
+
+-- a song's head and the frames that lie where it says are what its file means at a rate
+abbrev pub IsMeant : ℕ → Option Opened → Type 0
+IsMeant rate opened = ForSome opened (λ song. ForSome song.known (λ bytes. wave_of rate bytes ≡ Ok (wave_in bytes song.head)))
+
+-- these are so many frames that a file means at a rate, from a place on, or as many as it has there
+abbrev pub MeansFrames : ℕ → List ℕ → ℕ → ℕ → List (List ℤ) → Type 0
+MeansFrames rate bytes from count frames = (wave : Wave) × (wave_of rate bytes ≡ Ok wave) × (frames ≡ take count (drop from wave.frames))
+
+-- the same of the file of a song that is open, where its bytes are known
+abbrev pub AreHeard : ℕ → Option Opened → ℕ → ℕ → List (List ℤ) → Type 0
+AreHeard rate None from count frames = ⊥
+AreHeard rate (Some song) from count frames = ForSome song.known (λ bytes. MeansFrames rate bytes from count frames)
+
+-- whether the song that is open has this id
+abbrev pub is_song : ℕ → Option Opened → Bool
+is_song id None = false
+is_song id (Some song) = song.id == id
+
+-- whether the other song of a fade is open, if there is a fade
+abbrev pub is_partner : Option FadePart → Option Opened → Bool
+is_partner None partner = true
+is_partner (Some part) partner = is_song part.partner partner
+
+-- the song in one of the two places
+abbrev pub song_at : Bool → OpenSongs → Option Opened
+song_at partner songs = if partner then songs.partner else songs.current
+
+-- the songs of a job are open: its own, and the one that it fades into
+abbrev pub AreOpenFor : OpenSongs → Job → Type 0
+AreOpenFor songs job = (is_song job.id songs.current ≡ true) × (is_partner job.fade songs.partner ≡ true)
+
+-- a song of a job is not open: its own, or the one that it fades into
+abbrev pub IsShut : OpenSongs → Job → Bool → Type 0
+IsShut songs job false = is_song job.id songs.current ≡ false
+IsShut songs job true = is_partner job.fade songs.partner ≡ false
+
+-- as many frames of the other song, from a place of the fade on; none without a fade
+abbrev pub OthersOf : ℕ → Option FadePart → Option Opened → ℕ → List (List ℤ) → Type 0
+OthersOf rate None partner count others = others ≡ []
+OthersOf rate (Some part) partner count others = (length others ≡ count) × AreHeard rate partner part.index count others
+
+-- What is read for a job: of the current song as many frames as are asked for, from the job's first on, or as
+-- many as its file has there; and as many of the other song.
+abbrev pub ReadsJob : OpenSongs → Job → List (List ℤ) → List (List ℤ) → Type 0
+ReadsJob songs job frames others =
+    AreHeard songs.rate songs.current job.from (min job.count 1024) frames × OthersOf songs.rate job.fade songs.partner (length frames) others

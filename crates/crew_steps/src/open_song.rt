@@ -1,0 +1,114 @@
+//! A song that is open.
+ghost use Rattle.std.specs.Prelude.{◌≡◌, ◌+◌, ◌-◌, ◌≤◌, ◌⊎◌, ◌&&◌, nat_le, take, drop, vec_len, IfOk, IfErr, OnOk};
+ghost use Rattle.crew_steps.specs.Sounds.{StandFrom};
+
+use counted_devices::Media;
+use pcm_mix::Frame;
+use std::alloc::Global;
+use wave::{Head, Reader, WaveFault};
+
+/// How many frames are read of a file at a time: 32 KiB of 16-bit stereo.
+pub(crate) const WIDTH: usize = 8_192;
+
+/// A song that is open, and frames of it that were read together.
+#[derive(Drop)]
+pub(crate) struct OpenSong<M: Media + Drop> {
+    id: u32,
+    reader: Reader<M>,
+    first: u64,
+    frames: Vec<Frame>,
+    ghost stands: { StandFrom (M.all_bytes reader.media) reader.head first frames.items },
+}
+
+impl<M: Media + Drop> OpenSong<M> {
+    ghost use Rattle.std.specs.Prelude.{◌≡◌, ◌+◌, ◌-◌, ◌≤◌, ◌⊎◌, ◌&&◌, ◌==◌, nat_le, take, drop, vec_len, IfOk, IfErr, OnOk};
+    ghost use Rattle.wave.specs.Devices.{ReadFaultHasCause};
+    ghost use Rattle.wave.specs.declared.fault.WaveFault.{WaveFault};
+    ghost use Rattle.crew_steps.specs.Sounds.{AreOf, Hold};
+    ghost use Rattle.crew_steps.specs.OpenSongs.{calls_of, opened};
+
+    /// The song of this id in a file, whose head this is.
+    pub(crate) fn new(alloc: Global, id: u32, file: M, head: Head) -> OpenSong<M>
+        ensures { opened result ≡ record { id = id; known = M.all_bytes file; head = head } }
+    {
+        OpenSong {
+            id,
+            reader: Reader::new(file, head),
+            first: 0,
+            frames: Vec::new(alloc),
+        }
+    }
+
+    /// Whether it has this id.
+    pub(crate) fn is(&self, id: u32) -> bool
+        ensures { result ≡ ((opened self.now).id == id) }
+    {
+        self.id == id
+    }
+
+    /// The frames from a place on, as many as are asked for, or fewer where the song has no more.
+    pub(crate) fn frames_at(
+        &mut self,
+        alloc: Global,
+        from: u64,
+        count: usize,
+    ) -> Result<Vec<Frame>, WaveFault>
+        ensures value { count ≤ WIDTH → IfOk result (λ frames. AreOf (opened self.old) from count frames.items) }
+        ensures count { IfOk result (λ frames. vec_len frames ≤ count) }
+        ensures fault { IfErr result (λ fault. (fault ≡ WaveFault.ReadFault) ⊎ (fault ≡ WaveFault.NoMemory)) }
+        ensures cause { ReadFaultHasCause (calls_of self.old) (calls_of self.new) result }
+        ensures song { opened self.new ≡ opened self.old }
+    {
+        self.fetch(alloc, from, count)?;
+        self.held(alloc, from, count)
+    }
+
+    /// Reads these frames, together with those after them, unless they were read already.
+    #[tactic(auto, using(crate::proofs::Spans::held_already))]
+    fn fetch(&mut self, alloc: Global, from: u64, count: usize) -> Result<(), WaveFault>
+        ensures held { count ≤ WIDTH → OnOk result (Hold (opened self.old) self.new.first self.new.frames.items from count) }
+        ensures fault { IfErr result (λ fault. (fault ≡ WaveFault.ReadFault) ⊎ (fault ≡ WaveFault.NoMemory)) }
+        ensures cause { ReadFaultHasCause (calls_of self.old) (calls_of self.new) result }
+        ensures song { opened self.new ≡ opened self.old }
+    {
+        if self.has(from, count) {
+            return Ok(());
+        }
+        self.frames = self.read(alloc, from)?;
+        self.first = from;
+        Ok(())
+    }
+
+    /// Reads frames from a place on together.
+    #[tactic(auto, using(crate::proofs::Spans::frames_given))]
+    fn read(&mut self, alloc: Global, from: u64) -> Result<Vec<Frame>, WaveFault>
+        ensures value { IfOk result (λ frames. AreOf (opened self.old) from WIDTH frames.items) }
+        ensures fault { IfErr result (λ fault. (fault ≡ WaveFault.ReadFault) ⊎ (fault ≡ WaveFault.NoMemory)) }
+        ensures cause { ReadFaultHasCause (calls_of self.old) (calls_of self.new) result }
+        ensures song { opened self.new ≡ opened self.old }
+    {
+        self.reader.frames_at(alloc, from, WIDTH)
+    }
+
+    /// Whether the frames that were read together have these.
+    fn has(&self, from: u64, count: usize) -> bool
+        ensures { result ≡ (nat_le self.now.first from && nat_le (from - self.now.first + count) (vec_len self.now.frames)) }
+    {
+        let many = self.frames.len() as u64;
+        from >= self.first
+            && from - self.first <= many
+            && count as u64 <= many - (from - self.first)
+    }
+
+    /// Those of the frames that were read together, from a place on, as many as are asked for.
+    fn held(&self, alloc: Global, from: u64, count: usize) -> Result<Vec<Frame>, WaveFault>
+        ensures value { IfOk result (λ own. own.items ≡ take count (drop (from - self.now.first) self.now.frames.items)) }
+        ensures fault { IfErr result (λ fault. fault ≡ WaveFault.NoMemory) }
+    {
+        let start = (from.saturating_sub(self.first) as usize).min(self.frames.len());
+        let end = start.saturating_add(count).min(self.frames.len());
+        let mut own = Vec::new(alloc);
+        own.extend_from_slice(&self.frames[start..end])?;
+        Ok(own)
+    }
+}
