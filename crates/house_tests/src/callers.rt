@@ -34,11 +34,13 @@ fn adds<L: Ledgers>(
     Ok(seat)
 }
 
-/// The events of two callers' seats, whether a fifth seat was given, and the last client's status.
+/// The events of two callers' seats, whether a fourth seat was given and a fifth, and the last client's
+/// status.
 #[derive(Drop)]
 struct Counts {
     first: u64,
     second: u64,
+    fourth: bool,
     fifth: bool,
     status: String,
 }
@@ -86,11 +88,12 @@ fn race<L: Ledgers + Send + Sync, R: Threads + Wait + Sync>(
     let second = two?.made();
     comes(rt, house, &mut three, 3)?;
     let status = says(rt, alloc, house, &mut three, 3, "status")?;
-    let _fourth = house.seat(rt);
+    let fourth = house.seat(rt).is_ok();
     let fifth = house.seat(rt).is_ok();
     Ok(Counts {
         first,
         second,
+        fourth,
         fifth,
         status,
     })
@@ -115,12 +118,13 @@ fn told<R: Threads + Wait + Sync>(
     history: u32,
 ) -> Result<String, PartitionFault> {
     let counts = evening::<Brand, R>(rt, alloc, blanks(), history)?;
-    let (first, second, fifth) = (counts.first, counts.second, counts.fifth);
+    let (first, second) = (counts.first, counts.second);
+    let (fourth, fifth) = (counts.fourth, counts.fifth);
     let status = counts.status.as_str();
-    Ok(format!(in alloc; "{first} {second} {fifth}\n{status}")?)
+    Ok(format!(in alloc; "{first} {second} {fourth} {fifth}\n{status}")?)
 }
 
-const WANTED: &str = "101 101 false
+const WANTED: &str = "101 101 true false
 volume: 100
 repeat: 0
 random: 0

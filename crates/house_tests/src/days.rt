@@ -14,7 +14,7 @@ use std::marker::Brand;
 use std::sync::Wait;
 use std::test::Fail;
 
-/// What is told at a piece of news: to a client, or to a scanner.
+/// What is told at a piece of news: to a client, a scanner or the decoder.
 fn news<L: Ledgers>(
     rt: &impl Wait,
     alloc: Global,
@@ -30,6 +30,7 @@ fn news<L: Ledgers>(
         )?.as_str())?,
         Report::ToScan(None) => heard.push_str("no scan\n")?,
         Report::ScanEnded(true) => heard.push_str("ended\n")?,
+        Report::Ended => heard.push_str("the end\n")?,
         _ => heard.push_str("heard\n")?,
     }
     Ok(heard)
@@ -86,7 +87,7 @@ fn scans<L: Ledgers>(
     Ok(heard)
 }
 
-/// Sixty-three more clients come, and one too many.
+/// Sixty-three more clients come and wait, which is as many as may, and one too many.
 fn crowds<L: Ledgers>(
     rt: &impl Wait,
     alloc: Global,
@@ -95,8 +96,12 @@ fn crowds<L: Ledgers>(
 ) -> Result<String, PartitionFault> {
     for client in 3..65u32 {
         comes(rt, house, seat, client)?;
+        says(rt, alloc, house, seat, client, "idle")?;
     }
     let mut heard = news(rt, alloc, house, seat, News::Comes(65))?;
+    says(rt, alloc, house, seat, 65, "idle")?;
+    heard.push_str(says(rt, alloc, house, seat, 2, "setvol 41")?.as_str())?;
+    heard.push_str(addressees(rt, alloc, house)?.as_str())?;
     heard.push_str(news(rt, alloc, house, seat, News::Comes(66))?.as_str())?;
     heard.push_str(says(rt, alloc, house, seat, 66, "ping")?.as_str())?;
     Ok(heard)
@@ -124,7 +129,8 @@ fn ended<L: Ledgers>(rt: &impl Wait, house: &House<L>) -> &'static str {
     }
 }
 
-/// Two songs are added, of which the first leaves, and the daemon ends.
+/// Two songs are added, of which the first leaves, and the daemon ends, of which the scanner and the decoder
+/// are told.
 fn ends<L: Ledgers>(
     rt: &impl Wait,
     alloc: Global,
@@ -139,6 +145,8 @@ fn ends<L: Ledgers>(
     heard.push_str(ended(rt, house))?;
     house.end(rt, seat)?;
     heard.push_str(ended(rt, house))?;
+    heard.push_str(news(rt, alloc, house, seat, News::AsksToScan)?.as_str())?;
+    heard.push_str(news(rt, alloc, house, seat, News::Wants(false))?.as_str())?;
     Ok(heard)
 }
 
@@ -166,7 +174,7 @@ fn told(rt: &impl Wait, alloc: Global) -> Result<String, PartitionFault> {
     evening::<Brand>(rt, alloc, blanks())
 }
 
-// Events: 5 until the first client goes, 4 about the scan, of the crowd 62, 2 and 1, and 4 at the end.
+// Events: 5 until the first client goes, 4 about the scan, of the crowd 124, 3, 1 and 1, and 6 at the end.
 #[test]
 fn clients_come_and_go(rt: HostRuntime) -> Result<(), Fail> {
     wants(
@@ -184,6 +192,8 @@ scan 1
 ended
 OK MPD 0.23.0
 heard
+OK
+63 for 3
 heard
 Id: 1
 OK
@@ -194,7 +204,9 @@ no song
 b.wav
 goes on
 ended
-78
+the end
+the end
+144
 ",
     );
     Ok(())

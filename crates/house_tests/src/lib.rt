@@ -11,6 +11,10 @@ mod frames;
 mod notices;
 #[cfg(test)]
 mod own_songs;
+#[cfg(test)]
+mod rests;
 pub mod rooms;
 #[cfg(test)]
 mod wanted;
+#[cfg(test)]
+mod windows;

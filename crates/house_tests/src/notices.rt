@@ -2,7 +2,7 @@
 ghost use Rattle.std.specs.Prelude.{◌≡◌};
 ghost use Rattle.held_player.specs.Blanks.{AreFor};
 
-use crate::rooms::{blanks, comes, opened, says};
+use crate::rooms::{blanks, comes, hears, opened, says};
 use crate::wanted::wants;
 use counted_player::{Ledgers, Seat};
 use held_player::Blanks;
@@ -34,7 +34,7 @@ struct Counts {
 }
 
 /// Waits for the other thread to come to a number. It gives up after a million looks.
-fn meets(meeting: &AtomicU32, number: u32) {
+pub(crate) fn meets(meeting: &AtomicU32, number: u32) {
     for _ in 0..1_000_000u32 {
         if meeting.load(Ordering::SeqCst) == number {
             return;
@@ -55,7 +55,7 @@ fn comes_by_outbox<L: Ledgers>(rt: &impl Wait, house: &House<L>, client: u32) ->
 }
 
 /// A client waits for each of a hundred changes, and is told of it from the outbox, or in front of the answer
-/// to its `noidle`.
+/// to its `noidle` or to a list.
 fn waits<L: Ledgers>(
     rt: &impl Wait,
     house: &House<L>,
@@ -84,8 +84,10 @@ fn waits<L: Ledgers>(
             }
         } else {
             meets(changed, change);
-            let heard = says(rt, alloc, house, &mut seat, 1, "noidle")?;
-            if heard.as_str() == "told\n" {
+            let in_list = change % 4 == 3;
+            let line = if in_list { "ping" } else { "noidle" };
+            let heard = hears(rt, alloc, house, &mut seat, 1, line, in_list)?;
+            if heard.as_str().starts_with("told\n") {
                 notices.in_front = notices.in_front.saturating_add(1);
             }
         }

@@ -32,6 +32,16 @@ fn told<R: Abort>(rt: &R, alloc: Global, line: &str) -> String {
     }
 }
 
+/// All that is printed in the place of a program.
+fn help<R: Abort>(rt: &R, alloc: Global, line: &str) -> String {
+    let words = words_of(rt, alloc, line);
+    match command_line(alloc, &words) {
+        Err(LineFault::Refused(error)) => format!(in alloc; "{error}").expect(rt, "no memory"),
+        Err(LineFault::NoMemory) => owned(rt, alloc, "no memory"),
+        Ok(_) => owned(rt, alloc, "a program"),
+    }
+}
+
 fn refused<R: Abort>(rt: &R, alloc: Global, fault: &LineFault) -> String {
     let status = fault.status();
     match fault {
@@ -122,4 +132,63 @@ fn check_lines<R: Abort>(rt: &R, alloc: Global) {
 #[test]
 fn lines(rt: HostRuntime) {
     check_lines(&rt, rt.alloc());
+}
+
+const HELP: &str = "A Music Player Daemon for PCM libraries
+
+Usage: music_daemon <COMMAND>
+
+Commands:
+  serve   Serves clients and plays to outputs, as a file of settings says
+  scan    Prints the songs of a folder, and on standard error why other files are none
+  script  Runs standard input as a script
+  help    Print this message or the help of the given subcommand(s)
+
+Options:
+  -h, --help     Print help
+  -V, --version  Print version
+";
+
+const SERVE_HELP: &str = "Serves clients and plays to outputs, as a file of settings says
+
+Usage: music_daemon serve --config <FILE>
+
+Options:
+      --config <FILE>  The file of settings
+  -h, --help           Print help
+";
+
+const SCAN_HELP: &str =
+    "Prints the songs of a folder, and on standard error why other files are none
+
+Usage: music_daemon scan [OPTIONS] <DIR>
+
+Arguments:
+  <DIR>  The folder to scan
+
+Options:
+      --rate <N>  Frames a second that a file must have, 8000 to 192000 [default: 44100]
+  -h, --help      Print help
+";
+
+const SCRIPT_HELP: &str = "Runs standard input as a script
+
+Usage: music_daemon script
+
+Options:
+  -h, --help  Print help
+";
+
+/// The whole help texts, in the layout of clap 4.
+#[test]
+fn helps(rt: HostRuntime) {
+    let helps = [
+        ("--help", HELP),
+        ("serve --help", SERVE_HELP),
+        ("scan --help", SCAN_HELP),
+        ("script -h", SCRIPT_HELP),
+    ];
+    for (line, wanted) in helps {
+        wants(&rt, line, help(&rt, rt.alloc(), line).as_str(), wanted);
+    }
 }

@@ -43,6 +43,12 @@ enum Party {
     HalfClosed,
     /// One of as many as there are places for is closed at a limit, and its place is another's.
     Replaced,
+    /// One of as many as there are places for closes, and its place is another's at once.
+    Followed,
+    /// Many go with an answer unread, so that their sockets fail to be read.
+    BreakOff,
+    /// One closes, or sends no more, before it reads more answers than its socket takes.
+    ReadsLate(bool),
 }
 
 /// A house is served until a client ends the daemon, by a loop that another thread wakes, and a third makes
@@ -128,6 +134,15 @@ fn hears_the_end(client: &mut TcpStream) -> bool {
     matches!(client.read(&mut bytes), Ok(0) | Err(_))
 }
 
+/// The same, or a fault.
+fn wants_the_end(client: &mut TcpStream) -> io::Result<()> {
+    if hears_the_end(client) {
+        Ok(())
+    } else {
+        Err(io::Error::from(io::ErrorKind::InvalidData))
+    }
+}
+
 fn many_come<R: Net<Listener = TcpListener, Stream = TcpStream>>(
     rt: &R,
     alloc: Global,
@@ -139,14 +154,10 @@ fn many_come<R: Net<Listener = TcpListener, Stream = TcpStream>>(
         clients.push(comes(rt, alloc, address)?)?;
     }
     let mut late = TcpStream::connect(rt, address)?;
-    if !hears_the_end(&mut late) {
-        return Err(io::Error::from(io::ErrorKind::InvalidData));
-    }
+    wants_the_end(&mut late)?;
     if let Some(mut last) = clients.pop() {
         last.write_all(b"close\n")?;
-        if !hears_the_end(&mut last) {
-            return Err(io::Error::from(io::ErrorKind::InvalidData));
-        }
+        wants_the_end(&mut last)?;
     }
     let mut next = comes(rt, alloc, address)?;
     says(alloc, &mut next, b"ping\n", b"OK\n")?;
@@ -168,6 +179,23 @@ fn length_of_commands(alloc: Global, client: &mut TcpStream) -> io::Result<usize
     Ok(heard.len())
 }
 
+/// A client hears so many answers to `commands`, each of this length.
+fn hears_answers(
+    alloc: Global,
+    client: &mut TcpStream,
+    length: usize,
+    count: u32,
+) -> io::Result<()> {
+    let mut answer = Vec::from_elem(alloc, 0u8, length)?;
+    for _question in 0..count {
+        client.read_exact(answer.as_mut_slice())?;
+        if !answer.as_slice().ends_with(b"\nOK\n") {
+            return Err(io::Error::from(io::ErrorKind::InvalidData));
+        }
+    }
+    Ok(())
+}
+
 fn one_reads_slowly<R: Net<Listener = TcpListener, Stream = TcpStream>>(
     rt: &R,
     alloc: Global,
@@ -182,14 +210,34 @@ fn one_reads_slowly<R: Net<Listener = TcpListener, Stream = TcpStream>>(
     for _ping in 0..100u32 {
         says(alloc, first, b"ping\n", b"OK\n")?;
     }
-    let mut answer = Vec::from_elem(alloc, 0u8, length)?;
-    for _question in 0..4_000u32 {
-        slow.read_exact(answer.as_mut_slice())?;
-        if !answer.as_slice().ends_with(b"\nOK\n") {
-            return Err(io::Error::from(io::ErrorKind::InvalidData));
-        }
+    hears_answers(alloc, &mut slow, length, 4_000)
+}
+
+/// The answers take about 10 MB: more than a socket takes that nobody reads, and less than may be unsent. All
+/// is asked before the other client pings. In a round one of its pings is answered, and 4,096 bytes of this
+/// client are read: so it is closed, with answers unsent, before it reads.
+fn one_reads_late<R: Net<Listener = TcpListener, Stream = TcpStream>>(
+    rt: &R,
+    alloc: Global,
+    address: SocketAddr,
+    first: &mut TcpStream,
+    sends_no_more: bool,
+) -> io::Result<()> {
+    let mut late = comes(rt, alloc, address)?;
+    let length = length_of_commands(alloc, &mut late)?;
+    for _question in 0..8_000u32 {
+        late.write_all(b"commands\n")?;
     }
-    Ok(())
+    if sends_no_more {
+        late.shutdown(Shutdown::Write)?;
+    } else {
+        late.write_all(b"close\n")?;
+    }
+    for _ping in 0..100u32 {
+        says(alloc, first, b"ping\n", b"OK\n")?;
+    }
+    hears_answers(alloc, &mut late, length, 8_000)?;
+    wants_the_end(&mut late)
 }
 
 fn one_waits<R: Net<Listener = TcpListener, Stream = TcpStream>>(
@@ -224,11 +272,7 @@ fn one_line_is_long<R: Net<Listener = TcpListener, Stream = TcpStream>>(
     let bytes = Vec::from_elem(alloc, b'x', 100_000)?;
     let _refused = long.write_all(bytes.as_slice());
     says(alloc, first, b"ping\n", b"OK\n")?;
-    if hears_the_end(&mut long) {
-        Ok(())
-    } else {
-        Err(io::Error::from(io::ErrorKind::InvalidData))
-    }
+    wants_the_end(&mut long)
 }
 
 fn one_leaves<R: Net<Listener = TcpListener, Stream = TcpStream>>(
@@ -257,11 +301,20 @@ fn one_sends_no_more<R: Net<Listener = TcpListener, Stream = TcpStream>>(
     half.shutdown(Shutdown::Write)?;
     hears(alloc, &mut half, b"OK\ncpos: 0\nId: 1\nOK\nOK\n")?;
     says(alloc, first, b"ping\n", b"OK\n")?;
-    if hears_the_end(&mut half) {
-        Ok(())
-    } else {
-        Err(io::Error::from(io::ErrorKind::InvalidData))
+    wants_the_end(&mut half)
+}
+
+/// As many clients come as there are places for beside the first and another.
+fn many_others<R: Net<Listener = TcpListener, Stream = TcpStream>>(
+    rt: &R,
+    alloc: Global,
+    address: SocketAddr,
+) -> io::Result<Vec<TcpStream>> {
+    let mut others = Vec::new(alloc);
+    for _client in 2..64u32 {
+        others.push(comes(rt, alloc, address)?)?;
     }
+    Ok(others)
 }
 
 fn one_is_replaced<R: Net<Listener = TcpListener, Stream = TcpStream>>(
@@ -270,13 +323,42 @@ fn one_is_replaced<R: Net<Listener = TcpListener, Stream = TcpStream>>(
     address: SocketAddr,
     first: &mut TcpStream,
 ) -> io::Result<()> {
-    let mut others = Vec::new(alloc);
-    for _client in 2..64u32 {
-        others.push(comes(rt, alloc, address)?)?;
-    }
+    let _others = many_others(rt, alloc, address)?;
     one_line_is_long(rt, alloc, address, first)?;
     let mut next = comes(rt, alloc, address)?;
     says(alloc, &mut next, b"ping\n", b"OK\n")
+}
+
+/// The place is free as soon as all is written, and not when the time to read is over: the few pings take
+/// much less than that.
+fn one_is_followed<R: Net<Listener = TcpListener, Stream = TcpStream>>(
+    rt: &R,
+    alloc: Global,
+    address: SocketAddr,
+    first: &mut TcpStream,
+) -> io::Result<()> {
+    let _others = many_others(rt, alloc, address)?;
+    let mut last = comes(rt, alloc, address)?;
+    last.write_all(b"close\n")?;
+    for _ping in 0..10u32 {
+        says(alloc, first, b"ping\n", b"OK\n")?;
+    }
+    let mut next = comes(rt, alloc, address)?;
+    says(alloc, &mut next, b"ping\n", b"OK\n")
+}
+
+/// A socket that is closed with bytes unread is reset.
+fn many_break_off<R: Net<Listener = TcpListener, Stream = TcpStream>>(
+    rt: &R,
+    alloc: Global,
+    address: SocketAddr,
+    first: &mut TcpStream,
+) -> io::Result<()> {
+    for _client in 0..100u32 {
+        let mut client = comes(rt, alloc, address)?;
+        says(alloc, &mut client, b"commands\n", b"command: add\n")?;
+    }
+    says(alloc, first, b"ping\n", b"OK\n")
 }
 
 /// The client asks for a scan and waits for its end, of which no client tells the loop.
@@ -302,6 +384,11 @@ fn acts<R: Net<Listener = TcpListener, Stream = TcpStream>>(
         Party::Scan => one_waits_for_a_scan(alloc, first),
         Party::HalfClosed => one_sends_no_more(rt, alloc, address, first),
         Party::Replaced => one_is_replaced(rt, alloc, address, first),
+        Party::Followed => one_is_followed(rt, alloc, address, first),
+        Party::BreakOff => many_break_off(rt, alloc, address, first),
+        Party::ReadsLate(sends_no_more) => {
+            one_reads_late(rt, alloc, address, first, sends_no_more)
+        }
     }
 }
 
@@ -385,6 +472,20 @@ fn a_peer_that_sends_no_more(rt: HostRuntime) -> Result<(), Fail> {
 #[test]
 fn a_place_after_a_long_line(rt: HostRuntime) -> Result<(), Fail> {
     assert!(rt; goes_well(rt, rt.alloc(), Party::Replaced)?);
+    Ok(())
+}
+
+#[test]
+fn places_of_clients_that_go(rt: HostRuntime) -> Result<(), Fail> {
+    assert!(rt; goes_well(rt, rt.alloc(), Party::Followed)?);
+    assert!(rt; goes_well(rt, rt.alloc(), Party::BreakOff)?);
+    Ok(())
+}
+
+#[test]
+fn last_answers_are_read_late(rt: HostRuntime) -> Result<(), Fail> {
+    assert!(rt; goes_well(rt, rt.alloc(), Party::ReadsLate(false))?);
+    assert!(rt; goes_well(rt, rt.alloc(), Party::ReadsLate(true))?);
     Ok(())
 }
 

@@ -8,7 +8,10 @@ use sqlite::{Connection, MemStore};
 use std::alloc::Global;
 use std::test::Fail;
 
-fn over(alloc: Global, connection: Connection<MemStore>) -> Result<SqlShelf<MemStore>, ShelfFault> {
+pub(crate) fn over(
+    alloc: Global,
+    connection: Connection<MemStore>,
+) -> Result<SqlShelf<MemStore>, ShelfFault> {
     match SqlShelf::over(alloc, connection) {
         Ok(shelf) => Ok(shelf),
         Err((fault, _)) => Err(fault),
@@ -85,7 +88,11 @@ fn long_stickers_come_back(rt: HostRuntime) -> Result<(), Fail> {
 }
 
 /// A database in memory that these statements were run on.
-fn after(alloc: Global, is_shelf: bool, statements: &str) -> Result<Connection<MemStore>, Fail> {
+pub(crate) fn after(
+    alloc: Global,
+    is_shelf: bool,
+    statements: &str,
+) -> Result<Connection<MemStore>, Fail> {
     let mut connection = if is_shelf {
         opened(alloc)?.into_connection()
     } else {

@@ -1,4 +1,5 @@
 //! A player that is lent a shelf.
+use command_lists::ListForm;
 use mpd_command::Request;
 use mpd_text::Song;
 use partition::{Limits, Partition, Setup};
@@ -72,7 +73,29 @@ fn line_of(alloc: Global, line: &str) -> Result<Event, AllocError> {
     Ok(Event::line(1, Stand::Alone, request))
 }
 
-/// Says these lines to the player, and adds what the client hears.
+/// Runs a list of the commands between semicolons, and adds what the client hears before its end.
+fn lists<S: Shelf>(
+    alloc: Global,
+    player: &mut Partition,
+    shelf: &mut S,
+    commands: &str,
+    all: &mut String,
+) -> Result<(), AllocError> {
+    let mut requests = Vec::new(alloc);
+    for command in commands.split(';') {
+        requests.push(Request::of_line(alloc, command, false)?)?;
+    }
+    match player.run_list(3, shelf, 1, ListForm::ListOk, requests) {
+        Ok(outcome) => {
+            let mut bytes = Vec::new(alloc);
+            outcome.push_text(&mut bytes)?;
+            all.push_str(str::from_utf8(&bytes).unwrap_or("no text\n"))
+        }
+        Err(_) => all.push_str("not run\n"),
+    }
+}
+
+/// Says these lines to the player, and adds what the client hears. A line with semicolons is a list.
 fn say<S: Shelf>(
     alloc: Global,
     player: &mut Partition,
@@ -81,7 +104,11 @@ fn say<S: Shelf>(
     all: &mut String,
 ) -> Result<(), AllocError> {
     for line in lines.lines() {
-        happens(player, shelf, line_of(alloc, line)?, all)?;
+        if line.contains(';') {
+            lists(alloc, player, shelf, line, all)?;
+        } else {
+            happens(player, shelf, line_of(alloc, line)?, all)?;
+        }
     }
     Ok(())
 }

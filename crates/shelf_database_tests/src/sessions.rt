@@ -1,6 +1,6 @@
 //! Worked sessions of a player that is lent a shelf over a database: in memory, on files that are opened
 //! again, and on files of which one fails.
-use crate::memory::opened as opened_in_memory;
+use crate::memory::{after, opened as opened_in_memory, over};
 use crate::stops::{Disks, Side, Step, Visit, filled, look_again, visited};
 use shelf_tests::calls::{wants, wants_text};
 use std::alloc::Global;
@@ -60,6 +60,45 @@ fn in_memory(alloc: Global, lines: &str) -> Result<String, Fail> {
 fn lists_and_stickers_in_memory(rt: HostRuntime) -> Result<(), Fail> {
     let told = in_memory(rt.alloc(), LISTS)?;
     wants_text(rt.alloc(), told.as_str(), LISTS_TELL)
+}
+
+/// What a session tells over a shelf in memory of which another wrote one list that is no text.
+fn over_a_broken_list(alloc: Global, lines: &str) -> Result<String, Fail> {
+    let connection = after(
+        alloc,
+        true,
+        "INSERT INTO list VALUES ('x', x'ff'), ('y', '')",
+    )?;
+    let mut told = String::new(alloc);
+    let mut shelf = over(alloc, connection)?;
+    let is_told = visited(alloc, &mut shelf, Visit::Say(lines), &mut told);
+    wants(is_told, "the session is not told")?;
+    Ok(told)
+}
+
+const BROKEN: &str = "listplaylist x
+ping;listplaylist y;listplaylist x;ping
+load x
+listplaylist y
+listplaylists";
+
+const BROKEN_TELLS: &str = "OK MPD 0.23.0
+ACK [52@0] {listplaylist} store fault
+list_OK
+list_OK
+ACK [52@2] {listplaylist} store fault
+ACK [52@0] {load} store fault
+OK
+playlist: x
+playlist: y
+OK
+";
+
+/// A list that the store cannot read is its fault, and no want of memory; other lists are read.
+#[test]
+fn a_list_that_is_no_text(rt: HostRuntime) -> Result<(), Fail> {
+    let told = over_a_broken_list(rt.alloc(), BROKEN)?;
+    wants_text(rt.alloc(), told.as_str(), BROKEN_TELLS)
 }
 
 /// What is told of a session beside what the client hears: where no player was lent the shelf, and where the
