@@ -54,6 +54,23 @@ fn is_raised<R: Clock>(rt: &R, flag: &AtomicU32) -> bool {
     false
 }
 
+/// Finds nothing, a tenth of a second after it has begun.
+#[derive(Drop)]
+struct Late<R: Clock + Drop> {
+    rt: R,
+    begun: Arc<AtomicU32, Global>,
+    has_ended: Arc<AtomicU32, Global>,
+}
+
+impl<R: Clock + Drop> Scanner for Late<R> {
+    fn scan(&mut self, _alloc: Global) -> Option<SharedDb> {
+        self.begun.store(1, Ordering::SeqCst);
+        thread::sleep(&self.rt, Duration::from_millis(100));
+        self.has_ended.store(1, Ordering::SeqCst);
+        None
+    }
+}
+
 #[derive(Drop)]
 struct Scans {
     wires: Wires,
@@ -102,6 +119,50 @@ fn told<R: Threads + Wait + Clock + Copy + Drop + Send + Sync + 'static>(
     let mut told = day.told(alloc)?;
     told.push_str(right_lines(alloc, &mut scans.wires, Tone::Saw)?.as_str())?;
     Ok(told)
+}
+
+/// Whether a scan that had begun has ended where the house is closed.
+fn late_told<R: Threads + Wait + Clock + Copy + Drop + Send + Sync + 'static>(
+    rt: R,
+    alloc: Global,
+) -> Result<String, PartitionFault> {
+    let (writers, wires) = two_wires(alloc, 100, 100)?;
+    let begun = shared(alloc, AtomicU32::new(0))?;
+    let has_ended = shared(alloc, AtomicU32::new(0))?;
+    let mut scans = Scans {
+        wires,
+        begun: Arc::try_clone(&begun)?,
+        may_end: Arc::try_clone(&has_ended)?,
+    };
+    let tune = tune_of(alloc, "a.wav", 1_000, 1_000, Tone::Saw)?;
+    let stage = Stage {
+        tunes: listed(alloc, tune, None)?,
+        writers,
+        gate: shared(alloc, Open)?,
+        scanner: Late {
+            rt,
+            begun,
+            has_ended,
+        },
+    };
+    let day = one_day(rt, alloc, stage, "update\n~ the scan has begun", &mut scans)?;
+    let has_ended = scans.may_end.load(Ordering::SeqCst);
+    Ok(format!(in alloc; "{}{has_ended}\n", day.heard)?)
+}
+
+// The close waits for the scanner's thread, which is still in its scan.
+#[test]
+fn a_close_while_a_scan_is_made(rt: HostRuntime) -> Result<(), Fail> {
+    wants(
+        &rt,
+        late_told(rt, rt.alloc()),
+        "updating_db: 1
+OK
+the scan has begun: true
+1
+",
+    );
+    Ok(())
 }
 
 #[test]
