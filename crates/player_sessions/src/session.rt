@@ -322,7 +322,11 @@ fn list_answer(alloc: Global, outcome: &ListOutcome) -> Result<String, AllocErro
 fn add_list(all: &mut String, alloc: Global, outcome: &ListOutcome) -> Result<(), AllocError> {
     let answer = list_answer(alloc, outcome)?;
     all.push_str(answer.as_str())?;
-    all.push_str(if outcome.next().closes() { "closed\n" } else { "" })?;
+    all.push_str(if outcome.next().closes() {
+        "closed\n"
+    } else {
+        ""
+    })?;
     for one in outcome.outcomes() {
         for notice in one.notices() {
             all.push_str(notice_told(alloc, notice)?.as_str())?;
