@@ -235,9 +235,10 @@ impl<'h, L: Ledgers, S: SongSource<M> + Drop, M: Media + Drop, R: Wait + Clock> 
     /// the partner has failed.
     fn read(&mut self, job: &Job) -> Result<JobFrames, bool>
         ensures open { OnOk result (AreOpenFor (songs_of self.new.songs) job.now) }
-        ensures read { IfOk result (λ read. ReadsJob (songs_of self.new.songs) job.now read.frames.items read.others.items) }
+        ensures read { IfOk result (λ r. ReadsJob (songs_of self.new.songs) job.now r.frames.items r.others.items) }
         ensures failed { IfErr result (IsShut (songs_of self.new.songs) job.now) }
-        ensures kept { (self.new.seat ≡ self.old.seat) × (self.new.share ≡ self.old.share) × (self.new.songs.rate ≡ self.old.songs.rate) }
+        ensures kept { (self.new.seat ≡ self.old.seat) × (self.new.share ≡ self.old.share) }
+        ensures rate { self.new.songs.rate ≡ self.old.songs.rate }
     {
         let rt = self.rt;
         for _ in rt.forever() {
@@ -253,9 +254,10 @@ impl<'h, L: Ledgers, S: SongSource<M> + Drop, M: Media + Drop, R: Wait + Clock> 
     /// Reads the frames of a job, and opens its songs where they are not open yet.
     fn try_to_read(&mut self, job: &Job) -> Result<JobFrames, NoFrames>
         ensures open { OnOk result (AreOpenFor (songs_of self.new.songs) job.now) }
-        ensures read { IfOk result (λ read. ReadsJob (songs_of self.new.songs) job.now read.frames.items read.others.items) }
+        ensures read { IfOk result (λ r. ReadsJob (songs_of self.new.songs) job.now r.frames.items r.others.items) }
         ensures failed { IfErr result (Fails (songs_of self.new.songs) job.now) }
-        ensures kept { (self.new.seat ≡ self.old.seat) × (self.new.share ≡ self.old.share) × (self.new.songs.rate ≡ self.old.songs.rate) }
+        ensures kept { (self.new.seat ≡ self.old.seat) × (self.new.share ≡ self.old.share) }
+        ensures rate { self.new.songs.rate ≡ self.old.songs.rate }
     {
         self.open_current(job.id)?;
         self.open_partner(job.fade)?;
@@ -267,7 +269,8 @@ impl<'h, L: Ledgers, S: SongSource<M> + Drop, M: Media + Drop, R: Wait + Clock> 
         ensures open { OnOk result (is_song id (songs_of self.new.songs).current ≡ true) }
         ensures shut { OnErr result (is_song id (songs_of self.new.songs).current ≡ false) }
         ensures fault { IfErr result (IsFaultOf false) }
-        ensures kept { (self.new.seat ≡ self.old.seat) × (self.new.share ≡ self.old.share) × (self.new.songs.rate ≡ self.old.songs.rate) }
+        ensures kept { (self.new.seat ≡ self.old.seat) × (self.new.share ≡ self.old.share) }
+        ensures rate { self.new.songs.rate ≡ self.old.songs.rate }
     {
         if self.songs.is_current(id) {
             return Ok(());
@@ -281,7 +284,8 @@ impl<'h, L: Ledgers, S: SongSource<M> + Drop, M: Media + Drop, R: Wait + Clock> 
         ensures shut { OnErr result (is_partner fade (songs_of self.new.songs).partner ≡ false) }
         ensures fault { IfErr result (IsFaultOf true) }
         ensures current { (songs_of self.new.songs).current ≡ (songs_of self.old.songs).current }
-        ensures kept { (self.new.seat ≡ self.old.seat) × (self.new.share ≡ self.old.share) × (self.new.songs.rate ≡ self.old.songs.rate) }
+        ensures kept { (self.new.seat ≡ self.old.seat) × (self.new.share ≡ self.old.share) }
+        ensures rate { self.new.songs.rate ≡ self.old.songs.rate }
     {
         let Some(part) = fade else {
             return Ok(());
@@ -299,7 +303,8 @@ impl<'h, L: Ledgers, S: SongSource<M> + Drop, M: Media + Drop, R: Wait + Clock> 
         ensures other { song_at (not partner) (songs_of self.new.songs) ≡ song_at (not partner) (songs_of self.old.songs) }
         ensures fault { IfErr result (IsFaultOf partner) }
         ensures shut { OnErr result (songs_of self.new.songs ≡ songs_of self.old.songs) }
-        ensures kept { (self.new.seat ≡ self.old.seat) × (self.new.share ≡ self.old.share) × (self.new.songs.rate ≡ self.old.songs.rate) }
+        ensures kept { (self.new.seat ≡ self.old.seat) × (self.new.share ≡ self.old.share) }
+        ensures rate { self.new.songs.rate ≡ self.old.songs.rate }
     {
         match self.house.song(self.rt, id) {
             Ok(Some(song)) => self.songs.open(self.alloc, id, &song, partner),

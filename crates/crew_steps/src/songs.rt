@@ -118,7 +118,8 @@ impl<S: SongSource<M> + Drop, M: Media + Drop> Songs<S, M> {
     ) -> Result<OpenSong<M>, SongFault>
         ensures id { IfOk result (λ song. (opened song).id ≡ id) }
         ensures meant { IfOk result (λ song. IsMeant self.old.rate (Some (opened song))) }
-        ensures kept { (self.new.current ≡ self.old.current) × (self.new.partner ≡ self.old.partner) × (self.new.rate ≡ self.old.rate) }
+        ensures kept { (self.new.current ≡ self.old.current) × (self.new.partner ≡ self.old.partner) }
+        ensures rate { self.new.rate ≡ self.old.rate }
     {
         let mut file = self.source.open(alloc, song.song().uri())?;
         match read_head(alloc, &mut file, self.rate) {
@@ -183,7 +184,9 @@ impl<S: SongSource<M> + Drop, M: Media + Drop> Songs<S, M> {
         ensures none { fade ≡ None → IsOk result }
         ensures cause { count ≤ WIDTH → result ≡ Err (NoFrames.Failed true) → HasFault self.old.partner self.new.partner ⊎ IsShort self.old.rate fade (opened_in self.old.partner) count }
         ensures fault { IfErr result (IsFaultOf true) }
-        ensures kept { (self.new.current ≡ self.old.current) × (opened_in self.new.partner ≡ opened_in self.old.partner) × (self.new.rate ≡ self.old.rate) }
+        ensures current { self.new.current ≡ self.old.current }
+        ensures partner { opened_in self.new.partner ≡ opened_in self.old.partner }
+        ensures rate { self.new.rate ≡ self.old.rate }
     {
         let Some(fade) = fade else {
             return Ok(Vec::new(alloc));
