@@ -1,6 +1,6 @@
 -- Command lists (MPD protocol reference, Command lists; that each command is an event of its own is this
 -- profile's).
-use Rattle.std.specs.Prelude.{◌≡◌, ℕ, ◌+◌, ◌-◌, ◌<◌, true, false, List, [], ◌∷◌, ◌++◌, length, map, take, codes, slice_get, slice_index_or, Option, Some, None, if◌then◌else◌}
+use Rattle.std.specs.Prelude.{◌≡◌, ℕ, ◌+◌, ◌-◌, ◌<◌, true, false, List, [], ◌∷◌, ◌++◌, length, map, nat_le, take, codes, slice_get, slice_index_or, Option, Some, None, if◌then◌else◌}
 use Rattle.std.specs.List.{flat_map, list_any}
 use Rattle.std.specs.Option.{ForSome}
 use Rattle.command_lists.specs.declared.word.ListForm.{ListForm}
@@ -66,6 +66,10 @@ next_in (Some told) = told.answer.next
 -- what becomes of a client after the last of its list's commands that was run
 abbrev pub next_after : List OutcomeData → Next
 next_after tolds = next_in (slice_get tolds (length tolds - 1))
+
+-- as many bytes as can be counted
+abbrev pub counted : ℕ → ℕ
+counted bytes = if nat_le bytes 18446744073709551615 then bytes else 18446744073709551615
 
 -- answers side by side
 abbrev pub answers_of : List OutcomeData → List ℕ

@@ -1,6 +1,6 @@
 //! What command lists make clients hear.
-ghost use Rattle.std.specs.Prelude.{◌≡◌, ◌++◌, ℕ, List, OnErr, OnOk};
-ghost use Rattle.partition.specs.Lists.{answers_of};
+ghost use Rattle.std.specs.Prelude.{◌≡◌, ◌+◌, ◌++◌, ℕ, List, OnErr, OnOk, length};
+ghost use Rattle.partition.specs.Lists.{answers_of, counted};
 ghost use Rattle.std.specs.List.{list_any};
 ghost use Rattle.player_events.specs.Events.{ends_list};
 
@@ -129,10 +129,14 @@ fn push_whole(outcomes: &[Outcome], end: &str, bytes: &mut Vec<u8>) -> Result<()
 }
 
 /// The bytes of the answers of outcomes and of `end`, as many as can be counted.
-fn whole_len(outcomes: &[Outcome], end: &str) -> usize {
-    outcomes.iter().fold(end.len(), |sum, outcome| {
-        sum.saturating_add(outcome.reply().text().len())
-    })
+fn whole_len(outcomes: &[Outcome], end: &str) -> usize
+    ensures { result ≡ counted (length end.now + length (answers_of outcomes.now)) }
+{
+    let mut len = end.len();
+    for outcome in outcomes {
+        len = len.saturating_add(outcome.reply().text().len());
+    }
+    len
 }
 
 /// Appends the answers of outcomes and then `end`.
