@@ -166,8 +166,8 @@ module _ {S : Type 0} (standing : S → Standing) (failed : S → S → Call →
   abbrev pub StopsClient : S → S → SeatCount → ℕ → Request → PartitionFault → Type 0
   StopsClient old new seat client request fault = StopsSomewhere old new seat (line_of client request) fault
 
-  abbrev pub HandsOut : S → S → SeatCount → ℕ → Request → Handed → Type 0
-  HandsOut old new seat client request handed = AnswersSomewhere standing failed old new seat (line_of client request) handed.told
+  abbrev pub AnswersClient : S → S → SeatCount → ℕ → Request → Handed → Type 0
+  AnswersClient old new seat client request handed = AnswersSomewhere standing failed old new seat (line_of client request) handed.told
 
   -- a line of a client joined the history, which is folded first where it is full, or was refused
   abbrev pub AnswersLine : View → View → S → S → SeatCount → ℕ → Request → OutcomeData → Type 0

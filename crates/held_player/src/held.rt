@@ -89,7 +89,7 @@ impl<L: Ledgers> Model for Held<L> {
 impl<L: Ledgers> Held<L> {
     ghost use Rattle.std.specs.Prelude.{◌≡◌, ◌⊎◌, ◌+◌, ◌-◌, ◌<◌, ◌↔◌, [], ◌∷◌, ◌++◌, None, true, false, IfErr, IfOk, IfSome, IsErr, OnErr, OnOk, map};
     ghost use Rattle.frame_ledger.specs.Shares.{HasAllParts, HasNoFrames};
-    ghost use Rattle.held_player.specs.Views.{HandsOut, AnswersLine, IsRefusedFor, IsUnchangedOrFolded, IsUnwritten, Joins, JoinsAs, KeepsBooks, StopsLine, TellsSomewhere, notices_at, opened};
+    ghost use Rattle.held_player.specs.Views.{AnswersClient, AnswersLine, IsRefusedFor, IsUnchangedOrFolded, IsUnwritten, Joins, JoinsAs, KeepsBooks, StopsLine, TellsSomewhere, notices_at, opened};
     ghost use Rattle.held_player.specs.Blanks.{AreFor};
     ghost use Rattle.partition.specs.History.{folded, with_room};
     ghost use Rattle.partition.specs.Legal.{IsPast};
@@ -204,7 +204,7 @@ impl<L: Ledgers> Held<L> {
         ensures unchanged { OnErr result (IsUnchangedOrFolded self.old.player self.new.player) }
         ensures unwritten { OnErr result (IsUnwritten S.standing S.failed shelf.old shelf.new) }
 
-        ensures somewhere { IfOk result (HandsOut S.standing S.failed shelf.old shelf.new seat.old client request) }
+        ensures somewhere { IfOk result (AnswersClient S.standing S.failed shelf.old shelf.new seat.old client request) }
     {
         let Held {
             alloc: _alloc,

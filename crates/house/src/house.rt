@@ -10,7 +10,7 @@ ghost use Rattle.held_player.specs.News.{event_of};
 ghost use Rattle.counted_player.specs.Seats.{after_events};
 ghost use Rattle.held_player.specs.Settling.{ClosesBooks};
 ghost use Rattle.counted_player.specs.Counts.{IsFresh, IsSongSomewhere};
-ghost use Rattle.held_player.specs.Views.{IsUnwritten, RefusesSomewhere, TellsSomewhere, HandsOut, StopsClient, turn_of, FeedsShare};
+ghost use Rattle.held_player.specs.Views.{IsUnwritten, RefusesSomewhere, TellsSomewhere, AnswersClient, StopsClient, turn_of, FeedsShare};
 
 use command_lists::ListForm;
 use counted_player::{Decoded, Discarded, Ledgers, NoSeat, Seat, Written};
@@ -111,7 +111,7 @@ impl<L: Ledgers> House<L> {
         ensures made { OnOk result (seat.new ≡ after_events seat.old 1) }
         ensures fault { OnErr result ((seat.new ≡ seat.old) × IsUnwritten S.standing S.failed shelf.old shelf.new) }
         ensures refused { IfErr result (StopsClient S.standing S.failed shelf.old shelf.new seat.old client request) }
-        ensures somewhere { IfOk result (HandsOut S.standing S.failed shelf.old shelf.new seat.old client request) }
+        ensures somewhere { IfOk result (AnswersClient S.standing S.failed shelf.old shelf.new seat.old client request) }
         ensures front { IfOk result (λ a. IfSome a.front (λ notice. notice.client ≡ client)) }
     {
         let (told, rung) = {

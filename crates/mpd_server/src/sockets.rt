@@ -245,11 +245,11 @@ impl Server {
             }
         }
         self.slots.iter().any(|slot| slot.may_wait())
-            && self.hand_out(rt, alloc, house, seat, shelf)
+            && self.tell_addressees(rt, alloc, house, seat, shelf)
     }
 
     /// Gives each client a turn for which a notice waits. True where a client ends the daemon.
-    fn hand_out<L: Ledgers, S: Shelf, R: Wait + Clock>(
+    fn tell_addressees<L: Ledgers, S: Shelf, R: Wait + Clock>(
         &mut self,
         rt: &R,
         alloc: Global,
