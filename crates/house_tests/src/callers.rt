@@ -73,6 +73,34 @@ fn add_at_once<L: Ledgers + Send + Sync, R: Threads + Wait + Sync>(
     )
 }
 
+/// How many events each of the two made.
+fn both_add<L: Ledgers + Send + Sync, R: Threads + Wait + Sync>(
+    rt: &R,
+    alloc: Global,
+    house: &House<L>,
+) -> Result<(u64, u64), PartitionFault>
+    ensures { IfOk result (λ made. (made.0 ≡ 101) × (made.1 ≡ 101)) }
+{
+    let (Ok(one), Ok(two)) = (house.seat(rt), house.seat(rt)) else {
+        return Err(PartitionFault::NoMemory);
+    };
+    let (one, two) = add_at_once(rt, alloc, house, one, two);
+    Ok((one?.made(), two?.made()))
+}
+
+/// What a third client hears of the status.
+fn status<L: Ledgers>(
+    rt: &impl Wait,
+    alloc: Global,
+    house: &House<L>,
+) -> Result<String, PartitionFault> {
+    let Ok(mut three) = house.seat(rt) else {
+        return Err(PartitionFault::NoMemory);
+    };
+    comes(rt, house, &mut three, 3)?;
+    says(rt, alloc, house, &mut three, 3, "status")
+}
+
 fn race<L: Ledgers + Send + Sync, R: Threads + Wait + Sync>(
     rt: &R,
     alloc: Global,
@@ -80,21 +108,13 @@ fn race<L: Ledgers + Send + Sync, R: Threads + Wait + Sync>(
 ) -> Result<Counts, PartitionFault>
     ensures { IfOk result (λ e. (e.first ≡ 101) × (e.second ≡ 101)) }
 {
-    let (Ok(one), Ok(two), Ok(mut three)) = (house.seat(rt), house.seat(rt), house.seat(rt)) else {
-        return Err(PartitionFault::NoMemory);
-    };
-    let (one, two) = add_at_once(rt, alloc, house, one, two);
-    let first = one?.made();
-    let second = two?.made();
-    comes(rt, house, &mut three, 3)?;
-    let status = says(rt, alloc, house, &mut three, 3, "status")?;
-    let fourth = house.seat(rt).is_ok();
-    let fifth = house.seat(rt).is_ok();
+    let (first, second) = both_add(rt, alloc, house)?;
+    let status = status(rt, alloc, house)?;
     Ok(Counts {
         first,
         second,
-        fourth,
-        fifth,
+        fourth: house.seat(rt).is_ok(),
+        fifth: house.seat(rt).is_ok(),
         status,
     })
 }

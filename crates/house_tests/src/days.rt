@@ -150,6 +150,32 @@ fn ends<L: Ledgers>(
     Ok(heard)
 }
 
+/// All of that, one after the other, and how many events were made.
+fn day<L: Ledgers>(
+    rt: &impl Wait,
+    alloc: Global,
+    house: &House<L>,
+    seat: &mut Seat<L>,
+) -> Result<String, PartitionFault> {
+    let goes = goes(rt, alloc, house, seat)?;
+    let scans = scans(rt, alloc, house, seat)?;
+    let crowds = crowds(rt, alloc, house, seat)?;
+    let ends = ends(rt, alloc, house, seat)?;
+    let made = seat.made();
+    Ok(format!(in alloc; "{goes}{scans}{crowds}{ends}{made}\n")?)
+}
+
+fn day_of_a_seat<L: Ledgers>(
+    rt: &impl Wait,
+    alloc: Global,
+    house: &House<L>,
+) -> Result<String, PartitionFault> {
+    match house.seat(rt) {
+        Ok(mut seat) => day(rt, alloc, house, &mut seat),
+        Err(_) => Err(PartitionFault::NoMemory),
+    }
+}
+
 fn evening<L: Ledgers>(
     rt: &impl Wait,
     alloc: Global,
@@ -158,16 +184,7 @@ fn evening<L: Ledgers>(
     requires blanks { AreFor L.names blanks }
 {
     let (house, _shares) = opened::<L>(alloc, blanks, 4096)?;
-    let Ok(mut seat) = house.seat(rt) else {
-        return Err(PartitionFault::NoMemory);
-    };
-    let mut heard = goes(rt, alloc, &house, &mut seat)?;
-    heard.push_str(scans(rt, alloc, &house, &mut seat)?.as_str())?;
-    heard.push_str(crowds(rt, alloc, &house, &mut seat)?.as_str())?;
-    heard.push_str(ends(rt, alloc, &house, &mut seat)?.as_str())?;
-    let made = format!(in alloc; "{}\n", seat.made())?;
-    heard.push_str(made.as_str())?;
-    Ok(heard)
+    day_of_a_seat(rt, alloc, &house)
 }
 
 fn told(rt: &impl Wait, alloc: Global) -> Result<String, PartitionFault> {

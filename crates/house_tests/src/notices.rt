@@ -137,14 +137,12 @@ fn meet<L: Ledgers + Send + Sync, R: Threads + Wait + Sync>(
     )
 }
 
-fn race<L: Ledgers + Send + Sync, R: Threads + Wait + Sync>(
+/// How many notices came by the outbox, in front of a reply, and twice.
+fn counted<L: Ledgers + Send + Sync, R: Threads + Wait + Sync>(
     rt: &R,
     alloc: Global,
-    blanks: Blanks,
-) -> Result<String, PartitionFault>
-    requires blanks { AreFor L.names blanks }
-{
-    let (house, _shares) = opened::<L>(alloc, blanks, 64)?;
+    house: &House<L>,
+) -> Result<String, PartitionFault> {
     let (Ok(one), Ok(two)) = (house.seat(rt), house.seat(rt)) else {
         return Err(PartitionFault::NoMemory);
     };
@@ -153,11 +151,22 @@ fn race<L: Ledgers + Send + Sync, R: Threads + Wait + Sync>(
         waiting: AtomicU32::new(0),
         changed: AtomicU32::new(0),
     };
-    let (notices, ended) = meet(rt, &house, one, two, &counts);
-    let notices = notices?;
+    let (notices, ended) = meet(rt, house, one, two, &counts);
     ended?;
+    let notices = notices?;
     let (by_outbox, in_front) = (notices.by_outbox, notices.in_front);
     Ok(format!(in alloc; "{by_outbox} {in_front} {}\n", notices.again)?)
+}
+
+fn race<L: Ledgers + Send + Sync, R: Threads + Wait + Sync>(
+    rt: &R,
+    alloc: Global,
+    blanks: Blanks,
+) -> Result<String, PartitionFault>
+    requires blanks { AreFor L.names blanks }
+{
+    let (house, _shares) = opened::<L>(alloc, blanks, 64)?;
+    counted(rt, alloc, &house)
 }
 
 fn told<R: Threads + Wait + Sync>(rt: &R, alloc: Global) -> Result<String, PartitionFault> {

@@ -41,6 +41,25 @@ struct Caller<L: Ledgers> {
     in_list: bool,
 }
 
+/// Adds a song and looks up its id, and gives the id and whether it is this song's.
+fn looks_up_once<L: Ledgers>(
+    rt: &impl Wait,
+    alloc: Global,
+    house: &House<L>,
+    caller: &mut Caller<L>,
+    client: u32,
+    uri: &str,
+) -> Result<(u32, bool), PartitionFault> {
+    let Caller { seat, in_list } = caller;
+    let line = format!(in alloc; "addid {uri}")?;
+    let added = hears(rt, alloc, house, seat, client, line.as_str(), *in_list)?;
+    let id = id_in(added.as_str());
+    let line = format!(in alloc; "playlistid {id}")?;
+    let shown = hears(rt, alloc, house, seat, client, line.as_str(), *in_list)?;
+    let own = format!(in alloc; "file: {uri}\n")?;
+    Ok((id, shown.as_str().starts_with(own.as_str())))
+}
+
 /// Adds a song a hundred times, and looks up the id each time.
 fn looks_up<L: Ledgers>(
     rt: &impl Wait,
@@ -50,24 +69,18 @@ fn looks_up<L: Ledgers>(
     client: u32,
     uri: &str,
 ) -> Result<Found, PartitionFault> {
-    let Caller { mut seat, in_list } = caller;
-    let mut times = 0u32;
-    let mut ids = Vec::new(alloc);
-    ids.reserve(100)?;
-    comes(rt, house, &mut seat, client)?;
+    let mut caller = caller;
+    let mut found = Found {
+        times: 0,
+        ids: Vec::with_capacity(alloc, 100)?,
+    };
+    comes(rt, house, &mut caller.seat, client)?;
     for _ in 0..100u32 {
-        let line = format!(in alloc; "addid {uri}")?;
-        let added = hears(rt, alloc, house, &mut seat, client, line.as_str(), in_list)?;
-        let id = id_in(added.as_str());
-        ids.push(id).ok();
-        let line = format!(in alloc; "playlistid {id}")?;
-        let shown = hears(rt, alloc, house, &mut seat, client, line.as_str(), in_list)?;
-        let own = format!(in alloc; "file: {uri}\n")?;
-        if shown.as_str().starts_with(own.as_str()) {
-            times = times.saturating_add(1);
-        }
+        let (id, is_own) = looks_up_once(rt, alloc, house, &mut caller, client, uri)?;
+        found.ids.push(id).ok();
+        found.times = found.times.saturating_add(u32::from(is_own));
     }
-    Ok(Found { times, ids })
+    Ok(found)
 }
 
 /// How many of the ids from 1 to 200 were given once.

@@ -8,7 +8,7 @@ ghost use Rattle.counted_player.specs.Counts.{IsFresh};
 use command_lists::ListForm;
 use counted_player::{Ledgers, Seat};
 use frame_ledger::Blanks as FrameBlanks;
-use held_player::{Blanks, CrewShares, News};
+use held_player::{AnsweredList, Blanks, CrewShares, News};
 use house::House;
 use mpd_command::Request;
 use mpd_text::{SharedText, Song};
@@ -132,12 +132,14 @@ pub fn says<L: Ledgers>(
     let mut shelf = MemShelf::new(alloc);
     let request = Request::of_line(alloc, line, false)?;
     let answered = house.command(rt, seat, &mut shelf, client, request)?;
-    let mut heard = String::new(alloc);
-    if answered.front().is_some() {
-        heard.push_str("told\n")?;
-    }
-    heard.push_str(answered.reply().text())?;
+    let heard = heard(alloc, answered.front().is_some(), answered.reply().text())?;
     Ok(heard)
+}
+
+/// `told` where a notice stands in front, and an answer.
+fn heard(alloc: Global, is_told: bool, answer: &str) -> Result<String, AllocError> {
+    let front = if is_told { "told\n" } else { "" };
+    format!(in alloc; "{front}{answer}")
 }
 
 /// What a client hears of a list of one line: `told` where a notice stands in front, and the answer.
@@ -150,19 +152,25 @@ pub fn lists<L: Ledgers>(
     line: &str,
 ) -> Result<String, PartitionFault> {
     let mut shelf = MemShelf::new(alloc);
-    let mut requests = Vec::new(alloc);
-    requests.reserve(1)?;
-    requests.push_reserved(Request::of_line(alloc, line, false)?);
-    let Ok(answered) = house.list(rt, seat, &mut shelf, client, ListForm::Plain, requests) else {
-        return Err(PartitionFault::NoMemory);
-    };
-    let mut bytes = Vec::new(alloc);
-    if answered.front().is_some() {
-        bytes.extend_from_slice(b"told\n")?;
+    let requests = one_request(alloc, line)?;
+    match house.list(rt, seat, &mut shelf, client, ListForm::Plain, requests) {
+        Ok(answered) => heard_of_list(alloc, &answered),
+        Err(_) => Err(PartitionFault::NoMemory),
     }
+}
+
+/// What a list of one line asks for.
+fn one_request(alloc: Global, line: &str) -> Result<Vec<Request>, AllocError> {
+    let mut requests = Vec::with_capacity(alloc, 1)?;
+    requests.push_reserved(Request::of_line(alloc, line, false)?);
+    Ok(requests)
+}
+
+fn heard_of_list(alloc: Global, answered: &AnsweredList) -> Result<String, PartitionFault> {
+    let mut bytes = Vec::new(alloc);
     answered.answers().push_text(&mut bytes)?;
     let text = str::from_utf8(&bytes).unwrap_or("no text\n");
-    Ok(String::from_str(alloc, text)?)
+    Ok(heard(alloc, answered.front().is_some(), text)?)
 }
 
 /// What a client hears of a line, alone or as a list of one line.

@@ -34,8 +34,24 @@ fn says<L: Ledgers>(
     Ok(())
 }
 
-/// A client comes, sets a sticker and asks for its value so often. How many events the window has before it
-/// is folded if it is large, and after.
+/// A client comes, sets a sticker and asks for its value so often.
+fn fills<L: Ledgers>(
+    alloc: Global,
+    held: &mut Held<L>,
+    seat: &mut Seat<L>,
+    questions: u32,
+) -> Result<(), PartitionFault> {
+    let mut shelf = MemShelf::new(alloc);
+    let _greeted = held.notice(seat, News::Comes(1))?;
+    let line = line_of_a_value(alloc)?;
+    says(alloc, held, seat, &mut shelf, line.as_str())?;
+    for _question in 0..questions {
+        says(alloc, held, seat, &mut shelf, "sticker get song a.wav n")?;
+    }
+    Ok(())
+}
+
+/// How many events the window has after so many questions, before it is folded if it is large, and after.
 fn asks<L: Ledgers>(
     alloc: Global,
     held: &mut Held<L>,
@@ -44,19 +60,7 @@ fn asks<L: Ledgers>(
     let Ok(mut seat) = held.seat() else {
         return Err(PartitionFault::NoMemory);
     };
-    let mut shelf = MemShelf::new(alloc);
-    let _greeted = held.notice(&mut seat, News::Comes(1))?;
-    let line = line_of_a_value(alloc)?;
-    says(alloc, held, &mut seat, &mut shelf, line.as_str())?;
-    for _question in 0..questions {
-        says(
-            alloc,
-            held,
-            &mut seat,
-            &mut shelf,
-            "sticker get song a.wav n",
-        )?;
-    }
+    fills(alloc, held, &mut seat, questions)?;
     let before = held.history().len();
     held.compact_if_large();
     Ok(format!(in alloc; "{before} {}\n", held.history().len())?)

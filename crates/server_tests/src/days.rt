@@ -105,6 +105,56 @@ fn fault_name(fault: SessionFault) -> &'static str {
     }
 }
 
+/// The clients that came, and what was told of faults.
+#[derive(Drop)]
+struct Log {
+    guests: Vec<Guest>,
+    faults: String,
+}
+
+fn step_of<L: Ledgers>(
+    rt: &impl Wait,
+    alloc: Global,
+    house: &House<L>,
+    seat: &mut Seat<L>,
+    shelf: &mut MemShelf,
+    log: &mut Log,
+    step: Step<'_>,
+    may_kill: bool,
+) -> Result<(), PartitionFault> {
+    let (client, bytes, then) = match step {
+        Step::Comes(client, takes) => {
+            log.guests.reserve(1)?;
+            let guest = comes(rt, alloc, house, seat, client, takes, may_kill)?;
+            log.guests.push_reserved(guest);
+            return Ok(());
+        }
+        Step::Says(client, bytes) => (client, bytes, Then::Blocks),
+        Step::Waits(client) => (client, b"".as_slice(), Then::Blocks),
+        Step::Ends(client) => (client, b"".as_slice(), Then::Ends),
+        Step::Fails(client) => (client, b"".as_slice(), Then::Fails),
+    };
+    for guest in &mut log.guests {
+        if guest.client == client {
+            if let Some(fault) = reads(rt, alloc, house, seat, shelf, guest, bytes, then) {
+                log.faults.push_str(fault_name(fault))?;
+            }
+        }
+    }
+    Ok(())
+}
+
+/// What was told of faults, and of each client how its session is and what was written to it.
+fn told_of(alloc: Global, log: &Log) -> Result<String, AllocError> {
+    let mut told = String::from_str(alloc, log.faults.as_str())?;
+    for guest in &log.guests {
+        let text = str::from_utf8(guest.wire.inner().bytes()).unwrap_or("no text\n");
+        let part = format!(in alloc; "{} {}\n{text}", guest.client, state(&guest.session))?;
+        told.push_str(part.as_str())?;
+    }
+    Ok(told)
+}
+
 fn steps_of<L: Ledgers>(
     rt: &impl Wait,
     alloc: Global,
@@ -114,34 +164,16 @@ fn steps_of<L: Ledgers>(
     may_kill: bool,
 ) -> Result<String, PartitionFault> {
     let mut shelf = MemShelf::new(alloc);
-    let mut guests: Vec<Guest> = Vec::new(alloc);
-    let mut told = String::new(alloc);
+    let mut log = Log {
+        guests: Vec::new(alloc),
+        faults: String::new(alloc),
+    };
     for step in steps {
-        let (client, bytes, then) = match *step {
-            Step::Comes(client, takes) => {
-                guests.reserve(1)?;
-                guests.push_reserved(comes(rt, alloc, house, seat, client, takes, may_kill)?);
-                continue;
-            }
-            Step::Says(client, bytes) => (client, bytes, Then::Blocks),
-            Step::Waits(client) => (client, b"".as_slice(), Then::Blocks),
-            Step::Ends(client) => (client, b"".as_slice(), Then::Ends),
-            Step::Fails(client) => (client, b"".as_slice(), Then::Fails),
-        };
-        for guest in &mut guests {
-            if guest.client == client {
-                if let Some(fault) = reads(rt, alloc, house, seat, &mut shelf, guest, bytes, then) {
-                    told.push_str(fault_name(fault))?;
-                }
-            }
-        }
+        step_of(
+            rt, alloc, house, seat, &mut shelf, &mut log, *step, may_kill,
+        )?;
     }
-    for guest in &guests {
-        let heading = format!(in alloc; "{} {}\n", guest.client, state(&guest.session))?;
-        told.push_str(heading.as_str())?;
-        told.push_str(str::from_utf8(guest.wire.inner().bytes()).unwrap_or("no text\n"))?;
-    }
-    Ok(told)
+    Ok(told_of(alloc, &log)?)
 }
 
 fn day<L: Ledgers>(
