@@ -1,0 +1,3 @@
+pub mod SixTags
+pub mod NamedTags
+pub mod ReadBack

@@ -1,0 +1,4 @@
+pub mod KnownTags
+pub mod Bits
+pub mod Sets
+pub mod Lines

@@ -1,0 +1,227 @@
+//! The names of tags that clients know (MPD protocol reference, Tags).
+ghost use Rattle.std.specs.Prelude.{◌≡◌, Some};
+ghost use Rattle.std.specs.Str.{str_eq_ignore_ascii_case};
+ghost use Rattle.known_tags.specs.KnownTags.{text_of, tag_of, base_of, read_of, named as named_lem, text_in as text_in_lem, text_of_base as text_of_base_lem};
+
+use mpd_text::{Song, Tag, TagName};
+
+/// A tag that clients know, in the order of the reference. Songs have six of them alone.
+#[derive(Clone, Copy, Debug, PartialEq, Eq)]
+pub enum KnownTag {
+    /// Shown as `Artist`.
+    Artist,
+    /// Shown as `ArtistSort`.
+    ArtistSort,
+    /// Shown as `Album`.
+    Album,
+    /// Shown as `AlbumSort`.
+    AlbumSort,
+    /// Shown as `AlbumArtist`.
+    AlbumArtist,
+    /// Shown as `AlbumArtistSort`.
+    AlbumArtistSort,
+    /// Shown as `Title`.
+    Title,
+    /// Shown as `Track`.
+    Track,
+    /// Shown as `Name`.
+    Name,
+    /// Shown as `Genre`.
+    Genre,
+    /// Shown as `Date`.
+    Date,
+    /// Shown as `OriginalDate`.
+    OriginalDate,
+    /// Shown as `Composer`.
+    Composer,
+    /// Shown as `ComposerSort`.
+    ComposerSort,
+    /// Shown as `Performer`.
+    Performer,
+    /// Shown as `Conductor`.
+    Conductor,
+    /// Shown as `Work`.
+    Work,
+    /// Shown as `Ensemble`.
+    Ensemble,
+    /// Shown as `Movement`.
+    Movement,
+    /// Shown as `MovementNumber`.
+    MovementNumber,
+    /// Shown as `Location`.
+    Location,
+    /// Shown as `Grouping`.
+    Grouping,
+    /// Shown as `Comment`.
+    Comment,
+    /// Shown as `Disc`.
+    Disc,
+    /// Shown as `Label`.
+    Label,
+    /// Shown as `MUSICBRAINZ_ARTISTID`.
+    MusicBrainzArtistId,
+    /// Shown as `MUSICBRAINZ_ALBUMID`.
+    MusicBrainzAlbumId,
+    /// Shown as `MUSICBRAINZ_ALBUMARTISTID`.
+    MusicBrainzAlbumArtistId,
+    /// Shown as `MUSICBRAINZ_TRACKID`.
+    MusicBrainzTrackId,
+    /// Shown as `MUSICBRAINZ_RELEASETRACKID`.
+    MusicBrainzReleaseTrackId,
+    /// Shown as `MUSICBRAINZ_WORKID`.
+    MusicBrainzWorkId,
+}
+
+/// All of them, in the order of the reference.
+pub const KNOWN_TAGS: [KnownTag; 31] = [
+    KnownTag::Artist,
+    KnownTag::ArtistSort,
+    KnownTag::Album,
+    KnownTag::AlbumSort,
+    KnownTag::AlbumArtist,
+    KnownTag::AlbumArtistSort,
+    KnownTag::Title,
+    KnownTag::Track,
+    KnownTag::Name,
+    KnownTag::Genre,
+    KnownTag::Date,
+    KnownTag::OriginalDate,
+    KnownTag::Composer,
+    KnownTag::ComposerSort,
+    KnownTag::Performer,
+    KnownTag::Conductor,
+    KnownTag::Work,
+    KnownTag::Ensemble,
+    KnownTag::Movement,
+    KnownTag::MovementNumber,
+    KnownTag::Location,
+    KnownTag::Grouping,
+    KnownTag::Comment,
+    KnownTag::Disc,
+    KnownTag::Label,
+    KnownTag::MusicBrainzArtistId,
+    KnownTag::MusicBrainzAlbumId,
+    KnownTag::MusicBrainzAlbumArtistId,
+    KnownTag::MusicBrainzTrackId,
+    KnownTag::MusicBrainzReleaseTrackId,
+    KnownTag::MusicBrainzWorkId,
+];
+
+impl KnownTag {
+    /// The tag that a word names, if it is one. ASCII case is ignored.
+    #[tactic(auto, unfolding(crate::specs::KnownTags::tag_of))]
+    pub fn of_word(word: &str) -> Option<KnownTag>
+        ensures { result ≡ tag_of word.now }
+    {
+        first_named(&KNOWN_TAGS, word)
+    }
+
+    /// The name as it is shown.
+    pub fn text(self) -> &'static str
+        ensures { result.now ≡ text_of self }
+    {
+        match self {
+            KnownTag::Artist => "Artist",
+            KnownTag::ArtistSort => "ArtistSort",
+            KnownTag::Album => "Album",
+            KnownTag::AlbumSort => "AlbumSort",
+            KnownTag::AlbumArtist => "AlbumArtist",
+            KnownTag::AlbumArtistSort => "AlbumArtistSort",
+            KnownTag::Title => "Title",
+            KnownTag::Track => "Track",
+            KnownTag::Name => "Name",
+            KnownTag::Genre => "Genre",
+            KnownTag::Date => "Date",
+            KnownTag::OriginalDate => "OriginalDate",
+            KnownTag::Composer => "Composer",
+            KnownTag::ComposerSort => "ComposerSort",
+            KnownTag::Performer => "Performer",
+            KnownTag::Conductor => "Conductor",
+            KnownTag::Work => "Work",
+            KnownTag::Ensemble => "Ensemble",
+            KnownTag::Movement => "Movement",
+            KnownTag::MovementNumber => "MovementNumber",
+            KnownTag::Location => "Location",
+            KnownTag::Grouping => "Grouping",
+            KnownTag::Comment => "Comment",
+            KnownTag::Disc => "Disc",
+            KnownTag::Label => "Label",
+            KnownTag::MusicBrainzArtistId => "MUSICBRAINZ_ARTISTID",
+            KnownTag::MusicBrainzAlbumId => "MUSICBRAINZ_ALBUMID",
+            KnownTag::MusicBrainzAlbumArtistId => "MUSICBRAINZ_ALBUMARTISTID",
+            KnownTag::MusicBrainzTrackId => "MUSICBRAINZ_TRACKID",
+            KnownTag::MusicBrainzReleaseTrackId => "MUSICBRAINZ_RELEASETRACKID",
+            KnownTag::MusicBrainzWorkId => "MUSICBRAINZ_WORKID",
+        }
+    }
+
+    /// Which of the six tags of songs it is, if it is one of them.
+    pub fn base(self) -> Option<TagName>
+        ensures { result ≡ base_of self }
+    {
+        match self {
+            KnownTag::Title => Some(TagName::Title),
+            KnownTag::Artist => Some(TagName::Artist),
+            KnownTag::Album => Some(TagName::Album),
+            KnownTag::Date => Some(TagName::Date),
+            KnownTag::Genre => Some(TagName::Genre),
+            KnownTag::Comment => Some(TagName::Comment),
+            _ => None,
+        }
+    }
+
+    /// Which tag of a song is read for it (this profile's): the artist also for the names for sorting by it
+    /// and for the artist of an album, the album also for sorting by it, and no tag for the others.
+    pub fn read_as(self) -> Option<TagName>
+        ensures { result ≡ read_of self }
+    {
+        match self {
+            KnownTag::ArtistSort | KnownTag::AlbumArtist | KnownTag::AlbumArtistSort => {
+                Some(TagName::Artist)
+            }
+            KnownTag::AlbumSort => Some(TagName::Album),
+            _ => self.base(),
+        }
+    }
+
+    /// The text that a song has of it: that of its first tag of the name that is read; empty where it has
+    /// none.
+    pub fn text_in<'a>(self, song: &'a Song) -> &'a str
+        ensures { result.now ≡ text_in_lem self song.now }
+    {
+        match self.read_as() {
+            Some(name) => text_of_base(song.tags(), name),
+            None => "",
+        }
+    }
+}
+
+/// The law that each name is read back as its tag, so that no two are one in any case.
+pub fn each_name_is_read_back()
+    ensures { (tag : KnownTag) → tag_of (text_of tag) ≡ Some tag }
+{}
+
+/// The first of some tags that a word names.
+fn first_named(tags: &[KnownTag], word: &str) -> Option<KnownTag>
+    ensures { result ≡ named_lem word.now tags.now }
+{
+    tags.iter().copied().find(|tag| same_word(word, tag.text()))
+}
+
+fn same_word(word: &str, name: &str) -> bool
+    ensures { result ≡ str_eq_ignore_ascii_case word.now name.now }
+{
+    word.eq_ignore_ascii_case(name)
+}
+
+/// The text of the first tag of this name; empty where there is none.
+fn text_of_base(tags: &[Tag], name: TagName) -> &str
+    ensures { result.now ≡ text_of_base_lem name tags.now }
+{
+    for tag in tags {
+        if tag.name() == name {
+            return tag.text();
+        }
+    }
+    ""
+}

@@ -1,0 +1,129 @@
+//! The lines that show a song and the tags of a set (MPD protocol reference, The music database; Connection
+//! settings: `tagtypes`).
+ghost use Rattle.std.specs.Prelude.{◌≡◌, ◌++◌, ◌≤◌, ℕ, OnOk};
+ghost use Rattle.std.specs.List.{flat_map};
+ghost use Rattle.std.specs.Option.{option_copied};
+ghost use Rattle.mpd_text.specs.Songs.Song.{SongData};
+ghost use Rattle.mpd_text.specs.Songs.Tags.{tag_names};
+ghost use Rattle.song_db.specs.Lines.{song_lines, first_tag as first_tag_lem, tag_line, seconds_rounded};
+ghost use Rattle.known_tags.specs.Lines.{tag_lines_of, song_lines_with, tagtype_lines, tag_line_where, tagtype_line_where};
+
+use crate::tag_set::{TagSet, is_among};
+use mpd_text::{Answer, Song, TAG_NAMES, Tag, TagName};
+use song_db::{Rate, duration, length_of};
+use std::alloc::{AllocError, Global};
+
+/// Appends the lines of a song to an answer: its URI, those of its tags that are in the set, in the order of
+/// [`TAG_NAMES`], its length in whole seconds and in seconds with three decimals. Where memory runs out, the
+/// answer may have some of them.
+pub fn push_song_with(
+    alloc: Global,
+    answer: &mut Answer,
+    song: &Song,
+    rate: &Rate,
+    set: TagSet,
+) -> Result<(), AllocError>
+    ensures { OnOk result (answer.new ≡ answer.old ++ song_lines_with set rate.now song.now) }
+{
+    answer.pair("file", song.uri())?;
+    push_tags(answer, song.tags(), set)?;
+    let millis = length_of(song.frames(), rate);
+    answer.pair("Time", rounded(millis))?;
+    let duration = duration(alloc, millis)?;
+    answer.pair("duration", duration.as_str())
+}
+
+/// The law that a song is shown with all tags as [`song_db::push_song`] shows it.
+pub fn all_tags_show_the_whole_song()
+    ensures { (rate : ℕ) (song : SongData) → song_lines_with tag_names rate song ≡ song_lines rate song }
+{}
+
+fn push_tags(answer: &mut Answer, tags: &[Tag], set: TagSet) -> Result<(), AllocError>
+    ensures { OnOk result (answer.new ≡ answer.old ++ tag_lines_of set tags.now) }
+{
+    push_where(answer, tags, set.bits, &TAG_NAMES)
+}
+
+/// Those of these tags whose bits are set.
+fn push_where(
+    answer: &mut Answer,
+    tags: &[Tag],
+    bits: u8,
+    names: &[TagName],
+) -> Result<(), AllocError>
+    ensures { OnOk result (answer.new ≡ answer.old ++ flat_map (tag_line_where bits tags.now) names.now) }
+{
+    for name in names {
+        push_tag_where(answer, tags, bits, *name)?;
+    }
+    Ok(())
+}
+
+fn push_tag_where(
+    answer: &mut Answer,
+    tags: &[Tag],
+    bits: u8,
+    name: TagName,
+) -> Result<(), AllocError>
+    ensures { OnOk result (answer.new ≡ answer.old ++ tag_line_where bits tags.now name) }
+{
+    if is_among(bits, name) {
+        return push_tag(answer, name, tags);
+    }
+    Ok(())
+}
+
+/// The line of the first tag of a name, if there is one.
+fn push_tag(answer: &mut Answer, name: TagName, tags: &[Tag]) -> Result<(), AllocError>
+    ensures { OnOk result (answer.new ≡ answer.old ++ tag_line name tags.now) }
+{
+    match first_tag(tags, name) {
+        Some(tag) => answer.pair(name.text(), tag.text()),
+        None => Ok(()),
+    }
+}
+
+fn first_tag(tags: &[Tag], name: TagName) -> Option<&Tag>
+    ensures { option_copied result ≡ first_tag_lem name tags.now }
+{
+    for tag in tags {
+        if tag.name() == name {
+            return Some(tag);
+        }
+    }
+    None
+}
+
+/// In whole seconds, a half up.
+fn rounded(millis: u128) -> u128
+    requires { millis ≤ 18446744073709551615000 }
+    ensures { result ≡ seconds_rounded millis }
+{
+    (millis + 500) / 1000
+}
+
+/// Appends a line `tagtype: NAME` for each tag of a set, in the order of [`TAG_NAMES`]. Where memory runs
+/// out, the answer may have some of them.
+pub fn push_tagtypes(answer: &mut Answer, set: TagSet) -> Result<(), AllocError>
+    ensures { OnOk result (answer.new ≡ answer.old ++ tagtype_lines set) }
+{
+    push_types_where(answer, set.bits, &TAG_NAMES)
+}
+
+fn push_types_where(answer: &mut Answer, bits: u8, names: &[TagName]) -> Result<(), AllocError>
+    ensures { OnOk result (answer.new ≡ answer.old ++ flat_map (tagtype_line_where bits) names.now) }
+{
+    for name in names {
+        push_type_where(answer, bits, *name)?;
+    }
+    Ok(())
+}
+
+fn push_type_where(answer: &mut Answer, bits: u8, name: TagName) -> Result<(), AllocError>
+    ensures { OnOk result (answer.new ≡ answer.old ++ tagtype_line_where bits name) }
+{
+    if is_among(bits, name) {
+        return answer.pair("tagtype", name.text());
+    }
+    Ok(())
+}

@@ -1,0 +1,163 @@
+//! The set of tags that a client wants to see (MPD protocol reference, Connection settings: `tagtypes`).
+ghost use Rattle.std.specs.Prelude.{◌≡◌, ◌<◌, ◌↔◌, ◌^◌, ◌-◌, [], IsTrue};
+ghost use Rattle.mpd_text.specs.Songs.Tags.{tag_names, tag_number};
+ghost use Rattle.known_tags.specs.Bits.{is_set, members};
+ghost use Rattle.known_tags.specs.Sets.{has, is_all, joined, left, joined_by, left_by, enabled, disabled};
+
+use crate::known_tag::KnownTag;
+use mpd_text::TagName;
+use std::marker::Model;
+
+/// A set of the six tags of songs. A clause sees its tags, in the order in which answers show them.
+#[derive(Clone, Copy, Debug, PartialEq, Eq)]
+pub struct TagSet {
+    pub(crate) bits: u8,
+}
+
+impl Model for TagSet {
+    ghost use Rattle.std.specs.Prelude.{◌<◌, List};
+    ghost use Rattle.mpd_text.specs.declared.songs.song.TagName.{TagName};
+
+    ghost Value = { List TagName };
+
+    ghost use Rattle.known_tags.specs.Bits.{members, bits_of, bits_of-members};
+
+    ghost view = { λ s. members s.bits };
+
+    ghost invariant = { λ s. s.bits < 64 };
+
+    ghost inverse = { λ tags. record { bits = bits_of tags } };
+
+    ghost inverse_ok = { λ s below i. record { bits = bits_of-members s.bits below i } };
+}
+
+impl TagSet {
+    /// The set of all tags, which a client has when it connects.
+    pub fn all() -> TagSet
+        ensures { result ≡ tag_names }
+    {
+        TagSet { bits: 63 }
+    }
+
+    /// The empty set.
+    pub fn empty() -> TagSet
+        ensures { result ≡ [] }
+    {
+        TagSet { bits: 0 }
+    }
+
+    /// Whether all tags are in the set.
+    pub fn is_all(self) -> bool
+        ensures value { result ≡ is_all self }
+        ensures all { IsTrue result ↔ (self ≡ tag_names) }
+    {
+        self.bits == 63
+    }
+
+    /// Whether a tag is in the set.
+    pub fn holds(self, name: TagName) -> bool
+        ensures { result ≡ has name self }
+    {
+        is_among(self.bits, name)
+    }
+
+    /// The set with one more tag.
+    pub fn with(self, name: TagName) -> TagSet
+        ensures { result ≡ joined name self }
+    {
+        TagSet {
+            bits: bits_with(self.bits, name),
+        }
+    }
+
+    /// The set without a tag.
+    pub fn without(self, name: TagName) -> TagSet
+        ensures { result ≡ left name self }
+    {
+        TagSet {
+            bits: bits_without(self.bits, name),
+        }
+    }
+
+    /// The set after `tagtypes enable NAME..`: those of the six that are named join it.
+    pub fn enable(self, named: &[KnownTag]) -> TagSet
+        ensures { result ≡ enabled named.now self }
+    {
+        let mut bits = self.bits;
+        for tag in named {
+            bits = bits_with_known(bits, *tag);
+        }
+        TagSet { bits }
+    }
+
+    /// The set after `tagtypes disable NAME..`: those of the six that are named leave it.
+    pub fn disable(self, named: &[KnownTag]) -> TagSet
+        ensures { result ≡ disabled named.now self }
+    {
+        let mut bits = self.bits;
+        for tag in named {
+            bits = bits_without_known(bits, *tag);
+        }
+        TagSet { bits }
+    }
+}
+
+/// The bit of a tag, by its place in the order.
+fn bit(name: TagName) -> u8
+    ensures bit { result ≡ 2 ^ tag_number name }
+    ensures small { result < 64 }
+{
+    match name {
+        TagName::Title => 1,
+        TagName::Artist => 2,
+        TagName::Album => 4,
+        TagName::Date => 8,
+        TagName::Genre => 16,
+        TagName::Comment => 32,
+    }
+}
+
+/// Whether the bit of a tag is set.
+pub(crate) fn is_among(bits: u8, name: TagName) -> bool
+    ensures { result ≡ is_set bits name }
+{
+    bits & bit(name) != 0
+}
+
+fn bits_with(bits: u8, name: TagName) -> u8
+    requires { bits < 64 }
+    ensures members { members result ≡ joined name (members bits) }
+    ensures small { result < 64 }
+{
+    bits | bit(name)
+}
+
+fn bits_without(bits: u8, name: TagName) -> u8
+    requires { bits < 64 }
+    ensures members { members result ≡ left name (members bits) }
+    ensures small { result < 64 }
+{
+    bits & (63 - bit(name))
+}
+
+fn bits_with_known(bits: u8, tag: KnownTag) -> u8
+    requires { bits < 64 }
+    ensures members { members result ≡ joined_by tag (members bits) }
+    ensures small { result < 64 }
+{
+    match tag.base() {
+        Some(name) => bits_with(bits, name),
+        None => bits,
+    }
+}
+
+fn bits_without_known(bits: u8, tag: KnownTag) -> u8
+    requires { bits < 64 }
+    ensures members { members result ≡ left_by tag (members bits) }
+    ensures small { result < 64 }
+{
+    match tag.base() {
+        Some(name) => bits_without(bits, name),
+        None => bits,
+    }
+}

@@ -1,0 +1,15 @@
+use Rattle.std.proofs.Common.{rules}
+use Rattle.std.proofs.lemmas.Fn.{always_returns_same}
+use Rattle.std.proofs.lemmas.Result.{on_ok_weaker}
+use Rattle.song_groups.proofs.Orders.{before, weak, stable_from, one_order}
+use Rattle.song_groups.proofs.sorting.order.Goals as goal
+
+pub returns-clause-order : goal.returns-clause-order
+returns-clause-order c =
+    on_ok_weaker c.sort_by.result (λ sorted. stable_from c.args.by c.args.falling _ _ c.sort_by.ensures.permutation
+    (sorted (before c.args.by c.args.falling) (weak c.args.by c.args.falling) (always_returns_same _ _ _ (λ a r f called. search rules)))
+    (c.sort_by.ensures.stable (before c.args.by c.args.falling) (weak c.args.by c.args.falling) (always_returns_same _ _ _ (λ a r f called. search rules))))
+    c.sort_by.ensures.sorted
+
+pub returns-clause-ok : goal.returns-clause-ok
+returns-clause-ok c = on_ok_weaker c.sort_by.result (λ r. one_order c.args.by c.args.falling _ _ r) (returns-clause-order c)

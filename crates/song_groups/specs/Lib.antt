@@ -1,0 +1,4 @@
+pub mod Columns
+pub mod Order
+pub mod Tuples
+pub mod Counts
