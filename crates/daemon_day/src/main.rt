@@ -1,0 +1,47 @@
+//! One day of the whole daemon. It is started as the program starts it, over a file of settings and a folder
+//! of WAVE files, and plays into a file; a client on a thread of its own says lines, prints them and what it
+//! hears, and ends the daemon. Then it is printed what the daemon's files hold.
+//!
+//! The songs have frames of 16 bits and two channels, 8,000 a second. `music/morning.wav` has the five
+//! 1 -1, 2 -2, 300 -300, 32767 -32768 and -5 7; `music/old/evening.wav` the two 11 12 and 13 14, and
+//! `later/noon.wav` the three 1000 -1000, 0 256 and -1 -256.
+#![tactic(auto)]
+
+mod client;
+mod files;
+
+use client::visits;
+use files::{SETTINGS, print_files, write_settings};
+use shelf_file::serve_by_file;
+use std::fmt::Display;
+use std::process::ExitCode;
+use std::{io, thread};
+
+/// Status 0 where all went well, 1 after a line on standard error for each that did not.
+fn main(rt: HostRuntime) -> io::Result<ExitCode> {
+    let address = write_settings(&rt)?;
+    let client = thread::spawn(&rt, move || visits(&rt, address))?;
+    let served = went_well(&rt, "daemon", serve_by_file(rt, rt, SETTINGS));
+    let visited = went_well(&rt, "client", client.join(&rt));
+    end(&rt, served && visited)
+}
+
+/// Whether somebody's day went well; else why not is told on standard error.
+fn went_well<F: Display + Drop>(rt: &HostRuntime, who: &str, ended: Result<(), F>) -> bool {
+    match ended {
+        Ok(()) => true,
+        Err(fault) => {
+            let _told = eprintln!(rt; "{who}: {fault}");
+            false
+        }
+    }
+}
+
+/// Prints what is left of a day that went well.
+fn end(rt: &HostRuntime, went_well: bool) -> io::Result<ExitCode> {
+    if !went_well {
+        return Ok(ExitCode::FAILURE);
+    }
+    print_files(rt)?;
+    Ok(ExitCode::SUCCESS)
+}
