@@ -5,7 +5,7 @@ use song_db::Db;
 use std::alloc::Global;
 use std::process::Abort;
 
-/// Two artists have an album of one name; one title stands there twice; a song has no title, and one no album.
+/// Two artists have an album of one name; one title is there twice; a song has no title, and one no album.
 const SONGS: [(&str, u64, &str); 8] = [
     ("1.wav", 8, "Artist=A;Album=X;Title=One"),
     ("2.wav", 8, "Artist=A;Album=X;Title=Two"),

@@ -118,7 +118,8 @@ module _ {K : Type 0} {R : K → K → Ordering} (order : IsTotalOrder R) (apart
       (λ h. among_from xs x (Contains-from_dedup (eq_by_cmp R) xs x (among_gives (dedup (eq_by_cmp R) xs) x h)))
       (λ h. among_from (dedup (eq_by_cmp R) xs) x (Contains-dedup (eq_by_cmp_equiv order) one xs x (among_gives xs x h)))
 
-  -- what a sort and `dedup` leave of things that show elements: P by f, which they order by S and tell apart by E
+  -- what a sort and `dedup` leave of things that show elements: P by f, which they order by S and tell apart
+  -- by E
   module _ {P : Type 0} (f : P → K) (S : P → P → Ordering) (E : P → P → Bool) (by : (p q : P) → S p q ≡ R (f p) (f q)) (ties : (p q : P) → E p q ≡ eq_by_cmp R (f p) (f q)) where
     all_shown : (p : P) (ps : List P) → AllByRecursion (λ q. S p q ≡ Less) ps → AllByRecursion (λ x. R (f p) x ≡ Less) (map f ps)
     all_shown p [] h = tt
