@@ -9,7 +9,7 @@ here=$(cd "$(dirname "$0")" && pwd)
 root=$(cd "${1:-$here/../..}" && pwd)
 work=$(mktemp -d)
 trap 'rm -rf "$work"' EXIT
-python3 "$here/../crates.py" "$root" partition transitions player_state shelf_contents shelf mpd_command song_db mpd_text --for "$here/list_bench" "$work"
+python3 "$here/../crates.py" "$root" partition player_events transitions player_state shelf_contents shelf mpd_command song_db mpd_text --for "$here/list_bench" "$work"
 (cd "$work/crates/list_bench" && rt run > "$work/ours.log" 2>&1) || { cat "$work/ours.log"; exit 1; }
 grep -E '^lists [a-z_]+ [0-9]+ [0-9]+ (yes|NO)$' "$work/ours.log" | awk '
     {

@@ -8,7 +8,7 @@ here=$(cd "$(dirname "$0")" && pwd)
 root=$(cd "${1:-$here/../..}" && pwd)
 work=$(mktemp -d)
 trap 'rm -rf "$work"' EXIT
-python3 "$here/../crates.py" "$root" partition transitions player_state shelf mpd_command song_db mpd_text --for "$here/notice_bench" "$work"
+python3 "$here/../crates.py" "$root" partition player_events transitions player_state shelf mpd_command song_db mpd_text --for "$here/notice_bench" "$work"
 (cd "$work/crates/notice_bench" && rt run > "$work/ours.log" 2>&1) || { cat "$work/ours.log"; exit 1; }
 grep -E '^notices [0-9]+ [0-9]+ [0-9]+ [0-9]+ [0-9]+$' "$work/ours.log" | awk '
     {
