@@ -1,16 +1,15 @@
 //! The lines that show a song and the tags of a set (MPD protocol reference, The music database; Connection
 //! settings: `tagtypes`).
-ghost use Rattle.std.specs.Prelude.{◌≡◌, ◌++◌, ◌≤◌, ℕ, OnOk};
+ghost use Rattle.std.specs.Prelude.{◌≡◌, ◌++◌, ℕ, OnOk};
 ghost use Rattle.std.specs.List.{flat_map};
-ghost use Rattle.std.specs.Option.{option_copied};
 ghost use Rattle.mpd_text.specs.Songs.Song.{SongData};
 ghost use Rattle.mpd_text.specs.Songs.Tags.{tag_names};
-ghost use Rattle.song_db.specs.Lines.{song_lines, first_tag as first_tag_lem, tag_line, seconds_rounded};
+ghost use Rattle.song_db.specs.Lines.{song_lines, tag_line};
 ghost use Rattle.known_tags.specs.Lines.{tag_lines_of, song_lines_with, tagtype_lines, tag_line_where, tagtype_line_where};
 
 use crate::tag_set::{TagSet, is_among};
 use mpd_text::{Answer, Song, TAG_NAMES, Tag, TagName};
-use song_db::{Rate, duration, length_of};
+use song_db::{Rate, duration, first_tag, length_of, rounded};
 use std::alloc::{AllocError, Global};
 
 /// Appends the lines of a song to an answer: its URI, those of its tags that are in the set, in the order of
@@ -81,25 +80,6 @@ fn push_tag(answer: &mut Answer, name: TagName, tags: &[Tag]) -> Result<(), Allo
         Some(tag) => answer.pair(name.text(), tag.text()),
         None => Ok(()),
     }
-}
-
-fn first_tag(tags: &[Tag], name: TagName) -> Option<&Tag>
-    ensures { option_copied result ≡ first_tag_lem name tags.now }
-{
-    for tag in tags {
-        if tag.name() == name {
-            return Some(tag);
-        }
-    }
-    None
-}
-
-/// In whole seconds, a half up.
-fn rounded(millis: u128) -> u128
-    requires { millis ≤ 18446744073709551615000 }
-    ensures { result ≡ seconds_rounded millis }
-{
-    (millis + 500) / 1000
 }
 
 /// Appends a line `tagtype: NAME` for each tag of a set, in the order of [`TAG_NAMES`]. Where memory runs

@@ -5,10 +5,10 @@ use Rattle.std.specs.List.{flat_map}
 use Rattle.filters.specs.Expressions.{Expression, Under}
 use Rattle.filters.specs.declared.matching.Case.{Case}
 use Rattle.filters.specs.declared.matching.Case.TheVariants.{Heeded, Ignored}
-use Rattle.mpd_command.specs.declared.forms.Uri.{Uri}
-use Rattle.mpd_command.specs.declared.wanted.Wanted.{Wanted}
-use Rattle.mpd_command.specs.declared.wanted.Wanted.TheVariants.{Meeting, Refused}
-use Rattle.mpd_command.specs.declared.forms.Window.{Window}
+use Rattle.command_arguments.specs.declared.forms.Uri.{Uri}
+use Rattle.command_arguments.specs.declared.wanted.Wanted.{Wanted}
+use Rattle.command_arguments.specs.declared.wanted.Wanted.TheVariants.{Meeting, Refused}
+use Rattle.command_arguments.specs.declared.forms.Window.{Window}
 use Rattle.mpd_text.specs.Answers.Answer.{pair_line}
 use Rattle.mpd_text.specs.Songs.Song.{SongData}
 use Rattle.mpd_text.specs.Songs.Tags.{tag_text}

@@ -10,8 +10,9 @@ ghost use Rattle.library_commands.specs.Database.{count_songs as count_songs_lem
 ghost use Rattle.transitions.specs.Transitions.{IsDecidedBy};
 ghost use Rattle.player_state.specs.Fits.{Fits};
 
+use command_arguments::{Uri, Wanted, Window};
 use filters::{Case, Filter, Test};
-use mpd_command::{DatabaseCommand, Uri, Wanted, Window};
+use mpd_command::DatabaseCommand;
 use mpd_text::{Answer, ErrorNumber, TagName};
 use player_state::{Library, Part};
 use queue_commands::queue_edits::add_found;

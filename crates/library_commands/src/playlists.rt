@@ -10,7 +10,8 @@ ghost use Rattle.transitions.specs.Shelves.{AskNames, ReadsFor, TurnsByReading};
 ghost use Rattle.transitions.specs.Transitions.{IsDecidedBy};
 ghost use Rattle.player_state.specs.Fits.{Fits};
 
-use mpd_command::{PlaylistCommand, Uri};
+use command_arguments::Uri;
+use mpd_command::PlaylistCommand;
 use mpd_text::{ErrorNumber, Range, Text};
 use player_state::{Library, Part};
 use queue_commands::queue_edits::add_loaded;

@@ -10,7 +10,8 @@ ghost use Rattle.transitions.specs.CommandResults.{writes as writes_lem};
 ghost use Rattle.transitions.specs.Shelves.{ReadsFor, TurnsByReading};
 
 use crate::playlists::{misread, refused};
-use mpd_command::{Comparison, StickerCommand, Uri};
+use command_arguments::Uri;
+use mpd_command::{Comparison, StickerCommand};
 use mpd_text::Text;
 use player_state::Library;
 use shelf::{Shelf, ShelfFault, is_sticker_name};

@@ -1,4 +1,1 @@
-pub mod Slashes
-pub mod Signs
-pub mod Manys
 pub mod Places

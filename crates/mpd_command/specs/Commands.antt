@@ -11,7 +11,7 @@ use Rattle.mpd_command.specs.Playlists.{rows as playlists_rows}
 use Rattle.mpd_command.specs.Queue.{rows as queue_rows}
 use Rattle.mpd_command.specs.Status.{rows as status_rows}
 use Rattle.mpd_command.specs.Stickers.{rows as stickers_rows}
-use Rattle.mpd_command.specs.declared.readers.Misread.{Misread}
+use Rattle.command_arguments.specs.declared.readers.Misread.{Misread}
 use Rattle.mpd_command.specs.declared.command.Command.{Command}
 use Rattle.mpd_command.specs.declared.command.Command.TheVariants as command
 

@@ -1,7 +1,7 @@
 -- The table of commands of the library (MPD protocol reference, The music database).
 use Rattle.std.specs.Prelude.{List, [], ◌∷◌, codes}
 use Rattle.filters.specs.declared.expression.Test.TheVariants.{Equals, Contains}
-use Rattle.mpd_command.specs.Forms.{uri_of, tag_of}
+use Rattle.command_arguments.specs.Forms.{uri_of, tag_of}
 use Rattle.mpd_command.specs.Tables.{Row, perhaps, filter, filter_window, one_filter}
 use Rattle.mpd_command.specs.declared.database.DatabaseCommand.{DatabaseCommand}
 use Rattle.mpd_command.specs.declared.database.DatabaseCommand.TheVariants as database

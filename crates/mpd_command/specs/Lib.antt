@@ -1,6 +1,3 @@
-pub mod Forms
-pub mod Readers
-pub mod Wanted
 pub mod Tables
 pub mod Connection
 pub mod Database

@@ -1,6 +1,6 @@
 -- The table of commands by which clients send each other messages (MPD protocol reference, Client to client).
 use Rattle.std.specs.Prelude.{List, [], ◌∷◌, codes}
-use Rattle.mpd_command.specs.Forms.{any_text}
+use Rattle.command_arguments.specs.Forms.{any_text}
 use Rattle.mpd_command.specs.Tables.{Row, none, one, two}
 use Rattle.mpd_command.specs.declared.messages.MessageCommand.{MessageCommand}
 use Rattle.mpd_command.specs.declared.messages.MessageCommand.TheVariants as messages

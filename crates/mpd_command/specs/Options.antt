@@ -1,7 +1,7 @@
 -- The table of commands that set how songs are played, and the volume (MPD protocol reference, Playback
 -- options).
 use Rattle.std.specs.Prelude.{List, [], ◌∷◌, codes}
-use Rattle.mpd_command.specs.Forms.{switch_of, single_of, volume_of, fade_of}
+use Rattle.command_arguments.specs.Forms.{switch_of, single_of, volume_of, fade_of}
 use Rattle.mpd_command.specs.Tables.{Row, none, one}
 use Rattle.mpd_command.specs.declared.options.OptionCommand.{OptionCommand}
 use Rattle.mpd_command.specs.declared.options.OptionCommand.TheVariants as options

@@ -2,7 +2,7 @@
 use Rattle.std.specs.Prelude.{List, [], ◌∷◌, codes}
 use Rattle.mpd_text.specs.Answers.Millis.{millis_of}
 use Rattle.mpd_text.specs.Answers.Number.{number_of}
-use Rattle.mpd_command.specs.Forms.{switch_of, seeking_of}
+use Rattle.command_arguments.specs.Forms.{switch_of, seeking_of}
 use Rattle.mpd_command.specs.Tables.{Row, none, one, perhaps, two}
 use Rattle.mpd_command.specs.declared.playback.PlaybackCommand.{PlaybackCommand}
 use Rattle.mpd_command.specs.declared.playback.PlaybackCommand.TheVariants as playback

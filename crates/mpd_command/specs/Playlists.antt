@@ -2,7 +2,7 @@
 use Rattle.std.specs.Prelude.{List, [], ◌∷◌, codes}
 use Rattle.mpd_text.specs.Answers.Number.{number_of}
 use Rattle.mpd_text.specs.Answers.Range.{range_of}
-use Rattle.mpd_command.specs.Forms.{any_text, uri_of}
+use Rattle.command_arguments.specs.Forms.{any_text, uri_of}
 use Rattle.mpd_command.specs.Tables.{Row, none, one, two, three, one_perhaps}
 use Rattle.mpd_command.specs.declared.playlists.PlaylistCommand.{PlaylistCommand}
 use Rattle.mpd_command.specs.declared.playlists.PlaylistCommand.TheVariants as playlists

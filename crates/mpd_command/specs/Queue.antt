@@ -2,7 +2,7 @@
 use Rattle.std.specs.Prelude.{List, [], ◌∷◌, codes}
 use Rattle.mpd_text.specs.Answers.Number.{number_of}
 use Rattle.mpd_text.specs.Answers.Range.{range_of}
-use Rattle.mpd_command.specs.Forms.{uri_of, byte_of, place_of}
+use Rattle.command_arguments.specs.Forms.{uri_of, byte_of, place_of}
 use Rattle.mpd_command.specs.Tables.{Row, none, one, perhaps, two, one_perhaps, one_many}
 use Rattle.mpd_command.specs.declared.queue.QueueCommand.{QueueCommand}
 use Rattle.mpd_command.specs.declared.queue.QueueCommand.TheVariants as queue

@@ -8,8 +8,8 @@ use Rattle.mpd_text.specs.declared.lines.quoting.WordsFault.{WordsFault}
 use Rattle.mpd_text.specs.declared.lines.quoting.WordsFault.TheVariants.{BadUnquoted, NoClosingQuote, NoSpaceAfterQuote, TooMany, NoMemory as NoMemoryForWords}
 use Rattle.mpd_command.specs.Commands.{command_of}
 use Rattle.mpd_command.specs.Names.{name_of, is_forbidden, text_of}
-use Rattle.mpd_command.specs.declared.readers.Misread.{Misread}
-use Rattle.mpd_command.specs.declared.readers.Misread.TheVariants.{WrongNumber, Bad, NoMemory as NoMemoryToRead}
+use Rattle.command_arguments.specs.declared.readers.Misread.{Misread}
+use Rattle.command_arguments.specs.declared.readers.Misread.TheVariants.{WrongNumber, Bad, NoMemory as NoMemoryToRead}
 use Rattle.mpd_command.specs.declared.name.Name.{Name}
 use Rattle.mpd_command.specs.declared.command.Command.{Command}
 use Rattle.mpd_command.specs.declared.request.Ack.{Ack}

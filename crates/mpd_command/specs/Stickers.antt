@@ -3,12 +3,12 @@
 -- this profile's).
 use Rattle.std.specs.Prelude.{ℕ, nat_le, ◌&&◌, List, [], ◌∷◌, length, Option, Some, None, Result, Err, if◌then◌else◌, codes}
 use Rattle.std.specs.Str.{bytes_eq}
-use Rattle.mpd_command.specs.Forms.{uri_of}
-use Rattle.mpd_command.specs.Readers.{map_ok, argument_of, both}
+use Rattle.command_arguments.specs.Forms.{uri_of}
+use Rattle.command_arguments.specs.Readers.{map_ok, argument_of, both}
 use Rattle.mpd_command.specs.Tables.{Row}
-use Rattle.mpd_command.specs.declared.forms.Uri.{Uri}
-use Rattle.mpd_command.specs.declared.readers.Misread.{Misread}
-use Rattle.mpd_command.specs.declared.readers.Misread.TheVariants.{WrongNumber, Bad}
+use Rattle.command_arguments.specs.declared.forms.Uri.{Uri}
+use Rattle.command_arguments.specs.declared.readers.Misread.{Misread}
+use Rattle.command_arguments.specs.declared.readers.Misread.TheVariants.{WrongNumber, Bad}
 use Rattle.mpd_command.specs.declared.sticker.Comparison.{Comparison}
 use Rattle.mpd_command.specs.declared.sticker.Operator.{Operator}
 use Rattle.mpd_command.specs.declared.sticker.Operator.TheVariants.{Equals, Less, Greater}

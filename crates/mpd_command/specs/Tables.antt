@@ -3,11 +3,11 @@ use Rattle.std.specs.Prelude.{ℕ, List, [], ◌∷◌, Option, Some, None, Resu
 use Rattle.std.specs.Str.{bytes_eq}
 use Rattle.filters.specs.declared.expression.Test.{Test}
 use Rattle.idle_notes.specs.declared.sets.Subsystems.{Subsystems}
-use Rattle.mpd_command.specs.Readers.{map_ok, none_of, one_of, perhaps_of, two_of, three_of, one_perhaps_of, one_many_of, subsystems_of}
-use Rattle.mpd_command.specs.Wanted.{filter_of, filter_window_of, one_filter_of}
-use Rattle.mpd_command.specs.declared.forms.Window.{Window}
-use Rattle.mpd_command.specs.declared.readers.Misread.{Misread}
-use Rattle.mpd_command.specs.declared.wanted.Wanted.{Wanted}
+use Rattle.command_arguments.specs.Readers.{map_ok, none_of, one_of, perhaps_of, two_of, three_of, one_perhaps_of, one_many_of, subsystems_of}
+use Rattle.command_arguments.specs.Wanted.{filter_of, filter_window_of, one_filter_of}
+use Rattle.command_arguments.specs.declared.forms.Window.{Window}
+use Rattle.command_arguments.specs.declared.readers.Misread.{Misread}
+use Rattle.command_arguments.specs.declared.wanted.Wanted.{Wanted}
 
 -- what the words after a name are read as
 abbrev pub Arguments : Type 0 → Type 0

@@ -1,6 +1,6 @@
 //! All commands, by their groups.
 ghost use Rattle.std.specs.Prelude.{string_bytes, map};
-ghost use Rattle.mpd_command.specs.Readers.{Gives};
+ghost use Rattle.command_arguments.specs.Readers.{Gives};
 ghost use Rattle.mpd_command.specs.Commands.{command_of};
 
 use crate::connection::{self, ConnectionCommand};
@@ -11,9 +11,9 @@ use crate::outputs::{self, OutputCommand};
 use crate::playback::{self, PlaybackCommand};
 use crate::playlists::{self, PlaylistCommand};
 use crate::queue::{self, QueueCommand};
-use crate::readers::Misread;
 use crate::status::{self, StatusCommand};
 use crate::sticker::{self, StickerCommand};
+use command_arguments::Misread;
 use std::alloc::Global;
 
 /// A command with its arguments, in the groups of the MPD protocol's Command reference.

@@ -1,10 +1,10 @@
 //! Commands of the connection (MPD protocol reference, Connection settings; Reflection).
 ghost use Rattle.std.specs.Prelude.{string_bytes, map};
-ghost use Rattle.mpd_command.specs.Readers.{Gives};
+ghost use Rattle.command_arguments.specs.Readers.{Gives};
 ghost use Rattle.mpd_command.specs.Tables.{found};
 ghost use Rattle.mpd_command.specs.Connection.{rows};
 
-use crate::readers::{Misread, none};
+use command_arguments::{Misread, none};
 
 /// A command of the connection.
 #[derive(Drop)]

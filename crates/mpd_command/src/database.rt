@@ -1,12 +1,10 @@
 //! Commands of the library (MPD protocol reference, The music database).
 ghost use Rattle.std.specs.Prelude.{string_bytes, map};
-ghost use Rattle.mpd_command.specs.Readers.{Gives};
+ghost use Rattle.command_arguments.specs.Readers.{Gives};
 ghost use Rattle.mpd_command.specs.Tables.{found};
 ghost use Rattle.mpd_command.specs.Database.{rows};
 
-use crate::forms::{Uri, Window};
-use crate::readers::{Misread, perhaps};
-use crate::wanted::{Wanted, filter, filter_window, one_filter};
+use command_arguments::{Misread, Uri, Wanted, Window, filter, filter_window, one_filter, perhaps};
 use filters::Test;
 use mpd_text::TagName;
 use std::alloc::Global;

@@ -1,10 +1,10 @@
 //! Commands by which clients send each other messages (MPD protocol reference, Client to client).
 ghost use Rattle.std.specs.Prelude.{string_bytes, map};
-ghost use Rattle.mpd_command.specs.Readers.{Gives};
+ghost use Rattle.command_arguments.specs.Readers.{Gives};
 ghost use Rattle.mpd_command.specs.Tables.{found};
 ghost use Rattle.mpd_command.specs.Messages.{rows};
 
-use crate::readers::{Misread, none, one, two};
+use command_arguments::{Misread, none, one, two};
 use mpd_text::Text;
 use std::alloc::Global;
 

@@ -1,13 +1,10 @@
 //! Commands that set how songs are played, and the volume (MPD protocol reference, Playback options).
 ghost use Rattle.std.specs.Prelude.{string_bytes, map};
-ghost use Rattle.mpd_command.specs.Readers.{Gives};
+ghost use Rattle.command_arguments.specs.Readers.{Gives};
 ghost use Rattle.mpd_command.specs.Tables.{found};
 ghost use Rattle.mpd_command.specs.Options.{rows};
 
-use crate::fade::FadeSeconds;
-use crate::forms::SingleMode;
-use crate::readers::{Misread, none, one};
-use crate::volume::Volume;
+use command_arguments::{FadeSeconds, Misread, SingleMode, Volume, none, one};
 use std::alloc::Global;
 
 /// A command that sets how songs are played, or the volume.

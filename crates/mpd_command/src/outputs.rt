@@ -1,10 +1,10 @@
 //! Commands of the outputs (MPD protocol reference, Audio output devices).
 ghost use Rattle.std.specs.Prelude.{string_bytes, map};
-ghost use Rattle.mpd_command.specs.Readers.{Gives};
+ghost use Rattle.command_arguments.specs.Readers.{Gives};
 ghost use Rattle.mpd_command.specs.Tables.{found};
 ghost use Rattle.mpd_command.specs.Outputs.{rows};
 
-use crate::readers::{Misread, none, one};
+use command_arguments::{Misread, none, one};
 use std::alloc::Global;
 
 /// A command of the outputs.

@@ -1,11 +1,10 @@
 //! Commands that play, stop and seek (MPD protocol reference, Controlling playback).
 ghost use Rattle.std.specs.Prelude.{string_bytes, map};
-ghost use Rattle.mpd_command.specs.Readers.{Gives};
+ghost use Rattle.command_arguments.specs.Readers.{Gives};
 ghost use Rattle.mpd_command.specs.Tables.{found};
 ghost use Rattle.mpd_command.specs.Playback.{rows};
 
-use crate::forms::Seeking;
-use crate::readers::{Misread, none, one, perhaps, two};
+use command_arguments::{Misread, Seeking, none, one, perhaps, two};
 use mpd_text::Millis;
 use std::alloc::Global;
 

@@ -1,11 +1,10 @@
 //! Commands of stored playlists (MPD protocol reference, Stored playlists).
 ghost use Rattle.std.specs.Prelude.{string_bytes, map};
-ghost use Rattle.mpd_command.specs.Readers.{Gives};
+ghost use Rattle.command_arguments.specs.Readers.{Gives};
 ghost use Rattle.mpd_command.specs.Tables.{found};
 ghost use Rattle.mpd_command.specs.Playlists.{rows};
 
-use crate::forms::Uri;
-use crate::readers::{Misread, none, one, one_perhaps, three, two};
+use command_arguments::{Misread, Uri, none, one, one_perhaps, three, two};
 use mpd_text::{Range, Text};
 use std::alloc::Global;
 

@@ -1,11 +1,10 @@
 //! Commands of the queue (MPD protocol reference, The Queue).
 ghost use Rattle.std.specs.Prelude.{string_bytes, map};
-ghost use Rattle.mpd_command.specs.Readers.{Gives};
+ghost use Rattle.command_arguments.specs.Readers.{Gives};
 ghost use Rattle.mpd_command.specs.Tables.{found};
 ghost use Rattle.mpd_command.specs.Queue.{rows};
 
-use crate::forms::{Place, Uri};
-use crate::readers::{Misread, none, one, one_many, one_perhaps, perhaps, two};
+use command_arguments::{Misread, Place, Uri, none, one, one_many, one_perhaps, perhaps, two};
 use mpd_text::{Range, Sequence};
 use std::alloc::Global;
 

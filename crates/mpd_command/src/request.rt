@@ -1,11 +1,11 @@
 //! What a line asks for, and the refusals that come before any effect.
 ghost use Rattle.std.specs.Prelude.{◌≡◌, ℕ, List, Option, Some, None, Ok, Err, IfOk, string_bytes, map};
 ghost use Rattle.mpd_command.specs.Requests.{AnswersAs, IsRefusal, ack_of, answer_of, named_of, unknown, fault_text as fault_text_lem, request_of, request_from, name_in, with_arguments as with_arguments_lem};
-ghost use Rattle.mpd_command.specs.declared.readers.Misread.TheVariants.{WrongNumber, Bad};
+ghost use Rattle.command_arguments.specs.declared.readers.Misread.TheVariants.{WrongNumber, Bad};
 
 use crate::command::{Command, read};
 use crate::name::{Name, is_forbidden};
-use crate::readers::Misread;
+use command_arguments::Misread;
 use mpd_text::{ErrorNumber, Text, WordsFault, words};
 use std::alloc::{AllocError, Global};
 

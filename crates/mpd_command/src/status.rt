@@ -1,11 +1,11 @@
 //! Commands that ask for the player's state and wait for its changes (MPD protocol reference, Querying MPD's
 //! status).
 ghost use Rattle.std.specs.Prelude.{string_bytes, map};
-ghost use Rattle.mpd_command.specs.Readers.{Gives};
+ghost use Rattle.command_arguments.specs.Readers.{Gives};
 ghost use Rattle.mpd_command.specs.Tables.{found};
 ghost use Rattle.mpd_command.specs.Status.{rows};
 
-use crate::readers::{Misread, none, subsystems};
+use command_arguments::{Misread, none, subsystems};
 use idle_notes::Subsystems;
 use std::alloc::Global;
 

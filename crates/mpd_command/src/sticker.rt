@@ -1,11 +1,10 @@
 //! What is asked of stickers: the words after `sticker`.
 ghost use Rattle.std.specs.Prelude.{string_bytes, map};
 ghost use Rattle.mpd_command.specs.Stickers.{rows, sticker_of, other_of, get_of, set_of, delete_of, list_of, find_of, song_of, operator_of, comparison_of};
-ghost use Rattle.mpd_command.specs.Readers.{Gives};
+ghost use Rattle.command_arguments.specs.Readers.{Gives};
 ghost use Rattle.mpd_command.specs.Tables.{found};
 
-use crate::forms::{Form, Uri};
-use crate::readers::{Misread, read_word};
+use command_arguments::{Form, Misread, Uri, read_word};
 use mpd_text::Text;
 use std::alloc::{AllocError, Global};
 

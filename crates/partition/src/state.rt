@@ -2,8 +2,8 @@
 ghost use Rattle.std.specs.Prelude.{◌≡◌, ◌<◌, ◌≤◌, IfOk};
 ghost use Rattle.partition.specs.Image.{image_of_state, opening};
 
+use command_arguments::Volume;
 use idle_notes::Channels;
-use mpd_command::Volume;
 use player_core::Player;
 use player_state::{Client, FrameCounts, Library, Outputs, Part};
 use song_queue::Queue;

@@ -18,7 +18,7 @@ use Rattle.mpd_command.proofs.request.Ack.TheSendSync as ack
 use Rattle.mpd_command.specs.contracts.command.Command as Command
 use Rattle.mpd_command.specs.contracts.database.DatabaseCommand as DatabaseCommand
 use Rattle.mpd_command.specs.contracts.request.Request as Request
-use Rattle.mpd_command.specs.contracts.wanted.FilterHandle as Handle
+use Rattle.command_arguments.specs.contracts.wanted.FilterHandle as Handle
 use Rattle.player_events.proofs.event.Outcome.TheSendSync as outcome
 use Rattle.transitions.proofs.shelf_calls.StoreReply.TheSendSync as heard
 use Rattle.player_events.specs.contracts.event.Event as Event

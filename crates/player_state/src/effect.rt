@@ -10,7 +10,7 @@ ghost use Rattle.player_state.specs.Outcomes.{IsAtLimitOnlyBeyond, IsDoneOnlyWit
 
 use crate::report::{Feed, Report};
 use crate::state::Part;
-use mpd_command::Volume;
+use command_arguments::Volume;
 use mpd_text::Text;
 use play_order::{Consume, Single};
 use player_core::PlayerFault;

@@ -3,8 +3,8 @@ ghost use Rattle.std.specs.Prelude.{◌≡◌, IfOk};
 
 use crate::outputs::Outputs;
 use crate::scan::Scan;
+use command_arguments::Volume;
 use idle_notes::{Channels, Pending};
-use mpd_command::Volume;
 use player_core::Player;
 use song_db::{Rate, SharedDb};
 use song_queue::Queue;

@@ -1,6 +1,7 @@
 //! Worked sessions of the player of one thread, and what they tell.
 use crate::wanted::{wants, wants_made};
-use mpd_command::{Name, Request, Volume, names};
+use command_arguments::Volume;
+use mpd_command::{Name, Request, names};
 use partition::{PartitionFault, folds_are_unseen, reads_pending, replays_worlds};
 use player_sessions::session::session;
 use std::alloc::{AllocError, Global};

@@ -1,8 +1,8 @@
 -- The commands that control what is played (MPD protocol reference, Controlling playback; `currentsong` and
 -- `clearerror`: Querying MPD's status).
 use Rattle.std.specs.Prelude.{ℕ, ◌+◌, ◌-◌, ◌*◌, ◌/◌, Bool, nat_lt, min, if◌then◌else◌, List, [], Option, Some, None, slice_get}
-use Rattle.mpd_command.specs.declared.forms.Seeking.{Seeking}
-use Rattle.mpd_command.specs.declared.forms.Seeking.TheVariants.{To, Forward, Back}
+use Rattle.command_arguments.specs.declared.forms.Seeking.{Seeking}
+use Rattle.command_arguments.specs.declared.forms.Seeking.TheVariants.{To, Forward, Back}
 use Rattle.song_db.specs.Lines.{millis}
 use Rattle.song_queue.specs.declared.entry.Entry.{Entry}
 use Rattle.song_queue.specs.State.{QueueState, queue_of, position_of}

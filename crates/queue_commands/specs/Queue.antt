@@ -2,8 +2,8 @@
 use Rattle.std.specs.Prelude.{ℕ, ◌≤◌, ◌+◌, ◌-◌, ◌==◌, nat_lt, nat_le, Bool, ◌&&◌, ◌||◌, List, [], ◌∷◌, ◌++◌, Option, Some, None, length, filter, All, if◌then◌else◌, codes, decimal}
 use Rattle.std.specs.List.{flat_map, range_with_len}
 use Rattle.std.specs.declared.ops.Range.{Range as Places}
-use Rattle.mpd_command.specs.declared.forms.Place.{Place}
-use Rattle.mpd_command.specs.declared.forms.Place.TheVariants.{At, After, Before}
+use Rattle.command_arguments.specs.declared.forms.Place.{Place}
+use Rattle.command_arguments.specs.declared.forms.Place.TheVariants.{At, After, Before}
 use Rattle.mpd_text.specs.Answers.Answer.{pair_line}
 use Rattle.mpd_text.specs.Answers.Range.{places, within}
 use Rattle.mpd_text.specs.Songs.Song.{SongData}

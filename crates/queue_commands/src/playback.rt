@@ -8,7 +8,8 @@ ghost use Rattle.transitions.specs.Transitions.{IsDecidedBy};
 
 use crate::queue_edits::current_place;
 use crate::queue_songs::push_entry;
-use mpd_command::{PlaybackCommand, Seeking};
+use command_arguments::Seeking;
+use mpd_command::PlaybackCommand;
 use mpd_text::{Answer, Millis};
 use player_core::Playback;
 use player_state::{CommandEffect, Library, Part};

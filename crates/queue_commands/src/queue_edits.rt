@@ -10,7 +10,7 @@ ghost use Rattle.transitions.specs.Transitions.{IsDecidedBy};
 ghost use Rattle.player_state.specs.Fits.{Fits};
 
 use crate::queue_songs::places_of;
-use mpd_command::{Place, Uri};
+use command_arguments::{Place, Uri};
 use mpd_text::{Answer, ErrorNumber, Range, Sequence};
 use player_state::{CommandEffect, Library, Part};
 use song_db::SharedSong;

@@ -11,4 +11,4 @@ pub use db::{Db, DbFault, MAX_SONGS};
 pub use rate::Rate;
 pub use shared_db::SharedDb;
 pub use shared_song::SharedSong;
-pub use song_lines::{duration, length_of, push_song};
+pub use song_lines::{duration, first_tag, length_of, push_song, rounded};

@@ -45,7 +45,8 @@ fn push_tag(answer: &mut Answer, name: TagName, tags: &[Tag]) -> Result<(), Allo
     }
 }
 
-fn first_tag(tags: &[Tag], name: TagName) -> Option<&Tag>
+/// The first tag of a name, if there is one.
+pub fn first_tag(tags: &[Tag], name: TagName) -> Option<&Tag>
     ensures { option_copied result ≡ first_tag_lem name tags.now }
 {
     for tag in tags {
@@ -64,7 +65,7 @@ pub fn length_of(frames: u64, rate: &Rate) -> u128
 }
 
 /// In whole seconds, a half up.
-fn rounded(millis: u128) -> u128
+pub fn rounded(millis: u128) -> u128
     requires { millis ≤ 18446744073709551615000 }
     ensures { result ≡ seconds_rounded millis }
 {

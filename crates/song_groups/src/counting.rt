@@ -13,7 +13,7 @@ use crate::columns::text_in;
 use crate::sorting::order;
 use mpd_text::{Answer, Song, TagName};
 use song_db::{Rate, SharedSong};
-use song_search::Count;
+use song_search::{Count, millis_of, sort_once};
 use std::alloc::{AllocError, Global};
 
 /// The songs that have one text of a tag.
@@ -81,14 +81,6 @@ fn count_of(songs: &[&SharedSong], rate: &Rate) -> Count
     }
 }
 
-/// How many thousandths of a second a song plays, cut.
-fn millis_of(song: &Song, rate: &Rate) -> u128
-    ensures value { result ≡ millis rate.now song.now.frames }
-    ensures bound { result ≤ 2 ^ 61 }
-{
-    u128::from(song.frames()) * 1000 / u128::from(rate.frames())
-}
-
 /// Appends the lines of groups to an answer: each text under a label, how many songs have it, and how long
 /// they play.
 pub fn push_counts(answer: &mut Answer, label: &str, groups: &[Group]) -> Result<(), AllocError>
@@ -133,12 +125,4 @@ fn tag_texts<'a>(
         }
     }
     Ok(texts)
-}
-
-/// Puts texts in byte order, and keeps each once.
-fn sort_once(texts: &mut Vec<&str>)
-    ensures { values_now texts.new.items ≡ ascending (values_now texts.old.items) }
-{
-    texts.sort_unstable();
-    texts.dedup();
 }

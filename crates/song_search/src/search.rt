@@ -95,7 +95,7 @@ fn tag_texts<'a>(
 }
 
 /// The text of the first tag of a name; empty where there is none.
-fn text_of_tag(tags: &[Tag], name: TagName) -> &str
+pub fn text_of_tag(tags: &[Tag], name: TagName) -> &str
     ensures { result.now ≡ text_of_tag_lem name tags.now }
 {
     for tag in tags {
@@ -135,7 +135,7 @@ pub fn counted(db: &Db, filter: &Filter, rate: &Rate) -> Count
 }
 
 /// How many thousandths of a second a song plays, cut.
-fn millis_of(song: &Song, rate: &Rate) -> u128
+pub fn millis_of(song: &Song, rate: &Rate) -> u128
     ensures value { result ≡ millis rate.now song.now.frames }
     ensures bound { result ≤ 2 ^ 61 }
 {

@@ -11,7 +11,7 @@ pub fn ascending_has_each_once()
 {}
 
 /// Puts texts in byte order, and keeps each once.
-pub(crate) fn sort_once(texts: &mut Vec<&str>)
+pub fn sort_once(texts: &mut Vec<&str>)
     ensures { values_now texts.new.items ≡ ascending (values_now texts.old.items) }
 {
     texts.sort_unstable();

@@ -1,7 +1,7 @@
 -- The commands that set the player (MPD protocol reference, Playback options).
 use Rattle.std.specs.Prelude.{ℕ, Bool, true, false, codes, decimal}
-use Rattle.mpd_command.specs.declared.forms.SingleMode.{SingleMode}
-use Rattle.mpd_command.specs.declared.forms.SingleMode.TheVariants as asked_mode
+use Rattle.command_arguments.specs.declared.forms.SingleMode.{SingleMode}
+use Rattle.command_arguments.specs.declared.forms.SingleMode.TheVariants as asked_mode
 use Rattle.mpd_text.specs.Answers.Answer.{pair_line}
 use Rattle.play_order.specs.declared.modes.Single.{Single}
 use Rattle.play_order.specs.declared.modes.Single.TheVariants as single_mode

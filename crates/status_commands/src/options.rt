@@ -4,7 +4,8 @@ ghost use Rattle.status_commands.specs.Options.{consume as consume_lem, consume_
 ghost use Rattle.player_state.specs.Fits.{Fits};
 ghost use Rattle.transitions.specs.Transitions.{IsDecidedBy};
 
-use mpd_command::{FadeSeconds, OptionCommand, SingleMode, Volume};
+use command_arguments::{FadeSeconds, SingleMode, Volume};
+use mpd_command::OptionCommand;
 use mpd_text::Answer;
 use play_order::{Consume, Single};
 use player_state::{CommandEffect, Part};

@@ -2,7 +2,7 @@
 use Rattle.std.proofs.Common.{◌≡◌, ◌≢◌, ℕ, ◌+◌, ◌-◌, ◌<◌, Bool, true, false, ◌==◌, List, [], ◌∷◌, ◌++◌, length, take, take_all, get_or, Some, refl, ap, sym, ◌∙◌, arith, ◌⊎◌, inl, inr}
 use Rattle.std.proofs.lemmas.Bool.Decides.{nat_tests}
 use Rattle.std.proofs.lemmas.List.{take_more}
-use Rattle.mpd_command.specs.Forms.{uri_of}
+use Rattle.command_arguments.specs.Forms.{uri_of}
 
 same : (a b : ℕ) → ((a == b) ≡ true) → a ≡ b
 same a b e = grind (arith, nat_tests)

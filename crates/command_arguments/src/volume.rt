@@ -1,6 +1,6 @@
 //! How loud the player is.
 ghost use Rattle.std.specs.Prelude.{◌≡◌, ◌≤◌};
-ghost use Rattle.mpd_command.specs.Forms.{up_to_full};
+ghost use Rattle.command_arguments.specs.Forms.{up_to_full};
 
 use std::marker::Model;
 

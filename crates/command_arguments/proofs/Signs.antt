@@ -1,7 +1,7 @@
 -- A sign at the front of a word.
 use Rattle.std.proofs.Common.{◌≡◌, ◌≢◌, ℕ, Bool, true, false, ◌==◌, List, [], ◌∷◌, drop, Option, Some, None, MatchOption, refl, ap, sym, subst, arith, ◌⊎◌, inl, inr}
 use Rattle.std.proofs.lemmas.Bool.Decides.{nat_tests}
-use Rattle.mpd_command.specs.Forms.{first_is}
+use Rattle.command_arguments.specs.Forms.{first_is}
 use denote.Ref.{Bor}
 
 front_true : (b : ℕ) (xs ys : List ℕ) → xs ≡ b ∷ ys → (first_is b xs ≡ true) × (ys ≡ drop 1 xs)

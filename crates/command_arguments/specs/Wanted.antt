@@ -9,13 +9,13 @@ use Rattle.filters.specs.declared.expression.Test.{Test}
 use Rattle.filters.specs.declared.pairs.Pair.{Pair}
 use Rattle.filters.specs.declared.reading.FilterFault.{FilterFault}
 use Rattle.filters.specs.declared.reading.FilterFault.TheVariants.{Syntax, UnknownTag, TooDeep, NoMemory}
-use Rattle.mpd_command.specs.Forms.{first_is, window_of}
-use Rattle.mpd_command.specs.Readers.{map_ok, argument_of, both, none_of}
-use Rattle.mpd_command.specs.declared.forms.Window.{Window}
-use Rattle.mpd_command.specs.declared.readers.Misread.{Misread}
-use Rattle.mpd_command.specs.declared.readers.Misread.TheVariants.{WrongNumber, Bad}
-use Rattle.mpd_command.specs.declared.wanted.Wanted.{Wanted}
-use Rattle.mpd_command.specs.declared.wanted.Wanted.TheVariants.{Meeting, Refused}
+use Rattle.command_arguments.specs.Forms.{first_is, window_of}
+use Rattle.command_arguments.specs.Readers.{map_ok, argument_of, both, none_of}
+use Rattle.command_arguments.specs.declared.forms.Window.{Window}
+use Rattle.command_arguments.specs.declared.readers.Misread.{Misread}
+use Rattle.command_arguments.specs.declared.readers.Misread.TheVariants.{WrongNumber, Bad}
+use Rattle.command_arguments.specs.declared.wanted.Wanted.{Wanted}
+use Rattle.command_arguments.specs.declared.wanted.Wanted.TheVariants.{Meeting, Refused}
 
 -- why a filter cannot be read
 abbrev pub fault_text : FilterFault → List ℕ

@@ -9,14 +9,14 @@ use Rattle.mpd_text.specs.Songs.Tags.{tag_names, tag_text}
 use Rattle.mpd_text.specs.declared.answers.ranges.Range.{Range}
 use Rattle.mpd_text.specs.declared.answers.ranges.Range.TheVariants.{Lone, Between, From}
 use Rattle.mpd_text.specs.declared.songs.song.TagName.{TagName}
-use Rattle.mpd_command.specs.declared.forms.Uri.{Uri}
-use Rattle.mpd_command.specs.declared.forms.Place.{Place}
-use Rattle.mpd_command.specs.declared.forms.Place.TheVariants.{At, After, Before}
-use Rattle.mpd_command.specs.declared.forms.Seeking.{Seeking}
-use Rattle.mpd_command.specs.declared.forms.Seeking.TheVariants.{To, Forward, Back}
-use Rattle.mpd_command.specs.declared.forms.SingleMode.{SingleMode}
-use Rattle.mpd_command.specs.declared.forms.SingleMode.TheVariants.{Off, On, Oneshot}
-use Rattle.mpd_command.specs.declared.forms.Window.{Window}
+use Rattle.command_arguments.specs.declared.forms.Uri.{Uri}
+use Rattle.command_arguments.specs.declared.forms.Place.{Place}
+use Rattle.command_arguments.specs.declared.forms.Place.TheVariants.{At, After, Before}
+use Rattle.command_arguments.specs.declared.forms.Seeking.{Seeking}
+use Rattle.command_arguments.specs.declared.forms.Seeking.TheVariants.{To, Forward, Back}
+use Rattle.command_arguments.specs.declared.forms.SingleMode.{SingleMode}
+use Rattle.command_arguments.specs.declared.forms.SingleMode.TheVariants.{Off, On, Oneshot}
+use Rattle.command_arguments.specs.declared.forms.Window.{Window}
 
 -- any text, an empty one too
 abbrev pub any_text : List ℕ → Option (List ℕ)

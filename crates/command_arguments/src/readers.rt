@@ -1,8 +1,8 @@
 //! What the words of a command are read as: their number first, then their forms from the left.
 ghost use Rattle.std.specs.Prelude.{◌≡◌, ℕ, List, [], ◌∷◌, Ok, string_bytes, map};
 ghost use Rattle.idle_notes.specs.Names.{subsystem_of};
-ghost use Rattle.mpd_command.specs.Readers.{Gives, argument_of, none_of, one_of, perhaps_of, two_of, three_of, one_perhaps_of, many_of, one_many_of, subsystems_of, joined};
-ghost use Rattle.mpd_command.specs.declared.readers.Misread.TheVariants.{NoMemory};
+ghost use Rattle.command_arguments.specs.Readers.{Gives, argument_of, none_of, one_of, perhaps_of, two_of, three_of, one_perhaps_of, many_of, one_many_of, subsystems_of, joined};
+ghost use Rattle.command_arguments.specs.declared.readers.Misread.TheVariants.{NoMemory};
 
 use crate::forms::Form;
 use idle_notes::{Subsystem, Subsystems};
@@ -11,7 +11,7 @@ use std::alloc::{AllocError, AllocFailed, Global};
 
 /// Why words are not the arguments of a command.
 #[derive(Drop)]
-pub(crate) enum Misread {
+pub enum Misread {
     WrongNumber,
     /// The first argument from the left whose form is refused.
     Bad(Text),
@@ -35,7 +35,7 @@ impl<T: Drop> From<AllocFailed<T>> for Misread {
 }
 
 /// The value of a word.
-pub(crate) fn read_word<A: Form>(alloc: Global, word: &str) -> Result<A, Misread>
+pub fn read_word<A: Form>(alloc: Global, word: &str) -> Result<A, Misread>
     ensures { Gives result (argument_of A.read_gives word.now) }
 {
     match A::read(alloc, word)? {
@@ -45,7 +45,7 @@ pub(crate) fn read_word<A: Form>(alloc: Global, word: &str) -> Result<A, Misread
 }
 
 /// No argument.
-pub(crate) fn none<A: Drop>(words: &[String], value: A) -> Result<A, Misread>
+pub fn none<A: Drop>(words: &[String], value: A) -> Result<A, Misread>
     ensures { Gives result (none_of value (map string_bytes words.now)) }
 {
     if words.is_empty() {
@@ -56,7 +56,7 @@ pub(crate) fn none<A: Drop>(words: &[String], value: A) -> Result<A, Misread>
 }
 
 /// One argument.
-pub(crate) fn one<A: Form>(alloc: Global, words: &[String]) -> Result<A, Misread>
+pub fn one<A: Form>(alloc: Global, words: &[String]) -> Result<A, Misread>
     ensures { Gives result (one_of A.read_gives (map string_bytes words.now)) }
 {
     match words {
@@ -66,7 +66,7 @@ pub(crate) fn one<A: Form>(alloc: Global, words: &[String]) -> Result<A, Misread
 }
 
 /// One argument or none.
-pub(crate) fn perhaps<A: Form>(alloc: Global, words: &[String]) -> Result<Option<A>, Misread>
+pub fn perhaps<A: Form>(alloc: Global, words: &[String]) -> Result<Option<A>, Misread>
     ensures { Gives result (perhaps_of A.read_gives (map string_bytes words.now)) }
 {
     match words {
@@ -77,7 +77,7 @@ pub(crate) fn perhaps<A: Form>(alloc: Global, words: &[String]) -> Result<Option
 }
 
 /// Two arguments.
-pub(crate) fn two<A: Form, B: Form>(alloc: Global, words: &[String]) -> Result<(A, B), Misread>
+pub fn two<A: Form, B: Form>(alloc: Global, words: &[String]) -> Result<(A, B), Misread>
     ensures { Gives result (two_of A.read_gives B.read_gives (map string_bytes words.now)) }
 {
     let [first, second] = words else {
@@ -89,7 +89,7 @@ pub(crate) fn two<A: Form, B: Form>(alloc: Global, words: &[String]) -> Result<(
 }
 
 /// Three arguments.
-pub(crate) fn three<A: Form, B: Form, C: Form>(
+pub fn three<A: Form, B: Form, C: Form>(
     alloc: Global,
     words: &[String],
 ) -> Result<(A, B, C), Misread>
@@ -105,7 +105,7 @@ pub(crate) fn three<A: Form, B: Form, C: Form>(
 }
 
 /// One argument, and perhaps one after it.
-pub(crate) fn one_perhaps<A: Form, B: Form>(
+pub fn one_perhaps<A: Form, B: Form>(
     alloc: Global,
     words: &[String],
 ) -> Result<(A, Option<B>), Misread>
@@ -134,7 +134,7 @@ fn many<A: Form>(alloc: Global, words: &[String]) -> Result<Sequence<A>, Misread
 }
 
 /// One argument, and at least one of another form after it.
-pub(crate) fn one_many<A: Form, B: Form>(
+pub fn one_many<A: Form, B: Form>(
     alloc: Global,
     words: &[String],
 ) -> Result<(A, Sequence<B>), Misread>
@@ -151,7 +151,7 @@ pub(crate) fn one_many<A: Form, B: Form>(
 }
 
 /// Any number of subsystems; all of them where none is named.
-pub(crate) fn subsystems(alloc: Global, words: &[String]) -> Result<Subsystems, Misread>
+pub fn subsystems(alloc: Global, words: &[String]) -> Result<Subsystems, Misread>
     ensures { Gives result (subsystems_of (map string_bytes words.now)) }
 {
     if words.is_empty() {

@@ -5,8 +5,8 @@ use Rattle.idle_notes.specs.declared.sets.Subsystems.{Subsystems}
 use Rattle.idle_notes.specs.declared.subsystem.Subsystem.{Subsystem}
 use Rattle.idle_notes.specs.Names.{subsystem_of}
 use Rattle.idle_notes.specs.Sets.{none, all, with_one}
-use Rattle.mpd_command.specs.declared.readers.Misread.{Misread}
-use Rattle.mpd_command.specs.declared.readers.Misread.TheVariants.{WrongNumber, Bad, NoMemory}
+use Rattle.command_arguments.specs.declared.readers.Misread.{Misread}
+use Rattle.command_arguments.specs.declared.readers.Misread.TheVariants.{WrongNumber, Bad, NoMemory}
 
 -- what is given is this, unless memory ran out
 abbrev pub Gives : {A : Type 0} → Result A Misread → Result A Misread → Type 0

@@ -1,6 +1,6 @@
 //! How long one song fades into the next.
 ghost use Rattle.std.specs.Prelude.{◌≡◌, ◌≤◌};
-ghost use Rattle.mpd_command.specs.Forms.{up_to_an_hour};
+ghost use Rattle.command_arguments.specs.Forms.{up_to_an_hour};
 
 use std::marker::Model;
 

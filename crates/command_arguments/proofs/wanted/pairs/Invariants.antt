@@ -1,7 +1,7 @@
 use Rattle.std.proofs.Common.{◌≡◌, length, map, string_bytes}
-use Rattle.mpd_command.specs.Wanted.{pairs_of}
-use Rattle.mpd_command.proofs.Manys.{after}
-use Rattle.mpd_command.proofs.wanted.pairs.Given as goal
+use Rattle.command_arguments.specs.Wanted.{pairs_of}
+use Rattle.command_arguments.proofs.Manys.{after}
+use Rattle.command_arguments.proofs.wanted.pairs.Given as goal
 
 abbrev pub invariant-loop-rest : goal.invariant-loop-rest
 invariant-loop-rest l = after l.pairs (pairs_of (map string_bytes l.rest)) ≡ pairs_of (map string_bytes l.words)

@@ -5,7 +5,7 @@ ghost use Rattle.mpd_text.specs.Answers.Millis.{millis_of};
 ghost use Rattle.mpd_text.specs.Answers.Number.{number_of};
 ghost use Rattle.mpd_text.specs.Answers.Range.{range_of};
 ghost use Rattle.idle_notes.specs.Names.{subsystem_of};
-ghost use Rattle.mpd_command.specs.Forms.{IsAfterSign, any_text, uri_of, switch_of, single_of, volume_of, fade_of, byte_of, place_of, seeking_of, tag_of, window_of};
+ghost use Rattle.command_arguments.specs.Forms.{IsAfterSign, any_text, uri_of, switch_of, single_of, volume_of, fade_of, byte_of, place_of, seeking_of, tag_of, window_of};
 
 use crate::fade::FadeSeconds;
 use crate::volume::Volume;
@@ -14,7 +14,7 @@ use mpd_text::{Millis, Range, TAG_NAMES, TagName, Text, number};
 use std::alloc::{AllocError, Global};
 
 /// What one word can be read as.
-pub(crate) trait Form: Sized + Drop {
+pub trait Form: Sized + Drop {
     ghost read_gives: { List ℕ → Option Self };
 
     fn read(alloc: Global, word: &str) -> Result<Option<Self>, AllocError>

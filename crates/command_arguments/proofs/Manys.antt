@@ -1,7 +1,7 @@
 -- Arguments that are read one after the other.
 use Rattle.std.proofs.Common.{◌≡◌, ℕ, List, [], ◌∷◌, ◌++◌, Option, Result, Ok, Err, refl, ap, sym, append_assoc}
-use Rattle.mpd_command.specs.declared.readers.Misread.{Misread}
-use Rattle.mpd_command.specs.Readers.{argument_of, both, many_of, map_ok}
+use Rattle.command_arguments.specs.declared.readers.Misread.{Misread}
+use Rattle.command_arguments.specs.Readers.{argument_of, both, many_of, map_ok}
 
 -- values, and then those that are read
 abbrev pub after : {A : Type 0} → List A → Result (List A) Misread → Result (List A) Misread

@@ -4,8 +4,8 @@ ghost use Rattle.filters.specs.Answers.{OrNoMemory};
 ghost use Rattle.filters.specs.Expressions.{Expression};
 ghost use Rattle.filters.specs.Machine.{parsed};
 ghost use Rattle.filters.specs.declared.reading.FilterFault.{FilterFault as Fault};
-ghost use Rattle.mpd_command.specs.Readers.{Gives, none_of};
-ghost use Rattle.mpd_command.specs.Wanted.{asked as asked_lem, fault_text as fault_text_lem, is_alone as is_alone_lem, pairs_of, paired as paired_lem, filter_of, filter_length as filter_length_lem, perhaps_window_of, filter_window_of, perhaps_filter_of, one_filter_of};
+ghost use Rattle.command_arguments.specs.Readers.{Gives, none_of};
+ghost use Rattle.command_arguments.specs.Wanted.{asked as asked_lem, fault_text as fault_text_lem, is_alone as is_alone_lem, pairs_of, paired as paired_lem, filter_of, filter_length as filter_length_lem, perhaps_window_of, filter_window_of, perhaps_filter_of, one_filter_of};
 
 use crate::forms::{Form, Window, after_sign};
 use crate::readers::{Misread, read_word};
@@ -56,7 +56,7 @@ pub enum Wanted {
 }
 
 /// A filter.
-pub(crate) fn filter(alloc: Global, words: &[String], test: Test) -> Result<Wanted, Misread>
+pub fn filter(alloc: Global, words: &[String], test: Test) -> Result<Wanted, Misread>
     ensures { Gives result (filter_of test (map string_bytes words.now)) }
 {
     match words {
@@ -141,7 +141,7 @@ fn fault_text(alloc: Global, fault: &FilterFault) -> Result<SharedText, AllocErr
 }
 
 /// A filter, and perhaps a window after it.
-pub(crate) fn filter_window(
+pub fn filter_window(
     alloc: Global,
     words: &[String],
     test: Test,
@@ -193,7 +193,7 @@ fn perhaps_filter(alloc: Global, words: &[String], test: Test) -> Result<Option<
 }
 
 /// One argument, and perhaps a filter after it.
-pub(crate) fn one_filter<A: Form>(
+pub fn one_filter<A: Form>(
     alloc: Global,
     words: &[String],
     test: Test,

@@ -1,0 +1,3 @@
+pub mod Slashes
+pub mod Signs
+pub mod Manys

@@ -1,0 +1,16 @@
+//! What the words after a command's name are read as: the forms of arguments, and how many there may be.
+#![tactic(auto)]
+
+mod fade;
+mod forms;
+mod readers;
+mod volume;
+mod wanted;
+
+pub use fade::FadeSeconds;
+pub use forms::{Form, Place, Seeking, SingleMode, Uri, Window};
+pub use readers::{
+    Misread, none, one, one_many, one_perhaps, perhaps, read_word, subsystems, three, two,
+};
+pub use volume::Volume;
+pub use wanted::{FilterHandle, Wanted, filter, filter_window, one_filter};
