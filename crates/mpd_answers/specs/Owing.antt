@@ -33,6 +33,11 @@ owed_bytes owed.EmptyList = codes "OK\n"
 owed_bytes (owed.LineFault name fault) = ack_line 52 0 name.now (fault_text fault)
 owed_bytes (owed.ListFault stop) = stop_text stop
 
+-- whether nothing is owed
+abbrev pub is_nothing : Owed → Bool
+is_nothing owed.Nothing = true
+is_nothing _ = false
+
 -- what becomes of the client
 abbrev pub next_by : Owed → Next
 next_by (owed.Line answered) = answered.told.answer.next

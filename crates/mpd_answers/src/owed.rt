@@ -1,10 +1,10 @@
 //! What a session owes its client and has not yet put after its unsent bytes, for want of memory.
-ghost use Rattle.std.specs.Prelude.{◌≡◌, ◌++◌, [], true, IfOk, OnErr, OnOk};
+ghost use Rattle.std.specs.Prelude.{◌≡◌, ◌++◌, false, IfOk, OnErr, OnOk};
 ghost use Rattle.mpd_text.specs.Answers.Answer.{ack_line};
 ghost use Rattle.partition.specs.Lists.{fault_text};
 ghost use Rattle.mpd_answers.specs.Answers.{list_end};
 ghost use Rattle.mpd_answers.specs.Notices.{notice_bytes, notice_text};
-ghost use Rattle.mpd_answers.specs.Owing.{Grows, line_bytes, list_bytes, next_by, owed_bytes, waits_after};
+ghost use Rattle.mpd_answers.specs.Owing.{Grows, is_nothing as is_nothing_lem, line_bytes, list_bytes, next_by, owed_bytes, waits_after};
 
 use held_player::{Answered, AnsweredList};
 use idle_clients::Notice;
@@ -57,7 +57,7 @@ impl Owed {
     }
 
     pub fn is_nothing(&self) -> bool
-        ensures { result ≡ true → owed_bytes self.now ≡ [] }
+        ensures { result ≡ is_nothing_lem self.now }
     {
         matches!(self, Owed::Nothing)
     }
@@ -91,6 +91,7 @@ impl Owed {
     pub fn push_to(&self, alloc: Global, bytes: &mut Vec<u8>) -> Result<(), AllocError>
         ensures ok { OnOk result (bytes.new.items ≡ bytes.old.items ++ owed_bytes self.now) }
         ensures err { OnErr result (bytes.new.items ≡ bytes.old.items) }
+        ensures some { OnErr result (is_nothing_lem self.now ≡ false) }
     {
         let before = bytes.len();
         let pushed = self.push_some_to(alloc, bytes);
@@ -104,6 +105,7 @@ impl Owed {
     fn push_some_to(&self, alloc: Global, bytes: &mut Vec<u8>) -> Result<(), AllocError>
         ensures ok { OnOk result (bytes.new.items ≡ bytes.old.items ++ owed_bytes self.now) }
         ensures err { OnErr result (Grows bytes.old.items bytes.new.items) }
+        ensures some { OnErr result (is_nothing_lem self.now ≡ false) }
     {
         match self {
             Owed::Nothing => Ok(()),

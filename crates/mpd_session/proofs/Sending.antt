@@ -1,7 +1,10 @@
 -- Bytes that go from a session to its writer.
-use Rattle.std.proofs.Common.{◌≡◌, ℕ, ◌+◌, List, [], ◌++◌, take, drop, Option, None, Some, sym, ap, subst, ◌∙◌, append_assoc, append-nil, arith}
+use Rattle.std.proofs.Common.{◌≡◌, ℕ, ◌+◌, List, [], ◌++◌, take, drop, Option, None, Some, true, refl, sym, ap, subst, ◌∙◌, append_assoc, append-nil, arith}
 use Rattle.std.specs.Io.KnownBytes.{Appends}
 use Rattle.std.proofs.lemmas.List.{take-append-drop, drop-take, take-take}
+use Rattle.mpd_answers.specs.Owing.{is_nothing, owed_bytes}
+use Rattle.mpd_answers.specs.declared.owed.Owed.{Owed}
+use Rattle.mpd_answers.specs.declared.owed.Owed.TheVariants as owed
 use Rattle.mpd_session.specs.Sessions.{Grows}
 
 pub none_written : (a : Option (List ℕ)) → Appends a a []
@@ -46,6 +49,16 @@ more_taken w w' w'' bytes n m p q =
     subst (λ (x : List ℕ). Appends w w'' x)
     (ap (λ (x : List ℕ). x ++ take m (drop n bytes)) (sym first) ∙ ap (λ (x : List ℕ). take n (take (n + m) bytes) ++ x) (sym (drop-take n m bytes)) ∙ take-append-drop n (take (n + m) bytes))
     (appends_both w w' w'' (take n bytes) (take m (drop n bytes)) p q)
+
+-- where nothing is owed there are no bytes of it
+pub none_owed : (owed : Owed) → is_nothing owed ≡ true → owed_bytes owed ≡ []
+none_owed owed.Nothing is = refl
+none_owed (owed.Notice notice) is = cc
+none_owed (owed.Line answered) is = cc
+none_owed (owed.List answered unread) is = cc
+none_owed owed.EmptyList is = cc
+none_owed (owed.LineFault name fault) is = cc
+none_owed (owed.ListFault stop) is = cc
 
 pub told_eq : (x items owed owed' notice : List ℕ) → x ≡ items ++ owed' → owed' ≡ notice → owed ≡ [] → x ≡ (items ++ owed) ++ notice
 told_eq x items owed owed' notice is same none =

@@ -1,5 +1,5 @@
 -- What a session holds, and what a turn does.
-use Rattle.std.specs.Prelude.{◌≡◌, ◌≢◌, ◌⊎◌, ◌<◌, ◌≤◌, ◌-◌, ◌^◌, ℕ, List, [], ◌∷◌, ◌++◌, length, map, Option, Some, None, Bool, false, true}
+use Rattle.std.specs.Prelude.{◌≡◌, ◌≢◌, ◌⊎◌, ◌<◌, ◌≤◌, ◌-◌, ◌^◌, ℕ, List, [], ◌∷◌, ◌++◌, length, map, Option, Some, None, Bool, false, true, not, if◌then◌else◌, Result, Ok, Err}
 use Rattle.std.specs.Io.KnownBytes.{Appends, Consumes}
 use Rattle.mpd_text.specs.Lines.Cut.{Split, split_from}
 use Rattle.mpd_text.specs.Lines.Split.{line_of, views}
@@ -11,9 +11,13 @@ use Rattle.transitions.specs.declared.reply.Next.TheVariants.{Goes, Waits, Close
 use Rattle.mpd_session.specs.declared.conversation.Conversation.{Conversation}
 use Rattle.mpd_session.specs.declared.end.End.{End}
 use Rattle.mpd_session.specs.declared.end.End.TheVariants.{Left, Killed, LongLine, LargeList, Unsent, NoPeer, ReadFault, WriteFault}
+use Rattle.mpd_session.specs.declared.end.Goes.{Goes as TurnAnswer}
+use Rattle.mpd_session.specs.declared.end.Goes.TheVariants.{On, Closed}
+use Rattle.mpd_session.specs.declared.end.SessionFault.{SessionFault}
+use Rattle.mpd_session.specs.declared.end.SessionFault.TheVariants as fault
 use Rattle.mpd_answers.specs.Notices.{AreNotices}
 use Rattle.mpd_answers.specs.Output.{IsOutput, IsLastOutput}
-use Rattle.mpd_answers.specs.Owing.{owed_bytes}
+use Rattle.mpd_answers.specs.Owing.{is_nothing, owed_bytes}
 use Rattle.mpd_answers.specs.Requests.{Asking, ListState, Within, Over, gather, is_over}
 
 -- what came of the stream and is not answered: what has come of a list, lines, the start of a line, and a
@@ -60,13 +64,27 @@ pending_of c = record { list = c.gatherer; lines = views c.lines.items; next = c
 abbrev pub held_of : Conversation → Held
 held_of c = record { pending = pending_of c; unsent = c.unsent ++ owed_bytes c.owed; ended = c.ended }
 
--- whose session it is, and what it holds
+abbrev pub is_some_byte : List ℕ → Bool
+is_some_byte [] = false
+is_some_byte (b ∷ bs) = true
+
+-- whose session it is, what it holds, and whether some of the unsent bytes are owed: not put after the others
+-- yet, for want of memory
 pub record SessionData : Type 0 where
   pub asker : Asker
   pub held : Held
+  pub owes : Bool
 
 abbrev pub session_of : Conversation → SessionData
-session_of c = record { asker = c.asker; held = held_of c }
+session_of c = record { asker = c.asker; held = held_of c; owes = not (is_nothing c.owed) }
+
+-- whether bytes are not written, or are owed
+abbrev pub has_unsent : SessionData → Bool
+has_unsent s = if s.owes then true else is_some_byte s.held.unsent
+
+-- Something is not done that came or is owed: a piece is not split, a line is not run, or bytes are owed.
+abbrev pub HasMore : SessionData → Type 0
+HasMore s = (s.held.pending.piece ≢ []) ⊎ (s.held.pending.lines ≢ []) ⊎ (s.owes ≡ true)
 
 -- what was written and what is not grow by the output, and bytes go from the second to the first
 abbrev pub Grows : Option (List ℕ) → List ℕ → Option (List ℕ) → List ℕ → List ℕ → Type 0
@@ -220,6 +238,23 @@ end_by Kills = Some Killed
 abbrev pub end_in_list : Bool → Option End
 end_in_list true = Some LargeList
 end_in_list false = None
+
+-- what a turn answers that closes a session
+abbrev pub closing_answer : End → Result TurnAnswer SessionFault
+closing_answer ReadFault = Err fault.ReadFault
+closing_answer WriteFault = Err fault.WriteFault
+closing_answer end = Ok (Closed end)
+
+-- what a turn answers that leaves a session so, which has run all or has not
+abbrev pub turn_answer : Option End → Bool → Result TurnAnswer SessionFault
+turn_answer (Some end) all = closing_answer end
+turn_answer None true = Ok On
+turn_answer None false = Err fault.NoMemory
+
+-- A session that stays open goes on; or memory ran out, and something is not done, or the reader was not asked.
+abbrev pub GoesOnUnlessShort : Result TurnAnswer SessionFault → SessionData → CallCounts → CallCounts → Type 0
+GoesOnUnlessShort result new reader reader' =
+    new.held.ended ≡ None → (result ≡ Ok On) ⊎ ((result ≡ Err fault.NoMemory) × (HasMore new ⊎ (reader' ≡ reader)))
 
 -- what comes with more bytes
 abbrev pub then_read : Coming → List ℕ → Coming

@@ -4,10 +4,10 @@ ghost use Rattle.std.specs.Io.KnownBytes.{Appends, Consumes};
 ghost use Rattle.mpd_text.specs.Lines.Split.{views, line_of};
 ghost use Rattle.mpd_text.specs.Lines.Cut.{split_from};
 ghost use Rattle.mpd_answers.specs.Answers.{Answers, caller};
-ghost use Rattle.mpd_answers.specs.Owing.{owed_bytes};
+ghost use Rattle.mpd_answers.specs.Owing.{is_nothing};
 ghost use Rattle.mpd_answers.specs.Requests.{is_over};
 ghost use Rattle.mpd_session.specs.declared.end.End.{End};
-ghost use Rattle.mpd_session.specs.Sessions.{Blames, BlamesNone, BlamesReader, BlamesWriter, HasFailedSince, IsWithinLimits, ReadsAs, Runs, Says, Sends, TellsOf, Turns, coming, end_by as end_by_lem, end_in_list as end_in_list_lem, held_of, opening, pending_of, EndsByWrite, EndsForLongLine, EndsWithoutBytes, FailsAsItsWriter, HasNoLongLine, HasRunAll, KeepsAllButRead, KeepsAllButSplit, KeepsAllButTold, ReadsInto, SendsOnceClosed};
+ghost use Rattle.mpd_session.specs.Sessions.{Blames, BlamesNone, BlamesReader, BlamesWriter, GoesOnUnlessShort, HasFailedSince, HasMore, IsWithinLimits, ReadsAs, Runs, Says, Sends, TellsOf, Turns, closing_answer, coming, end_by as end_by_lem, end_in_list as end_in_list_lem, has_unsent as has_unsent_lem, held_of, opening, pending_of, session_of, turn_answer, EndsByWrite, EndsForLongLine, EndsWithoutBytes, FailsAsItsWriter, HasNoLongLine, HasRunAll, KeepsAllButRead, KeepsAllButSplit, KeepsAllButTold, ReadsInto, SendsOnceClosed};
 
 use crate::end::{End, Goes, SessionFault};
 use crate::unsent::Unsent;
@@ -74,6 +74,7 @@ impl Conversation {
     ) -> Result<Conversation, AllocError>
         ensures held { IfOk result (λ c. held_of c ≡ opening greeting.now.text) }
         ensures asker { IfOk result (λ c. c.asker ≡ asker) }
+        ensures nothing { IfOk result (λ c. is_nothing c.owed ≡ true) }
     {
         Ok(Conversation {
             alloc,
@@ -98,7 +99,7 @@ impl Conversation {
 
     /// Whether bytes for the client wait to be written, or to be put after those.
     pub(crate) fn has_unsent(&self) -> bool
-        ensures { result ≡ false → (held_of self.now).unsent ≡ [] }
+        ensures { result ≡ has_unsent_lem (session_of self.now) }
     {
         !self.unsent.as_slice().is_empty() || !self.owed.is_nothing()
     }
@@ -125,6 +126,10 @@ impl Conversation {
         ensures open { self.new.ended ≡ None → is_over self.new.gatherer ≡ false }
         ensures goes { result ≡ Ok Goes.On → HasRunAll (held_of self.new) }
         ensures within { result ≡ Ok Goes.On → IsWithinLimits (held_of self.new) }
+        ensures settled { result ≡ Ok Goes.On → is_nothing self.new.owed ≡ true }
+        ensures lasts { GoesOnUnlessShort result (session_of self.new) (I.call_counts reader.old) (I.call_counts reader.new) }
+        ensures closes { (end : End) → self.old.ended ≡ None → self.new.ended ≡ Some end → result ≡ closing_answer end }
+        ensures stays { (end : End) → self.old.ended ≡ Some end → result ≡ Ok (Goes.Closed end) }
         ensures ends { (end : End) → result ≡ Ok (Goes.Closed end) → self.new.ended ≡ Some end }
         ensures read_fault { result ≡ Err SessionFault.ReadFault → self.new.ended ≡ Some End.ReadFault }
         ensures write_fault { result ≡ Err SessionFault.WriteFault → self.new.ended ≡ Some End.WriteFault }
@@ -155,8 +160,9 @@ impl Conversation {
         requires open { is_over self.old.gatherer ≡ false }
         ensures asker { self.new.asker ≡ self.old.asker }
         ensures open { self.new.ended ≡ None → is_over self.new.gatherer ≡ false }
-        ensures nothing { is_ok result ≡ true → owed_bytes self.new.owed ≡ [] }
+        ensures nothing { is_ok result ≡ true → is_nothing self.new.owed ≡ true }
         ensures long { is_ok result ≡ true → HasNoLongLine self.new }
+        ensures more { OnErr result (HasMore (session_of self.new) ⊎ (I.call_counts reader.new ≡ I.call_counts reader.old)) }
         ensures turns { Turns (Answers S.standing S.failed self.old.asker) (held_of self.old) (caller seat.old shelf.old) (I.remaining reader.old) (O.contents writer.old) (held_of self.new) (caller seat.new shelf.new) (I.remaining reader.new) (O.contents writer.new) }
         ensures all { OnOk result (self.new.ended ≡ None → self.new.lines.items ≡ []) }
         ensures calm { (O.call_counts writer.old).failures ≤ (O.call_counts writer.new).failures }
@@ -175,6 +181,7 @@ impl Conversation {
     fn take_in<I: Source>(&mut self, reader: &mut I) -> Result<(), AllocError>
         requires { self.old.ended ≡ None }
         ensures frame { KeepsAllButRead self.old self.new }
+        ensures more { OnErr result ((self.new.piece.items ≢ []) ⊎ (I.call_counts reader.new ≡ I.call_counts reader.old)) }
         ensures reads { ReadsInto self.old (I.remaining reader.old) self.new (I.remaining reader.new) }
         ensures blamed { BlamesReader self.new.ended (I.call_counts reader.old) (I.call_counts reader.new) }
     {
@@ -190,6 +197,7 @@ impl Conversation {
         requires goes { self.old.ended ≡ None }
         requires lines { self.old.lines.items ≡ [] }
         ensures frame { self.new ≡ record self.old { piece = self.new.piece; ended = self.new.ended } }
+        ensures unasked { OnErr result (I.call_counts reader.new ≡ I.call_counts reader.old) }
         ensures reads { ReadsInto self.old (I.remaining reader.old) self.new (I.remaining reader.new) }
         ensures blamed { BlamesReader self.new.ended (I.call_counts reader.old) (I.call_counts reader.new) }
     {
@@ -203,7 +211,8 @@ impl Conversation {
     fn settle(&mut self) -> Result<(), AllocError>
         ensures frame { self.new ≡ record self.old { unsent = self.new.unsent; owed = self.new.owed } }
         ensures held { held_of self.new ≡ held_of self.old }
-        ensures nothing { OnOk result (owed_bytes self.new.owed ≡ []) }
+        ensures owes { OnErr result (is_nothing self.new.owed ≡ false) }
+        ensures nothing { OnOk result (is_nothing self.new.owed ≡ true) }
     {
         self.unsent.push(&self.owed)?;
         self.owed = Owed::Nothing;
@@ -212,10 +221,11 @@ impl Conversation {
 
     /// Takes the notice that waits; where its client waits for none, no lock is taken for it.
     fn tell<L: Ledgers, R: Wait>(&mut self, rt: &R, house: &House<L>) -> Result<(), AllocError>
-        requires { owed_bytes self.old.owed ≡ [] }
+        requires { is_nothing self.old.owed ≡ true }
         ensures frame { KeepsAllButTold self.old self.new }
         ensures told { TellsOf (held_of self.old).unsent (held_of self.new).unsent }
-        ensures nothing { OnOk result (owed_bytes self.new.owed ≡ []) }
+        ensures owes { OnErr result (is_nothing self.new.owed ≡ false) }
+        ensures nothing { OnOk result (is_nothing self.new.owed ≡ true) }
     {
         if !self.waits {
             return Ok(());
@@ -231,6 +241,7 @@ impl Conversation {
         requires goes { self.old.ended ≡ None }
         requires none { self.old.piece.items ≡ [] }
         ensures frame { self.new ≡ record self.old { piece = self.new.piece; ended = self.new.ended } }
+        ensures unasked { OnErr result (I.call_counts reader.new ≡ I.call_counts reader.old) }
         ensures was { self.old.piece.items ≡ [] }
         ensures reads { Consumes (I.remaining reader.old) (I.remaining reader.new) self.new.piece.items }
         ensures ends { ReadsAs self.old.ended self.new.piece.items self.new.ended }
@@ -249,6 +260,7 @@ impl Conversation {
         ensures frame { KeepsAllButSplit self.old self.new }
         ensures coming { coming (pending_of self.new) ≡ coming (pending_of self.old) }
         ensures all { OnOk result (self.new.piece.items ≡ []) }
+        ensures more { OnErr result (self.new.piece.items ≢ []) }
     {
         if self.piece.is_empty() {
             return Ok(());
@@ -270,11 +282,12 @@ impl Conversation {
     ) -> Result<(), AllocError>
         requires goes { self.old.ended ≡ None }
         requires open { is_over self.old.gatherer ≡ false }
-        requires nothing { owed_bytes self.old.owed ≡ [] }
+        requires nothing { is_nothing self.old.owed ≡ true }
         ensures asker { self.new.asker ≡ self.old.asker }
         ensures open { self.new.ended ≡ None → is_over self.new.gatherer ≡ false }
-        ensures nothing { OnOk result (owed_bytes self.new.owed ≡ []) }
+        ensures nothing { OnOk result (is_nothing self.new.owed ≡ true) }
         ensures long { OnOk result (self.new.ended ≡ None → self.new.piece.items ≡ [] → self.new.splitter ≢ None) }
+        ensures more { OnErr result (HasMore (session_of self.new)) }
         ensures runs { Runs (Answers S.standing S.failed self.old.asker) (held_of self.old) (caller seat.old shelf.old) (O.contents writer.old) (held_of self.new) (caller seat.new shelf.new) (O.contents writer.new) }
         ensures all { OnOk result (self.new.ended ≡ None → self.new.lines.items ≡ []) }
         ensures calm { (O.call_counts writer.old).failures ≤ (O.call_counts writer.new).failures }
@@ -320,14 +333,15 @@ impl Conversation {
     ) -> Result<(), AllocError>
         requires goes { self.old.ended ≡ None }
         requires open { is_over self.old.gatherer ≡ false }
-        requires nothing { owed_bytes self.old.owed ≡ [] }
+        requires nothing { is_nothing self.old.owed ≡ true }
         requires some { self.old.lines.items ≢ [] }
         ensures asker { self.new.asker ≡ self.old.asker }
         ensures open { self.new.ended ≡ None → is_over self.new.gatherer ≡ false }
         ensures says { Says (Answers S.standing S.failed self.old.asker) (held_of self.old) (caller seat.old shelf.old) (held_of self.new) (caller seat.new shelf.new) }
-        ensures nothing { OnOk result (owed_bytes self.new.owed ≡ []) }
+        ensures nothing { OnOk result (is_nothing self.new.owed ≡ true) }
         ensures shorter { OnOk result (length self.new.lines.items + 1 ≡ length self.old.lines.items) }
         ensures piece { self.new.piece ≡ self.old.piece }
+        ensures more { OnErr result (HasMore (session_of self.new)) }
         ensures blameless { BlamesNone self.new.ended }
     {
         let Some(asked) = self.gatherer.take(self.alloc, &mut self.lines)? else {
@@ -427,6 +441,7 @@ fn is_given_up(ended: Option<End>) -> bool
 
 /// What a turn answers that leaves a session so.
 fn answer_of(ended: Option<End>, all: bool) -> Result<Goes, SessionFault>
+    ensures answer { result ≡ turn_answer ended all }
     ensures goes { result ≡ Ok Goes.On → (ended ≡ None) × (all ≡ true) }
     ensures ends { (end : End) → result ≡ Ok (Goes.Closed end) → ended ≡ Some end }
     ensures read_fault { result ≡ Err SessionFault.ReadFault → ended ≡ Some End.ReadFault }

@@ -33,15 +33,15 @@ impl Model for Session {
 }
 
 impl Session {
-    ghost use Rattle.std.specs.Prelude.{◌≡◌, ◌≢◌, [], None, Some, Ok, Err, false, IfOk};
+    ghost use Rattle.std.specs.Prelude.{◌≡◌, ◌≢◌, None, Some, Ok, Err, false, IfOk};
     ghost use Rattle.mpd_answers.specs.Answers.{Answers, caller};
-    ghost use Rattle.mpd_session.specs.Sessions.{Blames, HasRunAll, IsWithinLimits, StaysClosed, Turns, opening};
+    ghost use Rattle.mpd_session.specs.Sessions.{Blames, GoesOnUnlessShort, HasRunAll, IsWithinLimits, StaysClosed, Turns, closing_answer, has_unsent as has_unsent_lem, opening};
     ghost use Rattle.mpd_session.specs.declared.end.End.{End};
 
     /// The session of a client that the player let in, and what it was greeted with. Nothing was read, and
     /// the greeting is not written yet.
     pub fn new(alloc: Global, asker: Asker, greeting: &Reply) -> Result<Session, AllocError>
-        ensures { IfOk result (λ s. s ≡ record { asker = asker; held = opening greeting.now.text }) }
+        ensures { IfOk result (λ s. s ≡ record { asker = asker; held = opening greeting.now.text; owes = false }) }
     {
         let conversation = Conversation::new(alloc, asker, greeting)?;
         Ok(Session { conversation })
@@ -54,9 +54,9 @@ impl Session {
         self.conversation.end()
     }
 
-    /// Whether bytes for the client wait to be written.
+    /// Whether bytes for the client wait to be written, or to be put after those for want of memory.
     pub fn has_unsent(&self) -> bool
-        ensures { result ≡ false → self.now.held.unsent ≡ [] }
+        ensures { result ≡ has_unsent_lem self.now }
     {
         self.conversation.has_unsent()
     }
@@ -91,6 +91,10 @@ impl Session {
         ensures closed { self.old.held.ended ≢ None → StaysClosed self.old.held (O.contents writer.old) self.new.held (O.contents writer.new) }
         ensures goes { result ≡ Ok Goes.On → HasRunAll self.new.held }
         ensures within { result ≡ Ok Goes.On → IsWithinLimits self.new.held }
+        ensures settled { result ≡ Ok Goes.On → self.new.owes ≡ false }
+        ensures lasts { GoesOnUnlessShort result self.new (I.call_counts reader.old) (I.call_counts reader.new) }
+        ensures closes { (end : End) → self.old.held.ended ≡ None → self.new.held.ended ≡ Some end → result ≡ closing_answer end }
+        ensures stays { (end : End) → self.old.held.ended ≡ Some end → result ≡ Ok (Goes.Closed end) }
         ensures ends { (end : End) → result ≡ Ok (Goes.Closed end) → self.new.held.ended ≡ Some end }
         ensures read_fault { result ≡ Err SessionFault.ReadFault → self.new.held.ended ≡ Some End.ReadFault }
         ensures write_fault { result ≡ Err SessionFault.WriteFault → self.new.held.ended ≡ Some End.WriteFault }

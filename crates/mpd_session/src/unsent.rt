@@ -27,8 +27,8 @@ impl Model for Unsent {
 }
 
 impl Unsent {
-    ghost use Rattle.std.specs.Prelude.{◌≡◌, ◌≤◌, ◌++◌, drop, length, IfOk, OnErr, OnOk};
-    ghost use Rattle.mpd_answers.specs.Owing.{owed_bytes};
+    ghost use Rattle.std.specs.Prelude.{◌≡◌, ◌≤◌, ◌++◌, drop, length, false, IfOk, OnErr, OnOk};
+    ghost use Rattle.mpd_answers.specs.Owing.{is_nothing, owed_bytes};
 
     pub(crate) fn of(alloc: Global, bytes: &[u8]) -> Result<Unsent, AllocError>
         ensures { IfOk result (λ u. u ≡ bytes.now) }
@@ -50,6 +50,7 @@ impl Unsent {
     pub(crate) fn push(&mut self, owed: &Owed) -> Result<(), AllocError>
         ensures ok { OnOk result (self.new ≡ self.old ++ owed_bytes owed.now) }
         ensures err { OnErr result (self.new ≡ self.old) }
+        ensures some { OnErr result (is_nothing owed.now ≡ false) }
     {
         owed.push_to(self.alloc, &mut self.bytes)
     }

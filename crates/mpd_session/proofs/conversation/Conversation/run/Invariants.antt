@@ -1,6 +1,6 @@
-use Rattle.std.proofs.Common.{◌≡◌, ◌≤◌, [], length, None, false}
+use Rattle.std.proofs.Common.{◌≡◌, ◌≤◌, length, None, false, true}
 use Rattle.mpd_answers.specs.Answers.{Answers, caller}
-use Rattle.mpd_answers.specs.Owing.{owed_bytes}
+use Rattle.mpd_answers.specs.Owing.{is_nothing}
 use Rattle.mpd_answers.specs.Requests.{is_over}
 use Rattle.mpd_session.specs.Sessions.{BlamesWriter, held_of, Runs}
 use Rattle.mpd_session.proofs.conversation.Conversation.run.Given as goal
@@ -8,7 +8,7 @@ use Rattle.mpd_session.proofs.conversation.Conversation.run.Given as goal
 abbrev pub invariant-loop-self : goal.invariant-loop-self
 invariant-loop-self g l =
     Runs (Answers g.S.Shelf.standing g.S.Shelf.failed l.initial.self.asker) (held_of l.initial.self) (caller l.initial.seat l.initial.shelf) (g.O.Write.contents l.initial.writer) (held_of l.self) (caller l.seat l.shelf) (g.O.Write.contents l.writer)
-    × (owed_bytes l.self.owed ≡ [])
+    × (is_nothing l.self.owed ≡ true)
     × (l.self.asker ≡ l.initial.self.asker)
     × ((g.O.Failing.call_counts l.initial.writer).failures ≤ (g.O.Failing.call_counts l.writer).failures)
     × BlamesWriter l.self.ended (g.O.Failing.call_counts l.initial.writer) (g.O.Failing.call_counts l.writer)

@@ -2,9 +2,10 @@ use Rattle.std.proofs.Common.{◌≡◌, ◌++◌, [], ◌∙◌, ap, append-nil
 use Rattle.mpd_answers.specs.Answers.{Answers, caller}
 use Rattle.mpd_answers.specs.Owing.{owed_bytes}
 use Rattle.mpd_text.specs.Lines.Split.{views}
-use Rattle.mpd_session.specs.Sessions.{end_by, held_of, pending_of}
+use Rattle.mpd_session.specs.Sessions.{end_by, held_of}
 use Rattle.mpd_answers.proofs.Outputs.{no_notices}
 use Rattle.mpd_session.proofs.Pends.{pend}
+use Rattle.mpd_session.proofs.Sending.{none_owed}
 use Rattle.mpd_session.proofs.Runs.{step_line, step_answer, tells_nothing, told, untaken, views_some}
 use Rattle.mpd_session.proofs.conversation.Conversation.step.Goals as goal
 
@@ -18,7 +19,7 @@ pub returns-clause-says : goal.returns-clause-says
 returns-clause-says g c =
     step_answer (Answers g.S.Shelf.standing g.S.Shelf.failed c.args.self.now.asker) (held_of c.args.self.now) (held_of c.args.self.now) _ _ _ _ _ _ c.in-Some.asked c.in_ok-asked.field-0 c.args.self.now.unsent (owed_bytes c.args.self.now.owed) (owed_bytes c.ask-owed.result) _
     c.settle.ensures.held refl (tells_nothing (held_of c.args.self.now).unsent)
-    (views_some c.args.self.now.lines.items c.requires.some) c.in_ok-asked.ensures.ok c.in-Some.is refl c.ask-owed.ensures (c.end_by-self.ensures.end ∙ ap end_by c.next.ensures) refl refl c.requires.nothing
+    (views_some c.args.self.now.lines.items c.requires.some) c.in_ok-asked.ensures.ok c.in-Some.is refl c.ask-owed.ensures (c.end_by-self.ensures.end ∙ ap end_by c.next.ensures) refl refl (none_owed c.args.self.now.owed c.requires.nothing)
 
 pub returns-in_err-asked-clause-says : goal.returns-in_err-asked-clause-says
 returns-in_err-asked-clause-says g c =

@@ -5,6 +5,7 @@ use Rattle.mpd_answers.specs.Owing.{owed_bytes}
 use Rattle.mpd_answers.specs.Requests.{is_over}
 use Rattle.mpd_session.specs.Sessions.{held_of}
 use Rattle.mpd_session.proofs.Runs.{turns_sent}
+use Rattle.mpd_session.proofs.Sending.{none_owed}
 use Rattle.mpd_session.proofs.Blame.{turn_blames}
 use Rattle.mpd_session.proofs.conversation.Conversation.turn.Goals as goal
 use Rattle.mpd_session.proofs.conversation.Conversation.turn.Goals.{then-is_ok, else-is_ok}
@@ -26,7 +27,7 @@ returns-clause-within g c = λ on.
     elim c.if-is_ok.branch [ then-is_ok w ↦ (search rules, grind (arith, common_steps)) | else-is_ok w ↦ search rules ] in
     let piece : c.hear-heard.new.self.piece.items ≡ [] = sym (ap (λ s. s.piece.items) c.send-2.ensures.frame) ∙ whole.1 in
     let heard : (owed_bytes c.hear-heard.new.self.owed ≡ []) × (c.hear-heard.new.self.splitter ≢ None) =
-    (c.hear-heard.ensures.nothing whole.0, c.hear-heard.ensures.long whole.0 was piece) in
+    (none_owed c.hear-heard.new.self.owed (c.hear-heard.ensures.nothing whole.0), c.hear-heard.ensures.long whole.0 was piece) in
     let owed : owed_bytes c.send-2.new.self.owed ≡ [] = ap (λ s. owed_bytes s.owed) c.send-2.ensures.frame ∙ heard.0 in
     let few : length (c.send-2.new.self.unsent ++ []) ≤ 16777216 =
     subst (λ (bytes : List ℕ). length bytes ≤ 16777216) (sym (append-nil c.send-2.new.self.unsent)) (c.send-2.ensures.few ended) in (
