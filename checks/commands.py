@@ -5,7 +5,7 @@
     checks/commands.py --write      writes it there
 
 A command's form is what stands in backquotes at the front of its variant's doc, in the file of its group. Each name of the list
-`NAMES` has a variant, and no other. The exit status is 1 where something differs.
+`NAMES` has a variant, and no other. The names of the list `EVERYDAY`, and more forms of a base command, are those of the everyday profile. The exit status is 1 where something differs.
 """
 import os
 import re
@@ -25,6 +25,8 @@ GROUPS = [
     ('the outputs', ['outputs']),
     ('the connection', ['connection']),
 ]
+# the forms that the everyday profile adds to a command of the base
+ADDED = re.compile(r'tagtypes .')
 # what README says beside a form
 NOTES = {'kill': 'where the settings allow it; a script may not'}
 
@@ -40,25 +42,37 @@ def forms_of(group):
     return re.findall(r'(?:\A|,\n)    /// `([^`]+)`', enum)
 
 
+def names_in(table):
+    """The names of a table of `src/name.rt`."""
+    found, = re.findall(r'^const %s: [^\n]* = &\[\n(.*?)^\];' % table, read(SOURCES % 'name'), re.M | re.S)
+    return re.findall(r'"(\w+)"', found)
+
+
+def shown(forms):
+    return ', '.join('`%s`%s' % (form, ' (%s)' % NOTES[form] if form in NOTES else '') for form in forms)
+
+
 def list_of():
     """README's list, and the names of the commands in it."""
-    lines, names = [], []
+    everyday = names_in('EVERYDAY')
+    lines, names, added = [], [], []
     for title, files in GROUPS:
         forms = [form for file in files for form in forms_of(file)]
         names += dict.fromkeys(form.split()[0] for form in forms)
-        shown = ', '.join('`%s`%s' % (form, ' (%s)' % NOTES[form] if form in NOTES else '') for form in forms)
-        lines.append('- %s: %s' % (title, shown))
-    return 'The %d commands:\n\n%s.\n' % (len(names), ';\n'.join(lines)), names
+        more = [form for form in forms if form.split()[0] in everyday or ADDED.match(form)]
+        added += more
+        lines.append('- %s: %s' % (title, shown(form for form in forms if form not in more)))
+    base = 'The %d commands:\n\n%s.\n' % (len(names) - len(everyday), ';\n'.join(lines))
+    return base + '\nWith `everyday = true` also: %s.\n' % shown(added), names
 
 
 def main():
     made, names = list_of()
-    table, = re.findall(r'^const NAMES: .* = &\[\n(.*?)^\];', read(SOURCES % 'name'), re.M | re.S)
-    known = re.findall(r'"(\w+)"', table)
+    known = names_in('NAMES')
     wrong = ['%s has no variant with its form' % name for name in known if name not in names]
     wrong += ['%s is no command' % name for name in names if name not in known]
     readme = read('README.md')
-    found = re.search(r'^The \d+ commands:\n\n(?:- .*\n)+', readme, re.M)
+    found = re.search(r'^The \d+ commands:\n\n(?:- .*\n)+(?:\nWith `everyday = true` also: .*\n)?', readme, re.M)
     if '--write' in sys.argv[1:]:
         with open(os.path.join(TOP, 'README.md'), 'w', encoding='utf-8') as file:
             file.write(readme[:found.start()] + made + readme[found.end():])

@@ -1,8 +1,9 @@
 #!/usr/bin/env python3
 """Real clients against a served folder of music: mpc, python3-mpd, ncmpc and ncmpcpp (both under tmux), from Debian.
 
-    checks/serve/clients.py [PROGRAM]
+    checks/serve/clients.py [PROGRAM] [--everyday]
 
+With --everyday the settings say `everyday = true`.
 Each step says what the client did and whether the daemon then was in the state that was wanted. All go through a proxy here that
 keeps the requests which the daemon refused, so a step that fails for want of a command that the daemon leaves out is told as such.
 The exit status is 1 where a step fails that is to work; clients that are not installed are named and left out.
@@ -24,6 +25,9 @@ from daemon import Daemon, Pacer, Table, program_of, wave
 LEFT_OUT = ('addtagid', 'albumart', 'binarylimit', 'clearmounts', 'cleartagid', 'config', 'decoders', 'getfingerprint', 'list album',
             'listallinfo', 'listfiles', 'listmounts', 'listneighbors', 'listpartitions', 'mixrampdb', 'outputset', 'password', 'playlistfind',
             'playlistsearch', 'rangeid', 'readcomments', 'readpicture', 'replay_gain_status', 'searchaddpl', 'stats', 'tagtypes ', 'urlhandlers', 'volume')
+# .. of which these are there with `everyday = true`
+EVERYDAY = ('albumart', 'decoders', 'listallinfo', 'listmounts', 'readcomments', 'readpicture', 'replay_gain_status', 'stats', 'tagtypes ', 'urlhandlers', 'volume')
+is_everyday = '--everyday' in sys.argv[1:]
 
 
 class Proxy(threading.Thread):
@@ -86,7 +90,7 @@ class Proxy(threading.Thread):
 
 
 def is_left_out(request):
-    return request.replace('"', '').startswith(LEFT_OUT)
+    return request.replace('"', '').startswith(tuple(name for name in LEFT_OUT if not (is_everyday and name in EVERYDAY)))
 
 
 def named_in(output):
@@ -367,14 +371,16 @@ def run_ncmpcpp(steps, port, folder):
 
 
 def main():
-    program = program_of(sys.argv[1] if len(sys.argv) > 1 else None)
+    words = [word for word in sys.argv[1:] if word != '--everyday']
+    program = program_of(words[0] if words else None)
     table = Table('Real clients', 12, 38, 120)
     table.row('client', 'step', 'outcome')
     with tempfile.TemporaryDirectory() as folder:
         music = os.path.join(folder, 'music')
         put_music(music)
         pacer = Pacer(os.path.join(folder, 'fifo'))
-        daemon = Daemon(program, folder, music, [pacer.path], shelf=os.path.join(folder, 'shelf.db'))
+        daemon = Daemon(program, folder, music, [pacer.path], shelf=os.path.join(folder, 'shelf.db'),
+                        more='everyday = true' if is_everyday else '')
         proxy = Proxy(daemon.port)
         steps = Steps(table, daemon, proxy)
         try:

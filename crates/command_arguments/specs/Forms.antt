@@ -17,6 +17,10 @@ use Rattle.command_arguments.specs.declared.forms.Seeking.TheVariants.{To, Forwa
 use Rattle.command_arguments.specs.declared.forms.SingleMode.{SingleMode}
 use Rattle.command_arguments.specs.declared.forms.SingleMode.TheVariants.{Off, On, Oneshot}
 use Rattle.command_arguments.specs.declared.forms.Window.{Window}
+use Rattle.command_arguments.specs.declared.forms.VolumeChange.{VolumeChange}
+use Rattle.command_arguments.specs.declared.forms.VolumeChange.TheVariants.{Up, Down}
+use Rattle.command_arguments.specs.declared.forms.ReplayGain.{ReplayGain}
+use Rattle.command_arguments.specs.declared.forms.ReplayGain.TheVariants as replay_gain
 
 -- any text, an empty one too
 abbrev pub any_text : List ℕ → Option (List ℕ)
@@ -55,13 +59,24 @@ up_to_an_hour n = up_to 3600 (Some n)
 abbrev pub fade_of : List ℕ → Option ℕ
 fade_of word = up_to 3600 (number_of word)
 
--- a number up to 255
-abbrev pub byte_of : List ℕ → Option ℕ
-byte_of word = up_to 255 (number_of word)
-
 abbrev pub first_is : ℕ → List ℕ → Bool
 first_is b [] = false
 first_is b (c ∷ cs) = c == b
+
+-- N, +N or -N, where N is a volume
+abbrev pub volume_change_of : List ℕ → Option VolumeChange
+volume_change_of word =
+    if first_is 43 word then option_map Up (volume_of (drop 1 word))
+    else (if first_is 45 word then option_map Down (volume_of (drop 1 word))
+    else option_map Up (volume_of word))
+
+-- off (MPD protocol reference, Playback options: replay_gain_mode)
+abbrev pub off_of : List ℕ → Option ReplayGain
+off_of word = if bytes_eq word (codes "off") then Some replay_gain.Off else None
+
+-- a number up to 255
+abbrev pub byte_of : List ℕ → Option ℕ
+byte_of word = up_to 255 (number_of word)
 
 -- the rest of a word after a sign, if the word begins with that
 abbrev pub IsAfterSign : Option (Bor (List ℕ)) → ℕ → List ℕ → Type 0

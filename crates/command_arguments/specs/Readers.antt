@@ -1,6 +1,8 @@
 -- What the words of a command are read as: a wrong number of them is refused first, then the first from the
 -- left that has not its form (MPD protocol reference, Requests; the order is this profile's).
-use Rattle.std.specs.Prelude.{◌≡◌, ℕ, List, [], ◌∷◌, fold, Option, Some, None, Result, Ok, Err}
+use Rattle.std.specs.Prelude.{◌≡◌, ℕ, List, [], ◌∷◌, fold, Option, Some, None, Result, Ok, Err, if◌then◌else◌, codes}
+use Rattle.std.specs.Str.{bytes_eq}
+use Rattle.mpd_text.specs.Answers.Number.{number_of}
 use Rattle.idle_notes.specs.declared.sets.Subsystems.{Subsystems}
 use Rattle.idle_notes.specs.declared.subsystem.Subsystem.{Subsystem}
 use Rattle.idle_notes.specs.Names.{subsystem_of}
@@ -70,6 +72,17 @@ one_perhaps_of first second _ = Err WrongNumber
 abbrev pub many_of : {A : Type 0} → (List ℕ → Option A) → List (List ℕ) → Result (List A) Misread
 many_of read [] = Ok []
 many_of read (word ∷ words) = map_ok (λ p. p.0 ∷ p.1) (both (argument_of read word) (many_of read words))
+
+-- at least one argument
+abbrev pub some_of : {A : Type 0} → (List ℕ → Option A) → List (List ℕ) → Result (List A) Misread
+some_of read [] = Err WrongNumber
+some_of read (word ∷ words) = many_of read (word ∷ words)
+
+-- a number or none; -1 is none
+abbrev pub number_or_none_of : List (List ℕ) → Result (Option ℕ) Misread
+number_or_none_of [] = Ok None
+number_or_none_of (word ∷ []) = if bytes_eq word (codes "-1") then Ok None else map_ok Some (argument_of number_of word)
+number_or_none_of (word ∷ more ∷ words) = Err WrongNumber
 
 -- one argument, and at least one of another form after it
 abbrev pub one_many_of : {A B : Type 0} → (List ℕ → Option A) → (List ℕ → Option B) → List (List ℕ) → Result (A × List B) Misread

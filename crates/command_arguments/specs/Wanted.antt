@@ -6,6 +6,7 @@ use Rattle.filters.specs.Expressions.{Expression}
 use Rattle.filters.specs.Machine.{parsed}
 use Rattle.filters.specs.Pairs.{pairs_meaning}
 use Rattle.filters.specs.declared.expression.Test.{Test}
+use Rattle.filters.specs.declared.words.Vocabulary.{Vocabulary}
 use Rattle.filters.specs.declared.pairs.Pair.{Pair}
 use Rattle.filters.specs.declared.reading.FilterFault.{FilterFault}
 use Rattle.filters.specs.declared.reading.FilterFault.TheVariants.{Syntax, UnknownTag, TooDeep, NoMemory}
@@ -40,13 +41,14 @@ pairs_of (name ∷ []) = Err WrongNumber
 pairs_of (name ∷ text ∷ words) = map_ok (λ pairs. record { name = name; text = text } ∷ pairs) (pairs_of words)
 
 -- what pairs ask for together
-abbrev pub paired : Test → List (List ℕ) → Result Wanted Misread
-paired test words = map_ok (λ pairs. asked (pairs_meaning test pairs)) (pairs_of words)
+abbrev pub paired : Vocabulary → Test → List (List ℕ) → Result Wanted Misread
+paired vocabulary test words = map_ok (λ pairs. asked (pairs_meaning vocabulary test pairs)) (pairs_of words)
 
 -- FILTER: one word that is a filter alone, or at least one pair
-abbrev pub filter_of : Test → List (List ℕ) → Result Wanted Misread
-filter_of test [] = Err WrongNumber
-filter_of test (word ∷ words) = if is_alone word then none_of (asked (parsed word)) words else paired test (word ∷ words)
+abbrev pub filter_of : Vocabulary → Test → List (List ℕ) → Result Wanted Misread
+filter_of vocabulary test [] = Err WrongNumber
+filter_of vocabulary test (word ∷ words) =
+    if is_alone word then none_of (asked (parsed vocabulary word)) words else paired vocabulary test (word ∷ words)
 
 -- the last but one of at least four words is `window`
 abbrev pub ends_in_window : List (List ℕ) → Bool
@@ -64,16 +66,17 @@ perhaps_window_of (word ∷ places ∷ []) = if bytes_eq word (codes "window") t
 perhaps_window_of _ = Err WrongNumber
 
 -- FILTER [WINDOW]
-abbrev pub filter_window_of : Test → List (List ℕ) → Result (Wanted × Option Window) Misread
-filter_window_of test words = both (filter_of test (take (filter_length words) words)) (perhaps_window_of (drop (filter_length words) words))
+abbrev pub filter_window_of : Vocabulary → Test → List (List ℕ) → Result (Wanted × Option Window) Misread
+filter_window_of vocabulary test words =
+    both (filter_of vocabulary test (take (filter_length words) words)) (perhaps_window_of (drop (filter_length words) words))
 
 -- FILTER or nothing
-abbrev pub perhaps_filter_of : Test → List (List ℕ) → Result (Option Wanted) Misread
-perhaps_filter_of test [] = Ok None
-perhaps_filter_of test (word ∷ words) = map_ok Some (filter_of test (word ∷ words))
+abbrev pub perhaps_filter_of : Vocabulary → Test → List (List ℕ) → Result (Option Wanted) Misread
+perhaps_filter_of vocabulary test [] = Ok None
+perhaps_filter_of vocabulary test (word ∷ words) = map_ok Some (filter_of vocabulary test (word ∷ words))
 
 -- one argument, and perhaps FILTER after it, of which the number of words alone can be wrong: so it comes
 -- before the argument's form
-abbrev pub one_filter_of : {A : Type 0} → (List ℕ → Option A) → Test → List (List ℕ) → Result (A × Option Wanted) Misread
-one_filter_of read test [] = Err WrongNumber
-one_filter_of read test (word ∷ words) = map_ok (λ p. (p.1, p.0)) (both (perhaps_filter_of test words) (argument_of read word))
+abbrev pub one_filter_of : {A : Type 0} → (List ℕ → Option A) → Vocabulary → Test → List (List ℕ) → Result (A × Option Wanted) Misread
+one_filter_of read vocabulary test [] = Err WrongNumber
+one_filter_of read vocabulary test (word ∷ words) = map_ok (λ p. (p.1, p.0)) (both (perhaps_filter_of vocabulary test words) (argument_of read word))

@@ -5,11 +5,13 @@ ghost use Rattle.mpd_text.specs.Answers.Millis.{millis_of};
 ghost use Rattle.mpd_text.specs.Answers.Number.{number_of};
 ghost use Rattle.mpd_text.specs.Answers.Range.{range_of};
 ghost use Rattle.idle_notes.specs.Names.{subsystem_of};
-ghost use Rattle.command_arguments.specs.Forms.{IsAfterSign, any_text, uri_of, switch_of, single_of, volume_of, fade_of, byte_of, place_of, seeking_of, tag_of, window_of};
+ghost use Rattle.known_tags.specs.KnownTags.{tag_of as known_tag_of};
+ghost use Rattle.command_arguments.specs.Forms.{IsAfterSign, any_text, uri_of, switch_of, single_of, volume_of, fade_of, byte_of, off_of, place_of, seeking_of, tag_of, volume_change_of, window_of};
 
 use crate::fade::FadeSeconds;
 use crate::volume::Volume;
 use idle_notes::Subsystem;
+use known_tags::KnownTag;
 use mpd_text::{Millis, Range, TAG_NAMES, TagName, Text, number};
 use std::alloc::{AllocError, Global};
 
@@ -93,10 +95,68 @@ impl Form for Volume {
     ghost read_gives = { volume_of };
 
     fn read(_alloc: Global, word: &str) -> Result<Option<Volume>, AllocError> {
-        match number(word) {
-            Some(n) => Ok(Volume::new(n)),
-            None => Ok(None),
+        Ok(volume(word))
+    }
+}
+
+/// The volume of a word: 0 to 100.
+fn volume(word: &str) -> Option<Volume>
+    ensures { result ≡ volume_of word.now }
+{
+    match number(word) {
+        Some(n) => Volume::new(n),
+        None => None,
+    }
+}
+
+/// How the volume changes.
+#[derive(Drop)]
+pub enum VolumeChange {
+    /// It is so much louder, and as loud as can be at most.
+    Up(Volume),
+    /// It is so much less loud, and silent at least.
+    Down(Volume),
+}
+
+/// `N`, `+N` or `-N`, where N is a volume.
+impl Form for VolumeChange {
+    ghost read_gives = { volume_change_of };
+
+    fn read(_alloc: Global, word: &str) -> Result<Option<VolumeChange>, AllocError> {
+        if let Some(amount) = after_sign(word, '+') {
+            return Ok(volume(amount).map(VolumeChange::Up));
         }
+        if let Some(amount) = after_sign(word, '-') {
+            return Ok(volume(amount).map(VolumeChange::Down));
+        }
+        Ok(volume(word).map(VolumeChange::Up))
+    }
+}
+
+/// How loudness is made alike. Songs are played as they are.
+#[derive(Clone, Copy, Debug, PartialEq, Eq)]
+pub enum ReplayGain {
+    Off,
+}
+
+/// `off`.
+impl Form for ReplayGain {
+    ghost read_gives = { off_of };
+
+    fn read(_alloc: Global, word: &str) -> Result<Option<ReplayGain>, AllocError> {
+        match word {
+            "off" => Ok(Some(ReplayGain::Off)),
+            _ => Ok(None),
+        }
+    }
+}
+
+/// A tag that clients know, in any ASCII case.
+impl Form for KnownTag {
+    ghost read_gives = { known_tag_of };
+
+    fn read(_alloc: Global, word: &str) -> Result<Option<KnownTag>, AllocError> {
+        Ok(KnownTag::of_word(word))
     }
 }
 

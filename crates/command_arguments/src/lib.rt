@@ -8,9 +8,10 @@ mod volume;
 mod wanted;
 
 pub use fade::FadeSeconds;
-pub use forms::{Form, Place, Seeking, SingleMode, Uri, Window};
+pub use forms::{Form, Place, ReplayGain, Seeking, SingleMode, Uri, VolumeChange, Window};
 pub use readers::{
-    Misread, none, one, one_many, one_perhaps, perhaps, read_word, subsystems, three, two,
+    Misread, none, number_or_none, one, one_many, one_perhaps, perhaps, read_word, some,
+    subsystems, three, two,
 };
 pub use volume::Volume;
 pub use wanted::{FilterHandle, Wanted, filter, filter_window, one_filter};

@@ -1,7 +1,7 @@
 //! What the words of a command are read as: their number first, then their forms from the left.
 ghost use Rattle.std.specs.Prelude.{◌≡◌, ℕ, List, [], ◌∷◌, Ok, string_bytes, map};
 ghost use Rattle.idle_notes.specs.Names.{subsystem_of};
-ghost use Rattle.command_arguments.specs.Readers.{Gives, argument_of, none_of, one_of, perhaps_of, two_of, three_of, one_perhaps_of, many_of, one_many_of, subsystems_of, joined};
+ghost use Rattle.command_arguments.specs.Readers.{Gives, argument_of, none_of, one_of, perhaps_of, two_of, three_of, one_perhaps_of, many_of, some_of, number_or_none_of, one_many_of, subsystems_of, joined};
 ghost use Rattle.command_arguments.specs.declared.readers.Misread.TheVariants.{NoMemory};
 
 use crate::forms::Form;
@@ -76,6 +76,16 @@ pub fn perhaps<A: Form>(alloc: Global, words: &[String]) -> Result<Option<A>, Mi
     }
 }
 
+/// A number or none; `-1` is none.
+pub fn number_or_none(alloc: Global, words: &[String]) -> Result<Option<u32>, Misread>
+    ensures { Gives result (number_or_none_of (map string_bytes words.now)) }
+{
+    match words {
+        [word] if word.as_str() == "-1" => Ok(None),
+        _ => perhaps(alloc, words),
+    }
+}
+
 /// Two arguments.
 pub fn two<A: Form, B: Form>(alloc: Global, words: &[String]) -> Result<(A, B), Misread>
     ensures { Gives result (two_of A.read_gives B.read_gives (map string_bytes words.now)) }
@@ -131,6 +141,16 @@ fn many<A: Form>(alloc: Global, words: &[String]) -> Result<Sequence<A>, Misread
         values.push(read_word(alloc, word.as_str())?)?;
     }
     Ok(values)
+}
+
+/// At least one argument.
+pub fn some<A: Form>(alloc: Global, words: &[String]) -> Result<Sequence<A>, Misread>
+    ensures { Gives result (some_of A.read_gives (map string_bytes words.now)) }
+{
+    if words.is_empty() {
+        return Err(Misread::WrongNumber);
+    }
+    many(alloc, words)
 }
 
 /// One argument, and at least one of another form after it.

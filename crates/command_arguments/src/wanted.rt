@@ -9,7 +9,7 @@ ghost use Rattle.command_arguments.specs.Wanted.{asked as asked_lem, fault_text 
 
 use crate::forms::{Form, Window, after_sign};
 use crate::readers::{Misread, read_word};
-use filters::{Filter, FilterFault, Pair, Test};
+use filters::{Filter, FilterFault, Pair, Test, Vocabulary};
 use mpd_text::{Sequence, SharedText, Text};
 use std::alloc::{AllocError, Global};
 use std::marker::Model;
@@ -55,14 +55,24 @@ pub enum Wanted {
     Refused(SharedText),
 }
 
-/// A filter.
-pub fn filter(alloc: Global, words: &[String], test: Test) -> Result<Wanted, Misread>
-    ensures { Gives result (filter_of test (map string_bytes words.now)) }
+/// A filter, whose words name what the vocabulary knows.
+pub fn filter(
+    alloc: Global,
+    vocabulary: Vocabulary,
+    words: &[String],
+    test: Test,
+) -> Result<Wanted, Misread>
+    ensures { Gives result (filter_of vocabulary test (map string_bytes words.now)) }
 {
     match words {
         [] => Err(Misread::WrongNumber),
-        [word, more @ ..] if is_alone(word.as_str()) => alone(alloc, word.as_str(), more),
-        _ => paired(alloc, words, test),
+        [word, more @ ..] if is_alone(word.as_str()) => alone(
+            alloc,
+            vocabulary,
+            word.as_str(),
+            more,
+        ),
+        _ => paired(alloc, vocabulary, words, test),
     }
 }
 
@@ -74,21 +84,34 @@ fn is_alone(word: &str) -> bool
 }
 
 /// What a word asks for that is a filter alone: no more words may follow.
-fn alone(alloc: Global, word: &str, more: &[String]) -> Result<Wanted, Misread>
-    ensures { Gives result (none_of (asked_lem (parsed word.now)) (map string_bytes more.now)) }
+fn alone(
+    alloc: Global,
+    vocabulary: Vocabulary,
+    word: &str,
+    more: &[String],
+) -> Result<Wanted, Misread>
+    ensures { Gives result (none_of (asked_lem (parsed vocabulary word.now)) (map string_bytes more.now)) }
 {
     if !more.is_empty() {
         return Err(Misread::WrongNumber);
     }
-    asked(alloc, Filter::parse(alloc, word))
+    asked(alloc, Filter::parse(alloc, word, vocabulary))
 }
 
 /// What words ask for that are pairs.
-fn paired(alloc: Global, words: &[String], test: Test) -> Result<Wanted, Misread>
-    ensures { Gives result (paired_lem test (map string_bytes words.now)) }
+fn paired(
+    alloc: Global,
+    vocabulary: Vocabulary,
+    words: &[String],
+    test: Test,
+) -> Result<Wanted, Misread>
+    ensures { Gives result (paired_lem vocabulary test (map string_bytes words.now)) }
 {
     let pairs = pairs(alloc, words)?;
-    asked(alloc, Filter::of_pairs(alloc, pairs.items(), test))
+    asked(
+        alloc,
+        Filter::of_pairs(alloc, pairs.items(), test, vocabulary),
+    )
 }
 
 /// Words by twos.
@@ -143,13 +166,14 @@ fn fault_text(alloc: Global, fault: &FilterFault) -> Result<SharedText, AllocErr
 /// A filter, and perhaps a window after it.
 pub fn filter_window(
     alloc: Global,
+    vocabulary: Vocabulary,
     words: &[String],
     test: Test,
 ) -> Result<(Wanted, Option<Window>), Misread>
-    ensures { Gives result (filter_window_of test (map string_bytes words.now)) }
+    ensures { Gives result (filter_window_of vocabulary test (map string_bytes words.now)) }
 {
     let (front, back) = words.split_at(filter_length(words));
-    let wanted = filter(alloc, front, test)?;
+    let wanted = filter(alloc, vocabulary, front, test)?;
     let window = perhaps_window(alloc, back)?;
     Ok((wanted, window))
 }
@@ -183,27 +207,33 @@ fn perhaps_window(alloc: Global, words: &[String]) -> Result<Option<Window>, Mis
 }
 
 /// A filter or no words.
-fn perhaps_filter(alloc: Global, words: &[String], test: Test) -> Result<Option<Wanted>, Misread>
-    ensures { Gives result (perhaps_filter_of test (map string_bytes words.now)) }
+fn perhaps_filter(
+    alloc: Global,
+    vocabulary: Vocabulary,
+    words: &[String],
+    test: Test,
+) -> Result<Option<Wanted>, Misread>
+    ensures { Gives result (perhaps_filter_of vocabulary test (map string_bytes words.now)) }
 {
     if words.is_empty() {
         return Ok(None);
     }
-    Ok(Some(filter(alloc, words, test)?))
+    Ok(Some(filter(alloc, vocabulary, words, test)?))
 }
 
 /// One argument, and perhaps a filter after it.
 pub fn one_filter<A: Form>(
     alloc: Global,
+    vocabulary: Vocabulary,
     words: &[String],
     test: Test,
 ) -> Result<(A, Option<Wanted>), Misread>
-    ensures { Gives result (one_filter_of A.read_gives test (map string_bytes words.now)) }
+    ensures { Gives result (one_filter_of A.read_gives vocabulary test (map string_bytes words.now)) }
 {
     let Some((first, rest)) = words.split_first() else {
         return Err(Misread::WrongNumber);
     };
-    let wanted = perhaps_filter(alloc, rest, test)?;
+    let wanted = perhaps_filter(alloc, vocabulary, rest, test)?;
     let first = read_word(alloc, first.as_str())?;
     Ok((first, wanted))
 }

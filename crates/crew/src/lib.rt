@@ -14,5 +14,5 @@ pub use ending::{close, let_go};
 pub use output::OutputRun;
 pub use output_runs::OutputRuns;
 pub use outputs::start_outputs;
-pub use scanner::{Scanner, start_scanner};
+pub use scanner::{Scanner, second_now, start_scanner};
 pub use start::{Crew, start_decoder};

@@ -11,7 +11,7 @@ use std::alloc::{AllocError, Global};
 use std::sync::{Arc, Wait};
 use std::thread;
 use std::thread::{JoinHandle, Threads};
-use std::time::{Clock, Duration};
+use std::time::{Clock, Duration, SystemTime};
 
 /// How many milliseconds a scanner rests at most; it is woken where a scan is asked for.
 const LOOK: u64 = 1_000;
@@ -57,7 +57,7 @@ impl<'h, L: Ledgers, N: Scanner + Drop, R: Wait + Clock> Scanning<'h, L, N, R> {
             Report::Ended => return false,
             Report::ToScan(Some(_)) => {
                 let found = self.scanner.scan(self.alloc);
-                self.tell(found);
+                self.tell(found, second_now(self.rt));
             }
             _ => {
                 let _ = self
@@ -68,18 +68,18 @@ impl<'h, L: Ledgers, N: Scanner + Drop, R: Wait + Clock> Scanning<'h, L, N, R> {
         true
     }
 
-    /// Tells what a scan found; where that is refused, again after a while.
-    fn tell(&mut self, found: Option<SharedDb>) {
+    /// Tells what a scan found that ended at this second; where that is refused, again after a while.
+    fn tell(&mut self, found: Option<SharedDb>, second: u64) {
         let rt = self.rt;
         for _ in rt.forever() {
-            if self.is_told(&found) {
+            if self.is_told(&found, second) {
                 return;
             }
             self.pause();
         }
     }
 
-    fn is_told(&mut self, found: &Option<SharedDb>) -> bool {
+    fn is_told(&mut self, found: &Option<SharedDb>, second: u64) -> bool {
         let songs = match found {
             Some(songs) => match songs.clone() {
                 Ok(songs) => Some(songs),
@@ -88,12 +88,23 @@ impl<'h, L: Ledgers, N: Scanner + Drop, R: Wait + Clock> Scanning<'h, L, N, R> {
             None => None,
         };
         self.house
-            .notice(self.rt, &mut self.seat, News::Scanned(songs))
+            .notice(self.rt, &mut self.seat, News::Scanned(songs, second))
             .is_ok()
     }
 
     fn pause(&self) {
         thread::sleep(self.rt, Duration::from_millis(PAUSE));
+    }
+}
+
+/// The second that it is, from the beginning of 1970 on; 0 where the clock cannot be read or stands before that.
+pub fn second_now<R: Clock>(rt: &R) -> u64 {
+    let Ok(now) = SystemTime::now(rt) else {
+        return 0;
+    };
+    match now.duration_since(SystemTime::UNIX_EPOCH) {
+        Ok(since) => since.as_secs(),
+        Err(_) => 0,
     }
 }
 

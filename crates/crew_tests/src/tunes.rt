@@ -190,5 +190,6 @@ pub(crate) fn library(alloc: Global, tunes: &[Tune]) -> Result<Library, AllocErr
         songs: songs(alloc, tunes, None)?,
         rate: Rate::lowest(),
         scan: Scan::never(),
+        updated: 0,
     })
 }

@@ -12,13 +12,14 @@ use Rattle.song_db.specs.Library.{in_byte_order}
 use Rattle.script_lines.specs.Lines.{LineData, ClientLine, StepLine, BadLine, script_line_of}
 use Rattle.script_lines.specs.Steps.{step_of}
 use Rattle.script_lines.specs.declared.limit.LimitName.{LimitName}
-use Rattle.script_lines.specs.declared.limit.LimitName.TheVariants.{MaxQueue, MaxVersion, MaxId, MaxCut, History}
+use Rattle.script_lines.specs.declared.limit.LimitName.TheVariants.{MaxQueue, MaxVersion, MaxId, MaxCut, History, Everyday}
 use Rattle.script_lines.specs.declared.step.Step.{Step}
 use Rattle.script_lines.specs.declared.step.Step.TheVariants.{Song, Limit, Gone, Scanned, Want as WantStep, Have as HaveStep, Failed as FailedStep, Turn as TurnStep, Window}
 use Rattle.player_events.specs.Outcomes.{OutcomeData}
 use Rattle.player_events.specs.Events.{ends_list}
 use Rattle.transitions.specs.Shelves.{no_store_reply}
 use Rattle.mpd_command.specs.Requests.{request_of}
+use Rattle.mpd_command.specs.declared.command_set.CommandSet.{CommandSet}
 use Rattle.mpd_command.specs.declared.request.Request.{Request}
 use Rattle.player_events.specs.declared.event.Event.{Event}
 use Rattle.transitions.specs.declared.asked.Stand.TheVariants.{InList}
@@ -30,7 +31,7 @@ use Rattle.daemon_script.specs.declared.memory.Memory.TheVariants.{Ample, NoneTo
 use Rattle.daemon_script.specs.Kinds.{PlayerKind}
 use Rattle.daemon_script.specs.Output.{Run, script_after, text_of}
 use Rattle.script_reports.specs.Reports.{report_text, window_text}
-use Rattle.daemon_script.specs.Script.{Found, ScriptData, Shown, LineRun, bad, collects, lowers, limits_with, has_uri, told_for, notices_for, fault_of, found_at, found_first, found_then, refusal, sent_off, sends_off, applied, applies, scan_result, shown_step, shows_window, step_line, alone_line, request_run, asked_run, alone_run, request_in, read_of, end_of, closed_line, ListRun, list_goes, list_step, list_run, notices_by_number, lines_for, list_of, with_list, commands_run, collected_run, too_large_run, taken_run, line_run, connect_run, line_after, client_run, shown_client, shown_kind, shown_of}
+use Rattle.daemon_script.specs.Script.{Found, ScriptData, Shown, LineRun, bad, collects, lowers, limits_with, commands_with, has_uri, told_for, notices_for, fault_of, found_at, found_first, found_then, refusal, sent_off, sends_off, applied, applies, scan_result, shown_step, shows_window, step_line, alone_line, request_run, asked_run, alone_run, request_in, read_of, end_of, closed_line, ListRun, list_goes, list_step, list_run, notices_by_number, lines_for, list_of, with_list, commands_run, collected_run, too_large_run, taken_run, line_run, connect_run, line_after, client_run, shown_client, shown_kind, shown_of}
 use Rattle.daemon_script.proofs.Ranges.{limit_at_least_one}
 
 -- two kinds agree: a relation of their players holds at the opening and is kept by events, and related
@@ -55,6 +56,7 @@ module _ {P Q : Type 0} (R : P → Q → Type 0) where
 
   pub record SameScript (s : ScriptData P) (t : ScriptData Q) : Type 0 where
     pub limits : s.limits ≡ t.limits
+    pub commands : s.commands ≡ t.commands
     pub songs : s.songs ≡ t.songs
     pub lists : s.lists ≡ t.lists
     pub above : 1 ≤ s.limits.max_version
@@ -72,7 +74,7 @@ module _ {P Q : Type 0} (R : P → Q → Type 0) where
 
   -- a script with another player
   abbrev over : ScriptData P → Option Q → ScriptData Q
-  over s q = record { limits = s.limits; songs = s.songs; lists = s.lists; player = q }
+  over s q = record { limits = s.limits; commands = s.commands; songs = s.songs; lists = s.lists; player = q }
 
   same_some : (p : Option P) (q : Option Q) → SamePlayer p q → is_some p ≡ is_some q
   same_some None None r = refl
@@ -81,7 +83,7 @@ module _ {P Q : Type 0} (R : P → Q → Type 0) where
   same_some (Some p) (Some q) r = refl
 
   same : (s : ScriptData P) (q : Option Q) → 1 ≤ s.limits.max_version → SamePlayer s.player q → SameScript s (over s q)
-  same s q above r = record { limits = refl; songs = refl; lists = refl; above = above; player = r }
+  same s q above r = record { limits = refl; commands = refl; songs = refl; lists = refl; above = above; player = r }
 
   shows_same : (text : List ℕ) (s : ScriptData P) (q : Option Q) → 1 ≤ s.limits.max_version → SamePlayer s.player q
       → SameShown (record { script = s; text = text }) (record { script = over s q; text = text })
@@ -103,14 +105,15 @@ module _ {P Q : Type 0} (R : P → Q → Type 0) where
   above_with limits MaxId number above most = above
   above_with limits MaxCut number above most = above
   above_with limits History number above most = above
+  above_with limits Everyday number above most = above
 
   lowers_same : (s : ScriptData P) (q : Option Q) (name : LimitName) (number : ℕ) → 1 ≤ s.limits.max_version → 1 ≤ number → SamePlayer s.player q
       → SameShown (lowers s name number) (lowers (over s q) name number)
   lowers_same s q name number above most r =
-      subst (λ (c : Bool). SameShown (lowers s name number) (if c then bad (over s q) else record { script = record (over s q) { limits = limits_with s.limits name number }; text = [] }))
+      subst (λ (c : Bool). SameShown (lowers s name number) (if c then bad (over s q) else record { script = record (over s q) { limits = limits_with s.limits name number; commands = commands_with s.commands name }; text = [] }))
       (same_some s.player q r)
       (either (is_some s.player) _ _ _ _ (shows_same _ s q above r)
-      (shows_same [] (record s { limits = limits_with s.limits name number }) q (above_with s.limits name number above most) r))
+      (shows_same [] (record s { limits = limits_with s.limits name number; commands = commands_with s.commands name }) q (above_with s.limits name number above most) r))
 
 module _ {P Q : Type 0} (m : PlayerKind P) (n : PlayerKind Q) (R : P → Q → Type 0) (agree : Agree m n R) where
   -- what is refused by one is refused by the other
@@ -134,13 +137,13 @@ module _ {P Q : Type 0} (m : PlayerKind P) (n : PlayerKind Q) (R : P → Q → T
       subst (λ (fault : Option PartitionFault). SameRun R (asked_run m p number request found) (request_run n q number request fault))
       (refuses_same p q (alone_line number request) found r) (request_same p q number request (refusal m p (alone_line number request) found) r)
 
-  alone_same : (p : P) (q : Q) (number : ℕ) (line : List ℕ) (memory : Memory) → R p q → SameRun R (alone_run m p number line memory) (alone_run n q number line memory)
-  alone_same p q number line Ample r = asked_same p q number (request_of line false) (found_then Ample) r
-  alone_same p q number line NoneToConnect r = asked_same p q number (request_of line false) (found_then NoneToConnect) r
-  alone_same p q number line NoneToFoldFirst r = asked_same p q number (request_of line false) (found_then NoneToFoldFirst) r
-  alone_same p q number line (NoneToRead place) r = record { player = r; list = refl; text = refl; connected = refl }
-  alone_same p q number line (NoneToRun place) r = asked_same p q number (request_of line false) (found_then (NoneToRun place)) r
-  alone_same p q number line (NoneToFold place) r = asked_same p q number (request_of line false) (found_then (NoneToFold place)) r
+  alone_same : (set : CommandSet) (p : P) (q : Q) (number : ℕ) (line : List ℕ) (memory : Memory) → R p q → SameRun R (alone_run m set p number line memory) (alone_run n set q number line memory)
+  alone_same set p q number line Ample r = asked_same p q number (request_of line set) (found_then Ample) r
+  alone_same set p q number line NoneToConnect r = asked_same p q number (request_of line set) (found_then NoneToConnect) r
+  alone_same set p q number line NoneToFoldFirst r = asked_same p q number (request_of line set) (found_then NoneToFoldFirst) r
+  alone_same set p q number line (NoneToRead place) r = record { player = r; list = refl; text = refl; connected = refl }
+  alone_same set p q number line (NoneToRun place) r = asked_same p q number (request_of line set) (found_then (NoneToRun place)) r
+  alone_same set p q number line (NoneToFold place) r = asked_same p q number (request_of line set) (found_then (NoneToFold place)) r
 
   record SameList (a : ListRun P) (b : ListRun Q) : Type 0 where
     player : R a.player b.player
@@ -172,9 +175,9 @@ module _ {P Q : Type 0} (m : PlayerKind P) (n : PlayerKind Q) (R : P → Q → T
       (refuses_same p q event (found place) r)
       (list_step_same p (m.after p event) q (n.after q event) place request (refusal m p event (found place)) (m.told p event) (n.told q event) _ _ r after (agree.told p q event r) rest)
 
-  commands_same : (p : P) (q : Q) (number : ℕ) (commands : CommandList) (memory : Memory) → R p q → SameRun R (commands_run m p number commands memory) (commands_run n q number commands memory)
-  commands_same p q number commands memory r =
-      let ran = list_same p q number commands.form 0 (read_of memory (map request_in commands.lines)) (found_at memory) (end_of memory (length commands.lines)) r in
+  commands_same : (set : CommandSet) (p : P) (q : Q) (number : ℕ) (commands : CommandList) (memory : Memory) → R p q → SameRun R (commands_run m set p number commands memory) (commands_run n set q number commands memory)
+  commands_same set p q number commands memory r =
+      let ran = list_same p q number commands.form 0 (read_of memory (map (request_in set) commands.lines)) (found_at memory) (end_of memory (length commands.lines)) r in
       record {
         player = ran.player;
         list = refl;
@@ -201,48 +204,48 @@ module _ {P Q : Type 0} (m : PlayerKind P) (n : PlayerKind Q) (R : P → Q → T
     connected = refl;
   }
 
-  taken_same : (p : P) (q : Q) (list next : Option CommandList) (number : ℕ) (line : List ℕ) (memory : Memory) (taken : Taken) → R p q
-      → SameRun R (taken_run m p list next number line memory taken) (taken_run n q list next number line memory taken)
-  taken_same p q list next number line memory AloneLine r = alone_same p q number line memory r
-  taken_same p q list next number line memory Begun r = record { player = r; list = refl; text = refl; connected = refl }
-  taken_same p q list next number line memory Collected r = collected_same p q list next number memory r
-  taken_same p q list next number line memory (Ended commands) r = commands_same p q number commands memory r
-  taken_same p q list next number line memory TooLarge r =
+  taken_same : (set : CommandSet) (p : P) (q : Q) (list next : Option CommandList) (number : ℕ) (line : List ℕ) (memory : Memory) (taken : Taken) → R p q
+      → SameRun R (taken_run m set p list next number line memory taken) (taken_run n set q list next number line memory taken)
+  taken_same set p q list next number line memory AloneLine r = alone_same set p q number line memory r
+  taken_same set p q list next number line memory Begun r = record { player = r; list = refl; text = refl; connected = refl }
+  taken_same set p q list next number line memory Collected r = collected_same p q list next number memory r
+  taken_same set p q list next number line memory (Ended commands) r = commands_same set p q number commands memory r
+  taken_same set p q list next number line memory TooLarge r =
       subst (λ (fault : Option PartitionFault). SameRun R (too_large_run m p list number (refusal m p (Disconnect number) (found_then memory))) (too_large_run n q list number fault))
       (refuses_same p q (Disconnect number) (found_then memory) r) (too_large_same p q list number (refusal m p (Disconnect number) (found_then memory)) r)
 
-  line_same : (p : P) (q : Q) (list : Option CommandList) (number : ℕ) (line : List ℕ) (memory : Memory) → R p q
-      → SameRun R (line_run m p list number line memory) (line_run n q list number line memory)
-  line_same p q list number line memory r =
-      taken_same p q list (outcome_of list (Some line)).open_list number line memory (outcome_of list (Some line)).taken r
+  line_same : (set : CommandSet) (p : P) (q : Q) (list : Option CommandList) (number : ℕ) (line : List ℕ) (memory : Memory) → R p q
+      → SameRun R (line_run m set p list number line memory) (line_run n set q list number line memory)
+  line_same set p q list number line memory r =
+      taken_same set p q list (outcome_of list (Some line)).open_list number line memory (outcome_of list (Some line)).taken r
 
-  new_same : (p : P) (q : Q) (list : Option CommandList) (number : ℕ) (line : List ℕ) (memory : Memory) (fault : Option PartitionFault) → R p q
-      → SameRun R (line_after m (connect_run m p list number fault) number line memory) (line_after n (connect_run n q list number fault) number line memory)
-  new_same p q list number line memory (Some fault) r = record { player = agree.left p q fault r; list = refl; text = refl; connected = refl }
-  new_same p q list number line memory None r =
-      let ran = line_same (m.after p (Connect number)) (n.after q (Connect number)) list number line memory (agree.after p q (Connect number) r) in
+  new_same : (set : CommandSet) (p : P) (q : Q) (list : Option CommandList) (number : ℕ) (line : List ℕ) (memory : Memory) (fault : Option PartitionFault) → R p q
+      → SameRun R (line_after m set (connect_run m p list number fault) number line memory) (line_after n set (connect_run n q list number fault) number line memory)
+  new_same set p q list number line memory (Some fault) r = record { player = agree.left p q fault r; list = refl; text = refl; connected = refl }
+  new_same set p q list number line memory None r =
+      let ran = line_same set (m.after p (Connect number)) (n.after q (Connect number)) list number line memory (agree.after p q (Connect number) r) in
       record {
         player = ran.player;
         list = ran.list;
-        text = ap (λ (t : OutcomeData). told_for number t ++ (line_run m (m.after p (Connect number)) list number line memory).text) (agree.told p q (Connect number) r)
+        text = ap (λ (t : OutcomeData). told_for number t ++ (line_run m set (m.after p (Connect number)) list number line memory).text) (agree.told p q (Connect number) r)
             ∙ ap (λ (t : List ℕ). told_for number (n.told q (Connect number)) ++ t) ran.text;
         connected = ran.connected;
       }
 
-  client_if : (there : Bool) (p : P) (q : Q) (list : Option CommandList) (number : ℕ) (line : List ℕ) (memory : Memory) (fault : Option PartitionFault) → R p q
-      → SameRun R (if there then line_run m p list number line memory else line_after m (connect_run m p list number fault) number line memory)
-      (if there then line_run n q list number line memory else line_after n (connect_run n q list number fault) number line memory)
-  client_if true p q list number line memory fault r = line_same p q list number line memory r
-  client_if false p q list number line memory fault r = new_same p q list number line memory fault r
+  client_if : (set : CommandSet) (there : Bool) (p : P) (q : Q) (list : Option CommandList) (number : ℕ) (line : List ℕ) (memory : Memory) (fault : Option PartitionFault) → R p q
+      → SameRun R (if there then line_run m set p list number line memory else line_after m set (connect_run m p list number fault) number line memory)
+      (if there then line_run n set q list number line memory else line_after n set (connect_run n q list number fault) number line memory)
+  client_if set true p q list number line memory fault r = line_same set p q list number line memory r
+  client_if set false p q list number line memory fault r = new_same set p q list number line memory fault r
 
-  client_same : (p : P) (q : Q) (list : Option CommandList) (number : ℕ) (line : List ℕ) (memory : Memory) → R p q → SameRun R (client_run m p list number line memory) (client_run n q list number line memory)
+  client_same : (set : CommandSet) (p : P) (q : Q) (list : Option CommandList) (number : ℕ) (line : List ℕ) (memory : Memory) → R p q → SameRun R (client_run m set p list number line memory) (client_run n set q list number line memory)
   unfolding client_run
-  client_same p q list number line memory r =
-      subst (λ (there : Bool). SameRun R (client_run m p list number line memory)
-      (if there then line_run n q list number line memory else line_after n (connect_run n q list number (refusal n q (Connect number) (found_first memory))) number line memory)) (agree.there p q number r)
-      (subst (λ (fault : Option PartitionFault). SameRun R (client_run m p list number line memory)
-      (if m.is_there number p then line_run n q list number line memory else line_after n (connect_run n q list number fault) number line memory)) (refuses_same p q (Connect number) (found_first memory) r)
-      (client_if (m.is_there number p) p q list number line memory (refusal m p (Connect number) (found_first memory)) r))
+  client_same set p q list number line memory r =
+      subst (λ (there : Bool). SameRun R (client_run m set p list number line memory)
+      (if there then line_run n set q list number line memory else line_after n set (connect_run n q list number (refusal n q (Connect number) (found_first memory))) number line memory)) (agree.there p q number r)
+      (subst (λ (fault : Option PartitionFault). SameRun R (client_run m set p list number line memory)
+      (if m.is_there number p then line_run n set q list number line memory else line_after n set (connect_run n q list number fault) number line memory)) (refuses_same p q (Connect number) (found_first memory) r)
+      (client_if set (m.is_there number p) p q list number line memory (refusal m p (Connect number) (found_first memory)) r))
 
   sent_same : (s : ScriptData P) (p : P) (q : Q) (number : ℕ) (fault : Option PartitionFault) → 1 ≤ s.limits.max_version → SamePlayer R s.player (Some q) → R p q
       → SameShown R (sent_off m s p number fault) (sent_off n (over R s (Some q)) q number fault)
@@ -255,13 +258,13 @@ module _ {P Q : Type 0} (m : PlayerKind P) (n : PlayerKind Q) (R : P → Q → T
       }
 
   -- by the player that is there
-  sends_same : (limits : Limits) (songs : List SongData) (lists : List (Option CommandList)) (p : Option P) (q : Option Q) (number : ℕ) (found : Found) → 1 ≤ limits.max_version → SamePlayer R p q
-      → SameShown R (sends_off m (record { limits = limits; songs = songs; lists = lists; player = p }) p number found) (sends_off n (record { limits = limits; songs = songs; lists = lists; player = q }) q number found)
-  sends_same limits songs lists None None number found above r = shows_same R _ (record { limits = limits; songs = songs; lists = lists; player = None }) None above r
-  sends_same limits songs lists None (Some q) number found above r = absurd r
-  sends_same limits songs lists (Some p) None number found above r = absurd r
-  sends_same limits songs lists (Some p) (Some q) number found above r =
-      let s : ScriptData P = record { limits = limits; songs = songs; lists = lists; player = Some p } in
+  sends_same : (limits : Limits) (commands : CommandSet) (songs : List SongData) (lists : List (Option CommandList)) (p : Option P) (q : Option Q) (number : ℕ) (found : Found) → 1 ≤ limits.max_version → SamePlayer R p q
+      → SameShown R (sends_off m (record { limits = limits; commands = commands; songs = songs; lists = lists; player = p }) p number found) (sends_off n (record { limits = limits; commands = commands; songs = songs; lists = lists; player = q }) q number found)
+  sends_same limits commands songs lists None None number found above r = shows_same R _ (record { limits = limits; commands = commands; songs = songs; lists = lists; player = None }) None above r
+  sends_same limits commands songs lists None (Some q) number found above r = absurd r
+  sends_same limits commands songs lists (Some p) None number found above r = absurd r
+  sends_same limits commands songs lists (Some p) (Some q) number found above r =
+      let s : ScriptData P = record { limits = limits; commands = commands; songs = songs; lists = lists; player = Some p } in
       subst (λ (fault : Option PartitionFault). SameShown R (sent_off m s p number (refusal m p (Disconnect number) found)) (sent_off n (over R s (Some q)) q number fault))
       (refuses_same p q (Disconnect number) found r) (sent_same s p q number (refusal m p (Disconnect number) found) above r r)
 
@@ -276,30 +279,30 @@ module _ {P Q : Type 0} (m : PlayerKind P) (n : PlayerKind Q) (R : P → Q → T
       }
 
   -- by the player that is there
-  applies_same : (limits : Limits) (songs : List SongData) (lists : List (Option CommandList)) (p : Option P) (q : Option Q) (event : Event) (found : Found) → 1 ≤ limits.max_version → SamePlayer R p q
-      → SameShown R (applies m (record { limits = limits; songs = songs; lists = lists; player = p }) p event found) (applies n (record { limits = limits; songs = songs; lists = lists; player = q }) q event found)
-  applies_same limits songs lists None None event found above r = shows_same R _ (record { limits = limits; songs = songs; lists = lists; player = None }) None above r
-  applies_same limits songs lists None (Some q) event found above r = absurd r
-  applies_same limits songs lists (Some p) None event found above r = absurd r
-  applies_same limits songs lists (Some p) (Some q) event found above r =
-      let s : ScriptData P = record { limits = limits; songs = songs; lists = lists; player = Some p } in
+  applies_same : (limits : Limits) (commands : CommandSet) (songs : List SongData) (lists : List (Option CommandList)) (p : Option P) (q : Option Q) (event : Event) (found : Found) → 1 ≤ limits.max_version → SamePlayer R p q
+      → SameShown R (applies m (record { limits = limits; commands = commands; songs = songs; lists = lists; player = p }) p event found) (applies n (record { limits = limits; commands = commands; songs = songs; lists = lists; player = q }) q event found)
+  applies_same limits commands songs lists None None event found above r = shows_same R _ (record { limits = limits; commands = commands; songs = songs; lists = lists; player = None }) None above r
+  applies_same limits commands songs lists None (Some q) event found above r = absurd r
+  applies_same limits commands songs lists (Some p) None event found above r = absurd r
+  applies_same limits commands songs lists (Some p) (Some q) event found above r =
+      let s : ScriptData P = record { limits = limits; commands = commands; songs = songs; lists = lists; player = Some p } in
       subst (λ (fault : Option PartitionFault). SameShown R (applied m s p event (refusal m p event found)) (applied n (over R s (Some q)) q event fault))
       (refuses_same p q event found r) (applied_same s p q event (refusal m p event found) above r r)
 
   -- an event of a step
   event_same : (s : ScriptData P) (q : Option Q) (event : Event) (found : Found) → 1 ≤ s.limits.max_version → SamePlayer R s.player q
       → SameShown R (applies m s s.player event found) (applies n (over R s q) q event found)
-  event_same s q event found above r = applies_same s.limits s.songs s.lists s.player q event found above r
+  event_same s q event found above r = applies_same s.limits s.commands s.songs s.lists s.player q event found above r
 
   -- what is told of the history, by the player that is there
-  window_same : (limits : Limits) (songs : List SongData) (lists : List (Option CommandList)) (p : Option P) (q : Option Q) → 1 ≤ limits.max_version → SamePlayer R p q
-      → SameShown R (shows_window m (record { limits = limits; songs = songs; lists = lists; player = p }) p) (shows_window n (record { limits = limits; songs = songs; lists = lists; player = q }) q)
-  window_same limits songs lists None None above r = shows_same R _ (record { limits = limits; songs = songs; lists = lists; player = None }) None above r
-  window_same limits songs lists None (Some q) above r = absurd r
-  window_same limits songs lists (Some p) None above r = absurd r
-  window_same limits songs lists (Some p) (Some q) above r =
+  window_same : (limits : Limits) (commands : CommandSet) (songs : List SongData) (lists : List (Option CommandList)) (p : Option P) (q : Option Q) → 1 ≤ limits.max_version → SamePlayer R p q
+      → SameShown R (shows_window m (record { limits = limits; commands = commands; songs = songs; lists = lists; player = p }) p) (shows_window n (record { limits = limits; commands = commands; songs = songs; lists = lists; player = q }) q)
+  window_same limits commands songs lists None None above r = shows_same R _ (record { limits = limits; commands = commands; songs = songs; lists = lists; player = None }) None above r
+  window_same limits commands songs lists None (Some q) above r = absurd r
+  window_same limits commands songs lists (Some p) None above r = absurd r
+  window_same limits commands songs lists (Some p) (Some q) above r =
       record {
-        script = same R (record { limits = limits; songs = songs; lists = lists; player = Some p }) (Some q) above r;
+        script = same R (record { limits = limits; commands = commands; songs = songs; lists = lists; player = Some p }) (Some q) above r;
         text = λ i. window_text (agree.window p q r i) (agree.own p q r i);
       }
 
@@ -308,13 +311,13 @@ module _ {P Q : Type 0} (m : PlayerKind P) (n : PlayerKind Q) (R : P → Q → T
   step_same s q rest None found e above r = shows_same R _ s q above r
   step_same s q rest (Some (Song song)) found e above r = collects_same R s q song above r
   step_same s q rest (Some (Limit name number)) found e above r = lowers_same R s q name number above (limit_at_least_one rest name number (sym e)) r
-  step_same s q rest (Some (Gone number)) found e above r = sends_same s.limits s.songs s.lists s.player q number found above r
+  step_same s q rest (Some (Gone number)) found e above r = sends_same s.limits s.commands s.songs s.lists s.player q number found above r
   step_same s q rest (Some Scanned) found e above r = event_same s q (scan_result s) found above r
   step_same s q rest (Some WantStep) found e above r = event_same s q (Want false) found above r
   step_same s q rest (Some (HaveStep number frames)) found e above r = event_same s q (Have number frames) found above r
   step_same s q rest (Some (FailedStep number partner)) found e above r = event_same s q (Failed number partner) found above r
   step_same s q rest (Some (TurnStep written discarded failed)) found e above r = event_same s q (OutputTurn 0 written discarded failed) found above r
-  step_same s q rest (Some Window) found e above r = window_same s.limits s.songs s.lists s.player q above r
+  step_same s q rest (Some Window) found e above r = window_same s.limits s.commands s.songs s.lists s.player q above r
 
   step_line_same : (s : ScriptData P) (q : Option Q) (rest : List ℕ) (memory : Memory) → 1 ≤ s.limits.max_version → SamePlayer R s.player q
       → SameShown R (step_line m s rest memory) (step_line n (over R s q) rest memory)
@@ -333,6 +336,7 @@ module _ {P Q : Type 0} (m : PlayerKind P) (n : PlayerKind Q) (R : P → Q → T
       → SameScript R (kept s number a) (kept (over R s player) number b)
   kept_same s player number a b above ran = record {
     limits = refl;
+    commands = refl;
     songs = refl;
     lists = ap (λ (list : Option CommandList). with_list number list s.lists) ran.list;
     above = above;
@@ -351,21 +355,21 @@ module _ {P Q : Type 0} (m : PlayerKind P) (n : PlayerKind Q) (R : P → Q → T
       subst (λ (c : Bool). SameScript R (if a.connected then kept s number a else s) (if c then kept (over R s None) number b else over R s None))
       ran.connected (kept_if a.connected s number a b above none ran)
 
-  client_line_same : (limits : Limits) (songs : List SongData) (lists : List (Option CommandList)) (p : Option P) (q : Option Q) (number : ℕ) (line : List ℕ) (memory : Memory) → 1 ≤ limits.max_version → SamePlayer R p q
-      → SameShown R (shown_client m (record { limits = limits; songs = songs; lists = lists; player = p }) p number line memory)
-      (shown_client n (record { limits = limits; songs = songs; lists = lists; player = q }) q number line memory)
-  client_line_same limits songs lists None None number line memory above r =
-      let ran = client_same (m.opens limits (in_byte_order songs)) (n.opens limits (in_byte_order songs)) (list_of number lists) number line memory (agree.opens limits (in_byte_order songs) above) in
-      record { script = first_same (record { limits = limits; songs = songs; lists = lists; player = None }) number _ _ above r ran; text = ran.text }
-  client_line_same limits songs lists None (Some q) number line memory above r = absurd r
-  client_line_same limits songs lists (Some p) None number line memory above r = absurd r
-  client_line_same limits songs lists (Some p) (Some q) number line memory above r =
-      let ran = client_same p q (list_of number lists) number line memory r in
-      record { script = kept_same (record { limits = limits; songs = songs; lists = lists; player = Some p }) (Some q) number _ _ above ran; text = ran.text }
+  client_line_same : (limits : Limits) (commands : CommandSet) (songs : List SongData) (lists : List (Option CommandList)) (p : Option P) (q : Option Q) (number : ℕ) (line : List ℕ) (memory : Memory) → 1 ≤ limits.max_version → SamePlayer R p q
+      → SameShown R (shown_client m (record { limits = limits; commands = commands; songs = songs; lists = lists; player = p }) p number line memory)
+      (shown_client n (record { limits = limits; commands = commands; songs = songs; lists = lists; player = q }) q number line memory)
+  client_line_same limits commands songs lists None None number line memory above r =
+      let ran = client_same commands (m.opens limits (in_byte_order songs)) (n.opens limits (in_byte_order songs)) (list_of number lists) number line memory (agree.opens limits (in_byte_order songs) above) in
+      record { script = first_same (record { limits = limits; commands = commands; songs = songs; lists = lists; player = None }) number _ _ above r ran; text = ran.text }
+  client_line_same limits commands songs lists None (Some q) number line memory above r = absurd r
+  client_line_same limits commands songs lists (Some p) None number line memory above r = absurd r
+  client_line_same limits commands songs lists (Some p) (Some q) number line memory above r =
+      let ran = client_same commands p q (list_of number lists) number line memory r in
+      record { script = kept_same (record { limits = limits; commands = commands; songs = songs; lists = lists; player = Some p }) (Some q) number _ _ above ran; text = ran.text }
 
   kind_same : (s : ScriptData P) (q : Option Q) (line : LineData) (memory : Memory) → 1 ≤ s.limits.max_version → SamePlayer R s.player q
       → SameShown R (shown_kind m s line memory) (shown_kind n (over R s q) line memory)
-  kind_same s q (ClientLine number line) memory above r = client_line_same s.limits s.songs s.lists s.player q number line memory above r
+  kind_same s q (ClientLine number line) memory above r = client_line_same s.limits s.commands s.songs s.lists s.player q number line memory above r
   kind_same s q (StepLine rest) memory above r = step_line_same s q rest memory above r
   kind_same s q BadLine memory above r = shows_same R _ s q above r
 
@@ -378,10 +382,11 @@ module _ {P Q : Type 0} (m : PlayerKind P) (n : PlayerKind Q) (R : P → Q → T
   line_shown_same : (s : ScriptData P) (t : ScriptData Q) (line : Option (List ℕ)) (memory : Memory) → SameScript R s t
       → SameShown R (shown_of m s line memory) (shown_of n t line memory)
   line_shown_same s t line memory both =
-      subst (λ (limits : Limits). SameShown R (shown_of m s line memory) (shown_of n (record { limits = limits; songs = t.songs; lists = t.lists; player = t.player }) line memory)) both.limits
-      (subst (λ (songs : List SongData). SameShown R (shown_of m s line memory) (shown_of n (record { limits = s.limits; songs = songs; lists = t.lists; player = t.player }) line memory)) both.songs
-      (subst (λ (lists : List (Option CommandList)). SameShown R (shown_of m s line memory) (shown_of n (record { limits = s.limits; songs = s.songs; lists = lists; player = t.player }) line memory)) both.lists
-      (over_same s t.player line memory both.above both.player)))
+      subst (λ (limits : Limits). SameShown R (shown_of m s line memory) (shown_of n (record { limits = limits; commands = t.commands; songs = t.songs; lists = t.lists; player = t.player }) line memory)) both.limits
+      (subst (λ (commands : CommandSet). SameShown R (shown_of m s line memory) (shown_of n (record { limits = s.limits; commands = commands; songs = t.songs; lists = t.lists; player = t.player }) line memory)) both.commands
+      (subst (λ (songs : List SongData). SameShown R (shown_of m s line memory) (shown_of n (record { limits = s.limits; commands = s.commands; songs = songs; lists = t.lists; player = t.player }) line memory)) both.songs
+      (subst (λ (lists : List (Option CommandList)). SameShown R (shown_of m s line memory) (shown_of n (record { limits = s.limits; commands = s.commands; songs = s.songs; lists = lists; player = t.player }) line memory)) both.lists
+      (over_same s t.player line memory both.above both.player))))
 
   -- scripts that are the same print the same, and stay so
   pub runs_same : (s : ScriptData P) (t : ScriptData Q) (run : Run) → SameScript R s t

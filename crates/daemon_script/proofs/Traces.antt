@@ -157,9 +157,9 @@ module _ (law : ReplaysWorlds) where
   player_seen (Some p) (Some q) same = λ i. Some (record { player = same.shows.0 i; shelf = same.shelf i; window = same.window i; most = same.most i })
 
   script_seen : (s : ScriptData (Shelved Image)) (t : ScriptData (Shelved Traced)) → SameScript ShowsBeside s t → s ≡ seen_script t
-  script_seen s t same = λ i. record { limits = same.limits i; songs = same.songs i; lists = same.lists i; player = player_seen s.player t.player same.player i }
+  script_seen s t same = λ i. record { limits = same.limits i; commands = same.commands i; songs = same.songs i; lists = same.lists i; player = player_seen s.player t.player same.player i }
 
   pub runs_are_traced : RunsAreTraced
   runs_are_traced run =
-      let both = runs_same images traces ShowsBeside agree_beside opening_script opening_script run (record { limits = refl; songs = refl; lists = refl; above = omega arith; player = tt }) in
+      let both = runs_same images traces ShowsBeside agree_beside opening_script opening_script run (record { limits = refl; commands = refl; songs = refl; lists = refl; above = omega arith; player = tt }) in
       (both.0, script_seen _ _ both.1)

@@ -25,7 +25,7 @@ use Rattle.daemon_script.specs.Shelf.{heard_by, shelf_after}
 
 -- a script's songs have 8,000 frames a second
 abbrev pub library_of : List SongData → Library
-library_of songs = record { songs = songs; rate = 8000; scan = never_scanned }
+library_of songs = record { songs = songs; rate = 8000; scan = never_scanned; updated = 0 }
 
 -- a script's player has one output, which is enabled
 abbrev pub one_output : OutputsData

@@ -67,7 +67,7 @@ seen_beside p = record { player = seen p.player; shelf = p.shelf; window = p.win
 
 -- what commands read of a script's trace
 abbrev pub seen_script : ScriptData (Shelved Traced) → ScriptData (Shelved Image)
-seen_script s = record { limits = s.limits; songs = s.songs; lists = s.lists; player = option_map seen_beside s.player }
+seen_script s = record { limits = s.limits; commands = s.commands; songs = s.songs; lists = s.lists; player = option_map seen_beside s.player }
 
 -- what a run prints is what the trace of its player tells, with every queue that it had and every transition;
 -- and what commands read after it is what they read of that trace

@@ -1,6 +1,6 @@
 -- What lines of a script leave and print, said of the code that runs them: `run` is what the definitions make
 -- of it, by what it found of memory (`M`).
-use Rattle.std.specs.Prelude.{◌≡◌, ◌++◌, ℕ, false, List, Option, None, unwrap_or}
+use Rattle.std.specs.Prelude.{◌≡◌, ◌++◌, ℕ, List, Option, None, unwrap_or}
 use Rattle.std.specs.Global.{Vec}
 use Rattle.command_lists.specs.declared.list.CommandList.{CommandList}
 use Rattle.daemon_script.specs.Kinds.{Shelved, images}
@@ -16,6 +16,7 @@ use Rattle.daemon_script.specs.declared.memory.Memory.TheVariants.{Ample}
 use Rattle.mpd_command.specs.declared.request.Request.{Request}
 use Rattle.daemon_script.specs.Contents.{no_contents}
 use Rattle.mpd_command.specs.Requests.{request_of}
+use Rattle.mpd_command.specs.declared.command_set.CommandSet.{CommandSet}
 use Rattle.partition.specs.Image.{Image, opening}
 use Rattle.partition.specs.declared.state.Setup.{Setup}
 use Rattle.player_state.specs.declared.state.Library.{Library}
@@ -48,12 +49,12 @@ module _ {M P : Type 0} where
   PrintsRun run old new memory = Prints old new (run memory).text
 
 -- a client's line, by what the code says of its run
-abbrev pub run_of : Shelved Image → Option CommandList → ℕ → List ℕ → line_run.LineRun → LineRun (Shelved Image)
-run_of player list number line ran = client_run images player list number line ran.memory
+abbrev pub run_of : CommandSet → Shelved Image → Option CommandList → ℕ → List ℕ → line_run.LineRun → LineRun (Shelved Image)
+run_of set player list number line ran = client_run images set player list number line ran.memory
 
 -- the same over the lists of all clients
-abbrev pub run_in : Shelved Image → List (Option CommandList) → ℕ → List ℕ → line_run.LineRun → LineRun (Shelved Image)
-run_in player lists number line ran = run_of player (list_of number lists) number line ran
+abbrev pub run_in : CommandSet → Shelved Image → List (Option CommandList) → ℕ → List ℕ → line_run.LineRun → LineRun (Shelved Image)
+run_in set player lists number line ran = run_of set player (list_of number lists) number line ran
 
 -- the connect of a client that is not there, by what it found of memory where it was refused
 abbrev pub connecting : Shelved Image → ℕ → Option Memory → LineRun (Shelved Image)
@@ -89,8 +90,8 @@ WasConnected run ran = ran.connected ≡ (run ran).connected
 
 -- what a line in no list found of memory, by why its request was refused, if it was
 abbrev pub IsFoundByRefused : Memory → Option PartitionFault → Type 0
-IsFoundByRefused memory refused = (player : Shelved Image) (number : ℕ) (line : List ℕ)
-    → alone_run images player number line memory ≡ asked_run images player number (request_of line false) (found_in refused)
+IsFoundByRefused memory refused = (set : CommandSet) (player : Shelved Image) (number : ℕ) (line : List ℕ)
+    → alone_run images set player number line memory ≡ asked_run images player number (request_of line set) (found_in refused)
 
 -- there was memory to read a step
 abbrev pub IsRead : Memory → Type 0

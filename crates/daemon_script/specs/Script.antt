@@ -15,13 +15,15 @@ use Rattle.song_db.specs.Library.{same_uri, in_byte_order}
 use Rattle.script_lines.specs.Lines.{LineData, ClientLine, StepLine, BadLine, script_line_of}
 use Rattle.script_lines.specs.Steps.{step_of}
 use Rattle.script_lines.specs.declared.limit.LimitName.{LimitName}
-use Rattle.script_lines.specs.declared.limit.LimitName.TheVariants.{MaxQueue, MaxVersion, MaxId, MaxCut, History}
+use Rattle.script_lines.specs.declared.limit.LimitName.TheVariants.{MaxQueue, MaxVersion, MaxId, MaxCut, History, Everyday}
 use Rattle.script_lines.specs.declared.step.Step.{Step}
 use Rattle.script_lines.specs.declared.step.Step.TheVariants.{Song, Limit, Gone, Scanned, Want as WantStep, Have as HaveStep, Failed as FailedStep, Turn as TurnStep, Window}
 use Rattle.transitions.specs.Answers.{Answer, closes}
 use Rattle.player_events.specs.Outcomes.{OutcomeData}
 use Rattle.status_commands.specs.Status.{notice_text}
+use Rattle.mpd_command.specs.Names.{fewest}
 use Rattle.mpd_command.specs.Requests.{request_of, name_in}
+use Rattle.mpd_command.specs.declared.command_set.CommandSet.{CommandSet}
 use Rattle.mpd_command.specs.declared.request.Request.{Request}
 use Rattle.mpd_command.specs.declared.request.Request.TheVariants.{Refused}
 use Rattle.mpd_text.specs.declared.answers.answer.ErrorNumber.TheVariants.{Argument}
@@ -41,10 +43,11 @@ use Rattle.script_reports.specs.Reports.{report_text, window_text}
 use Rattle.daemon_script.specs.declared.memory.Memory.{Memory}
 use Rattle.daemon_script.specs.declared.memory.Memory.TheVariants.{NoneToConnect, NoneToFoldFirst, NoneToRead, NoneToRun, NoneToFold}
 
--- the limits and the songs that were collected, the command list that each client has open, by its number,
--- and the player, which is there from the first client line on
+-- the limits, the commands that clients may give and the songs that were collected, the command list that each
+-- client has open, by its number, and the player, which is there from the first client line on
 pub record ScriptData (P : Type 0) : Type 0 where
   pub limits : Limits
+  pub commands : CommandSet
   pub songs : List SongData
   pub lists : List (Option CommandList)
   pub player : Option P
@@ -83,10 +86,18 @@ limits_with limits MaxVersion n = record limits { max_version = n }
 limits_with limits MaxId n = record limits { max_id = n }
 limits_with limits MaxCut n = record limits { max_cut = n }
 limits_with limits History n = record limits { history = n }
+limits_with limits Everyday n = limits
+
+-- the limit of the everyday profile gives clients its commands and forms, and no other changes what they have
+abbrev pub commands_with : CommandSet → LimitName → CommandSet
+commands_with set Everyday = record set { everyday = true }
+commands_with set _ = set
 
 -- a limit is set, before the player is there
 abbrev pub lowers : {P : Type 0} → ScriptData P → LimitName → ℕ → Shown P
-lowers s name n = if is_some s.player then bad s else record { script = record s { limits = limits_with s.limits name n }; text = [] }
+lowers s name n =
+    if is_some s.player then bad s
+    else record { script = record s { limits = limits_with s.limits name n; commands = commands_with s.commands name }; text = [] }
 
 -- the lines of a text, each with its newline, and what is left after the last newline
 abbrev pub lines_in_text : List ℕ → List (List ℕ)
@@ -172,10 +183,10 @@ pub record ListRun (P : Type 0) : Type 0 where
   pub tolds : List OutcomeData
   pub ending : List ℕ
 
--- what a line of a list asks for
-abbrev pub request_in : ListLine → Request
-request_in (Text line) = request_of line false
-request_in NotText = Refused (record { number = Argument; command = None; text = codes "line is not UTF-8" })
+-- what a line of a list asks for, where clients may give these commands
+abbrev pub request_in : CommandSet → ListLine → Request
+request_in set (Text line) = request_of line set
+request_in set NotText = Refused (record { number = Argument; command = None; text = codes "line is not UTF-8" })
 
 -- the lines of a list are read before its first command is run: those that there was memory to read
 abbrev pub read_of : Memory → List Request → List Request
@@ -241,7 +252,7 @@ alone_line number request = Line number Alone request no_store_reply
 
 -- the scan that runs ends with all songs that were collected
 abbrev pub scan_result : {P : Type 0} → ScriptData P → Event
-scan_result s = ScanResult (Some (in_byte_order s.songs))
+scan_result s = ScanResult (Some (in_byte_order s.songs)) 0
 
 module _ {P : Type 0} (kind : PlayerKind P) where
   -- why an event is refused, if it is, by what it found of memory
@@ -316,10 +327,10 @@ module _ {P : Type 0} (kind : PlayerKind P) where
   abbrev pub asked_run : P → ℕ → Request → Found → LineRun P
   asked_run player number request found = request_run player number request (refusal player (alone_line number request) found)
 
-  -- a line in no list
-  abbrev pub alone_run : P → ℕ → List ℕ → Memory → LineRun P
-  alone_run player number line (NoneToRead place) = record { player = player; list = None; text = fault_for number [] NoMemory; connected = true }
-  alone_run player number line memory = asked_run player number (request_of line false) (found_then memory)
+  -- a line in no list, where clients may give these commands
+  abbrev pub alone_run : CommandSet → P → ℕ → List ℕ → Memory → LineRun P
+  alone_run set player number line (NoneToRead place) = record { player = player; list = None; text = fault_for number [] NoMemory; connected = true }
+  alone_run set player number line memory = asked_run player number (request_of line set) (found_then memory)
 
   -- the requests of a list from this place on, one event after the other, up to the first that ends the list
   -- or finds no memory
@@ -336,9 +347,9 @@ module _ {P : Type 0} (kind : PlayerKind P) where
 
   -- a list that has ended is run under other clients' eyes: first comes its whole answer, and then the
   -- notices to others
-  abbrev pub commands_run : P → ℕ → CommandList → Memory → LineRun P
-  commands_run player number commands memory =
-      let ran = list_run player number commands.form 0 (read_of memory (map request_in commands.lines)) (found_at memory) (end_of memory (length commands.lines)) in
+  abbrev pub commands_run : CommandSet → P → ℕ → CommandList → Memory → LineRun P
+  commands_run set player number commands memory =
+      let ran = list_run player number commands.form 0 (read_of memory (map (request_in set) commands.lines)) (found_at memory) (end_of memory (length commands.lines)) in
       record { player = ran.player; list = None; text = lines_for number (list_answer ran) ++ notices_by_number ran.tolds; connected = true }
 
   -- a line that is collected prints nothing
@@ -357,17 +368,17 @@ module _ {P : Type 0} (kind : PlayerKind P) where
         connected = true;
       }
 
-  abbrev pub taken_run : P → Option CommandList → Option CommandList → ℕ → List ℕ → Memory → Taken → LineRun P
-  taken_run player list next number line memory AloneLine = alone_run player number line memory
-  taken_run player list next number line memory Begun = record { player = player; list = next; text = []; connected = true }
-  taken_run player list next number line memory Collected = collected_run player list next number memory
-  taken_run player list next number line memory (Ended commands) = commands_run player number commands memory
-  taken_run player list next number line memory TooLarge = too_large_run player list number (refusal player (Disconnect number) (found_then memory))
+  abbrev pub taken_run : CommandSet → P → Option CommandList → Option CommandList → ℕ → List ℕ → Memory → Taken → LineRun P
+  taken_run set player list next number line memory AloneLine = alone_run set player number line memory
+  taken_run set player list next number line memory Begun = record { player = player; list = next; text = []; connected = true }
+  taken_run set player list next number line memory Collected = collected_run player list next number memory
+  taken_run set player list next number line memory (Ended commands) = commands_run set player number commands memory
+  taken_run set player list next number line memory TooLarge = too_large_run player list number (refusal player (Disconnect number) (found_then memory))
 
   -- the line of a client that is there, by the list that it has open
-  abbrev pub line_run : P → Option CommandList → ℕ → List ℕ → Memory → LineRun P
-  line_run player list number line memory =
-      taken_run player list (outcome_of list (Some line)).open_list number line memory (outcome_of list (Some line)).taken
+  abbrev pub line_run : CommandSet → P → Option CommandList → ℕ → List ℕ → Memory → LineRun P
+  line_run set player list number line memory =
+      taken_run set player list (outcome_of list (Some line)).open_list number line memory (outcome_of list (Some line)).taken
 
   -- the connect of a client that is not there
   abbrev pub connect_run : P → Option CommandList → ℕ → Option PartitionFault → LineRun P
@@ -376,22 +387,22 @@ module _ {P : Type 0} (kind : PlayerKind P) where
       record { player = kind.after player (Connect number); list = list; text = told_for number (kind.told player (Connect number)); connected = true }
 
   -- a line that follows its client's connect; where that was refused it is not run
-  abbrev pub line_after : LineRun P → ℕ → List ℕ → Memory → LineRun P
-  line_after ran number line memory = if ran.connected then after_text ran.text (line_run ran.player ran.list number line memory) else ran
+  abbrev pub line_after : CommandSet → LineRun P → ℕ → List ℕ → Memory → LineRun P
+  line_after set ran number line memory = if ran.connected then after_text ran.text (line_run set ran.player ran.list number line memory) else ran
 
-  unfoldable pub client_run : P → Option CommandList → ℕ → List ℕ → Memory → LineRun P
-  client_run player list number line memory =
-      if kind.is_there number player then line_run player list number line memory
-      else line_after (connect_run player list number (refusal player (Connect number) (found_first memory))) number line memory
+  unfoldable pub client_run : CommandSet → P → Option CommandList → ℕ → List ℕ → Memory → LineRun P
+  client_run set player list number line memory =
+      if kind.is_there number player then line_run set player list number line memory
+      else line_after set (connect_run player list number (refusal player (Connect number) (found_first memory))) number line memory
 
   -- a client line, which opens the player over the songs so far if it is the first. Where the connect of a
   -- first line is refused, no player is there
   abbrev pub shown_client : ScriptData P → Option P → ℕ → List ℕ → Memory → Shown P
   shown_client s (Some player) number line memory =
-      let ran = client_run player (list_of number s.lists) number line memory in
+      let ran = client_run s.commands player (list_of number s.lists) number line memory in
       record { script = record s { player = Some ran.player; lists = with_list number ran.list s.lists }; text = ran.text }
   shown_client s None number line memory =
-      let ran = client_run (kind.opens s.limits (in_byte_order s.songs)) (list_of number s.lists) number line memory in
+      let ran = client_run s.commands (kind.opens s.limits (in_byte_order s.songs)) (list_of number s.lists) number line memory in
       record { script = if ran.connected then record s { player = Some ran.player; lists = with_list number ran.list s.lists } else s; text = ran.text }
 
   abbrev pub shown_kind : ScriptData P → LineData → Memory → Shown P
@@ -410,4 +421,4 @@ no_lists = None ∷ None ∷ None ∷ None ∷ None ∷ None ∷ None ∷ None �
 
 -- a script to which no line came
 abbrev pub opening_script : {P : Type 0} → ScriptData P
-opening_script = record { limits = record { max_queue = 16384; max_version = 2147483647; max_id = 2147483647; max_cut = 9223372036854775807; history = 4096 }; songs = []; lists = no_lists; player = None }
+opening_script = record { limits = record { max_queue = 16384; max_version = 2147483647; max_id = 2147483647; max_cut = 9223372036854775807; history = 4096 }; commands = fewest; songs = []; lists = no_lists; player = None }

@@ -10,7 +10,7 @@ use crate::memory::Memory;
 use crate::player::Player;
 use command_lists::{ListCollector, Taken};
 use idle_clients::Notice;
-use mpd_command::Request;
+use mpd_command::{CommandSet, Request};
 use mpd_text::{Answer, ErrorNumber};
 use partition::PartitionFault;
 use player_events::{Event, Outcome};
@@ -28,16 +28,17 @@ pub(crate) struct LineRun {
 #[tactic(auto, unfolding(crate::specs::Script::client_run))]
 pub(crate) fn run_line(
     alloc: Global,
+    set: CommandSet,
     player: &mut Player,
     list: &mut ListCollector,
     number: u32,
     line: &str,
     shown: &mut Vec<u8>,
 ) -> Result<LineRun, AllocError>
-    ensures player { IfOk result (LeavesPlayer (run_of player.old list.old number line.now) player.new) }
-    ensures list { IfOk result (LeavesList (run_of player.old list.old number line.now) list.new) }
-    ensures text { IfOk result (PrintsRun (run_of player.old list.old number line.now) shown.old shown.new) }
-    ensures connected { IfOk result (WasConnected (run_of player.old list.old number line.now)) }
+    ensures player { IfOk result (LeavesPlayer (run_of set player.old list.old number line.now) player.new) }
+    ensures list { IfOk result (LeavesList (run_of set player.old list.old number line.now) list.new) }
+    ensures text { IfOk result (PrintsRun (run_of set player.old list.old number line.now) shown.old shown.new) }
+    ensures connected { IfOk result (WasConnected (run_of set player.old list.old number line.now)) }
     // Where its client's connect is refused, an open list stays.
     ensures kept { IfOk result (λ ran. ran.connected ≡ false → list.new ≡ list.old) }
 {
@@ -49,7 +50,7 @@ pub(crate) fn run_line(
             });
         }
     }
-    let memory = run_connected_line(alloc, player, list, number, line, shown)?;
+    let memory = run_connected_line(alloc, set, player, list, number, line, shown)?;
     Ok(LineRun {
         memory,
         connected: true,
@@ -94,24 +95,25 @@ fn memory_to_connect(fault: PartitionFault) -> Memory
 /// Runs the line of a client that is there, by the command list that it has open.
 fn run_connected_line(
     alloc: Global,
+    set: CommandSet,
     player: &mut Player,
     list: &mut ListCollector,
     number: u32,
     line: &str,
     shown: &mut Vec<u8>,
 ) -> Result<Memory, AllocError>
-    ensures player { IfOk result (LeavesPlayer (line_run images player.old list.old number line.now) player.new) }
-    ensures list { IfOk result (LeavesList (line_run images player.old list.old number line.now) list.new) }
-    ensures text { IfOk result (PrintsRun (line_run images player.old list.old number line.now) shown.old shown.new) }
+    ensures player { IfOk result (LeavesPlayer (line_run images set player.old list.old number line.now) player.new) }
+    ensures list { IfOk result (LeavesList (line_run images set player.old list.old number line.now) list.new) }
+    ensures text { IfOk result (PrintsRun (line_run images set player.old list.old number line.now) shown.old shown.new) }
     ensures connects { IfOk result (λ memory. found_first memory ≡ Enough) }
 {
     if list.is_too_large_with(Some(line)) {
         return close_with_list(alloc, player, list, number, shown);
     }
     match list.take(alloc, Some(line)) {
-        Ok(Taken::Alone) => run_line_alone(alloc, player, number, line, shown),
+        Ok(Taken::Alone) => run_line_alone(alloc, set, player, number, line, shown),
         Ok(Taken::Begun | Taken::Collected) => Ok(Memory::Ample),
-        Ok(Taken::Ended(commands)) => run_commands(alloc, player, number, &commands, shown),
+        Ok(Taken::Ended(commands)) => run_commands(alloc, set, player, number, &commands, shown),
         Ok(Taken::TooLarge) => unreachable!(),
         Err(AllocError) => {
             push_fault(alloc, shown, number, "", PartitionFault::NoMemory)?;
@@ -163,16 +165,17 @@ fn memory_to_run(refused: Option<PartitionFault>) -> Memory
 /// Runs a line that is in no list.
 fn run_line_alone(
     alloc: Global,
+    set: CommandSet,
     player: &mut Player,
     number: u32,
     line: &str,
     shown: &mut Vec<u8>,
 ) -> Result<Memory, AllocError>
-    ensures player { IfOk result (LeavesPlayer (alone_run images player.old number line.now) player.new) }
-    ensures text { IfOk result (PrintsRun (alone_run images player.old number line.now) shown.old shown.new) }
+    ensures player { IfOk result (LeavesPlayer (alone_run images set player.old number line.now) player.new) }
+    ensures text { IfOk result (PrintsRun (alone_run images set player.old number line.now) shown.old shown.new) }
     ensures connects { IfOk result (λ memory. found_first memory ≡ Enough) }
 {
-    let Ok(request) = Request::of_line(alloc, line, false) else {
+    let Ok(request) = Request::of_line(alloc, line, set) else {
         push_fault(alloc, shown, number, "", PartitionFault::NoMemory)?;
         return Ok(Memory::NoneToRead(0));
     };

@@ -11,7 +11,7 @@ use crate::memory::Memory;
 use crate::player::Player;
 use command_lists::{CommandList, ListLine};
 use idle_clients::Notice;
-use mpd_command::{Ack, Request};
+use mpd_command::{Ack, CommandSet, Request};
 use mpd_text::{Answer, ErrorNumber, Text};
 use partition::{ListFault, ListOutcome, PartitionFault};
 use player_events::Outcome;
@@ -24,16 +24,17 @@ const CLIENT_NUMBERS: [u32; 9] = [1, 2, 3, 4, 5, 6, 7, 8, 9];
 /// others. The commands before one that cannot be read or run for want of memory stand.
 pub(crate) fn run_commands(
     alloc: Global,
+    set: CommandSet,
     player: &mut Player,
     number: u32,
     commands: &CommandList,
     shown: &mut Vec<u8>,
 ) -> Result<Memory, AllocError>
-    ensures player { IfOk result (LeavesPlayer (commands_run images player.old number commands.now) player.new) }
-    ensures text { IfOk result (PrintsRun (commands_run images player.old number commands.now) shown.old shown.new) }
+    ensures player { IfOk result (LeavesPlayer (commands_run images set player.old number commands.now) player.new) }
+    ensures text { IfOk result (PrintsRun (commands_run images set player.old number commands.now) shown.old shown.new) }
     ensures connects { IfOk result (λ memory. found_first memory ≡ Enough) }
 {
-    let (requests, memory) = read_all(alloc, commands.lines.items());
+    let (requests, memory) = read_all(alloc, set, commands.lines.items());
     let end = end_of(alloc, memory, commands.lines.items().len())?;
     match player.run_list(number, commands.form, requests) {
         Ok(outcome) => {
@@ -61,14 +62,14 @@ fn stopped_at(memory: Memory, done: usize, cause: PartitionFault) -> Memory
 }
 
 /// What the lines of a list ask for, up to the first that there was no memory to read.
-fn read_all(alloc: Global, lines: &[ListLine]) -> (Vec<Request>, Memory)
-    ensures read { result.0.items ≡ read_of result.1 (map request_in_lem lines.now) }
+fn read_all(alloc: Global, set: CommandSet, lines: &[ListLine]) -> (Vec<Request>, Memory)
+    ensures read { result.0.items ≡ read_of result.1 (map (request_in_lem set) lines.now) }
     ensures runs { (place : ℕ) → found_at result.1 place ≡ Enough }
     ensures connects { found_first result.1 ≡ Enough }
 {
     let mut requests = Vec::new(alloc);
     for (place, line) in lines.iter().enumerate() {
-        let Ok(()) = push_request(alloc, &mut requests, line) else {
+        let Ok(()) = push_request(alloc, set, &mut requests, line) else {
             return (requests, Memory::NoneToRead(place));
         };
     }
@@ -78,22 +79,23 @@ fn read_all(alloc: Global, lines: &[ListLine]) -> (Vec<Request>, Memory)
 /// Puts what a line of a list asks for after other requests.
 fn push_request(
     alloc: Global,
+    set: CommandSet,
     requests: &mut Vec<Request>,
     line: &ListLine,
 ) -> Result<(), AllocError>
-    ensures ok { OnOk result (requests.new.items ≡ requests.old.items ++ request_in_lem line.now ∷ []) }
+    ensures ok { OnOk result (requests.new.items ≡ requests.old.items ++ request_in_lem set line.now ∷ []) }
     ensures err { OnErr result (requests.new.items ≡ requests.old.items) }
 {
-    let request = request_in(alloc, line)?;
+    let request = request_in(alloc, set, line)?;
     Ok(requests.push(request)?)
 }
 
 /// What a line of a list asks for.
-fn request_in(alloc: Global, line: &ListLine) -> Result<Request, AllocError>
-    ensures { IfOk result (λ request. request ≡ request_in_lem line.now) }
+fn request_in(alloc: Global, set: CommandSet, line: &ListLine) -> Result<Request, AllocError>
+    ensures { IfOk result (λ request. request ≡ request_in_lem set line.now) }
 {
     match line {
-        ListLine::Text(line) => Request::of_line(alloc, line.as_str(), false),
+        ListLine::Text(line) => Request::of_line(alloc, line.as_str(), set),
         ListLine::NotText => Ok(Request::Refused(Ack {
             number: ErrorNumber::Argument,
             command: None,

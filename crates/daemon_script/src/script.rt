@@ -12,6 +12,7 @@ use crate::client_lines::{LineRun, push_fault, push_notices, run_line};
 use crate::memory::Memory;
 use crate::player::Player;
 use command_lists::ListCollector;
+use mpd_command::CommandSet;
 use mpd_text::{Line, SharedText, Song, Tag};
 use partition::{Limits, PartitionFault, Setup};
 use player_events::Event;
@@ -29,6 +30,8 @@ const MOST_CUTS: u64 = (1 << 63) - 1;
 pub(crate) struct Script {
     alloc: Global,
     limits: Limits,
+    /// The commands that clients may give.
+    commands: CommandSet,
     songs: Vec<Song>,
     /// The command list that each client has open, by its number.
     lists: [ListCollector; 10],
@@ -41,6 +44,7 @@ impl Drop for Script {
         let Script {
             alloc: _,
             limits: _,
+            commands: _,
             songs: _,
             lists: _,
             player: _,
@@ -62,7 +66,7 @@ impl Model for Script {
 
     ghost coded = { Prim.hlevel (codes, finite.code) };
 
-    ghost view = { λ s. record { limits = s.limits; songs = s.songs.items; lists = s.lists; player = s.player } };
+    ghost view = { λ s. record { limits = s.limits; commands = s.commands; songs = s.songs.items; lists = s.lists; player = s.player } };
 
     ghost invariant = { λ s. IsScript s.limits s.songs.items };
 }
@@ -81,6 +85,7 @@ impl Script {
                 max_cut: MOST_CUTS,
                 history: MAX_HISTORY,
             },
+            commands: CommandSet::base(),
             songs: Vec::new(alloc),
             lists: no_lists(),
             player: None,
@@ -157,6 +162,7 @@ impl Script {
             LimitName::MaxId => self.limits.max_id = n,
             LimitName::MaxCut => self.limits.max_cut = u64::from(n),
             LimitName::History => self.limits.history = n,
+            LimitName::Everyday => self.commands.everyday = true,
         }
         Ok(Memory::Ample)
     }
@@ -190,7 +196,7 @@ impl Script {
         let Ok(songs) = collected(self.alloc, &self.songs) else {
             return push_unread(shown);
         };
-        self.happen(Event::ScanResult(Some(songs)), shown)
+        self.happen(Event::ScanResult(Some(songs), 0), shown)
     }
 
     /// A step that is one event, once the player is there. Appends what the event tells, and then the notices
@@ -239,7 +245,15 @@ impl Script {
             return self.run_first_line(number, line, shown);
         };
         let lists = &mut self.lists;
-        let ran = run_listed_line(self.alloc, player, lists, number, line, shown)?;
+        let ran = run_listed_line(
+            self.alloc,
+            self.commands,
+            player,
+            lists,
+            number,
+            line,
+            shown,
+        )?;
         Ok(ran.memory)
     }
 
@@ -261,7 +275,15 @@ impl Script {
             return Ok(Memory::NoneToConnect);
         };
         let lists = &mut self.lists;
-        match run_listed_line(self.alloc, &mut player, lists, number, line, shown) {
+        match run_listed_line(
+            self.alloc,
+            self.commands,
+            &mut player,
+            lists,
+            number,
+            line,
+            shown,
+        ) {
             Ok(ran) => {
                 self.keep(player, ran.connected);
                 Ok(ran.memory)
@@ -287,6 +309,7 @@ impl Script {
             songs: collected(self.alloc, &self.songs)?,
             rate: Rate::lowest(),
             scan: Scan::never(),
+            updated: 0,
         };
         let setup = Setup {
             limits: self.limits,
@@ -323,6 +346,7 @@ fn collected(alloc: Global, songs: &[Song]) -> Result<SharedDb, AllocError>
 /// Runs a client's line, by the command list that it has open.
 fn run_listed_line(
     alloc: Global,
+    set: CommandSet,
     player: &mut Player,
     lists: &mut [ListCollector; 10],
     number: u32,
@@ -330,14 +354,15 @@ fn run_listed_line(
     shown: &mut Vec<u8>,
 ) -> Result<LineRun, AllocError>
     requires { number < 10 }
-    ensures player { IfOk result (LeavesPlayer (run_in player.old lists.old number line.now) player.new) }
-    ensures lists { IfOk result (LeavesLists (run_in player.old lists.old number line.now) number lists.old lists.new) }
-    ensures text { IfOk result (PrintsRun (run_in player.old lists.old number line.now) shown.old shown.new) }
-    ensures connected { IfOk result (WasConnected (run_in player.old lists.old number line.now)) }
+    ensures player { IfOk result (LeavesPlayer (run_in set player.old lists.old number line.now) player.new) }
+    ensures lists { IfOk result (LeavesLists (run_in set player.old lists.old number line.now) number lists.old lists.new) }
+    ensures text { IfOk result (PrintsRun (run_in set player.old lists.old number line.now) shown.old shown.new) }
+    ensures connected { IfOk result (WasConnected (run_in set player.old lists.old number line.now)) }
     ensures kept { IfOk result (λ ran. ran.connected ≡ false → lists.new ≡ lists.old) }
 {
     run_line(
         alloc,
+        set,
         player,
         &mut lists[number as usize],
         number,

@@ -1,9 +1,10 @@
 -- Words and texts of a filter that is UTF-8 are UTF-8.
-use Rattle.std.proofs.Common.{◌≡◌, ℕ, zero, suc, ◌+◌, ◌<◌, ◌==◌, ◌&&◌, ◌||◌, slice_index, nat_lt, Bool, true, false, cond, List, [], ◌∷◌, ◌++◌, codes, Option, Some, None, Result, Ok, Err, refl, ap, subst, arith}
+use Rattle.std.proofs.Common.{◌≡◌, ℕ, zero, suc, ◌+◌, ◌<◌, ◌==◌, ◌&&◌, ◌||◌, slice_index, nat_lt, Bool, true, false, cond, List, [], ◌∷◌, ◌++◌, codes, Option, Some, None, Result, Ok, Err, refl, subst, arith}
 use Rattle.std.specs.Str.{IsUtf8}
 use Rattle.std.proofs.lemmas.Str.Ascii.{IsAscii-nil, IsAscii-cons, IsAscii-push}
 use Rattle.std.proofs.lemmas.Str.{IsUtf8-from_ascii}
 use Rattle.std.proofs.lemmas.Bool.Decides.{nat_tests}
+use Rattle.filters.specs.declared.words.Vocabulary.{Vocabulary}
 use Rattle.filters.specs.declared.state.Stop.{Stop}
 use Rattle.filters.specs.declared.state.Stop.TheVariants.{Syntax, UnknownTag, TooDeep}
 use Rattle.filters.specs.declared.state.Purpose.{Purpose}
@@ -16,7 +17,7 @@ use Rattle.filters.specs.declared.state.State.TheVariants.{Start, Opened, Bang, 
 use Rattle.filters.specs.declared.expression.Field.{Field}
 use Rattle.filters.specs.declared.expression.Test.TheVariants.{Equals, Differs, Contains as ContainsTest}
 use Rattle.filters.specs.Expressions.{Expression, Negation, Both}
-use Rattle.filters.specs.Words.{is_letter}
+use Rattle.filters.specs.Words.{is_word_byte}
 use Rattle.mpd_text.proofs.AsciiCuts.{cut_at, without, one_more}
 use Rattle.filters.specs.Machine.{step, opened, closed, sign, after_word, named_of, contains_letter, and_letter, filter_for, alone, IsCut, CanTake, CanEnd}
 
@@ -70,9 +71,6 @@ from_place rest (Err s) purposes h = record { is = tt }
 -- a byte that is this ASCII byte is gone
 past : (b c : ℕ) (rest : List ℕ) → IsUtf8 (b ∷ rest) → (b == c) ≡ true → c < 128 → IsUtf8 rest
 past b c rest utf8 e small = after_ascii b rest utf8 (let same : b < 128 = grind (arith, nat_tests) in same)
-
-letter_small : (b : ℕ) → is_letter b ≡ true → b < 128
-letter_small b e = grind (arith, nat_tests)
 
 tested : (b c : ℕ) (d : Bool) → ((b == c) && d) ≡ true → (b == c) ≡ true
 tested b c d e = grind (arith, nat_tests)
@@ -135,51 +133,6 @@ quote_small b e = grind (arith, nat_tests)
 equal : (b c : ℕ) → (b == c) ≡ true → b ≡ c
 equal b c e = grind (arith, nat_tests)
 
-keeps : (state : State) (purposes : List Purpose) (b : ℕ) (rest : List ℕ) → IsCut state (b ∷ rest) → Cuts rest (step true state purposes b)
-unfolding step
-keeps Start purposes b rest is = when rest (b == 40) _ _ (λ e. opens Whole purposes rest (past b 40 rest is e (omega arith))) (λ _. stop rest Syntax)
-keeps Opened purposes b rest is =
-    when rest (b == 32) _ _ (λ e. goes rest Opened purposes (past b 32 rest is e (omega arith))) (λ _.
-    when rest (b == 33) _ _ (λ e. goes rest Bang purposes (past b 33 rest is e (omega arith))) (λ _.
-    when rest (is_letter b) _ _ (λ e. goes rest (Word (b ∷ [])) purposes (IsAscii-cons b [] (letter_small b e) IsAscii-nil, after_ascii b rest is (letter_small b e))) (λ _.
-    when rest (b == 40) _ _ (λ e. opens First purposes rest (past b 40 rest is e (omega arith))) (λ _. stop rest Syntax))))
-keeps Bang purposes b rest is = when rest (b == 40) _ _ (λ e. opens Negated purposes rest (past b 40 rest is e (omega arith))) (λ _. stop rest Syntax)
-keeps (Word word) purposes b rest is =
-    when rest (is_letter b) _ _ (λ e. goes rest (Word (word ++ b ∷ [])) purposes (IsAscii-push word b is.0 (letter_small b e), after_ascii b rest is.1 (letter_small b e)))
-    (λ _. from_place rest _ purposes (words (named_of word) word b rest is.1))
-keeps (AfterField field) purposes b rest is = from_place rest _ purposes (signs field b rest is)
-keeps (Sign field test) purposes b rest is = when rest (b == 61) _ _ (λ e. goes rest (BeforeText (Compared field test)) purposes (past b 61 rest is e (omega arith))) (λ _. stop rest Syntax)
-keeps (Contains field read) purposes b rest is = from_place rest _ purposes (contains_cuts field read b rest is)
-keeps (NeedsSpace goal) purposes b rest is = when rest (b == 32) _ _ (λ e. goes rest (BeforeText goal) purposes (past b 32 rest is e (omega arith))) (λ _. stop rest Syntax)
-keeps (BeforeText goal) purposes b rest is =
-    when rest (b == 32) _ _ (λ e. goes rest (BeforeText goal) purposes (past b 32 rest is e (omega arith))) (λ _.
-    when rest ((b == 34) || (b == 39)) _ _ (λ e. goes rest (InText goal b []) purposes (quote_small b e, after_ascii b rest is (quote_small b e))) (λ _. stop rest Syntax))
-keeps (InText goal quote text) purposes b rest is =
-    when rest (b == quote) _ _ (λ e. goes rest (Done (filter_for goal text)) purposes (cut_at text rest b is.1 (let same = equal b quote e in omega (arith, same, is.0))).1) (λ _.
-    when rest (b == 92) _ _ (λ e. goes rest (Escaped goal quote text) purposes (is.0, without text rest b is.1 (let same = equal b 92 e in omega (arith, same)))) (λ _.
-    goes rest (InText goal quote (text ++ b ∷ [])) purposes (is.0, one_more text b rest is.1)))
-keeps (Escaped goal quote text) purposes b rest is = goes rest (InText goal quote (text ++ b ∷ [])) purposes (is.0, one_more text b rest is.1)
-keeps (Done e) purposes b rest is =
-    when rest (b == 32) _ _ (λ h. goes rest (Done e) purposes (past b 32 rest is h (omega arith))) (λ _.
-    when rest (b == 41) _ _ (λ h. closes e purposes rest (past b 41 rest is h (omega arith))) (λ _. stop rest Syntax))
-keeps (Joined e) purposes b rest is =
-    when rest (b == 32) _ _ (λ h. goes rest (AfterJoined e) purposes (past b 32 rest is h (omega arith))) (λ _.
-    when rest (b == 41) _ _ (λ h. closes e purposes rest (past b 41 rest is h (omega arith))) (λ _. stop rest Syntax))
-keeps (AfterJoined e) purposes b rest is =
-    when rest (b == 32) _ _ (λ h. goes rest (AfterJoined e) purposes (past b 32 rest is h (omega arith))) (λ _.
-    when rest (b == 65) _ _ (λ h. goes rest (And e 1) purposes (past b 65 rest is h (omega arith))) (λ _.
-    when rest (b == 41) _ _ (λ h. closes e purposes rest (past b 41 rest is h (omega arith))) (λ _. stop rest Syntax)))
-keeps (And e read) purposes b rest is = from_place rest _ purposes (and_cuts e read b rest is)
-keeps (AfterAnd e) purposes b rest is =
-    when rest (b == 32) _ _ (λ h. goes rest (AfterAnd e) purposes (past b 32 rest is h (omega arith))) (λ _.
-    when rest (b == 40) _ _ (λ h. opens (Next e) purposes rest (past b 40 rest is h (omega arith))) (λ _. stop rest Syntax))
-keeps (Finished e) purposes b rest is = stop rest Syntax
-
--- after the next byte what was read is cut well
-pub cut_on : (state : State) (purposes : List Purpose) (b : ℕ) (rest : List ℕ) (next : State) (more : List Purpose) → IsCut state (b ∷ rest) → step true state purposes b ≡ Ok (next, more) → IsCut next rest
-unfolding CutsNext
-cut_on state purposes b rest next more is e = subst (CutsNext rest) e (keeps state purposes b rest is).is
-
 -- what may be taken
 pub can_take : (state : State) (b : ℕ) (rest : List ℕ) → IsCut state (b ∷ rest) → CanTake state b
 can_take (Word word) b rest is = IsUtf8-from_ascii word is.0
@@ -218,3 +171,53 @@ can_end (AfterJoined e) is = tt
 can_end (And e read) is = tt
 can_end (AfterAnd e) is = tt
 can_end (Finished e) is = tt
+
+-- with this vocabulary
+module _ (vocabulary : Vocabulary) where
+  letter_small : (b : ℕ) → is_word_byte vocabulary b ≡ true → b < 128
+  letter_small b e = grind (arith, nat_tests)
+
+  keeps : (state : State) (purposes : List Purpose) (b : ℕ) (rest : List ℕ) → IsCut state (b ∷ rest) → Cuts rest (step vocabulary true state purposes b)
+  unfolding step
+  keeps Start purposes b rest is = when rest (b == 40) _ _ (λ e. opens Whole purposes rest (past b 40 rest is e (omega arith))) (λ _. stop rest Syntax)
+  keeps Opened purposes b rest is =
+      when rest (b == 32) _ _ (λ e. goes rest Opened purposes (past b 32 rest is e (omega arith))) (λ _.
+      when rest (b == 33) _ _ (λ e. goes rest Bang purposes (past b 33 rest is e (omega arith))) (λ _.
+      when rest (is_word_byte vocabulary b) _ _ (λ e. goes rest (Word (b ∷ [])) purposes (IsAscii-cons b [] (letter_small b e) IsAscii-nil, after_ascii b rest is (letter_small b e))) (λ _.
+      when rest (b == 40) _ _ (λ e. opens First purposes rest (past b 40 rest is e (omega arith))) (λ _. stop rest Syntax))))
+  keeps Bang purposes b rest is = when rest (b == 40) _ _ (λ e. opens Negated purposes rest (past b 40 rest is e (omega arith))) (λ _. stop rest Syntax)
+  keeps (Word word) purposes b rest is =
+      when rest (is_word_byte vocabulary b) _ _ (λ e. goes rest (Word (word ++ b ∷ [])) purposes (IsAscii-push word b is.0 (letter_small b e), after_ascii b rest is.1 (letter_small b e)))
+      (λ _. from_place rest _ purposes (words (named_of vocabulary word) word b rest is.1))
+  keeps (AfterField field) purposes b rest is = from_place rest _ purposes (signs field b rest is)
+  keeps (Sign field test) purposes b rest is = when rest (b == 61) _ _ (λ e. goes rest (BeforeText (Compared field test)) purposes (past b 61 rest is e (omega arith))) (λ _. stop rest Syntax)
+  keeps (Contains field read) purposes b rest is = from_place rest _ purposes (contains_cuts field read b rest is)
+  keeps (NeedsSpace goal) purposes b rest is = when rest (b == 32) _ _ (λ e. goes rest (BeforeText goal) purposes (past b 32 rest is e (omega arith))) (λ _. stop rest Syntax)
+  keeps (BeforeText goal) purposes b rest is =
+      when rest (b == 32) _ _ (λ e. goes rest (BeforeText goal) purposes (past b 32 rest is e (omega arith))) (λ _.
+      when rest ((b == 34) || (b == 39)) _ _ (λ e. goes rest (InText goal b []) purposes (quote_small b e, after_ascii b rest is (quote_small b e))) (λ _. stop rest Syntax))
+  keeps (InText goal quote text) purposes b rest is =
+      when rest (b == quote) _ _ (λ e. goes rest (Done (filter_for goal text)) purposes (cut_at text rest b is.1 (let same = equal b quote e in omega (arith, same, is.0))).1) (λ _.
+      when rest (b == 92) _ _ (λ e. goes rest (Escaped goal quote text) purposes (is.0, without text rest b is.1 (let same = equal b 92 e in omega (arith, same)))) (λ _.
+      goes rest (InText goal quote (text ++ b ∷ [])) purposes (is.0, one_more text b rest is.1)))
+  keeps (Escaped goal quote text) purposes b rest is = goes rest (InText goal quote (text ++ b ∷ [])) purposes (is.0, one_more text b rest is.1)
+  keeps (Done e) purposes b rest is =
+      when rest (b == 32) _ _ (λ h. goes rest (Done e) purposes (past b 32 rest is h (omega arith))) (λ _.
+      when rest (b == 41) _ _ (λ h. closes e purposes rest (past b 41 rest is h (omega arith))) (λ _. stop rest Syntax))
+  keeps (Joined e) purposes b rest is =
+      when rest (b == 32) _ _ (λ h. goes rest (AfterJoined e) purposes (past b 32 rest is h (omega arith))) (λ _.
+      when rest (b == 41) _ _ (λ h. closes e purposes rest (past b 41 rest is h (omega arith))) (λ _. stop rest Syntax))
+  keeps (AfterJoined e) purposes b rest is =
+      when rest (b == 32) _ _ (λ h. goes rest (AfterJoined e) purposes (past b 32 rest is h (omega arith))) (λ _.
+      when rest (b == 65) _ _ (λ h. goes rest (And e 1) purposes (past b 65 rest is h (omega arith))) (λ _.
+      when rest (b == 41) _ _ (λ h. closes e purposes rest (past b 41 rest is h (omega arith))) (λ _. stop rest Syntax)))
+  keeps (And e read) purposes b rest is = from_place rest _ purposes (and_cuts e read b rest is)
+  keeps (AfterAnd e) purposes b rest is =
+      when rest (b == 32) _ _ (λ h. goes rest (AfterAnd e) purposes (past b 32 rest is h (omega arith))) (λ _.
+      when rest (b == 40) _ _ (λ h. opens (Next e) purposes rest (past b 40 rest is h (omega arith))) (λ _. stop rest Syntax))
+  keeps (Finished e) purposes b rest is = stop rest Syntax
+
+  -- after the next byte what was read is cut well
+  pub cut_on : (state : State) (purposes : List Purpose) (b : ℕ) (rest : List ℕ) (next : State) (more : List Purpose) → IsCut state (b ∷ rest) → step vocabulary true state purposes b ≡ Ok (next, more) → IsCut next rest
+  unfolding CutsNext
+  cut_on state purposes b rest next more is e = subst (CutsNext rest) e (keeps state purposes b rest is).is

@@ -1,6 +1,7 @@
 -- A step leads from a state that can be completed to one that can be.
 use Rattle.std.proofs.Common.{◌≡◌, ℕ, ◌+◌, ◌≤◌, ◌==◌, ◌&&◌, ◌||◌, slice_index, nat_lt, Bool, true, false, cond, List, [], ◌∷◌, ◌++◌, codes, Option, Some, None, Result, Ok, Err, refl, arith}
 use Rattle.std.proofs.lemmas.Bool.Decides.{nat_tests}
+use Rattle.filters.specs.declared.words.Vocabulary.{Vocabulary}
 use Rattle.filters.specs.declared.state.Stop.{Stop}
 use Rattle.filters.specs.declared.state.Stop.TheVariants.{Syntax, UnknownTag}
 use Rattle.filters.specs.declared.state.Purpose.{Purpose}
@@ -13,7 +14,7 @@ use Rattle.filters.specs.declared.expression.Field.{Field}
 use Rattle.filters.specs.declared.state.Goal.TheVariants.{Compared, Base as BaseGoal}
 use Rattle.filters.specs.declared.expression.Test.TheVariants.{Equals, Differs, Contains as ContainsTest}
 use Rattle.filters.specs.Expressions.{Expression, Negation, Both}
-use Rattle.filters.specs.Words.{is_letter}
+use Rattle.filters.specs.Words.{is_word_byte}
 use Rattle.filters.specs.Machine.{step, filter_for, names, closed, sign, after_word, contains_letter, and_letter, alone}
 use Rattle.filters.proofs.Live.{IsOpen, IsLive}
 
@@ -79,25 +80,27 @@ whole : (purposes : List Purpose) → purposes ≡ [] → IsOpen (Whole ∷ purp
 whole [] e = tt
 whole (purpose ∷ purposes) e = cc
 
-lives : (state : State) (purposes : List Purpose) (b : ℕ) → IsLive state purposes → Lives (step false state purposes b)
-unfolding step
-lives Start purposes b is = either (b == 40) _ _ (yes_place (Opened) (Whole ∷ purposes) (whole purposes is)) (stop Syntax)
-lives Opened purposes b is = either (b == 32) _ _ (yes_place (Opened) purposes is) (either (b == 33) _ _ (yes_place (Bang) purposes is) (either (is_letter b) _ _ (yes_place (Word (b ∷ [])) purposes is) (either (b == 40) _ _ (yes_place (Opened) (First ∷ purposes) is) (stop Syntax))))
-lives Bang purposes b is = either (b == 40) _ _ (yes_place (Opened) (Negated ∷ purposes) is) (stop Syntax)
-lives (Word word) purposes b is = either (is_letter b) _ _ (yes_place (Word (word ++ b ∷ [])) purposes is) (not_alone purposes _ (word_live (names false word) word purposes b is))
-lives (AfterField field) purposes b is = not_alone purposes _ (sign_live field purposes b is)
-lives (Sign field test) purposes b is = either (b == 61) _ _ (yes_place (BeforeText (Compared field test)) purposes is) (stop Syntax)
-lives (Contains field read) purposes b is = not_alone purposes _ (contains_live field read purposes b is.2)
-lives (NeedsSpace goal) purposes b is = either (b == 32) _ _ (yes_place (BeforeText goal) purposes is) (stop Syntax)
-lives (BeforeText goal) purposes b is = either (b == 32) _ _ (yes_place (BeforeText goal) purposes is) (either ((b == 34) || (b == 39)) _ _ (yes_place (InText goal b []) purposes is) (stop Syntax))
-lives (InText goal quote text) purposes b is = either (b == quote) _ _ (yes_place (Done (filter_for goal text)) purposes is) (either (b == 92) _ _ (yes_place (Escaped goal quote text) purposes is) (yes_place (InText goal quote (text ++ b ∷ [])) purposes is))
-lives (Escaped goal quote text) purposes b is = yes_place (InText goal quote (text ++ b ∷ [])) purposes is
-lives (Done e) purposes b is = either (b == 32) _ _ (yes_place (Done e) purposes is) (either (b == 41) _ _ (closed_live e purposes is) (stop Syntax))
-lives (Joined e) purposes b is = either (b == 32) _ _ (yes_place (AfterJoined e) purposes is) (either (b == 41) _ _ (closed_live e purposes is) (stop Syntax))
-lives (AfterJoined e) purposes b is = either (b == 32) _ _ (yes_place (AfterJoined e) purposes is) (either (b == 65) _ _ (yes_place (And e 1) purposes (omega arith, omega arith, is)) (either (b == 41) _ _ (closed_live e purposes is) (stop Syntax)))
-lives (And e read) purposes b is = not_alone purposes _ (and_live e read purposes b is.2)
-lives (AfterAnd e) purposes b is = either (b == 32) _ _ (yes_place (AfterAnd e) purposes is) (either (b == 40) _ _ (yes_place (Opened) (Next e ∷ purposes) is) (stop Syntax))
-lives (Finished e) purposes b is = stop Syntax
+-- with this vocabulary
+module _ (vocabulary : Vocabulary) where
+  lives : (state : State) (purposes : List Purpose) (b : ℕ) → IsLive state purposes → Lives (step vocabulary false state purposes b)
+  unfolding step
+  lives Start purposes b is = either (b == 40) _ _ (yes_place (Opened) (Whole ∷ purposes) (whole purposes is)) (stop Syntax)
+  lives Opened purposes b is = either (b == 32) _ _ (yes_place (Opened) purposes is) (either (b == 33) _ _ (yes_place (Bang) purposes is) (either (is_word_byte vocabulary b) _ _ (yes_place (Word (b ∷ [])) purposes is) (either (b == 40) _ _ (yes_place (Opened) (First ∷ purposes) is) (stop Syntax))))
+  lives Bang purposes b is = either (b == 40) _ _ (yes_place (Opened) (Negated ∷ purposes) is) (stop Syntax)
+  lives (Word word) purposes b is = either (is_word_byte vocabulary b) _ _ (yes_place (Word (word ++ b ∷ [])) purposes is) (not_alone purposes _ (word_live (names vocabulary false word) word purposes b is))
+  lives (AfterField field) purposes b is = not_alone purposes _ (sign_live field purposes b is)
+  lives (Sign field test) purposes b is = either (b == 61) _ _ (yes_place (BeforeText (Compared field test)) purposes is) (stop Syntax)
+  lives (Contains field read) purposes b is = not_alone purposes _ (contains_live field read purposes b is.2)
+  lives (NeedsSpace goal) purposes b is = either (b == 32) _ _ (yes_place (BeforeText goal) purposes is) (stop Syntax)
+  lives (BeforeText goal) purposes b is = either (b == 32) _ _ (yes_place (BeforeText goal) purposes is) (either ((b == 34) || (b == 39)) _ _ (yes_place (InText goal b []) purposes is) (stop Syntax))
+  lives (InText goal quote text) purposes b is = either (b == quote) _ _ (yes_place (Done (filter_for goal text)) purposes is) (either (b == 92) _ _ (yes_place (Escaped goal quote text) purposes is) (yes_place (InText goal quote (text ++ b ∷ [])) purposes is))
+  lives (Escaped goal quote text) purposes b is = yes_place (InText goal quote (text ++ b ∷ [])) purposes is
+  lives (Done e) purposes b is = either (b == 32) _ _ (yes_place (Done e) purposes is) (either (b == 41) _ _ (closed_live e purposes is) (stop Syntax))
+  lives (Joined e) purposes b is = either (b == 32) _ _ (yes_place (AfterJoined e) purposes is) (either (b == 41) _ _ (closed_live e purposes is) (stop Syntax))
+  lives (AfterJoined e) purposes b is = either (b == 32) _ _ (yes_place (AfterJoined e) purposes is) (either (b == 65) _ _ (yes_place (And e 1) purposes (omega arith, omega arith, is)) (either (b == 41) _ _ (closed_live e purposes is) (stop Syntax)))
+  lives (And e read) purposes b is = not_alone purposes _ (and_live e read purposes b is.2)
+  lives (AfterAnd e) purposes b is = either (b == 32) _ _ (yes_place (AfterAnd e) purposes is) (either (b == 40) _ _ (yes_place (Opened) (Next e ∷ purposes) is) (stop Syntax))
+  lives (Finished e) purposes b is = stop Syntax
 
-pub keeps : (state : State) (purposes : List Purpose) (b : ℕ) → IsLive state purposes → StaysLive (step false state purposes b)
-keeps state purposes b is = (lives state purposes b is).is
+  pub keeps : (state : State) (purposes : List Purpose) (b : ℕ) → IsLive state purposes → StaysLive (step vocabulary false state purposes b)
+  keeps state purposes b is = (lives state purposes b is).is

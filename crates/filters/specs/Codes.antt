@@ -6,7 +6,7 @@ use borrow.Author.Tests.{eqb-false}
 use base.Stored.{Gv, gnil, gnum, gcons, num}
 use Rattle.filters.specs.declared.expression.Field.{Field}
 use Rattle.mpd_text.specs.declared.songs.song.TagName.TheVariants.{Title, Artist, Album, Date, Genre, Comment}
-use Rattle.filters.specs.declared.expression.Field.TheVariants.{Tag, File, Any}
+use Rattle.filters.specs.declared.expression.Field.TheVariants.{Tag, NoTag, File, Any}
 use Rattle.filters.specs.declared.expression.Test.{Test}
 use Rattle.filters.specs.declared.expression.Test.TheVariants.{Equals, Differs, Contains}
 use Rattle.filters.specs.Expressions.{Expression, Compare, Under, Negation, Both}
@@ -20,11 +20,12 @@ field_number (Tag Genre) = 4
 field_number (Tag Comment) = 5
 field_number File = 6
 field_number Any = 7
+field_number NoTag = 8
 
 abbrev pub field_at : ℕ → Field
 field_at n =
     if n == 0 then Tag Title else (if n == 1 then Tag Artist else (if n == 2 then Tag Album else (if n == 3 then Tag Date
-    else (if n == 4 then Tag Genre else (if n == 5 then Tag Comment else (if n == 6 then File else Any))))))
+    else (if n == 4 then Tag Genre else (if n == 5 then Tag Comment else (if n == 6 then File else (if n == 7 then Any else NoTag)))))))
 
 pub field_back : (f : Field) → field_at (field_number f) ≡ f
 field_back (Tag Title) = refl
@@ -35,6 +36,7 @@ field_back (Tag Genre) = refl
 field_back (Tag Comment) = refl
 field_back File = refl
 field_back Any = refl
+field_back NoTag = refl
 
 abbrev pub test_number : Test → ℕ
 test_number Equals = 0

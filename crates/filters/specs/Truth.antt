@@ -7,7 +7,7 @@ use Rattle.mpd_text.specs.Songs.Song.{SongData, TagData}
 use Rattle.mpd_text.specs.Songs.Tags.{tag_names, tag_number}
 use Rattle.mpd_text.specs.declared.songs.song.TagName.{TagName}
 use Rattle.filters.specs.declared.expression.Field.{Field}
-use Rattle.filters.specs.declared.expression.Field.TheVariants.{Tag, File, Any}
+use Rattle.filters.specs.declared.expression.Field.TheVariants.{Tag, NoTag, File, Any}
 use Rattle.filters.specs.declared.expression.Test.{Test}
 use Rattle.filters.specs.declared.expression.Test.TheVariants.{Equals, Differs, Contains}
 use Rattle.filters.specs.declared.matching.Case.{Case}
@@ -29,6 +29,7 @@ SomeTag P (name ∷ names) tags = P (text_of_tag name tags) ⊎ SomeTag P names 
 -- what is compared has this property: of `any` it is enough that one tag has it
 abbrev pub HasIt : (List ℕ → Type 0) → Field → SongData → Type 0
 HasIt P (Tag name) song = P (text_of_tag name song.tags)
+HasIt P NoTag song = P []
 HasIt P File song = P song.uri
 HasIt P Any song = SomeTag P tag_names song.tags
 

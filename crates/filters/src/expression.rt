@@ -11,6 +11,8 @@ use std::marker::Model;
 pub enum Field {
     /// The text of a tag; empty where the song has none of the name.
     Tag(TagName),
+    /// The empty text: a tag that clients know and no song has.
+    NoTag,
     /// The URI.
     File,
     /// Each tag's text, of which one is enough.

@@ -8,9 +8,11 @@ mod pairs;
 mod reading;
 mod stack;
 mod state;
+mod words;
 
 pub use expression::{Field, Filter, Test};
 pub use matching::Case;
 pub use pairs::Pair;
 pub use reading::{FilterFault, one_answer, parsed_is_the_answer};
 pub use state::MAX_DEPTH;
+pub use words::Vocabulary;

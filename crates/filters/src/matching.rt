@@ -116,6 +116,7 @@ fn has_it(
             wanted,
             case,
         ),
+        Field::NoTag => text_has_it(alloc, "", relation, wanted, case),
         Field::File => text_has_it(alloc, song.uri(), relation, wanted, case),
         Field::Any => some_tag(alloc, song.tags(), &TAG_NAMES, relation, wanted, case),
     }

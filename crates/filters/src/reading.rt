@@ -3,6 +3,7 @@ ghost use Rattle.std.specs.Prelude.{◌≡◌, ◌⊎◌, List, ℕ, Result, Err
 ghost use Rattle.std.specs.Str.{IsUtf8};
 ghost use Rattle.filters.specs.Expressions.{Expression};
 ghost use Rattle.filters.specs.Answers.{IsAnswer, OrNoMemory, HasOneAnswer};
+ghost use Rattle.filters.specs.declared.words.Vocabulary.{Vocabulary as Words};
 ghost use Rattle.filters.specs.declared.reading.FilterFault.{FilterFault as Fault};
 ghost use Rattle.filters.specs.declared.reading.FilterFault.TheVariants.{NoMemory};
 ghost use Rattle.filters.specs.Machine.{parsed, Reads, fault_at, ending, CanEnd};
@@ -10,6 +11,7 @@ ghost use Rattle.filters.specs.Machine.{parsed, Reads, fault_at, ending, CanEnd}
 use crate::expression::Filter;
 use crate::stack::Stack;
 use crate::state::{State, Stop, name_of, step, text_of};
+use crate::words::Vocabulary;
 use mpd_text::Text;
 use std::alloc::{AllocError, AllocFailed, Global};
 
@@ -18,8 +20,8 @@ use std::alloc::{AllocError, AllocFailed, Global};
 pub enum FilterFault {
     /// It goes wrong after so many bytes: the length of the longest start with which some filter begins.
     Syntax(usize),
-    /// This word is where a tag, `file`, `any` or `base` is wanted. In a text it ends before the first
-    /// byte that is no ASCII letter, or at the end.
+    /// This word is where a word of the vocabulary or `base` is wanted. In a text it ends before the first
+    /// byte that no name has, or at the end.
     UnknownTag(Text),
     /// A 33rd parenthesis is open.
     TooDeep,
@@ -48,43 +50,43 @@ impl<T: Drop> From<AllocFailed<T>> for FilterFault {
 }
 
 impl Filter {
-    /// The filter that a text is, or the first fault from the left.
-    pub fn parse(alloc: Global, text: &str) -> Result<Filter, FilterFault>
+    /// The filter that a text of this vocabulary is, or the first fault from the left.
+    pub fn parse(alloc: Global, text: &str, vocabulary: Vocabulary) -> Result<Filter, FilterFault>
         // It is the text's expression, or its first fault from the left, by the grammar.
-        ensures answer { (result ≡ Err NoMemory) ⊎ IsAnswer text.now result }
+        ensures answer { (result ≡ Err NoMemory) ⊎ IsAnswer vocabulary text.now result }
         // A text is refused for nothing else, and says nothing else.
-        ensures only { (exact : Result Expression Fault) → IsAnswer text.now exact → OrNoMemory result exact }
+        ensures only { (told : Result Expression Fault) → IsAnswer vocabulary text.now told → OrNoMemory result told }
         // The same as a function of the text, which is that answer by a law of its own.
-        ensures exact { OrNoMemory result (parsed text.now) }
+        ensures exact { OrNoMemory result (parsed vocabulary text.now) }
     {
-        read(alloc, text.as_bytes())
+        read(alloc, vocabulary, text.as_bytes())
     }
 }
 
 /// A law: by the grammar each text has exactly one answer. A caller has it by a call.
 pub fn one_answer()
-    ensures { (text : List ℕ) → HasOneAnswer text }
+    ensures { (vocabulary : Words) (text : List ℕ) → HasOneAnswer vocabulary text }
 {}
 
 /// A law: that answer is what the text is read as, byte by byte.
 pub fn parsed_is_the_answer()
-    ensures { (text : List ℕ) → IsAnswer text (parsed text) }
+    ensures { (vocabulary : Words) (text : List ℕ) → IsAnswer vocabulary text (parsed vocabulary text) }
 {}
 
 /// The filter that the bytes of a text are.
-fn read(alloc: Global, text: &[u8]) -> Result<Filter, FilterFault>
+fn read(alloc: Global, vocabulary: Vocabulary, text: &[u8]) -> Result<Filter, FilterFault>
     requires { IsUtf8 text.now }
-    ensures { Reads result (parsed text.now) }
+    ensures { Reads result (parsed vocabulary text.now) }
 {
     let mut purposes = Stack::new(alloc);
     let mut state = State::Start;
     for (i, b) in text.iter().enumerate() {
-        match step(alloc, state, &mut purposes, *b) {
+        match step(alloc, vocabulary, state, &mut purposes, *b) {
             Ok(next) => state = next,
             Err(stop) => return Err(fault(i, stop)),
         }
     }
-    end(text.len(), state)
+    end(vocabulary, text.len(), state)
 }
 
 fn fault(at: usize, stop: Stop) -> FilterFault
@@ -99,16 +101,19 @@ fn fault(at: usize, stop: Stop) -> FilterFault
 }
 
 /// What a text is that ends at this state, after so many bytes.
-fn end(at: usize, state: State) -> Result<Filter, FilterFault>
+fn end(vocabulary: Vocabulary, at: usize, state: State) -> Result<Filter, FilterFault>
     requires { CanEnd state }
-    ensures { Reads result (ending at state) }
+    ensures { Reads result (ending vocabulary at state) }
 {
     match state {
         State::Finished(filter) => Ok(filter),
-        State::Word(word) => match name_of(word.items()) {
-            None => Err(FilterFault::UnknownTag(text_of(word))),
-            Some(_) => Err(FilterFault::Syntax(at)),
-        },
+        State::Word(word) => {
+            let word = text_of(word);
+            match name_of(vocabulary, word.as_str()) {
+                None => Err(FilterFault::UnknownTag(word)),
+                Some(_) => Err(FilterFault::Syntax(at)),
+            }
+        }
         _ => Err(FilterFault::Syntax(at)),
     }
 }

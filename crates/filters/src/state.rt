@@ -1,13 +1,13 @@
 //! What comes before each byte of a filter's text.
 ghost use Rattle.std.specs.Prelude.{◌≡◌, Ok, Err, true, if◌then◌else◌, ◌==◌};
 ghost use Rattle.std.specs.Str.{IsUtf8};
-ghost use Rattle.filters.specs.Words.{is_letter as is_letter_lem, same_word as same_word_lem, field_named as field_named_lem};
-ghost use Rattle.filters.specs.Machine.{named_of, step as step_lem, opened, closed, in_word as in_word_lem, before_text as before_text_lem, in_text as in_text_lem, sign as sign_lem, Steps, StepsAlone, contains_letter as contains_letter_lem, and_letter as and_letter_lem, filter_for, CanTake};
+ghost use Rattle.filters.specs.Machine.{named_of, step as step_lem, opened, closed, in_word as in_word_lem, before_text as before_text_lem, in_text as in_text_lem, sign as sign_lem, Steps, StepsAlone, contains_letter as contains_letter_lem, and_letter as and_letter_lem, done as done_lem, joined as joined_lem, after_joined as after_joined_lem, after_and as after_and_lem, filter_for, CanTake};
 ghost use Rattle.filters.specs.declared.state.Stop.TheVariants.{Syntax, NoMemory};
 
 use crate::expression::{Field, Filter, Test};
 use crate::stack::Stack;
-use mpd_text::{Sequence, TagName, Text};
+use crate::words::{Vocabulary, field_named, is_word_byte, same_word};
+use mpd_text::{Sequence, Text};
 use std::alloc::{AllocError, AllocFailed, Global};
 
 /// The most parentheses that may be open at once (this profile's).
@@ -99,18 +99,19 @@ pub enum State {
 #[tactic(auto, unfolding(crate::specs::Machine::step))]
 pub fn step(
     alloc: Global,
+    vocabulary: Vocabulary,
     state: State,
     purposes: &mut Stack<Purpose>,
     b: u8,
 ) -> Result<State, Stop>
     requires { CanTake state b }
-    ensures { Steps result purposes.new (step_lem true state purposes.old b) }
+    ensures { Steps result purposes.new (step_lem vocabulary true state purposes.old b) }
 {
     match state {
         State::Start => open(purposes, Purpose::Whole, b),
-        State::Opened => after_open(alloc, purposes, b),
+        State::Opened => after_open(alloc, vocabulary, purposes, b),
         State::Bang => open(purposes, Purpose::Negated, b),
-        State::Word(word) => in_word(word, b),
+        State::Word(word) => in_word(vocabulary, word, b),
         State::AfterField(field) => sign(field, b),
         State::Sign(field, test) => only_at(b'=', b, Goal::Compared(field, test)),
         State::Contains(field, read) => contains_letter(field, read, b),
@@ -132,14 +133,19 @@ pub fn step(
 
 /// After an open parenthesis and perhaps spaces.
 #[tactic(auto, unfolding(crate::specs::Machine::step))]
-fn after_open(alloc: Global, purposes: &mut Stack<Purpose>, b: u8) -> Result<State, Stop>
-    ensures { Steps result purposes.new (step_lem true State.Opened purposes.old b) }
+fn after_open(
+    alloc: Global,
+    vocabulary: Vocabulary,
+    purposes: &mut Stack<Purpose>,
+    b: u8,
+) -> Result<State, Stop>
+    ensures { Steps result purposes.new (step_lem vocabulary true State.Opened purposes.old b) }
 {
     if b == b' ' {
         Ok(State::Opened)
     } else if b == b'!' {
         Ok(State::Bang)
-    } else if is_letter(b) {
+    } else if is_word_byte(vocabulary, b) {
         let mut word = Sequence::new(alloc);
         word.push(b)?;
         Ok(State::Word(word))
@@ -163,9 +169,8 @@ fn open(purposes: &mut Stack<Purpose>, purpose: Purpose, b: u8) -> Result<State,
 }
 
 /// After what is alone in its parenthesis.
-#[tactic(auto, unfolding(crate::specs::Machine::step))]
 fn done(alloc: Global, purposes: &mut Stack<Purpose>, filter: Filter, b: u8) -> Result<State, Stop>
-    ensures { Steps result purposes.new (step_lem true (State.Done filter) purposes.old b) }
+    ensures { Steps result purposes.new (done_lem filter purposes.old b) }
 {
     if b == b' ' {
         return Ok(State::Done(filter));
@@ -174,14 +179,13 @@ fn done(alloc: Global, purposes: &mut Stack<Purpose>, filter: Filter, b: u8) -> 
 }
 
 /// Right after the last of those that are to hold together.
-#[tactic(auto, unfolding(crate::specs::Machine::step))]
 fn joined(
     alloc: Global,
     purposes: &mut Stack<Purpose>,
     filter: Filter,
     b: u8,
 ) -> Result<State, Stop>
-    ensures { Steps result purposes.new (step_lem true (State.Joined filter) purposes.old b) }
+    ensures { Steps result purposes.new (joined_lem filter purposes.old b) }
 {
     if b == b' ' {
         return Ok(State::AfterJoined(filter));
@@ -190,14 +194,13 @@ fn joined(
 }
 
 /// After them and spaces.
-#[tactic(auto, unfolding(crate::specs::Machine::step))]
 fn after_joined(
     alloc: Global,
     purposes: &mut Stack<Purpose>,
     filter: Filter,
     b: u8,
 ) -> Result<State, Stop>
-    ensures { Steps result purposes.new (step_lem true (State.AfterJoined filter) purposes.old b) }
+    ensures { Steps result purposes.new (after_joined_lem filter purposes.old b) }
 {
     if b == b' ' {
         return Ok(State::AfterJoined(filter));
@@ -209,9 +212,8 @@ fn after_joined(
 }
 
 /// After AND and spaces.
-#[tactic(auto, unfolding(crate::specs::Machine::step))]
 fn after_and(purposes: &mut Stack<Purpose>, filter: Filter, b: u8) -> Result<State, Stop>
-    ensures { Steps result purposes.new (step_lem true (State.AfterAnd filter) purposes.old b) }
+    ensures { Steps result purposes.new (after_and_lem true filter purposes.old b) }
 {
     if b == b' ' {
         return Ok(State::AfterAnd(filter));
@@ -236,16 +238,17 @@ fn close(alloc: Global, purposes: &mut Stack<Purpose>, filter: Filter, b: u8) ->
 }
 
 /// In a word, or after it.
-fn in_word(mut word: Sequence<u8>, b: u8) -> Result<State, Stop>
+fn in_word(vocabulary: Vocabulary, mut word: Sequence<u8>, b: u8) -> Result<State, Stop>
     requires { IsUtf8 word }
-    ensures { StepsAlone result (in_word_lem word b) }
+    ensures { StepsAlone result (in_word_lem vocabulary word b) }
 {
-    if is_letter(b) {
+    if is_word_byte(vocabulary, b) {
         word.push(b)?;
         return Ok(State::Word(word));
     }
-    match name_of(word.items()) {
-        None => Err(Stop::UnknownTag(text_of(word))),
+    let word = text_of(word);
+    match name_of(vocabulary, word.as_str()) {
+        None => Err(Stop::UnknownTag(word)),
         Some(Named::Field(field)) => sign(field, b),
         Some(Named::Base) => only_at(b' ', b, Goal::Base),
     }
@@ -313,12 +316,6 @@ fn filter_of(alloc: Global, goal: Goal, text: Text) -> Filter
     }
 }
 
-fn is_letter(b: u8) -> bool
-    ensures { result ≡ is_letter_lem b }
-{
-    (b >= b'A' && b <= b'Z') || (b >= b'a' && b <= b'z')
-}
-
 /// After what is compared.
 fn sign(field: Field, b: u8) -> Result<State, Stop>
     ensures { StepsAlone result (sign_lem field b) }
@@ -367,44 +364,12 @@ fn and_letter(filter: Filter, read: u8, b: u8) -> Result<State, Stop>
 
 /// What a word before a text names.
 #[tactic(auto, unfolding(crate::specs::Machine::named_of))]
-pub fn name_of(word: &[u8]) -> Option<Named>
-    ensures { result ≡ named_of word.now }
+pub fn name_of(vocabulary: Vocabulary, word: &str) -> Option<Named>
+    ensures { result ≡ named_of vocabulary word.now }
 {
-    if same_word(word, b"base") {
+    if same_word(word, "base") {
         Some(Named::Base)
     } else {
-        field_named(word).map(Named::Field)
+        field_named(vocabulary, word).map(Named::Field)
     }
-}
-
-/// What of a song a word names.
-#[tactic(auto, unfolding(crate::specs::Words::field_named))]
-fn field_named(word: &[u8]) -> Option<Field>
-    ensures { result ≡ field_named_lem word.now }
-{
-    if same_word(word, b"title") {
-        Some(Field::Tag(TagName::Title))
-    } else if same_word(word, b"artist") {
-        Some(Field::Tag(TagName::Artist))
-    } else if same_word(word, b"album") {
-        Some(Field::Tag(TagName::Album))
-    } else if same_word(word, b"date") {
-        Some(Field::Tag(TagName::Date))
-    } else if same_word(word, b"genre") {
-        Some(Field::Tag(TagName::Genre))
-    } else if same_word(word, b"comment") {
-        Some(Field::Tag(TagName::Comment))
-    } else if same_word(word, b"file") {
-        Some(Field::File)
-    } else if same_word(word, b"any") {
-        Some(Field::Any)
-    } else {
-        None
-    }
-}
-
-fn same_word(word: &[u8], name: &[u8]) -> bool
-    ensures { result ≡ same_word_lem word.now name.now }
-{
-    word.eq_ignore_ascii_case(name)
 }

@@ -27,7 +27,7 @@ pub news_steps : (piece : News) → is_line (event_of piece) ≡ false
 news_steps (news.Comes client) = refl
 news_steps (news.Goes client) = refl
 news_steps news.AsksToScan = refl
-news_steps (news.Scanned songs) = refl
+news_steps (news.Scanned songs second) = refl
 news_steps (news.Wants owes) = refl
 news_steps (news.Failed number partner) = refl
 
@@ -35,7 +35,7 @@ pub news_frameless : (ended : Bool) (part : Part) (library : Library) (clients :
 news_frameless ended part library clients (news.Comes client) = refl
 news_frameless ended part library clients (news.Goes client) = refl
 news_frameless ended part library clients news.AsksToScan = refl
-news_frameless ended part library clients (news.Scanned songs) = refl
+news_frameless ended part library clients (news.Scanned songs second) = refl
 news_frameless true part library clients (news.Wants owes) = refl
 news_frameless false part library clients (news.Wants owes) = refl
 news_frameless ended part library clients (news.Failed number partner) = refl

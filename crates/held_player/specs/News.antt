@@ -12,7 +12,7 @@ abbrev pub event_of : News → Event
 event_of (news.Comes client) = Connect client
 event_of (news.Goes client) = Disconnect client
 event_of news.AsksToScan = ScanQuestion
-event_of (news.Scanned songs) = ScanResult songs
+event_of (news.Scanned songs second) = ScanResult songs second
 event_of (news.Wants owes) = Want owes
 event_of (news.Failed number partner) = Failed number partner
 

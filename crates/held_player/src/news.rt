@@ -15,7 +15,7 @@ pub enum News {
     /// A scanner asks whether a scan is to be made.
     AsksToScan,
     /// The library that a scan found; one that failed found none.
-    Scanned(Option<SharedDb>),
+    Scanned(Option<SharedDb>, u64),
     /// The decoder wants a job; whether a feeder still owes frames of an earlier one.
     Wants(bool),
     /// The song of a job could not be read, or where this is so, that of its partner in a fade.
@@ -41,7 +41,7 @@ impl News {
             News::Comes(client) => Event::Connect(client),
             News::Goes(client) => Event::Disconnect(client),
             News::AsksToScan => Event::ScanQuestion,
-            News::Scanned(songs) => Event::ScanResult(songs),
+            News::Scanned(songs, second) => Event::ScanResult(songs, second),
             News::Wants(owes) => Event::Want(owes),
             News::Failed(number, partner) => Event::Failed(number, partner),
         }

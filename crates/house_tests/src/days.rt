@@ -83,7 +83,7 @@ fn scans<L: Ledgers>(
     let mut heard = news(rt, alloc, house, seat, News::AsksToScan)?;
     heard.push_str(says(rt, alloc, house, seat, 2, "update")?.as_str())?;
     heard.push_str(news(rt, alloc, house, seat, News::AsksToScan)?.as_str())?;
-    heard.push_str(news(rt, alloc, house, seat, News::Scanned(None))?.as_str())?;
+    heard.push_str(news(rt, alloc, house, seat, News::Scanned(None, 0))?.as_str())?;
     Ok(heard)
 }
 

@@ -10,7 +10,7 @@ use counted_player::{Ledgers, Seat};
 use frame_ledger::Blanks as FrameBlanks;
 use held_player::{AnsweredList, Blanks, CrewShares, News};
 use house::House;
-use mpd_command::Request;
+use mpd_command::{CommandSet, Request};
 use mpd_text::{SharedText, Song};
 use partition::{Limits, Partition, PartitionFault, Setup};
 use player_state::{Library, Outputs, Scan};
@@ -75,6 +75,7 @@ pub fn player(alloc: Global, history: u32) -> Result<Partition, AllocError>
         songs: SharedDb::new(alloc, songs(alloc)?)?,
         rate: Rate::lowest(),
         scan: Scan::never(),
+        updated: 0,
     };
     let limits = Limits {
         max_queue: 16384,
@@ -115,7 +116,7 @@ pub fn adds_a_song<L: Ledgers>(
     ensures { OnOk result (seat.old.number < 4 → seat.new ≡ place seat.old.number (seat.old.made + 1)) }
 {
     let mut shelf = MemShelf::new(alloc);
-    let request = Request::of_line(alloc, "add a.wav", false)?;
+    let request = Request::of_line(alloc, "add a.wav", CommandSet::base())?;
     let _added = house.command(rt, seat, &mut shelf, client, request)?;
     Ok(())
 }
@@ -130,7 +131,7 @@ pub fn says<L: Ledgers>(
     line: &str,
 ) -> Result<String, PartitionFault> {
     let mut shelf = MemShelf::new(alloc);
-    let request = Request::of_line(alloc, line, false)?;
+    let request = Request::of_line(alloc, line, CommandSet::base())?;
     let answered = house.command(rt, seat, &mut shelf, client, request)?;
     let heard = heard(alloc, answered.front().is_some(), answered.reply().text())?;
     Ok(heard)
@@ -162,7 +163,7 @@ pub fn lists<L: Ledgers>(
 /// What a list of one line asks for.
 fn one_request(alloc: Global, line: &str) -> Result<Vec<Request>, AllocError> {
     let mut requests = Vec::with_capacity(alloc, 1)?;
-    requests.push_reserved(Request::of_line(alloc, line, false)?);
+    requests.push_reserved(Request::of_line(alloc, line, CommandSet::base())?);
     Ok(requests)
 }
 

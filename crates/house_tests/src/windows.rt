@@ -6,7 +6,7 @@ use crate::rooms::{blanks, player};
 use crate::wanted::wants;
 use counted_player::{Ledgers, Seat};
 use held_player::{Blanks, Held, News};
-use mpd_command::Request;
+use mpd_command::{CommandSet, Request};
 use partition::PartitionFault;
 use shelf::MemShelf;
 use std::alloc::{AllocError, Global};
@@ -29,7 +29,7 @@ fn says<L: Ledgers>(
     shelf: &mut MemShelf,
     line: &str,
 ) -> Result<(), PartitionFault> {
-    let request = Request::of_line(alloc, line, false)?;
+    let request = Request::of_line(alloc, line, CommandSet::base())?;
     let _answered = held.command(seat, shelf, 1, request)?;
     Ok(())
 }

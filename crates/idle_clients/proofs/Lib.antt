@@ -3,5 +3,4 @@ pub mod Empty
 pub mod Listeners
 pub mod Quiet
 pub mod Rises
-pub mod Songs
 pub mod Tells

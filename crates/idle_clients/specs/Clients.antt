@@ -6,14 +6,13 @@ use Rattle.std.specs.List.{flat_map, position_or_len}
 use Rattle.std.specs.Str.{bytes_eq}
 use Rattle.std.specs.declared.string.String.{String}
 use lib.Pointwise.{pointwise}
-use Rattle.mpd_text.specs.Songs.Song.{SongData}
 use Rattle.idle_notes.specs.declared.pending.Pending.{Pending}
 use Rattle.idle_notes.specs.declared.sets.Subsystems.{Subsystems}
 use Rattle.idle_notes.specs.Sets.{none}
 use Rattle.idle_notes.specs.Channels.{MemberData, messages_of, pairs}
 use Rattle.idle_notes.specs.Notes.{fresh, noted, waits, cancelled, notice_of, settled}
 use Rattle.song_queue.specs.declared.entry.Entry.{Entry}
-use Rattle.song_queue.specs.Entries.{same_queue, same_song}
+use Rattle.song_queue.specs.Entries.{same_queue}
 use Rattle.song_queue.specs.State.{queue_of, differ}
 use Rattle.play_order.specs.declared.modes.Single.{Single}
 use Rattle.play_order.specs.declared.modes.Single.TheVariants as single_mode
@@ -30,6 +29,7 @@ use Rattle.player_state.specs.declared.state.Library.{Library}
 use Rattle.player_state.specs.declared.state.Part.{Part}
 use Rattle.transitions.specs.Answers.{ResponseData, closes}
 use Rattle.idle_clients.specs.declared.fingerprint.Options.{Options}
+use Rattle.player_state.specs.Libraries.{same_songs}
 use Rattle.player_state.specs.Outputs.{OutputsData}
 use Rattle.transitions.specs.Shelves.{changes_lists, changes_stickers}
 use Rattle.transitions.specs.declared.shelf_calls.ShelfWrite.{ShelfWrite}
@@ -116,10 +116,6 @@ same_options p q =
 -- whether the same outputs are enabled
 unfoldable pub same_enabled : List Bool → List Bool → Bool
 same_enabled = pointwise beq
-
--- whether two libraries have the same songs
-unfoldable pub same_songs : List SongData → List SongData → Bool
-same_songs = pointwise same_song
 
 abbrev pub same_pair : ℕ × List ℕ → ℕ × List ℕ → Bool
 same_pair p q = nat_eq p.0 q.0 && bytes_eq p.1 q.1

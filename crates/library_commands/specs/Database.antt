@@ -1,6 +1,6 @@
 -- The commands that ask for songs and folders of the library, and add them (MPD protocol reference, The music
 -- database).
-use Rattle.std.specs.Prelude.{ℕ, ◌+◌, ◌-◌, if◌then◌else◌, List, [], ◌++◌, Option, Some, None, length, take, drop, codes, decimal}
+use Rattle.std.specs.Prelude.{ℕ, ◌+◌, ◌-◌, ◌==◌, Bool, ◌&&◌, if◌then◌else◌, List, [], ◌++◌, Option, Some, None, length, take, drop, codes, decimal}
 use Rattle.std.specs.List.{flat_map}
 use Rattle.filters.specs.Expressions.{Expression, Under}
 use Rattle.filters.specs.declared.matching.Case.{Case}
@@ -15,26 +15,40 @@ use Rattle.mpd_text.specs.Songs.Tags.{tag_text}
 use Rattle.mpd_text.specs.declared.answers.answer.ErrorNumber.TheVariants.{Argument, NoExist, UpdateAlready}
 use Rattle.mpd_text.specs.declared.songs.song.TagName.{TagName}
 use Rattle.song_db.specs.Library.{song_of}
-use Rattle.song_db.specs.Lines.{song_lines}
+use Rattle.known_tags.specs.Lines.{song_lines_with}
 use Rattle.song_search.specs.Answers.{found, listed, playtime}
 use Rattle.song_search.specs.Folders.{direct_folders, direct_songs, is_folder, under}
+use Rattle.shelf_contents.specs.Shown.{playlist_lines}
 use Rattle.transitions.specs.CommandResults.{begins_scan, refusal, shows}
-use Rattle.queue_commands.specs.Queue.{add_songs}
+use Rattle.transitions.specs.Shelves.{Question, NoQuestion, AskNames}
+use Rattle.queue_commands.specs.Queue.{add_songs, tags_for}
 use Rattle.transitions.specs.declared.asked.Asked.{Asked}
+use Rattle.transitions.specs.declared.shelf_calls.Read.{Read}
+use Rattle.transitions.specs.declared.shelf_calls.Read.TheVariants.{Names, Refused as ShelfRefused}
 use Rattle.player_state.specs.declared.state.Library.{Library}
 use Rattle.player_state.specs.declared.state.Part.{Part}
 use Rattle.transitions.specs.Transitions.{CommandResult}
 use Rattle.player_state.specs.Scans.{running}
 use Rattle.mpd_command.specs.declared.database.DatabaseCommand.{DatabaseCommand}
 use Rattle.mpd_command.specs.declared.database.DatabaseCommand.TheVariants as database
+use Rattle.library_commands.specs.Playlists.{refused, misread}
+use Rattle.library_commands.specs.Stickers.{of_song}
 
--- the lines of songs, one after the other
-unfoldable pub lines_of_songs : ℕ → List SongData → List ℕ
-lines_of_songs rate songs = flat_map (song_lines rate) songs
+-- the lines of songs with the tags of a set, one after the other
+unfoldable pub lines_of_songs : List TagName → ℕ → List SongData → List ℕ
+lines_of_songs tags rate songs = flat_map (song_lines_with tags rate) songs
 
 -- the same, at the rate of a library
-abbrev pub lines_by_library : Library → List SongData → List ℕ
-lines_by_library library songs = lines_of_songs library.rate songs
+abbrev pub lines_with : List TagName → Library → List SongData → List ℕ
+lines_with tags library songs = lines_of_songs tags library.rate songs
+
+-- the same, as the client that asks is shown them
+abbrev pub lines_for : Asked → Part → Library → List SongData → List ℕ
+lines_for asked part library songs = lines_with (tags_for asked part) library songs
+
+-- one song, as the client that asks is shown it
+abbrev pub show_song : Asked → Part → Library → SongData → CommandResult
+show_song asked part library song = shows asked (song_lines_with (tags_for asked part) library.rate song)
 
 -- the URIs of songs, a line each
 unfoldable pub lines_of_uris : List SongData → List ℕ
@@ -49,9 +63,10 @@ abbrev pub unreadable : Asked → List ℕ → CommandResult
 unreadable asked text = refusal asked Argument text
 
 -- the songs that meet a filter, in byte order of URI, or those of them that a window shows
-abbrev pub find : Asked → Library → Case → Wanted → Option Window → CommandResult
-find asked library case (Meeting e) window = shows asked (lines_by_library library (windowed window (found case e library.songs)))
-find asked library case (Refused text) window = unreadable asked text
+abbrev pub find : Asked → Part → Library → Case → Wanted → Option Window → CommandResult
+find asked part library case (Meeting e) window =
+    shows asked (lines_for asked part library (windowed window (found case e library.songs)))
+find asked part library case (Refused text) window = unreadable asked text
 
 -- the songs that meet a filter are added
 abbrev pub find_add : Asked → Part → Library → Case → Wanted → CommandResult
@@ -90,25 +105,82 @@ uri_or_all (Some uri) = uri.0
 unfoldable pub lines_of_folders : List (List ℕ) → List ℕ
 lines_of_folders folders = flat_map (pair_line (codes "directory")) folders
 
-abbrev pub show_folder : Asked → Library → List ℕ → CommandResult
-show_folder asked library folder =
-    if is_folder folder library.songs
-    then shows asked (lines_of_folders (direct_folders folder library.songs) ++ lines_by_library library (direct_songs folder library.songs))
+-- what lies right in a folder, its folders first
+abbrev pub lines_in : List TagName → Library → List ℕ → List ℕ
+lines_in tags library folder =
+    lines_of_folders (direct_folders folder library.songs)
+    ++ lines_with tags library (direct_songs folder library.songs)
+
+abbrev pub show_folder : Asked → Part → Library → List ℕ → CommandResult
+show_folder asked part library folder =
+    if is_folder folder library.songs then shows asked (lines_in (tags_for asked part) library folder)
     else no_such_directory asked
 
-abbrev pub show_song_or_folder : Asked → Library → Option SongData → List ℕ → CommandResult
-show_song_or_folder asked library (Some song) uri = shows asked (song_lines library.rate song)
-show_song_or_folder asked library None uri = show_folder asked library uri
+-- of a song its own lines. A name that is a song's is taken as the song
+abbrev pub show_song_or_folder : Asked → Part → Library → Option SongData → List ℕ → CommandResult
+show_song_or_folder asked part library (Some song) uri = show_song asked part library song
+show_song_or_folder asked part library None uri = show_folder asked part library uri
 
--- what lies right in a folder, its folders first; of a song its own lines. A name that is a song's is taken
--- as the song
-abbrev pub list_info : Asked → Library → Option Uri → CommandResult
-list_info asked library uri = show_song_or_folder asked library (song_of library.songs (uri_or_all uri)) (uri_or_all uri)
+abbrev pub list_place : Asked → Part → Library → List ℕ → CommandResult
+list_place asked part library uri = show_song_or_folder asked part library (song_of library.songs uri) uri
+
+-- what lies right in the library, and then the names of all stored playlists, in byte order
+abbrev pub list_root : Asked → Part → Library → Read → CommandResult
+list_root asked part library (Names names) =
+    shows asked (lines_in (tags_for asked part) library [] ++ playlist_lines names)
+list_root asked part library (ShelfRefused fault) = refused asked fault
+list_root asked part library _ = misread asked
+
+-- stored playlists are shown in the everyday profile, where the whole library is asked for
+abbrev pub shows_playlists : List ℕ → Bool → Bool
+shows_playlists uri everyday = everyday && length uri == 0
+
+-- what lies right in a folder, or in the library
+abbrev pub list_info : Asked → Part → Library → Read → List ℕ → Bool → CommandResult
+list_info asked part library read uri everyday =
+    if shows_playlists uri everyday then list_root asked part library read else list_place asked part library uri
 
 -- the URIs of all songs under a folder
-abbrev pub list_all : Asked → Library → Option Uri → CommandResult
-list_all asked library uri =
-    if is_folder (uri_or_all uri) library.songs then shows asked (lines_of_uris (under (uri_or_all uri) library.songs)) else no_such_directory asked
+abbrev pub list_folder : Asked → Library → List ℕ → CommandResult
+list_folder asked library folder =
+    if is_folder folder library.songs then shows asked (lines_of_uris (under folder library.songs))
+    else no_such_directory asked
+
+abbrev pub show_uri : Asked → SongData → CommandResult
+show_uri asked song = shows asked (pair_line (codes "file") song.uri)
+
+abbrev pub list_song_or_folder : Asked → Library → Option SongData → List ℕ → CommandResult
+list_song_or_folder asked library (Some song) uri = show_uri asked song
+list_song_or_folder asked library None uri = list_folder asked library uri
+
+abbrev pub list_uris : Asked → Library → List ℕ → CommandResult
+list_uris asked library uri = list_song_or_folder asked library (song_of library.songs uri) uri
+
+-- the same; in the everyday profile of a song its own URI
+abbrev pub list_all : Asked → Library → List ℕ → Bool → CommandResult
+list_all asked library uri everyday = if everyday then list_uris asked library uri else list_folder asked library uri
+
+-- the lines of all songs under a folder
+abbrev pub list_folder_info : Asked → Part → Library → List ℕ → CommandResult
+list_folder_info asked part library folder =
+    if is_folder folder library.songs then shows asked (lines_for asked part library (under folder library.songs))
+    else no_such_directory asked
+
+abbrev pub list_song_or_folder_info : Asked → Part → Library → Option SongData → List ℕ → CommandResult
+list_song_or_folder_info asked part library (Some song) uri = show_song asked part library song
+list_song_or_folder_info asked part library None uri = list_folder_info asked part library uri
+
+-- the same; of a song its own lines
+abbrev pub list_all_info : Asked → Part → Library → List ℕ → CommandResult
+list_all_info asked part library uri = list_song_or_folder_info asked part library (song_of library.songs uri) uri
+
+-- no picture lies beside a song
+abbrev pub album_art : Asked → Library → List ℕ → CommandResult
+album_art asked library uri = of_song asked library uri (refusal asked NoExist (codes "no picture"))
+
+-- there is no picture in a song's file, and nothing else that it says
+abbrev pub read_nothing : Asked → Library → List ℕ → CommandResult
+read_nothing asked library uri = of_song asked library uri (shows asked (codes ""))
 
 abbrev pub begin_scan : Asked → Library → Option ℕ → CommandResult
 begin_scan asked library (Some number) = refusal asked UpdateAlready (codes "already updating")
@@ -119,15 +191,28 @@ begin_scan asked library None =
 abbrev pub update : Asked → Library → CommandResult
 update asked library = begin_scan asked library (running library.scan)
 
+-- the names of all stored playlists are asked for, where they are shown
+abbrev pub asks_names : List ℕ → Bool → Question
+asks_names uri everyday = if shows_playlists uri everyday then AskNames else NoQuestion
+
+-- what a command asks the shelf
+abbrev pub question_of : DatabaseCommand → Question
+question_of (database.LsInfo uri everyday) = asks_names (uri_or_all uri) everyday
+question_of _ = NoQuestion
+
 -- what each command makes of the player
-unfoldable pub result_of : Asked → Part → Library → DatabaseCommand → CommandResult
-result_of asked part library (database.Count wanted) = count_songs asked library wanted
-result_of asked part library (database.Find wanted window) = find asked library Heeded wanted window
-result_of asked part library (database.FindAdd wanted) = find_add asked part library Heeded wanted
-result_of asked part library (database.List name wanted) = list asked library name wanted
-result_of asked part library (database.ListAll uri) = list_all asked library uri
-result_of asked part library (database.LsInfo uri) = list_info asked library uri
-result_of asked part library (database.Rescan uri) = update asked library
-result_of asked part library (database.Search wanted window) = find asked library Ignored wanted window
-result_of asked part library (database.SearchAdd wanted) = find_add asked part library Ignored wanted
-result_of asked part library (database.Update uri) = update asked library
+unfoldable pub result_of : Asked → Part → Library → Read → DatabaseCommand → CommandResult
+result_of asked part library read (database.AlbumArt uri offset) = album_art asked library uri.0
+result_of asked part library read (database.Count wanted) = count_songs asked library wanted
+result_of asked part library read (database.Find wanted window) = find asked part library Heeded wanted window
+result_of asked part library read (database.FindAdd wanted) = find_add asked part library Heeded wanted
+result_of asked part library read (database.List name wanted) = list asked library name wanted
+result_of asked part library read (database.ListAll uri everyday) = list_all asked library (uri_or_all uri) everyday
+result_of asked part library read (database.ListAllInfo uri) = list_all_info asked part library (uri_or_all uri)
+result_of asked part library read (database.LsInfo uri everyday) = list_info asked part library read (uri_or_all uri) everyday
+result_of asked part library read (database.ReadComments uri) = read_nothing asked library uri.0
+result_of asked part library read (database.ReadPicture uri offset) = read_nothing asked library uri.0
+result_of asked part library read (database.Rescan uri) = update asked library
+result_of asked part library read (database.Search wanted window) = find asked part library Ignored wanted window
+result_of asked part library read (database.SearchAdd wanted) = find_add asked part library Ignored wanted
+result_of asked part library read (database.Update uri) = update asked library

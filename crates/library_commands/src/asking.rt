@@ -2,7 +2,7 @@
 ghost use Rattle.library_commands.specs.Asking.{question_by};
 ghost use Rattle.transitions.specs.Shelves.{ReadsFor, TurnsByReading};
 
-use crate::{playlists, stickers};
+use crate::{database, playlists, stickers};
 use mpd_command::Command;
 use player_state::Library;
 use shelf::Shelf;
@@ -19,6 +19,7 @@ pub fn ask<S: Shelf>(
     ensures read { ReadsFor S.standing S.failed shelf.old shelf.new (question_by library.now command.now) result }
 {
     match command {
+        Command::Database(command) => database::ask(shelf, command),
         Command::Playlists(command) => playlists::ask(shelf, command),
         Command::Stickers(command) => stickers::ask(library, shelf, command),
         _ => Ok(Read::Nothing),

@@ -33,7 +33,7 @@ pub fn run(alloc: Global, asked: Asked, part: &Part, library: &Library, read: &R
 {
     match command {
         PlaylistCommand::ListPlaylist(name) => list_playlist(alloc, asked, read, name),
-        PlaylistCommand::ListPlaylistInfo(name) => list_playlist_info(alloc, asked, library, read, name),
+        PlaylistCommand::ListPlaylistInfo(name) => list_playlist_info(alloc, asked, part, library, read, name),
         PlaylistCommand::ListPlaylists => list_playlists(alloc, asked, read),
         PlaylistCommand::Load(name, range) => load(alloc, asked, part, library, read, name, *range),
         PlaylistCommand::PlaylistAdd(name, uri) => playlist_add(alloc, asked, library, read, name, uri),
@@ -89,18 +89,20 @@ fn list_playlist(
 fn list_playlist_info(
     alloc: Global,
     asked: Asked,
+    part: &Part,
     library: &Library,
     read: &Read,
     name: &Text,
 ) -> Result<Transition, AllocError>
-    ensures { IsDecidedBy result (list_playlist_info_lem asked library.now read.now name.now) }
+    ensures { IsDecidedBy result (list_playlist_info_lem asked part.now library.now read.now name.now) }
 {
     if !is_list_name(name.as_str()) {
         return Transition::bad_name(alloc, asked, name.as_str());
     }
     match read {
         Read::List(uris) => {
-            let lines = list_info_lines(alloc, uris, library.songs.db(), &library.rate)?;
+            let tags = part.tags.of(asked.client);
+            let lines = list_info_lines(alloc, uris, library.songs.db(), &library.rate, tags)?;
             Transition::shows(asked, lines)
         }
         Read::Refused(fault) => refused(alloc, asked, *fault),
@@ -385,7 +387,8 @@ pub(crate) fn ask<S: Shelf>(shelf: &mut S, command: &PlaylistCommand) -> Result<
     }
 }
 
-fn ask_names<S: Shelf>(shelf: &mut S) -> Result<Read, AllocError>
+/// Asks for the names of all lists.
+pub(crate) fn ask_names<S: Shelf>(shelf: &mut S) -> Result<Read, AllocError>
     ensures turns { TurnsByReading S.standing shelf.old shelf.new result }
     ensures read { ReadsFor S.standing S.failed shelf.old shelf.new AskNames result }
 {

@@ -1,6 +1,6 @@
 //! Filters: worked texts and pairs, faults, and the greatest depth and texts.
 use crate::tables::{Reads, compare, holds, owned, push, repeated, wants};
-use filters::{Case, Filter, FilterFault, Pair, Test, one_answer};
+use filters::{Case, Filter, FilterFault, Pair, Test, Vocabulary, one_answer};
 use mpd_text::{Song, Tag, TagName, Text};
 use std::alloc::Global;
 use std::process::Abort;
@@ -92,18 +92,26 @@ fn found<R: Abort>(
     }
 }
 
-fn parsed(alloc: Global, text: &str) -> Result<Filter, FilterFault> {
-    Filter::parse(alloc, text)
+fn parsed(alloc: Global, text: &str, vocabulary: Vocabulary) -> Result<Filter, FilterFault> {
+    Filter::parse(alloc, text, vocabulary)
 }
 
 /// The songs that meet the filter of a text, or its fault.
 pub fn read<R: Abort>(rt: &R, alloc: Global, text: &str) -> String {
-    found(rt, alloc, parsed(alloc, text), Case::Heeded)
+    let filter = parsed(alloc, text, Vocabulary::Base);
+    found(rt, alloc, filter, Case::Heeded)
+}
+
+/// The same where all tags that clients know are words.
+pub fn read_known<R: Abort>(rt: &R, alloc: Global, text: &str) -> String {
+    let filter = parsed(alloc, text, Vocabulary::Known);
+    found(rt, alloc, filter, Case::Heeded)
 }
 
 /// The same where case is ignored.
 pub fn read_any_case<R: Abort>(rt: &R, alloc: Global, text: &str) -> String {
-    found(rt, alloc, parsed(alloc, text), Case::Ignored)
+    let filter = parsed(alloc, text, Vocabulary::Base);
+    found(rt, alloc, filter, Case::Ignored)
 }
 
 const FAULTS: &str = "
@@ -125,11 +133,17 @@ const FAULTS: &str = "
 (foo => unknown tag foo
 (foo = 'x') => unknown tag foo
 (title = (foo == 'x')) => bad filter at byte 8
+(Art_ist == 'x') => unknown tag Art
+(Artist_ == 'x') => bad filter at byte 7
+(MUSICBRAINZ_ALBUMID == 'x') => unknown tag MUSICBRAINZ
+(AlbumArtist == 'x') => unknown tag AlbumArtist
+(filename == 'x') => unknown tag filename
+(_ == 'x') => bad filter at byte 1
 ";
 
 #[test]
 fn faults(rt: HostRuntime) {
-    compare(&rt, rt.alloc(), Reads::Filter, FAULTS, 18);
+    compare(&rt, rt.alloc(), Reads::Filter, FAULTS, 24);
 }
 
 /// What is read of a text between so many parentheses. Those that close are left out where the text is empty.
@@ -191,6 +205,32 @@ fn songs_that_meet_texts(rt: HostRuntime) {
     compare(&rt, alloc, Reads::FilterOfAnyCase, FOUND_IN_ANY_CASE, 5);
 }
 
+const KNOWN: &str = "
+(MUSICBRAINZ_ALBUMID == 'x') =>\u{20}
+(MUSICBRAINZ_ALBUMID == '') => a.wav b.wav d d/c.wav dd.wav\u{20}
+(musicbrainz_workid != '') =>\u{20}
+(Performer contains '') => a.wav b.wav d d/c.wav dd.wav\u{20}
+(AlbumArtist == 'Zo\u{eb}') => b.wav\u{20}
+(ARTISTSORT != '') => a.wav b.wav\u{20}
+(AlbumArtistSort == 'Zo\u{eb}') => b.wav\u{20}
+(AlbumSort != '') =>\u{20}
+(title == 'Bee') => b.wav\u{20}
+(any == 'Bee') => b.wav\u{20}
+(filename == 'dd.wav') => dd.wav\u{20}
+(FILE == 'dd.wav') => dd.wav\u{20}
+(base 'd') => d/c.wav\u{20}
+(Art_ist == 'x') => unknown tag Art_ist
+(Artist_ == 'x') => unknown tag Artist_
+(_ == 'x') => unknown tag _
+(base_ 'd') => unknown tag base_
+(Track1 == 'x') => bad filter at byte 6
+";
+
+#[test]
+fn songs_that_meet_known_tags(rt: HostRuntime) {
+    compare(&rt, rt.alloc(), Reads::FilterOfKnownTags, KNOWN, 18);
+}
+
 fn pairs<R: Abort>(rt: &R, alloc: Global, words: &[(&str, &str)]) -> Vec<Pair> {
     let mut pairs = Vec::new(alloc);
     for (name, text) in words {
@@ -208,20 +248,36 @@ fn of_pairs<R: Abort>(
     alloc: Global,
     words: &[(&str, &str)],
     test: Test,
+    vocabulary: Vocabulary,
 ) -> Result<Filter, FilterFault> {
-    Filter::of_pairs(alloc, pairs(rt, alloc, words).as_slice(), test)
+    Filter::of_pairs(alloc, pairs(rt, alloc, words).as_slice(), test, vocabulary)
 }
 
 /// The songs that meet the filter of these pairs in any case, or its fault.
 fn contain<R: Abort>(rt: &R, alloc: Global, words: &[(&str, &str)], case: Case, wanted: &str) {
-    let told = found(rt, alloc, of_pairs(rt, alloc, words, Test::Contains), case);
+    let filter = of_pairs(rt, alloc, words, Test::Contains, Vocabulary::Base);
+    let told = found(rt, alloc, filter, case);
     wants(rt, "containing", told.as_str(), wanted);
 }
 
-fn equal<R: Abort>(rt: &R, alloc: Global, words: &[(&str, &str)], wanted: &str) {
-    let filter = of_pairs(rt, alloc, words, Test::Equals);
+fn equal_in<R: Abort>(
+    rt: &R,
+    alloc: Global,
+    vocabulary: Vocabulary,
+    words: &[(&str, &str)],
+    wanted: &str,
+) {
+    let filter = of_pairs(rt, alloc, words, Test::Equals, vocabulary);
     let told = found(rt, alloc, filter, Case::Heeded);
     wants(rt, "equal", told.as_str(), wanted);
+}
+
+fn equal<R: Abort>(rt: &R, alloc: Global, words: &[(&str, &str)], wanted: &str) {
+    equal_in(rt, alloc, Vocabulary::Base, words, wanted);
+}
+
+fn equal_known<R: Abort>(rt: &R, alloc: Global, words: &[(&str, &str)], wanted: &str) {
+    equal_in(rt, alloc, Vocabulary::Known, words, wanted);
 }
 
 #[test]
@@ -236,6 +292,17 @@ fn songs_that_meet_pairs(rt: HostRuntime) {
     contain(&rt, alloc, &folder, Case::Heeded, "d/c.wav ");
     let unknown = [("title", "x"), ("foo", "x"), ("bar", "x")];
     equal(&rt, alloc, &unknown, "unknown tag foo");
+    equal(&rt, alloc, &[("filename", "b.wav")], "unknown tag filename");
+}
+
+#[test]
+fn songs_that_meet_pairs_of_known_tags(rt: HostRuntime) {
+    let alloc = rt.alloc();
+    let named = [("FileName", "b.wav"), ("albumartist", "Zo\u{eb}")];
+    equal_known(&rt, alloc, &named, "b.wav ");
+    equal_known(&rt, alloc, &[("Composer", "x")], "");
+    let unknown = [("MUSICBRAINZ_TRACKID", ""), ("Art_ist", "x")];
+    equal_known(&rt, alloc, &unknown, "unknown tag Art_ist");
 }
 
 /// A song whose texts have 1,024 bytes each: the most that a tag's text and a URI have.
@@ -257,7 +324,7 @@ fn meets<R: Abort>(rt: &R, alloc: Global, song: &Song, comparison: &Comparison) 
     let (with, text, count, case, _) = *comparison;
     let wanted = repeated(rt, alloc, text, count);
     let text = format!(in alloc; "({with} '{wanted}')").expect(rt, "no memory");
-    let filter = parsed(alloc, text.as_str()).expect(rt, "no filter");
+    let filter = parsed(alloc, text.as_str(), Vocabulary::Base).expect(rt, "no filter");
     matches(rt, &filter, song, case)
 }
 
@@ -273,7 +340,13 @@ fn compare_all<R: Abort>(rt: &R, alloc: Global, comparisons: &[Comparison]) {
 /// Whether the song of long texts meets the filter of one pair.
 fn meets_pair<R: Abort>(rt: &R, alloc: Global) -> bool {
     let artist = repeated(rt, alloc, "a", 1_024);
-    let filter = of_pairs(rt, alloc, &[("ARTIST", artist.as_str())], Test::Equals);
+    let filter = of_pairs(
+        rt,
+        alloc,
+        &[("ARTIST", artist.as_str())],
+        Test::Equals,
+        Vocabulary::Base,
+    );
     let filter = filter.expect(rt, "no filter");
     matches(rt, &filter, &long_song(rt, alloc), Case::Ignored)
 }

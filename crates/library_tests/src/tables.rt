@@ -10,6 +10,8 @@ pub enum Reads {
     Filter,
     /// The same where case is ignored.
     FilterOfAnyCase,
+    /// The same in their case, where all tags that clients know are words.
+    FilterOfKnownTags,
     /// A WAVE file's rate and bytes.
     Wave,
     /// How many bytes of a WAVE file are left.
@@ -21,6 +23,7 @@ fn read<R: Abort>(rt: &R, alloc: Global, reads: Reads, text: &str) -> String {
     match reads {
         Reads::Filter => filter_texts::read(rt, alloc, text),
         Reads::FilterOfAnyCase => filter_texts::read_any_case(rt, alloc, text),
+        Reads::FilterOfKnownTags => filter_texts::read_known(rt, alloc, text),
         Reads::Wave => wave_files::read(rt, alloc, text),
         Reads::CutWave => wave_files::read_cut(rt, alloc, text),
     }

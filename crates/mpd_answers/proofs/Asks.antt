@@ -49,7 +49,7 @@ module _ {S : Type 0} (standing : S → Standing) (failed : S → S → Call →
   line_unread before line owed is = ([], owed, refl, ([], refl), inr ([], NoMemory, is, refl, refl, inl refl, inl (refl, refl)))
 
   -- a line was run
-  pub line_ran : (before after : Caller S) (line : LineData) (request : Request) (answered : Handed) (owed : List ℕ) (next : Next) → request ≡ read_line asker.may_kill line
+  pub line_ran : (before after : Caller S) (line : LineData) (request : Request) (answered : Handed) (owed : List ℕ) (next : Next) → request ≡ read_line asker.commands line
       → owed ≡ notice_bytes answered.front ++ answered.told.answer.text → next ≡ answered.told.answer.next → after.seat ≡ after_events before.seat 1
       → AnswersSomewhere standing failed before.shelf after.shelf before.seat (line_of asker.client request) answered.told
       → IsOwed (Answers standing failed asker) before (Single line) owed next after
@@ -68,12 +68,12 @@ module _ {S : Type 0} (standing : S → Standing) (failed : S → S → Call →
   )
 
   -- the house did not run a line
-  pub line_refused : (before after : Caller S) (line : LineData) (request : Request) (name owed : List ℕ) (fault : PartitionFault) → request ≡ read_line asker.may_kill line → name ≡ name_in request
+  pub line_refused : (before after : Caller S) (line : LineData) (request : Request) (name owed : List ℕ) (fault : PartitionFault) → request ≡ read_line asker.commands line → name ≡ name_in request
       → owed ≡ ack_line 52 0 name (fault_text fault) → after.seat ≡ before.seat → IsUnwritten standing failed before.shelf after.shelf
       → StopsSomewhere standing failed before.shelf after.shelf before.seat (line_of asker.client request) fault
       → IsOwed (Answers standing failed asker) before (Single line) owed Goes after
   line_refused before after line request name owed fault read named is made unwritten somewhere =
-      let stops : StopsSomewhere standing failed before.shelf after.shelf before.seat (line_of asker.client (read_line asker.may_kill line)) fault =
+      let stops : StopsSomewhere standing failed before.shelf after.shelf before.seat (line_of asker.client (read_line asker.commands line)) fault =
       subst (λ (r : Request). StopsSomewhere standing failed before.shelf after.shelf before.seat (line_of asker.client r) fault) read somewhere in
       ([], owed, refl, ([], refl), inr (name, fault, is, refl, made, unwritten, inr (named ∙ ap name_in read, stops)))
 
@@ -82,7 +82,7 @@ module _ {S : Type 0} (standing : S → Standing) (failed : S → S → Call →
   empty_list before list owed none is = ([], owed, refl, ([], refl), inr (inr (none, is, refl, refl)))
 
   -- a list was run
-  pub list_ran : (before after : Caller S) (list : CommandList) (requests : List Request) (unread : Option ℕ) (answered : HandedList) (owed : List ℕ) (next : Next) → IsRead list.lines asker.may_kill requests unread
+  pub list_ran : (before after : Caller S) (list : CommandList) (requests : List Request) (unread : Option ℕ) (answered : HandedList) (owed : List ℕ) (next : Next) → IsRead list.lines asker.commands requests unread
       → owed ≡ notice_bytes answered.front ++ text_with (list_end unread) answered.tolds
       → next ≡ next_after answered.tolds → after.seat ≡ after_events before.seat (length answered.tolds)
       → TellsListSomewhere standing failed before.shelf after.shelf before.seat asker.client list.form requests answered.tolds
@@ -105,7 +105,7 @@ module _ {S : Type 0} (standing : S → Standing) (failed : S → S → Call →
   )
 
   -- a list stopped
-  pub list_stopped : (before after : Caller S) (list : CommandList) (requests : List Request) (unread : Option ℕ) (stop : Stop) (owed : List ℕ) → IsRead list.lines asker.may_kill requests unread
+  pub list_stopped : (before after : Caller S) (list : CommandList) (requests : List Request) (unread : Option ℕ) (stop : Stop) (owed : List ℕ) → IsRead list.lines asker.commands requests unread
       → owed ≡ stop_text stop → after.seat ≡ after_events before.seat stop.done
       → StopsListSomewhere standing failed before.shelf after.shelf before.seat asker.client list.form requests stop
       → IsOwed (Answers standing failed asker) before (Whole list) owed Goes after

@@ -10,6 +10,7 @@ use Rattle.counted_player.specs.Seats.{SeatCount, after_events}
 use Rattle.counted_player.specs.Counts.{AnswersSomewhere}
 use Rattle.held_player.specs.Views.{IsUnwritten, StopsSomewhere, line_of}
 use Rattle.mpd_command.specs.Requests.{name_in, request_of}
+use Rattle.mpd_command.specs.declared.command_set.CommandSet.{CommandSet}
 use Rattle.mpd_command.specs.declared.request.Request.{Request}
 use Rattle.mpd_command.specs.declared.request.Request.TheVariants.{Refused}
 use Rattle.mpd_text.specs.Answers.Answer.{ack_line}
@@ -38,25 +39,25 @@ abbrev pub HasGrown : {S : Type 0} → Caller S → Caller S → Type 0
 HasGrown before after = (after.seat.number ≡ before.seat.number) × (before.seat.made ≤ after.seat.made)
 
 -- what a line asks for
-abbrev pub read_line : Bool → LineData → Request
-read_line may_kill (Some text) = request_of text may_kill
-read_line may_kill None = Refused (record { number = Argument; command = None; text = codes "line is not UTF-8" })
+abbrev pub read_line : CommandSet → LineData → Request
+read_line set (Some text) = request_of text set
+read_line set None = Refused (record { number = Argument; command = None; text = codes "line is not UTF-8" })
 
 abbrev pub line_of_list : ListLine → LineData
 line_of_list (Text text) = Some text
 line_of_list NotText = None
 
-abbrev pub read_list_line : Bool → ListLine → Request
-read_list_line may_kill line = read_line may_kill (line_of_list line)
+abbrev pub read_list_line : CommandSet → ListLine → Request
+read_list_line set line = read_line set (line_of_list line)
 
-abbrev pub read_lines : Bool → List ListLine → List Request
-read_lines may_kill lines = map (λ line. read_line may_kill (line_of_list line)) lines
+abbrev pub read_lines : CommandSet → List ListLine → List Request
+read_lines set lines = map (λ line. read_line set (line_of_list line)) lines
 
 -- the requests of a list's lines, up to the one at this place, which there was no memory to read; of all of
 -- them where there is none
-abbrev pub IsRead : List ListLine → Bool → List Request → Option ℕ → Type 0
-IsRead lines may_kill requests None = requests ≡ read_lines may_kill lines
-IsRead lines may_kill requests (Some place) = (requests ≡ take place (read_lines may_kill lines)) × (place < length lines)
+abbrev pub IsRead : List ListLine → CommandSet → List Request → Option ℕ → Type 0
+IsRead lines set requests None = requests ≡ read_lines set lines
+IsRead lines set requests (Some place) = (requests ≡ take place (read_lines set lines)) × (place < length lines)
 
 -- what stands after the answers of a list where all succeed: `OK`; or that there was no memory to read the
 -- line at this place
@@ -69,12 +70,12 @@ module _ {S : Type 0} (standing : S → Standing) (failed : S → S → Call →
   abbrev pub RunsLine : Caller S → LineData → List ℕ → Next → Caller S → Type 0
   RunsLine before line text next after =
       (outcome : OutcomeData) × (text ≡ outcome.answer.text) × (next ≡ outcome.answer.next) × (after.seat ≡ after_events before.seat 1)
-      × AnswersSomewhere standing failed before.shelf after.shelf before.seat (line_of asker.client (read_line asker.may_kill line)) outcome
+      × AnswersSomewhere standing failed before.shelf after.shelf before.seat (line_of asker.client (read_line asker.commands line)) outcome
 
   -- The line's event is refused after some past that the seat may find: for the limit that it would pass, for
   -- a window that cannot be folded, or for want of memory.
   abbrev pub StopsLine : Caller S → LineData → PartitionFault → Caller S → Type 0
-  StopsLine before line fault after = StopsSomewhere standing failed before.shelf after.shelf before.seat (line_of asker.client (read_line asker.may_kill line)) fault
+  StopsLine before line fault after = StopsSomewhere standing failed before.shelf after.shelf before.seat (line_of asker.client (read_line asker.commands line)) fault
 
   -- Why the house did not run the line. There may have been no memory to read what command it names; else the
   -- player refuses its event so, after some past that the seat may find.
@@ -82,20 +83,20 @@ module _ {S : Type 0} (standing : S → Standing) (failed : S → S → Call →
   RefusesLine before line text next after =
       (name : List ℕ) × (fault : PartitionFault) × (text ≡ ack_line 52 0 name (fault_text fault)) × (next ≡ Goes) × (after.seat ≡ before.seat)
       × IsUnwritten standing failed before.shelf after.shelf
-      × (((name ≡ []) × (fault ≡ NoMemory)) ⊎ ((name ≡ name_in (read_line asker.may_kill line)) × StopsLine before line fault after))
+      × (((name ≡ []) × (fault ≡ NoMemory)) ⊎ ((name ≡ name_in (read_line asker.commands line)) × StopsLine before line fault after))
 
   -- The answers to the lines of a list, or to those in front of one that there was no memory to read, up to
   -- the first that ends the list.
   abbrev pub RunsList : Caller S → CommandList → List ℕ → Next → Caller S → Type 0
   RunsList before list text next after =
-      (requests : List Request) × (unread : Option ℕ) × (tolds : List OutcomeData) × IsRead list.lines asker.may_kill requests unread × (text ≡ text_with (list_end unread) tolds)
+      (requests : List Request) × (unread : Option ℕ) × (tolds : List OutcomeData) × IsRead list.lines asker.commands requests unread × (text ≡ text_with (list_end unread) tolds)
       × (next ≡ next_after tolds) × (after.seat ≡ after_events before.seat (length tolds))
       × TellsListSomewhere standing failed before.shelf after.shelf before.seat asker.client list.form requests tolds
 
   -- The answers to the lines of a list before one that the house did not run, and why.
   abbrev pub StopsList : Caller S → CommandList → List ℕ → Next → Caller S → Type 0
   StopsList before list text next after =
-      (requests : List Request) × (unread : Option ℕ) × (stop : Stop) × IsRead list.lines asker.may_kill requests unread × (text ≡ stop_text stop)
+      (requests : List Request) × (unread : Option ℕ) × (stop : Stop) × IsRead list.lines asker.commands requests unread × (text ≡ stop_text stop)
       × (next ≡ Goes) × (after.seat ≡ after_events before.seat stop.done)
       × StopsListSomewhere standing failed before.shelf after.shelf before.seat asker.client list.form requests stop
 

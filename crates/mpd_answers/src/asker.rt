@@ -1,10 +1,12 @@
 //! Who asks.
 
-/// A client, and whether it may end the daemon.
+use mpd_command::CommandSet;
+
+/// A client, and which commands it may give.
 #[derive(Clone, Copy, Debug, PartialEq, Eq)]
 pub struct Asker {
     /// Its number, by which the player knows it.
     pub client: u32,
-    /// Whether `kill` is allowed.
-    pub may_kill: bool,
+    /// Which commands there are for it.
+    pub commands: CommandSet,
 }

@@ -11,7 +11,7 @@ use crate::owed::Owed;
 use command_lists::{CommandList, ListLine};
 use counted_player::{Ledgers, Seat};
 use house::House;
-use mpd_command::{Ack, Request};
+use mpd_command::{Ack, CommandSet, Request};
 use mpd_text::{ErrorNumber, Text};
 use partition::PartitionFault;
 use shelf::Shelf;
@@ -57,7 +57,7 @@ fn ask_line<L: Ledgers, S: Shelf, R: Wait>(
 ) -> Owed
     ensures { IsOwedFor S.standing S.failed asker seat.old shelf.old (Single (option_copied line.entry)) result seat.new shelf.new }
 {
-    let Ok(request) = read_line(alloc, asker.may_kill, line) else {
+    let Ok(request) = read_line(alloc, asker.commands, line) else {
         return Owed::LineFault("", PartitionFault::NoMemory);
     };
     let name = request.name();
@@ -83,7 +83,7 @@ fn ask_list<L: Ledgers, S: Shelf, R: Wait>(
     if lines.is_empty() {
         return Owed::EmptyList;
     }
-    let (requests, unread) = read_all(alloc, asker.may_kill, lines);
+    let (requests, unread) = read_all(alloc, asker.commands, lines);
     match house.list(rt, seat, shelf, asker.client, list.form, requests) {
         Ok(answered) => Owed::List(answered, unread),
         Err(fault) => Owed::ListFault(fault),
@@ -91,11 +91,11 @@ fn ask_list<L: Ledgers, S: Shelf, R: Wait>(
 }
 
 /// What a line asks for; `None` is one that is not UTF-8.
-fn read_line(alloc: Global, may_kill: bool, line: Option<&str>) -> Result<Request, AllocError>
-    ensures { IfOk result (λ request. request ≡ read_line_of may_kill (option_copied line.entry)) }
+fn read_line(alloc: Global, set: CommandSet, line: Option<&str>) -> Result<Request, AllocError>
+    ensures { IfOk result (λ request. request ≡ read_line_of set (option_copied line.entry)) }
 {
     match line {
-        Some(text) => Request::of_line(alloc, text, may_kill),
+        Some(text) => Request::of_line(alloc, text, set),
         None => Ok(Request::Refused(Ack {
             number: ErrorNumber::Argument,
             command: None,
@@ -105,12 +105,12 @@ fn read_line(alloc: Global, may_kill: bool, line: Option<&str>) -> Result<Reques
 }
 
 /// What the lines of a list ask for, up to the first that there is no memory to read, and the place of that.
-fn read_all(alloc: Global, may_kill: bool, lines: &[ListLine]) -> (Vec<Request>, Option<usize>)
-    ensures { IsRead lines.now may_kill result.0.items result.1 }
+fn read_all(alloc: Global, set: CommandSet, lines: &[ListLine]) -> (Vec<Request>, Option<usize>)
+    ensures { IsRead lines.now set result.0.items result.1 }
 {
     let mut requests = Vec::new(alloc);
     for (place, line) in lines.iter().enumerate() {
-        let Ok(()) = push_request(alloc, may_kill, &mut requests, line) else {
+        let Ok(()) = push_request(alloc, set, &mut requests, line) else {
             return (requests, Some(place));
         };
     }
@@ -120,17 +120,17 @@ fn read_all(alloc: Global, may_kill: bool, lines: &[ListLine]) -> (Vec<Request>,
 /// Puts what a line of a list asks for after other requests.
 fn push_request(
     alloc: Global,
-    may_kill: bool,
+    set: CommandSet,
     requests: &mut Vec<Request>,
     line: &ListLine,
 ) -> Result<(), AllocError>
-    ensures ok { OnOk result (requests.new.items ≡ requests.old.items ++ read_list_line may_kill line.now ∷ []) }
+    ensures ok { OnOk result (requests.new.items ≡ requests.old.items ++ read_list_line set line.now ∷ []) }
     ensures err { OnErr result (requests.new.items ≡ requests.old.items) }
 {
     let text = match line {
         ListLine::Text(text) => Some(text.as_str()),
         ListLine::NotText => None,
     };
-    let request = read_line(alloc, may_kill, text)?;
+    let request = read_line(alloc, set, text)?;
     Ok(requests.push(request)?)
 }

@@ -1,5 +1,5 @@
 -- All commands, by the tables of their groups.
-use Rattle.std.specs.Prelude.{ℕ, Bool, List, Option, Result}
+use Rattle.std.specs.Prelude.{ℕ, List, Option, Result}
 use Rattle.mpd_command.specs.Tables.{found, or_else, under}
 use Rattle.mpd_command.specs.Connection.{rows as connection_rows}
 use Rattle.mpd_command.specs.Database.{rows as database_rows}
@@ -13,17 +13,18 @@ use Rattle.mpd_command.specs.Status.{rows as status_rows}
 use Rattle.mpd_command.specs.Stickers.{rows as stickers_rows}
 use Rattle.command_arguments.specs.declared.readers.Misread.{Misread}
 use Rattle.mpd_command.specs.declared.command.Command.{Command}
+use Rattle.mpd_command.specs.declared.command_set.CommandSet.{CommandSet}
 use Rattle.mpd_command.specs.declared.command.Command.TheVariants as command
 
 -- the command of a name and the words after it, or its first fault; nothing where no table has the name
-abbrev pub command_of : Bool → List ℕ → List (List ℕ) → Result (Option Command) Misread
-command_of allow_kill word words =
-    or_else (under command.Connection (found (connection_rows allow_kill) word words))
-    (or_else (under command.Status (found status_rows word words))
-    (or_else (under command.Playback (found playback_rows word words))
+abbrev pub command_of : CommandSet → List ℕ → List (List ℕ) → Result (Option Command) Misread
+command_of set word words =
+    or_else (under command.Connection (found (connection_rows set) word words))
+    (or_else (under command.Status (found (status_rows set) word words))
+    (or_else (under command.Playback (found (playback_rows set) word words))
     (or_else (under command.Queue (found queue_rows word words))
     (or_else (under command.Options (found options_rows word words))
-    (or_else (under command.Database (found database_rows word words))
+    (or_else (under command.Database (found (database_rows set) word words))
     (or_else (under command.Playlists (found playlists_rows word words))
     (or_else (under command.Stickers (found stickers_rows word words))
     (or_else (under command.Outputs (found outputs_rows word words))

@@ -1,6 +1,7 @@
 -- The names of commands, in their byte order.
-use Rattle.std.specs.Prelude.{ℕ, Bool, false, not, ◌&&◌, List, [], ◌∷◌, ◌++◌, Option, codes, if◌then◌else◌, position, slice_index_or}
+use Rattle.std.specs.Prelude.{ℕ, Bool, false, not, ◌&&◌, ◌||◌, List, [], ◌∷◌, ◌++◌, Option, codes, if◌then◌else◌, position, slice_index_or}
 use Rattle.std.specs.Cmp.Lexicographic.{slice_cmp}
+use Rattle.std.specs.List.{list_any}
 use Rattle.std.specs.Option.{option_map}
 use Rattle.std.specs.Ordering.{is_lt, nat_cmp}
 use Rattle.std.specs.Str.{bytes_eq}
@@ -15,6 +16,7 @@ use Rattle.mpd_command.specs.Playlists.{rows as playlists_rows}
 use Rattle.mpd_command.specs.Queue.{rows as queue_rows}
 use Rattle.mpd_command.specs.Status.{rows as status_rows}
 use Rattle.mpd_command.specs.Stickers.{rows as stickers_rows}
+use Rattle.mpd_command.specs.declared.command_set.CommandSet.{CommandSet}
 use Rattle.mpd_command.specs.declared.name.Name.{Name}
 
 abbrev pub comes_before : List ℕ → List ℕ → Bool
@@ -29,20 +31,34 @@ abbrev pub sorted : List (List ℕ) → List (List ℕ)
 sorted [] = []
 sorted (name ∷ names) = inserted name (sorted names)
 
+-- the commands without `kill` and the everyday profile
+abbrev pub fewest : CommandSet
+fewest = record { kill = false; everyday = false }
+
 -- the names of all tables, in their byte order
 unfoldable pub all_names : List (List ℕ)
 all_names =
-    sorted (names_of status_rows ++ names_of options_rows ++ names_of playback_rows ++ names_of queue_rows ++ names_of playlists_rows
-    ++ names_of database_rows ++ names_of stickers_rows ++ names_of (connection_rows false) ++ names_of outputs_rows ++ names_of messages_rows)
+    sorted (names_of (status_rows fewest) ++ names_of options_rows ++ names_of (playback_rows fewest) ++ names_of queue_rows ++ names_of playlists_rows
+    ++ names_of (database_rows fewest) ++ names_of stickers_rows ++ names_of (connection_rows fewest) ++ names_of outputs_rows ++ names_of messages_rows)
+
+-- the names of the commands that the everyday profile adds, in their byte order
+abbrev pub everyday_names : List (List ℕ)
+everyday_names =
+    codes "albumart" ∷ codes "decoders" ∷ codes "listallinfo" ∷ codes "listmounts" ∷ codes "playlist" ∷ codes "readcomments" ∷ codes "readpicture"
+    ∷ codes "replay_gain_mode" ∷ codes "replay_gain_status" ∷ codes "stats" ∷ codes "urlhandlers" ∷ codes "volume" ∷ []
+
+-- whether there is a command of this name: one that the everyday profile adds has to be asked for
+abbrev pub is_there : List ℕ → CommandSet → Bool
+is_there name set = set.everyday || not (list_any (λ other. bytes_eq other name) everyday_names)
 
 -- the text of a name
 abbrev pub text_of : Name → List ℕ
 text_of name = slice_index_or all_names name.place (codes "")
 
--- the name that a word is
+-- the name that a word is, whether there is such a command or not
 unfoldable pub name_of : List ℕ → Option Name
 name_of word = option_map (λ place. record { place = place }) (position (λ name. bytes_eq name word) all_names)
 
 -- whether the command of this name may not be run: the settings have to allow `kill` (this profile's)
-abbrev pub is_forbidden : List ℕ → Bool → Bool
-is_forbidden name allow_kill = bytes_eq name (codes "kill") && not allow_kill
+abbrev pub is_forbidden : List ℕ → CommandSet → Bool
+is_forbidden name set = bytes_eq name (codes "kill") && not set.kill

@@ -1,7 +1,7 @@
 -- The table of commands that set how songs are played, and the volume (MPD protocol reference, Playback
 -- options).
 use Rattle.std.specs.Prelude.{List, [], ◌∷◌, codes}
-use Rattle.command_arguments.specs.Forms.{switch_of, single_of, volume_of, fade_of}
+use Rattle.command_arguments.specs.Forms.{switch_of, single_of, volume_of, volume_change_of, fade_of, off_of}
 use Rattle.mpd_command.specs.Tables.{Row, none, one}
 use Rattle.mpd_command.specs.declared.options.OptionCommand.{OptionCommand}
 use Rattle.mpd_command.specs.declared.options.OptionCommand.TheVariants as options
@@ -13,6 +13,9 @@ rows =
     ∷ (codes "getvol", none options.GetVol)
     ∷ (codes "random", one switch_of options.Random)
     ∷ (codes "repeat", one switch_of options.Repeat)
+    ∷ (codes "replay_gain_mode", one off_of options.SetReplayGain)
+    ∷ (codes "replay_gain_status", none options.ReplayGainStatus)
     ∷ (codes "setvol", one volume_of options.SetVol)
     ∷ (codes "single", one single_of options.Single)
+    ∷ (codes "volume", one volume_change_of options.ChangeVolume)
     ∷ []

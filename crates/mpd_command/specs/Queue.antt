@@ -16,6 +16,7 @@ rows =
     ∷ (codes "deleteid", one number_of queue.DeleteId)
     ∷ (codes "move", two range_of number_of queue.Move)
     ∷ (codes "moveid", two number_of number_of queue.MoveId)
+    ∷ (codes "playlist", none queue.Playlist)
     ∷ (codes "playlistid", perhaps number_of queue.PlaylistId)
     ∷ (codes "playlistinfo", perhaps range_of queue.PlaylistInfo)
     ∷ (codes "plchanges", one_perhaps number_of range_of queue.PlChanges)

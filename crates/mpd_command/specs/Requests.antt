@@ -7,9 +7,10 @@ use Rattle.mpd_text.specs.declared.answers.answer.ErrorNumber.TheVariants.{Argum
 use Rattle.mpd_text.specs.declared.lines.quoting.WordsFault.{WordsFault}
 use Rattle.mpd_text.specs.declared.lines.quoting.WordsFault.TheVariants.{BadUnquoted, NoClosingQuote, NoSpaceAfterQuote, TooMany, NoMemory as NoMemoryForWords}
 use Rattle.mpd_command.specs.Commands.{command_of}
-use Rattle.mpd_command.specs.Names.{name_of, is_forbidden, text_of}
+use Rattle.mpd_command.specs.Names.{name_of, is_forbidden, is_there, text_of}
 use Rattle.command_arguments.specs.declared.readers.Misread.{Misread}
 use Rattle.command_arguments.specs.declared.readers.Misread.TheVariants.{WrongNumber, Bad, NoMemory as NoMemoryToRead}
+use Rattle.mpd_command.specs.declared.command_set.CommandSet.{CommandSet}
 use Rattle.mpd_command.specs.declared.name.Name.{Name}
 use Rattle.mpd_command.specs.declared.command.Command.{Command}
 use Rattle.mpd_command.specs.declared.request.Ack.{Ack}
@@ -36,27 +37,31 @@ read_as name word (Ok None) = Err (unknown word)
 read_as name word (Err misread) = Err (ack_of name misread)
 
 -- a command, by its name, the word that the name is, and the words after it
-abbrev pub with_arguments : Bool → Name → List ℕ → List (List ℕ) → Result (Name × Command) Ack
-with_arguments allow_kill name word words = read_as name word (command_of allow_kill word words)
+abbrev pub with_arguments : CommandSet → Name → List ℕ → List (List ℕ) → Result (Name × Command) Ack
+with_arguments set name word words = read_as name word (command_of set word words)
 
-abbrev pub of_name : Option Name → List ℕ → List (List ℕ) → Bool → Result (Name × Command) Ack
-of_name None word words allow_kill = Err (unknown word)
-of_name (Some name) word words allow_kill =
-    if is_forbidden word allow_kill then Err (record { number = Permission; command = Some name; text = codes "no permission for \"kill\"" })
-    else with_arguments allow_kill name word words
+-- the name that a word is, where there is such a command
+abbrev pub name_in_set : List ℕ → CommandSet → Option Name
+name_in_set word set = if is_there word set then name_of word else None
+
+abbrev pub of_name : Option Name → List ℕ → List (List ℕ) → CommandSet → Result (Name × Command) Ack
+of_name None word words set = Err (unknown word)
+of_name (Some name) word words set =
+    if is_forbidden word set then Err (record { number = Permission; command = Some name; text = codes "no permission for \"kill\"" })
+    else with_arguments set name word words
 
 -- the command of words, under its name, or the first refusal: unknown, not allowed, wrong number, first
 -- argument of a wrong form
-abbrev pub named_of : List (List ℕ) → Bool → Result (Name × Command) Ack
-named_of [] allow_kill = Err (record { number = Unknown; command = None; text = codes "no command given" })
-named_of (word ∷ words) allow_kill = of_name (name_of word) word words allow_kill
+abbrev pub named_of : List (List ℕ) → CommandSet → Result (Name × Command) Ack
+named_of [] set = Err (record { number = Unknown; command = None; text = codes "no command given" })
+named_of (word ∷ words) set = of_name (name_in_set word set) word words set
 
 abbrev pub command_in : Result (Name × Command) Ack → Result Command Ack
 command_in (Ok named) = Ok named.1
 command_in (Err ack) = Err ack
 
-abbrev pub answer_of : List (List ℕ) → Bool → Result Command Ack
-answer_of words allow_kill = command_in (named_of words allow_kill)
+abbrev pub answer_of : List (List ℕ) → CommandSet → Result Command Ack
+answer_of words set = command_in (named_of words set)
 
 -- what is answered is this, unless memory ran out
 abbrev pub AnswersAs : {A : Type 0} → Result A CommandFault → Result A Ack → Type 0
@@ -79,13 +84,13 @@ abbrev pub request_from : Result (Name × Command) Ack → Request
 request_from (Ok named) = Run named.0 named.1
 request_from (Err ack) = Refused ack
 
-abbrev pub request_with : Result (List (List ℕ)) WordsFault → Bool → Request
-request_with (Ok words) allow_kill = request_from (named_of words allow_kill)
-request_with (Err fault) allow_kill = Refused (record { number = Argument; command = None; text = fault_text fault })
+abbrev pub request_with : Result (List (List ℕ)) WordsFault → CommandSet → Request
+request_with (Ok words) set = request_from (named_of words set)
+request_with (Err fault) set = Refused (record { number = Argument; command = None; text = fault_text fault })
 
 -- what a line asks for, or the first refusal before effects
-unfoldable pub request_of : List ℕ → Bool → Request
-request_of line allow_kill = request_with (words_of line) allow_kill
+unfoldable pub request_of : List ℕ → CommandSet → Request
+request_of line set = request_with (words_of line) set
 
 abbrev pub text_of_name : Option Name → List ℕ
 text_of_name None = []

@@ -2,6 +2,7 @@
 use Rattle.std.specs.Prelude.{ℕ, List, [], ◌∷◌, Option, Some, None, Result, Ok, Err, map, if◌then◌else◌}
 use Rattle.std.specs.Str.{bytes_eq}
 use Rattle.filters.specs.declared.expression.Test.{Test}
+use Rattle.filters.specs.declared.words.Vocabulary.{Vocabulary}
 use Rattle.idle_notes.specs.declared.sets.Subsystems.{Subsystems}
 use Rattle.command_arguments.specs.Readers.{map_ok, none_of, one_of, perhaps_of, two_of, three_of, one_perhaps_of, one_many_of, subsystems_of}
 use Rattle.command_arguments.specs.Wanted.{filter_of, filter_window_of, one_filter_of}
@@ -69,13 +70,13 @@ abbrev pub subsystems : {A : Type 0} → (Subsystems → A) → Arguments A
 subsystems f words = map_ok f (subsystems_of words)
 
 -- a filter, whose pairs ask by this test
-abbrev pub filter : {A : Type 0} → Test → (Wanted → A) → Arguments A
-filter test f words = map_ok f (filter_of test words)
+abbrev pub filter : {A : Type 0} → Vocabulary → Test → (Wanted → A) → Arguments A
+filter vocabulary test f words = map_ok f (filter_of vocabulary test words)
 
 -- a filter, and perhaps a window after it
-abbrev pub filter_window : {A : Type 0} → Test → (Wanted → Option Window → A) → Arguments A
-filter_window test f words = map_ok (λ p. f p.0 p.1) (filter_window_of test words)
+abbrev pub filter_window : {A : Type 0} → Vocabulary → Test → (Wanted → Option Window → A) → Arguments A
+filter_window vocabulary test f words = map_ok (λ p. f p.0 p.1) (filter_window_of vocabulary test words)
 
 -- one argument, and perhaps a filter after it
-abbrev pub one_filter : {A B : Type 0} → (List ℕ → Option A) → Test → (A → Option Wanted → B) → Arguments B
-one_filter form test f words = map_ok (λ p. f p.0 p.1) (one_filter_of form test words)
+abbrev pub one_filter : {A B : Type 0} → (List ℕ → Option A) → Vocabulary → Test → (A → Option Wanted → B) → Arguments B
+one_filter form vocabulary test f words = map_ok (λ p. f p.0 p.1) (one_filter_of form vocabulary test words)

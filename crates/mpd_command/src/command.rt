@@ -3,6 +3,7 @@ ghost use Rattle.std.specs.Prelude.{string_bytes, map};
 ghost use Rattle.command_arguments.specs.Readers.{Gives};
 ghost use Rattle.mpd_command.specs.Commands.{command_of};
 
+use crate::command_set::CommandSet;
 use crate::connection::{self, ConnectionCommand};
 use crate::database::{self, DatabaseCommand};
 use crate::messages::{self, MessageCommand};
@@ -31,23 +32,24 @@ pub enum Command {
     Messages(MessageCommand),
 }
 
-/// The command of a name and the words after it; none where no group has the name. Whether `kill` is allowed
-/// is what `commands` and `notcommands` show. What clients send most comes first.
+/// The command of a name and the words after it; none where no group has the name. Which commands there are
+/// says which forms some have, and is what `commands` and `notcommands` show. What clients send most comes
+/// first.
 pub(crate) fn read(
     alloc: Global,
-    allow_kill: bool,
+    set: CommandSet,
     word: &str,
     words: &[String],
 ) -> Result<Option<Command>, Misread>
-    ensures { Gives result (command_of allow_kill word.now (map string_bytes words.now)) }
+    ensures { Gives result (command_of set word.now (map string_bytes words.now)) }
 {
-    if let Some(command) = connection::read(allow_kill, word, words)? {
+    if let Some(command) = connection::read(alloc, set, word, words)? {
         return Ok(Some(Command::Connection(command)));
     }
-    if let Some(command) = status::read(alloc, word, words)? {
+    if let Some(command) = status::read(alloc, set, word, words)? {
         return Ok(Some(Command::Status(command)));
     }
-    if let Some(command) = playback::read(alloc, word, words)? {
+    if let Some(command) = playback::read(alloc, set, word, words)? {
         return Ok(Some(Command::Playback(command)));
     }
     if let Some(command) = queue::read(alloc, word, words)? {
@@ -56,7 +58,7 @@ pub(crate) fn read(
     if let Some(command) = options::read(alloc, word, words)? {
         return Ok(Some(Command::Options(command)));
     }
-    if let Some(command) = database::read(alloc, word, words)? {
+    if let Some(command) = database::read(alloc, set, word, words)? {
         return Ok(Some(Command::Database(command)));
     }
     if let Some(command) = playlists::read(alloc, word, words)? {

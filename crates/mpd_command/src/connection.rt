@@ -1,42 +1,90 @@
-//! Commands of the connection (MPD protocol reference, Connection settings; Reflection).
+//! Commands of the connection (MPD protocol reference, Connection settings; Reflection; Mounts and neighbors).
 ghost use Rattle.std.specs.Prelude.{string_bytes, map};
 ghost use Rattle.command_arguments.specs.Readers.{Gives};
 ghost use Rattle.mpd_command.specs.Tables.{found};
-ghost use Rattle.mpd_command.specs.Connection.{rows};
+ghost use Rattle.mpd_command.specs.Connection.{rows, tags_chosen, tag_choice as tag_choice_lem};
 
-use command_arguments::{Misread, none};
+use crate::command_set::CommandSet;
+use command_arguments::{Misread, none, some};
+use known_tags::KnownTag;
+use mpd_text::{Sequence, Text};
+use std::alloc::Global;
 
 /// A command of the connection.
 #[derive(Drop)]
 pub enum ConnectionCommand {
     /// `close`: ends the connection.
     Close,
-    /// `commands`: the commands that may be run; whether `kill` is one.
-    Commands(bool),
+    /// `commands`: the commands that may be run, of those that there are.
+    Commands(CommandSet),
+    /// `decoders`: the files that can be played.
+    Decoders,
     /// `kill`: ends the daemon.
     Kill,
-    /// `notcommands`: the commands that may not be run; whether `kill` may.
-    NotCommands(bool),
+    /// `listmounts`: what is mounted: the library.
+    ListMounts,
+    /// `notcommands`: the commands that may not be run, of those that there are.
+    NotCommands(CommandSet),
     /// `ping`.
     Ping,
-    /// `tagtypes`: the names of tags that songs may have.
+    /// `tagtypes`: the names of tags that the client is shown of songs.
     TagTypes,
+    /// `tagtypes all`: the client is shown all tags.
+    AllTags,
+    /// `tagtypes clear`: the client is shown no tags.
+    NoTags,
+    /// `tagtypes disable TAG...`: the client is not shown these tags.
+    WithoutTags(Sequence<KnownTag>),
+    /// `tagtypes enable TAG...`: the client is shown these tags as well.
+    WithTags(Sequence<KnownTag>),
+    /// `urlhandlers`: the kinds of URL that can be played: none.
+    UrlHandlers,
 }
 
-/// The rows: what the words after each name are read as. Whether `kill` is allowed is what `commands` and
-/// `notcommands` show.
+/// The rows: what the words after each name are read as. `commands` and `notcommands` show which commands
+/// there are.
 #[rattlefmt::skip]
 #[tactic(auto, unfolding(crate::specs::Connection::rows))]
-pub(crate) fn read(allow_kill: bool, word: &str, words: &[String]) -> Result<Option<ConnectionCommand>, Misread>
-    ensures { Gives result (found (rows allow_kill) word.now (map string_bytes words.now)) }
+pub(crate) fn read(alloc: Global, set: CommandSet, word: &str, words: &[String]) -> Result<Option<ConnectionCommand>, Misread>
+    ensures { Gives result (found (rows set) word.now (map string_bytes words.now)) }
 {
     Ok(Some(match word {
         "close" => none(words, ConnectionCommand::Close)?,
-        "commands" => none(words, ConnectionCommand::Commands(allow_kill))?,
+        "commands" => none(words, ConnectionCommand::Commands(set))?,
+        "decoders" => none(words, ConnectionCommand::Decoders)?,
         "kill" => none(words, ConnectionCommand::Kill)?,
-        "notcommands" => none(words, ConnectionCommand::NotCommands(allow_kill))?,
+        "listmounts" => none(words, ConnectionCommand::ListMounts)?,
+        "notcommands" => none(words, ConnectionCommand::NotCommands(set))?,
         "ping" => none(words, ConnectionCommand::Ping)?,
-        "tagtypes" => none(words, ConnectionCommand::TagTypes)?,
+        "tagtypes" => choose_tags(alloc, set.everyday, words)?,
+        "urlhandlers" => none(words, ConnectionCommand::UrlHandlers)?,
         _ => return Ok(None),
     }))
+}
+
+/// `tagtypes`, and in the everyday profile what is done to the client's tags.
+fn choose_tags(
+    alloc: Global,
+    everyday: bool,
+    words: &[String],
+) -> Result<ConnectionCommand, Misread>
+    ensures { Gives result (tags_chosen everyday (map string_bytes words.now)) }
+{
+    match words {
+        [choice, names @ ..] if everyday => tag_choice(alloc, choice.as_str(), names),
+        _ => none(words, ConnectionCommand::TagTypes),
+    }
+}
+
+/// What is done to the client's tags, and to which of them.
+fn tag_choice(alloc: Global, choice: &str, names: &[String]) -> Result<ConnectionCommand, Misread>
+    ensures { Gives result (tag_choice_lem choice.now (map string_bytes names.now)) }
+{
+    match choice {
+        "all" => none(names, ConnectionCommand::AllTags),
+        "clear" => none(names, ConnectionCommand::NoTags),
+        "disable" => Ok(ConnectionCommand::WithoutTags(some(alloc, names)?)),
+        "enable" => Ok(ConnectionCommand::WithTags(some(alloc, names)?)),
+        _ => Err(Misread::Bad(Text::new(alloc, choice)?)),
+    }
 }

@@ -2,6 +2,7 @@
 #![tactic(auto)]
 
 mod command;
+mod command_set;
 mod connection;
 mod database;
 mod messages;
@@ -16,10 +17,11 @@ mod status;
 mod sticker;
 
 pub use command::Command;
+pub use command_set::CommandSet;
 pub use connection::ConnectionCommand;
 pub use database::DatabaseCommand;
 pub use messages::MessageCommand;
-pub use name::{Name, is_forbidden, names};
+pub use name::{Name, is_forbidden, is_there, names};
 pub use options::OptionCommand;
 pub use outputs::OutputCommand;
 pub use playback::PlaybackCommand;

@@ -4,7 +4,9 @@ ghost use Rattle.command_arguments.specs.Readers.{Gives};
 ghost use Rattle.mpd_command.specs.Tables.{found};
 ghost use Rattle.mpd_command.specs.Options.{rows};
 
-use command_arguments::{FadeSeconds, Misread, SingleMode, Volume, none, one};
+use command_arguments::{
+    FadeSeconds, Misread, ReplayGain, SingleMode, Volume, VolumeChange, none, one,
+};
 use std::alloc::Global;
 
 /// A command that sets how songs are played, or the volume.
@@ -16,10 +18,16 @@ pub enum OptionCommand {
     Crossfade(FadeSeconds),
     /// `getvol`.
     GetVol,
+    /// `volume [+|-]N`: makes the volume so much more or less.
+    ChangeVolume(VolumeChange),
     /// `random 0|1`: whether songs play in a random order.
     Random(bool),
     /// `repeat 0|1`: whether the queue begins anew at its end.
     Repeat(bool),
+    /// `replay_gain_mode off`: songs are played as loud as they are.
+    SetReplayGain(ReplayGain),
+    /// `replay_gain_status`: how loudness is made alike: not at all.
+    ReplayGainStatus,
     /// `setvol VOLUME`.
     SetVol(Volume),
     /// `single 0|1|oneshot`: whether playing ends after the current song.
@@ -38,8 +46,11 @@ pub(crate) fn read(alloc: Global, word: &str, words: &[String]) -> Result<Option
         "getvol" => none(words, OptionCommand::GetVol)?,
         "random" => OptionCommand::Random(one(alloc, words)?),
         "repeat" => OptionCommand::Repeat(one(alloc, words)?),
+        "replay_gain_mode" => OptionCommand::SetReplayGain(one(alloc, words)?),
+        "replay_gain_status" => none(words, OptionCommand::ReplayGainStatus)?,
         "setvol" => OptionCommand::SetVol(one(alloc, words)?),
         "single" => OptionCommand::Single(one(alloc, words)?),
+        "volume" => OptionCommand::ChangeVolume(one(alloc, words)?),
         _ => return Ok(None),
     }))
 }

@@ -2,9 +2,10 @@
 ghost use Rattle.std.specs.Prelude.{string_bytes, map};
 ghost use Rattle.command_arguments.specs.Readers.{Gives};
 ghost use Rattle.mpd_command.specs.Tables.{found};
-ghost use Rattle.mpd_command.specs.Playback.{rows};
+ghost use Rattle.mpd_command.specs.Playback.{number as number_lem, rows};
 
-use command_arguments::{Misread, Seeking, none, one, perhaps, two};
+use crate::command_set::CommandSet;
+use command_arguments::{Misread, Seeking, none, number_or_none, one, perhaps, two};
 use mpd_text::Millis;
 use std::alloc::Global;
 
@@ -34,14 +35,14 @@ pub enum PlaybackCommand {
 /// The rows: what the words after each name are read as.
 #[rattlefmt::skip]
 #[tactic(auto, unfolding(crate::specs::Playback::rows))]
-pub(crate) fn read(alloc: Global, word: &str, words: &[String]) -> Result<Option<PlaybackCommand>, Misread>
-    ensures { Gives result (found rows word.now (map string_bytes words.now)) }
+pub(crate) fn read(alloc: Global, set: CommandSet, word: &str, words: &[String]) -> Result<Option<PlaybackCommand>, Misread>
+    ensures { Gives result (found (rows set) word.now (map string_bytes words.now)) }
 {
     Ok(Some(match word {
         "next" => none(words, PlaybackCommand::Next)?,
         "pause" => PlaybackCommand::Pause(perhaps(alloc, words)?),
-        "play" => PlaybackCommand::Play(perhaps(alloc, words)?),
-        "playid" => PlaybackCommand::PlayId(perhaps(alloc, words)?),
+        "play" => PlaybackCommand::Play(number(alloc, set.everyday, words)?),
+        "playid" => PlaybackCommand::PlayId(number(alloc, set.everyday, words)?),
         "previous" => none(words, PlaybackCommand::Previous)?,
         "seek" => { let (place, time) = two(alloc, words)?; PlaybackCommand::Seek(place, time) }
         "seekcur" => PlaybackCommand::SeekCur(one(alloc, words)?),
@@ -49,4 +50,15 @@ pub(crate) fn read(alloc: Global, word: &str, words: &[String]) -> Result<Option
         "stop" => none(words, PlaybackCommand::Stop)?,
         _ => return Ok(None),
     }))
+}
+
+/// A number or none; in the everyday profile `-1` is none.
+fn number(alloc: Global, everyday: bool, words: &[String]) -> Result<Option<u32>, Misread>
+    ensures { Gives result (number_lem everyday (map string_bytes words.now)) }
+{
+    if everyday {
+        number_or_none(alloc, words)
+    } else {
+        perhaps(alloc, words)
+    }
 }

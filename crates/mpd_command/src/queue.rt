@@ -25,6 +25,8 @@ pub enum QueueCommand {
     Move(Range, u32),
     /// `moveid ID TO`: moves the song with an id to a place.
     MoveId(u32, u32),
+    /// `playlist`: the place and the URI of each song of the queue.
+    Playlist,
     /// `playlistid [ID]`: the song with an id, or all songs of the queue.
     PlaylistId(Option<u32>),
     /// `playlistinfo [RANGE]`: the songs of a range, or all songs of the queue.
@@ -60,6 +62,7 @@ pub(crate) fn read(alloc: Global, word: &str, words: &[String]) -> Result<Option
         "deleteid" => QueueCommand::DeleteId(one(alloc, words)?),
         "move" => { let (range, to) = two(alloc, words)?; QueueCommand::Move(range, to) }
         "moveid" => { let (id, to) = two(alloc, words)?; QueueCommand::MoveId(id, to) }
+        "playlist" => none(words, QueueCommand::Playlist)?,
         "playlistid" => QueueCommand::PlaylistId(perhaps(alloc, words)?),
         "playlistinfo" => QueueCommand::PlaylistInfo(perhaps(alloc, words)?),
         "plchanges" => { let (version, range) = one_perhaps(alloc, words)?; QueueCommand::PlChanges(version, range) }

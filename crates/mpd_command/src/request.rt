@@ -1,10 +1,11 @@
 //! What a line asks for, and the refusals that come before any effect.
 ghost use Rattle.std.specs.Prelude.{◌≡◌, ℕ, List, Option, Some, None, Ok, Err, IfOk, string_bytes, map};
-ghost use Rattle.mpd_command.specs.Requests.{AnswersAs, IsRefusal, ack_of, answer_of, named_of, unknown, fault_text as fault_text_lem, request_of, request_from, name_in, with_arguments as with_arguments_lem};
+ghost use Rattle.mpd_command.specs.Requests.{AnswersAs, IsRefusal, ack_of, answer_of, named_of, unknown, fault_text as fault_text_lem, request_of, request_from, name_in, name_in_set as name_in_set_lem, with_arguments as with_arguments_lem};
 ghost use Rattle.command_arguments.specs.declared.readers.Misread.TheVariants.{WrongNumber, Bad};
 
 use crate::command::{Command, read};
-use crate::name::{Name, is_forbidden};
+use crate::command_set::CommandSet;
+use crate::name::{Name, is_forbidden, is_there};
 use command_arguments::Misread;
 use mpd_text::{ErrorNumber, Text, WordsFault, words};
 use std::alloc::{AllocError, Global};
@@ -59,43 +60,54 @@ impl Command {
     pub fn of_words(
         alloc: Global,
         words: &[String],
-        allow_kill: bool,
+        set: CommandSet,
     ) -> Result<Command, CommandFault>
-        ensures { AnswersAs result (answer_of (map string_bytes words.now) allow_kill) }
+        ensures { AnswersAs result (answer_of (map string_bytes words.now) set) }
     {
-        let (_, command) = named(alloc, words, allow_kill)?;
+        let (_, command) = named(alloc, words, set)?;
         Ok(command)
     }
 }
 
 /// The command of the words of a line, with its name.
-fn named(alloc: Global, words: &[String], allow_kill: bool) -> Result<(Name, Command), CommandFault>
-    ensures { AnswersAs result (named_of (map string_bytes words.now) allow_kill) }
+fn named(alloc: Global, words: &[String], set: CommandSet) -> Result<(Name, Command), CommandFault>
+    ensures { AnswersAs result (named_of (map string_bytes words.now) set) }
 {
     let Some((word, arguments)) = words.split_first() else {
         return Err(refused(alloc, ErrorNumber::Unknown, None, "no command given")?);
     };
-    let Some(name) = Name::of_word(word.as_str()) else {
+    let Some(name) = name_in_set(word.as_str(), set) else {
         return Err(unknown_command(alloc, word.as_str())?);
     };
-    if is_forbidden(word.as_str(), allow_kill) {
+    if is_forbidden(word.as_str(), set) {
         let text = "no permission for \"kill\"";
         return Err(refused(alloc, ErrorNumber::Permission, Some(name), text)?);
     }
-    with_arguments(alloc, allow_kill, name, word.as_str(), arguments)
+    with_arguments(alloc, set, name, word.as_str(), arguments)
+}
+
+/// The name that a word is, where there is such a command.
+fn name_in_set(word: &str, set: CommandSet) -> Option<Name>
+    ensures { result ≡ name_in_set_lem word.now set }
+{
+    if is_there(word, set) {
+        Name::of_word(word)
+    } else {
+        None
+    }
 }
 
 /// A command, by its name, the word that the name is, and the words after it.
 fn with_arguments(
     alloc: Global,
-    allow_kill: bool,
+    set: CommandSet,
     name: Name,
     word: &str,
     arguments: &[String],
 ) -> Result<(Name, Command), CommandFault>
-    ensures { AnswersAs result (with_arguments_lem allow_kill name word.now (map string_bytes arguments.now)) }
+    ensures { AnswersAs result (with_arguments_lem set name word.now (map string_bytes arguments.now)) }
 {
-    match read(alloc, allow_kill, word, arguments) {
+    match read(alloc, set, word, arguments) {
         Ok(Some(command)) => Ok((name, command)),
         Ok(None) => Err(unknown_command(alloc, word)?),
         Err(Misread::WrongNumber) => Err(wrong_number(alloc, name)?),
@@ -144,11 +156,11 @@ impl Request {
     /// What a line without its newline asks for, or its first refusal: words that cannot be read, then those
     /// of [`Command::of_words`].
     #[tactic(auto, unfolding(crate::specs::Requests::request_of))]
-    pub fn of_line(alloc: Global, line: &str, allow_kill: bool) -> Result<Request, AllocError>
-        ensures { IfOk result (λ request. request ≡ request_of line.now allow_kill) }
+    pub fn of_line(alloc: Global, line: &str, set: CommandSet) -> Result<Request, AllocError>
+        ensures { IfOk result (λ request. request ≡ request_of line.now set) }
     {
         match words(alloc, line) {
-            Ok(words) => Request::of_words(alloc, words.as_slice(), allow_kill),
+            Ok(words) => Request::of_words(alloc, words.as_slice(), set),
             Err(WordsFault::NoMemory) => Err(AllocError),
             Err(fault) => Ok(Request::Refused(Ack {
                 number: ErrorNumber::Argument,
@@ -158,10 +170,10 @@ impl Request {
         }
     }
 
-    fn of_words(alloc: Global, words: &[String], allow_kill: bool) -> Result<Request, AllocError>
-        ensures { IfOk result (λ request. request ≡ request_from (named_of (map string_bytes words.now) allow_kill)) }
+    fn of_words(alloc: Global, words: &[String], set: CommandSet) -> Result<Request, AllocError>
+        ensures { IfOk result (λ request. request ≡ request_from (named_of (map string_bytes words.now) set)) }
     {
-        match named(alloc, words, allow_kill) {
+        match named(alloc, words, set) {
             Ok((name, command)) => Ok(Request::Run(name, command)),
             Err(CommandFault::Refused(ack)) => Ok(Request::Refused(ack)),
             Err(CommandFault::NoMemory) => Err(AllocError),

@@ -5,6 +5,7 @@ ghost use Rattle.command_arguments.specs.Readers.{Gives};
 ghost use Rattle.mpd_command.specs.Tables.{found};
 ghost use Rattle.mpd_command.specs.Status.{rows};
 
+use crate::command_set::CommandSet;
 use command_arguments::{Misread, none, subsystems};
 use idle_notes::Subsystems;
 use std::alloc::Global;
@@ -20,22 +21,25 @@ pub enum StatusCommand {
     Idle(Subsystems),
     /// `noidle`: waits no more.
     NoIdle,
-    /// `status`.
-    Status,
+    /// `stats`: how much there is to play, and how long was played.
+    Stats,
+    /// `status`: the state; in the everyday profile the time is in whole seconds too.
+    Status(bool),
 }
 
 /// The rows: what the words after each name are read as.
 #[rattlefmt::skip]
 #[tactic(auto, unfolding(crate::specs::Status::rows))]
-pub(crate) fn read(alloc: Global, word: &str, words: &[String]) -> Result<Option<StatusCommand>, Misread>
-    ensures { Gives result (found rows word.now (map string_bytes words.now)) }
+pub(crate) fn read(alloc: Global, set: CommandSet, word: &str, words: &[String]) -> Result<Option<StatusCommand>, Misread>
+    ensures { Gives result (found (rows set) word.now (map string_bytes words.now)) }
 {
     Ok(Some(match word {
         "clearerror" => none(words, StatusCommand::ClearError)?,
         "currentsong" => none(words, StatusCommand::CurrentSong)?,
         "idle" => StatusCommand::Idle(subsystems(alloc, words)?),
         "noidle" => none(words, StatusCommand::NoIdle)?,
-        "status" => none(words, StatusCommand::Status)?,
+        "stats" => none(words, StatusCommand::Stats)?,
+        "status" => none(words, StatusCommand::Status(set.everyday))?,
         _ => return Ok(None),
     }))
 }

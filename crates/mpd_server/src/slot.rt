@@ -6,6 +6,7 @@ use house::House;
 use mio::net::TcpStream;
 use mio::{Interest, Registry, Token};
 use mpd_answers::Asker;
+use mpd_command::CommandSet;
 use mpd_session::Session;
 use shelf::Shelf;
 use std::alloc::Global;
@@ -94,7 +95,7 @@ impl Slot {
         seat: &mut Seat<L>,
         registry: &Registry,
         stream: TcpStream,
-        may_kill: bool,
+        commands: CommandSet,
     ) {
         let mut stream = stream;
         let interest = Interest::READABLE | Interest::WRITABLE;
@@ -115,7 +116,7 @@ impl Slot {
         }
         let asker = Asker {
             client: self.client,
-            may_kill,
+            commands,
         };
         let tenant = match Session::new(alloc, asker, told.reply()) {
             Ok(session) => Tenant::Client(Connection::new(stream, session)),

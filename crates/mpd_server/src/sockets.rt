@@ -4,6 +4,7 @@ use counted_player::{Ledgers, Seat};
 use house::House;
 use mio::net::{TcpListener, TcpStream};
 use mio::{Events, Interest, Poll, Token, Waker};
+use mpd_command::CommandSet;
 use partition::MAX_CLIENTS;
 use shelf::Shelf;
 use std::alloc::{AllocError, Global};
@@ -145,11 +146,11 @@ impl Server {
         house: &House<L>,
         seat: &mut Seat<L>,
         shelf: &mut S,
-        may_kill: bool,
+        commands: CommandSet,
     ) -> Result<(), ServeFault> {
         for _ in rt.forever() {
             self.sleep()?;
-            self.let_all_in(rt, alloc, house, seat, may_kill);
+            self.let_all_in(rt, alloc, house, seat, commands);
             if self.visit_all(rt, alloc, house, seat, shelf) {
                 break;
             }
@@ -197,14 +198,14 @@ impl Server {
         alloc: Global,
         house: &House<L>,
         seat: &mut Seat<L>,
-        may_kill: bool,
+        commands: CommandSet,
     ) {
         if self.listener_state == ListenerState::Idle {
             return;
         }
         for _ in 0..MAX_LET_IN {
             match self.listener.accept() {
-                Ok((stream, _)) => self.let_in(rt, alloc, house, seat, stream, may_kill),
+                Ok((stream, _)) => self.let_in(rt, alloc, house, seat, stream, commands),
                 Err(fault) => {
                     self.listener_state = state_after(fault.kind());
                     return;
@@ -221,11 +222,11 @@ impl Server {
         house: &House<L>,
         seat: &mut Seat<L>,
         stream: TcpStream,
-        may_kill: bool,
+        commands: CommandSet,
     ) {
         let registry = self.poll.registry();
         if let Some(slot) = self.slots.iter_mut().find(|slot| slot.is_free()) {
-            slot.take_in(rt, alloc, house, seat, registry, stream, may_kill);
+            slot.take_in(rt, alloc, house, seat, registry, stream, commands);
         }
     }
 

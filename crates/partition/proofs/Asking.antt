@@ -153,7 +153,7 @@ kind_of ended part library clients (Connect number) =
     inl (quiet_response (is_some (client_of number clients)) (stays (tells (codes ""))) (if full then stays shut else greeting) tt (quiet_response full (stays shut) greeting tt tt))
 kind_of ended part library clients (Disconnect number) = inl tt
 kind_of ended part library clients ScanQuestion = inl tt
-kind_of ended part library clients (ScanResult songs) = inl tt
+kind_of ended part library clients (ScanResult songs second) = inl tt
 kind_of ended part library clients (Want owes) = inl tt
 kind_of ended part library clients (Have number frames) = inl tt
 kind_of ended part library clients (Failed number partner) = inl tt

@@ -24,7 +24,7 @@ use Rattle.player_state.specs.declared.scan.ScanMove.TheVariants.{Stay, Begin, E
 use Rattle.player_state.specs.declared.state.Library.{Library}
 use Rattle.player_state.specs.declared.effect.Effect.{Effect}
 use Rattle.player_state.specs.declared.effect.Effect.TheVariants.{ByCommand, ByAudio}
-use Rattle.player_state.specs.declared.effect.CommandEffect.TheVariants.{Rests, Edits, Shuffles, SetsVolume, SetsRepeat, SetsRandom, SetsSingle, SetsConsume, SetsCrossfade, ClearsError, Plays, PlaysPlace, Pauses, TogglesPause, Stops, GoesOn, GoesBack, Seeks, Switches, Subscribes, Unsubscribes, Sends, ReadsMessages, Leaves}
+use Rattle.player_state.specs.declared.effect.CommandEffect.TheVariants.{Rests, Edits, Shuffles, SetsVolume, SetsRepeat, SetsRandom, SetsSingle, SetsConsume, SetsCrossfade, ClearsError, Plays, PlaysPlace, Pauses, TogglesPause, Stops, GoesOn, GoesBack, Seeks, Switches, Subscribes, Unsubscribes, Sends, ReadsMessages, ChoosesTags, Leaves}
 use Rattle.player_state.specs.declared.effect.AudioStep.TheVariants.{Wants, Accepts, Fails, Settles}
 use Rattle.player_events.specs.declared.event.Event.{Event}
 use Rattle.idle_clients.specs.declared.notices.Notice.{Notice}
@@ -34,11 +34,11 @@ use Rattle.player_state.specs.Outputs.{OutputsData, any_enabled, broken}
 use Rattle.player_state.specs.Effects.{Change, ByEdit, ByStep, change_of, entries, outputs_after, played_entry, player_after, player_edited, sought_entry}
 use Rattle.partition.specs.Image.{Image}
 use Rattle.transitions.specs.Transitions.{TransitionData}
-use Rattle.player_state.specs.Libraries.{library_after}
 use Rattle.player_state.specs.Scans.{is_last}
-use Rattle.idle_clients.proofs.Songs.{same_songs-refl, same_songs-true}
+use Rattle.player_state.proofs.Songs.{same_songs-refl, same_songs-true}
 use Rattle.idle_clients.proofs.Alike.{more_than_none, same_pairs-refl, same_pairs-true, same_enabled-refl, same_enabled-true, same_options-refl, same_options-true, same_playing-refl, same_playing-true}
-use Rattle.idle_clients.specs.Clients.{options, playing, same_enabled, same_pairs, same_options, same_playing, same_songs}
+use Rattle.idle_clients.specs.Clients.{options, playing, same_enabled, same_pairs, same_options, same_playing}
+use Rattle.player_state.specs.Libraries.{library_after, same_songs, songs_after}
 use Rattle.partition.specs.World.{World, WorldTransition, Differs, past_after, raised_at, world_after_transition}
 use Rattle.partition.specs.Notices.{AgreeButForUnwatched}
 
@@ -134,8 +134,10 @@ same_library : (library : Library) (scan_move : ScanMove) → library.songs ≡ 
     → library.scan.runs ≡ (library_after library scan_move).scan.runs → library_after library scan_move ≡ library
 same_library library Stay songs runs = refl
 same_library library Begin songs runs = same_begun library library.scan.runs (is_last library.scan) runs
-same_library library (End found) songs runs =
-    λ i. record library { songs = sym songs i; scan = record library.scan { runs = sym runs i } }
+same_library library (End found second) songs runs =
+    let updated : (if same_songs library.songs (songs_after library (End found second)) then library.updated else second) ≡ library.updated =
+    ap (λ (b : Bool). if b then library.updated else second) (ap (same_songs library.songs) (sym songs) ∙ same_songs-refl library.songs) in
+    λ i. record library { songs = sym songs i; scan = record library.scan { runs = sym runs i }; updated = updated i }
 
 -- the names of outputs stay
 same_names : (outputs : OutputsData) (effect : Effect) → (outputs_after outputs effect).names ≡ outputs.names
@@ -192,6 +194,7 @@ same_limit rate part (ByCommand (Subscribes client channel)) = refl
 same_limit rate part (ByCommand (Unsubscribes client channel)) = refl
 same_limit rate part (ByCommand (Sends channel text)) = refl
 same_limit rate part (ByCommand (ReadsMessages client)) = refl
+same_limit rate part (ByCommand (ChoosesTags client tags)) = refl
 same_limit rate part (ByCommand (Leaves client)) = refl
 
 -- where no part differs nothing differs but what no subsystem speaks of
@@ -239,6 +242,8 @@ agree before i event t notices report same_player none =
         volume = volume j;
         outputs = record { names = names j; enabled = enabled j; failed = after.outputs.failed };
         channels = after.channels;
+        tags = after.tags;
+        played = after.played;
         clients = after.clients;
         ended = after.ended;
       },

@@ -12,7 +12,8 @@ use Rattle.idle_clients.specs.declared.notices.Notice.{Notice}
 use Rattle.player_state.specs.declared.state.Client.{Client}
 use Rattle.transitions.specs.Answers.{ResponseData}
 use Rattle.player_state.specs.declared.state.Library.{Library}
-use Rattle.idle_clients.specs.Clients.{begins_to_have, clients_after, has_messages, notices_after, same_songs}
+use Rattle.idle_clients.specs.Clients.{begins_to_have, clients_after, has_messages, notices_after}
+use Rattle.player_state.specs.Libraries.{same_songs}
 use Rattle.player_state.specs.Outputs.{FrameBooks, books_after}
 use Rattle.player_state.specs.Effects.{Change, ByEdit, ByStep, change_of, channels_after, part_after, queue_after}
 use Rattle.partition.specs.Image.{Image}

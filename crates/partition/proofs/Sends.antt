@@ -97,7 +97,7 @@ pub waiter_moves : (ended : Bool) (part : Part) (library : Library) (ks : List C
 waiter_moves ended part library ks (Connect number) k named names e w m = (let n = rw e at m in cc)
 waiter_moves ended part library ks (Disconnect number) k named names e w m = cc
 waiter_moves ended part library ks ScanQuestion k named names e w m = cc
-waiter_moves ended part library ks (ScanResult songs) k named names e w m = cc
+waiter_moves ended part library ks (ScanResult songs second) k named names e w m = cc
 waiter_moves ended part library ks (Want owes) k named names e w m = cc
 waiter_moves ended part library ks (Have number frames) k named names e w m = cc
 waiter_moves ended part library ks (Failed number partner) k named names e w m = cc
@@ -116,7 +116,7 @@ is_other_speaker ended part library ks (Connect c) number ne = inl (ne_eqb numbe
 is_other_speaker ended part library ks (Disconnect c) number ne = inl (ne_eqb number c (λ e. ne (ap Some (sym e))))
 is_other_speaker ended part library ks (Line c stand request heard) number ne = inl (ne_eqb number c (λ e. ne (ap Some (sym e))))
 is_other_speaker ended part library ks ScanQuestion number ne = inr refl
-is_other_speaker ended part library ks (ScanResult songs) number ne = inr refl
+is_other_speaker ended part library ks (ScanResult songs second) number ne = inr refl
 is_other_speaker ended part library ks (Want owes) number ne = inr refl
 is_other_speaker ended part library ks (Have job frames) number ne = inr refl
 is_other_speaker ended part library ks (Failed job partner) number ne = inr refl

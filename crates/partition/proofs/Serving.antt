@@ -32,7 +32,7 @@ unrefused (Connect number) read = refl
 unrefused (Disconnect number) read = refl
 unrefused (Line number stand request heard) read = refl
 unrefused ScanQuestion read = refl
-unrefused (ScanResult songs) read = refl
+unrefused (ScanResult songs second) read = refl
 unrefused (Want owes) read = refl
 unrefused (Have number frames) read = refl
 unrefused (Failed number partner) read = refl
@@ -65,7 +65,7 @@ module _ {S : Type 0} (standing : S → Standing) (failed : S → S → Call →
   asked_by old between (Disconnect number) read r turns = dropped (standing old) (standing between) (is_read read) turns
   asked_by old between (Line number stand request heard) read r turns = turns
   asked_by old between ScanQuestion read r turns = dropped (standing old) (standing between) (is_read read) turns
-  asked_by old between (ScanResult songs) read r turns = dropped (standing old) (standing between) (is_read read) turns
+  asked_by old between (ScanResult songs second) read r turns = dropped (standing old) (standing between) (is_read read) turns
   asked_by old between (Want owes) read r turns = dropped (standing old) (standing between) (is_read read) turns
   asked_by old between (Have number frames) read r turns = dropped (standing old) (standing between) (is_read read) turns
   asked_by old between (Failed number partner) read r turns = dropped (standing old) (standing between) (is_read read) turns
@@ -81,7 +81,7 @@ module _ {S : Type 0} (standing : S → Standing) (failed : S → S → Call →
   read_by i old between (Disconnect number) read r reads = λ trusted. refl
   read_by i old between (Line number stand request heard) read r reads = reads
   read_by i old between ScanQuestion read r reads = λ trusted. refl
-  read_by i old between (ScanResult songs) read r reads = λ trusted. refl
+  read_by i old between (ScanResult songs second) read r reads = λ trusted. refl
   read_by i old between (Want owes) read r reads = λ trusted. refl
   read_by i old between (Have number frames) read r reads = λ trusted. refl
   read_by i old between (Failed number partner) read r reads = λ trusted. refl
@@ -95,7 +95,7 @@ module _ {S : Type 0} (standing : S → Standing) (failed : S → S → Call →
   writes_by i (Disconnect number) read r = refl
   writes_by i (Line number stand request heard) read r = refl
   writes_by i ScanQuestion read r = refl
-  writes_by i (ScanResult songs) read r = refl
+  writes_by i (ScanResult songs second) read r = refl
   writes_by i (Want owes) read r = refl
   writes_by i (Have number frames) read r = refl
   writes_by i (Failed number partner) read r = refl

@@ -31,7 +31,7 @@ use Rattle.player_state.specs.declared.report.Report.{Report}
 use Rattle.player_state.specs.declared.report.Report.TheVariants.{Nothing}
 use Rattle.player_state.specs.declared.scan.ScanMove.{ScanMove}
 use Rattle.player_state.specs.declared.scan.ScanMove.TheVariants.{Stay as StayScan}
-use Rattle.idle_clients.proofs.Songs.{same_songs-refl}
+use Rattle.player_state.proofs.Songs.{same_songs-refl}
 use Rattle.partition.specs.Image.{Image}
 use Rattle.transitions.specs.Transitions.{TransitionData}
 use Rattle.idle_clients.specs.Clients.{client_of}

@@ -20,7 +20,7 @@ use Rattle.partition.specs.declared.state.Setup.{Setup}
 use Rattle.idle_clients.specs.Clients.{Watched, raised, notified, Rising}
 use Rattle.transitions.specs.Answers.{closes}
 use Rattle.partition.specs.History.{made_of, replay}
-use Rattle.player_state.specs.Effects.{Change, ByEdit, ByStep, change_of, channels_after, outputs_after, player_after, queue_after, volume_after}
+use Rattle.player_state.specs.Effects.{Change, ByEdit, ByStep, change_of, channels_after, outputs_after, played_after, player_after, queue_after, tags_after, volume_after}
 use Rattle.partition.specs.Image.{Image, opening}
 use Rattle.transitions.specs.Transitions.{TransitionData}
 use Rattle.idle_clients.specs.Clients.{client_of}
@@ -154,6 +154,8 @@ module _ (trace : Trace) (done : List LogEntry) (event : Event) (above : 1 ≤ t
           volume = volume_after trace.world.volume t.effect;
           outputs = outputs_after trace.world.outputs t.effect;
           channels = channels_after trace.world.channels t.effect;
+          tags = tags_after trace.world.tags t.effect;
+          played = played_after i.part t.effect;
         };
         shared = record { library = library_after trace.world.library t.scan; made = made; books = books_of (m ∷ trace.world_transitions); ended = ended_after trace.world.ended event };
         clients = k;

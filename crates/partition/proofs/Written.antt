@@ -9,7 +9,8 @@ use Rattle.player_state.specs.declared.report.Report.TheVariants.{Nothing}
 use Rattle.player_state.specs.declared.scan.ScanMove.{ScanMove}
 use Rattle.player_state.specs.declared.scan.ScanMove.TheVariants.{Stay}
 use Rattle.player_state.specs.declared.state.Client.{Client}
-use Rattle.idle_clients.specs.Clients.{clients_after, notices_after, same_songs}
+use Rattle.idle_clients.specs.Clients.{clients_after, notices_after}
+use Rattle.player_state.specs.Libraries.{same_songs}
 use Rattle.player_state.specs.Effects.{part_after}
 use Rattle.partition.specs.Image.{Image}
 use Rattle.transitions.specs.Transitions.{TransitionData}
@@ -20,7 +21,7 @@ use Rattle.partition.specs.Step.{after_transition, counts_frames, ended_after, k
 use Rattle.transitions.specs.Transitions.{quiet, report_of}
 use Rattle.player_core.specs.Player as player
 use Rattle.partition.proofs.Raised.{noticed, stepped}
-use Rattle.idle_clients.proofs.Songs.{same_songs-refl}
+use Rattle.player_state.proofs.Songs.{same_songs-refl}
 
 module _ (i : Image) (event : Event) (t : TransitionData) (alone : t ≡ record (quiet t.response) { written = t.written }) (raised : ℕ → Subsystems)
     (shown : raised ≡ told_by_fingerprint false false t.written (fingerprint i.part i.shared.library) i.part i.shared.library) where

@@ -49,6 +49,8 @@ opening setup library = record {
     volume = 100;
     outputs = setup.outputs;
     channels = [];
+    tags = [];
+    played = 0;
   };
   shared = record { library = library; made = no_events; books = empty_books; ended = false };
   clients = [];

@@ -25,6 +25,8 @@ world_of i = record {
   volume = i.part.volume;
   outputs = i.part.outputs;
   channels = i.part.channels;
+  tags = i.part.tags;
+  played = i.part.played;
   clients = map listener_of i.clients;
   ended = i.shared.ended;
 }

@@ -54,9 +54,9 @@ result_of asked part library read (command.Options command) = options_result ask
 result_of asked part library read (command.Playback command) = playback_result asked part library command
 result_of asked part library read (command.Queue command) = queue_result asked part library command
 result_of asked part library read (command.Playlists command) = playlists_result asked part library read command
-result_of asked part library read (command.Database command) = database_result asked part library command
+result_of asked part library read (command.Database command) = database_result asked part library read command
 result_of asked part library read (command.Stickers command) = stickers_result asked library read command
-result_of asked part library read (command.Connection command) = connection_result asked command
+result_of asked part library read (command.Connection command) = connection_result asked part command
 result_of asked part library read (command.Outputs command) = outputs_result asked part command
 result_of asked part library read (command.Messages command) = messages_result asked part command
 
@@ -120,8 +120,8 @@ abbrev pub output_turn : Part → ℕ → AudioStep → TransitionData
 output_turn part output step = if is_output part.outputs output then acts step else absent
 
 -- the end of a scan: what it found, if it found songs, and whether that scan ran
-abbrev pub ended_scan : Library → Option (List SongData) → TransitionData
-ended_scan library songs = record (quiet no_response) { scan = EndsScan songs; report = ScanEnded library.scan.runs }
+abbrev pub ended_scan : Library → Option (List SongData) → ℕ → TransitionData
+ended_scan library songs second = record (quiet no_response) { scan = EndsScan songs second; report = ScanEnded library.scan.runs }
 
 -- What an event makes of a part, a library and some clients. The turn of an output that is not there changes
 -- nothing. After the end wants, scan questions and turns are told of it, and a have is stale; an output still
@@ -132,7 +132,7 @@ transition_of ended part library clients (Disconnect number) = departs number
 transition_of ended part library clients (Line number stand request heard) =
     written_transition stand request heard.refused (transition_line part library (client_of number clients) stand request heard.read)
 transition_of ended part library clients ScanQuestion = record (quiet no_response) { report = if ended then Ended else ToScan (running library.scan) }
-transition_of ended part library clients (ScanResult songs) = ended_scan library songs
+transition_of ended part library clients (ScanResult songs second) = ended_scan library songs second
 transition_of ended part library clients (Want owes) = acts_unless ended Ended (Wants owes)
 transition_of ended part library clients (Have number frames) = acts_unless ended (ToFeed None) (Accepts number frames)
 transition_of ended part library clients (Failed number partner) = acts (Fails number partner)
@@ -163,7 +163,7 @@ speaker (Connect number) = Some number
 speaker (Disconnect number) = Some number
 speaker (Line number stand request heard) = Some number
 speaker ScanQuestion = None
-speaker (ScanResult songs) = None
+speaker (ScanResult songs second) = None
 speaker (Want owes) = None
 speaker (Have number frames) = None
 speaker (Failed number partner) = None

@@ -6,6 +6,7 @@ use Rattle.idle_notes.specs.declared.subsystem.Subsystem.{Subsystem}
 use Rattle.idle_notes.specs.declared.subsystem.Subsystem.TheVariants.{Database, Update, StoredPlaylist, Playlist, Player, Mixer, Output, Options, Sticker, Subscription, Message}
 use Rattle.idle_notes.specs.Sets.{none, union}
 use Rattle.idle_notes.specs.Channels.{MemberData, messages_of, pairs}
+use Rattle.client_tags.specs.declared.clients.ChosenTags.{ChosenTags}
 use Rattle.song_queue.specs.declared.entry.Entry.{Entry}
 use Rattle.song_queue.specs.Past.{present, after_event, state_of}
 use Rattle.song_queue.specs.Laws as queues
@@ -21,7 +22,7 @@ use Rattle.player_state.specs.declared.report.Report.{Report}
 use Rattle.idle_clients.specs.Clients.{Watched, raised, move_of, options, playing}
 use Rattle.partition.specs.History.{made_of}
 use Rattle.player_state.specs.Outputs.{FrameBooks, OutputsData, decoded_by, discarded_by, written_by}
-use Rattle.player_state.specs.Effects.{Change, ByEdit, ByStep, change_of, channels_after, outputs_after, player_after, volume_after}
+use Rattle.player_state.specs.Effects.{Change, ByEdit, ByStep, change_of, channels_after, outputs_after, played_after, player_after, tags_after, volume_after}
 use Rattle.partition.specs.Image.{Image}
 use Rattle.transitions.specs.Transitions.{TransitionData}
 use Rattle.player_state.specs.Libraries.{library_after}
@@ -43,8 +44,8 @@ pub record Listener : Type 0 where
   pub waiting : Option Subsystems
 
 -- all queues that the player had, the newest first; its limits, its library, what is played, the volume, the
--- outputs, who listens to which channel and the messages that wait, the clients, and whether the daemon has
--- ended
+-- outputs, who listens to which channel and the messages that wait, the tags that each client is shown, how many
+-- frames were decoded, the clients, and whether the daemon has ended
 pub record World : Type 0 where
   pub past : List (List Entry)
   pub limits : Greatest
@@ -53,6 +54,8 @@ pub record World : Type 0 where
   pub volume : ℕ
   pub outputs : OutputsData
   pub channels : List MemberData
+  pub tags : List ChosenTags
+  pub played : ℕ
   pub clients : List Listener
   pub ended : Bool
 
@@ -177,7 +180,7 @@ books_of world_transitions = record {
 -- and what each seat made
 abbrev pub image_of : Trace → List LogEntry → Image
 image_of trace history = record {
-  part = record { queue = state_of trace.world.limits.max_queue trace.world.limits.max_version trace.world.limits.max_id trace.world.past; player = trace.world.player; volume = trace.world.volume; outputs = trace.world.outputs; channels = trace.world.channels };
+  part = record { queue = state_of trace.world.limits.max_queue trace.world.limits.max_version trace.world.limits.max_id trace.world.past; player = trace.world.player; volume = trace.world.volume; outputs = trace.world.outputs; channels = trace.world.channels; tags = trace.world.tags; played = trace.world.played };
   shared = record { library = trace.world.library; made = made_of history; books = books_of trace.world_transitions; ended = trace.world.ended };
   clients = map (client_in trace.world_transitions) trace.world.clients;
 }
@@ -197,6 +200,8 @@ world_after_transition w i event t = record w {
   volume = volume_after w.volume t.effect;
   outputs = outputs_after w.outputs t.effect;
   channels = channels_after w.channels t.effect;
+  tags = tags_after w.tags t.effect;
+  played = played_after i.part t.effect;
   clients = map listener_of (after_transition i event t).clients;
   ended = ended_after w.ended event;
 }
@@ -234,6 +239,8 @@ opening_trace base = record {
     volume = base.part.volume;
     outputs = base.part.outputs;
     channels = base.part.channels;
+    tags = base.part.tags;
+    played = base.part.played;
     clients = [];
     ended = base.shared.ended;
   };

@@ -66,7 +66,7 @@ pub(crate) fn transition_of_event(
             };
             Transition::reports(alloc, ScanMove::Stay, report)
         }
-        Event::ScanResult(songs) => end_scan(alloc, library, songs.as_ref()),
+        Event::ScanResult(songs, second) => end_scan(alloc, library, songs.as_ref(), *second),
         Event::Want(owes) => {
             Transition::acts_unless(alloc, ended, Report::Ended, AudioStep::Wants(*owes))
         }
@@ -86,13 +86,14 @@ pub(crate) fn transition_of_event(
     }
 }
 
-/// Ends the scan that runs, with the library that it found.
+/// Ends the scan that runs at this second, with the library that it found.
 fn end_scan(
     alloc: Global,
     library: &Library,
     songs: Option<&SharedDb>,
+    second: u64,
 ) -> Result<Transition, AllocError>
-    ensures transition { OkGives result (ended_scan library.now (option_copied songs.entry)) }
+    ensures transition { OkGives result (ended_scan library.now (option_copied songs.entry) second) }
     ensures rests { IfOk result (λ transition. transition.effect ≡ ByCommand Rests) }
 {
     let found = match songs {
@@ -100,7 +101,11 @@ fn end_scan(
         None => None,
     };
     let ended = library.scan.running().is_some();
-    Transition::reports(alloc, ScanMove::End(found), Report::ScanEnded(ended))
+    Transition::reports(
+        alloc,
+        ScanMove::End(found, second),
+        Report::ScanEnded(ended),
+    )
 }
 
 /// An output has its turn; one that is not there has nothing to play.
@@ -262,7 +267,7 @@ fn run(
         Command::Playback(command) => playback::run(alloc, asked, part, library, command),
         Command::Queue(command) => queue::run(alloc, asked, part, library, command),
         Command::Playlists(command) => playlists::run(alloc, asked, part, library, read, command),
-        Command::Database(command) => database::run(alloc, asked, part, library, command),
+        Command::Database(command) => database::run(alloc, asked, part, library, read, command),
         Command::Stickers(command) => stickers::run(alloc, asked, library, read, command),
         Command::Connection(command) => connection::run(alloc, asked, part, command),
         Command::Outputs(command) => outputs::run(alloc, asked, part, command),

@@ -517,7 +517,7 @@ fn mover(event: &Event) -> u32
         Event::Connect(number) | Event::Disconnect(number) | Event::Line(number, _, _, _) =>
             *number,
         Event::ScanQuestion
-        | Event::ScanResult(_)
+        | Event::ScanResult(_, _)
         | Event::Want(_)
         | Event::Have(_, _)
         | Event::Failed(_, _)

@@ -2,6 +2,7 @@
 ghost use Rattle.std.specs.Prelude.{◌≡◌, ◌<◌, ◌≤◌, IfOk};
 ghost use Rattle.partition.specs.Image.{image_of_state, opening};
 
+use client_tags::ClientTags;
 use command_arguments::Volume;
 use idle_notes::Channels;
 use player_core::Player;
@@ -86,6 +87,8 @@ impl State {
                 volume: Volume::full(),
                 outputs: setup.outputs,
                 channels: Channels::new(alloc),
+                tags: ClientTags::new(alloc),
+                played: 0,
             },
             library,
             made: [0; 16],

@@ -38,12 +38,16 @@ ruleset with_filter = (handle_send, parts)
 
 database_send : IsSend DatabaseCommand.the_row
 database_send = variants_send DatabaseCommand.enum (
+    (search parts depth 60 fits 20000 ⨟ search parts depth 60 fits 20000 ⨟ tt) ⨟
     (search with_filter depth 60 fits 20000 ⨟ tt) ⨟
     (search with_filter depth 60 fits 20000 ⨟ search parts depth 60 fits 20000 ⨟ tt) ⨟
     (search with_filter depth 60 fits 20000 ⨟ tt) ⨟
     (search parts depth 60 fits 20000 ⨟ search with_filter depth 60 fits 20000 ⨟ tt) ⨟
+    (search parts depth 60 fits 20000 ⨟ search parts depth 60 fits 20000 ⨟ tt) ⨟
     (search parts depth 60 fits 20000 ⨟ tt) ⨟
+    (search parts depth 60 fits 20000 ⨟ search parts depth 60 fits 20000 ⨟ tt) ⨟
     (search parts depth 60 fits 20000 ⨟ tt) ⨟
+    (search parts depth 60 fits 20000 ⨟ search parts depth 60 fits 20000 ⨟ tt) ⨟
     (search parts depth 60 fits 20000 ⨟ tt) ⨟
     (search with_filter depth 60 fits 20000 ⨟ search parts depth 60 fits 20000 ⨟ tt) ⨟
     (search with_filter depth 60 fits 20000 ⨟ tt) ⨟
@@ -73,7 +77,7 @@ event_send = variants_send Event.enum (
     (search parts depth 60 fits 20000 ⨟ tt) ⨟
     (search parts depth 60 fits 20000 ⨟ search parts depth 60 fits 20000 ⨟ request_send ⨟ heard.the_send ⨟ tt) ⨟
     tt ⨟
-    (search parts depth 60 fits 20000 ⨟ tt) ⨟
+    (search parts depth 60 fits 20000 ⨟ search parts depth 60 fits 20000 ⨟ tt) ⨟
     (search parts depth 60 fits 20000 ⨟ tt) ⨟
     (search parts depth 60 fits 20000 ⨟ search parts depth 60 fits 20000 ⨟ tt) ⨟
     (search parts depth 60 fits 20000 ⨟ search parts depth 60 fits 20000 ⨟ tt) ⨟

@@ -24,8 +24,9 @@ pub enum Event {
     Line(u32, Stand, Request, StoreReply),
     /// Whether a scan is to be made.
     ScanQuestion,
-    /// The library that a scan found; one that failed found none.
-    ScanResult(Option<SharedDb>),
+    /// The library that a scan found, and at which second from the beginning of 1970 on; one that failed found
+    /// none.
+    ScanResult(Option<SharedDb>, u64),
     /// The decoder wants a job; whether a feeder still owes frames of an earlier one.
     Want(bool),
     /// So many frames of a job are decoded.
@@ -47,7 +48,7 @@ impl Drop for Event {
             | Event::Disconnect(_)
             | Event::Line(_, _, _, _)
             | Event::ScanQuestion
-            | Event::ScanResult(_)
+            | Event::ScanResult(_, _)
             | Event::Want(_)
             | Event::Have(_, _)
             | Event::Failed(_, _)

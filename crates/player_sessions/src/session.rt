@@ -4,7 +4,7 @@
 //! hold a player.
 use command_lists::ListForm;
 use idle_clients::Notice;
-use mpd_command::Request;
+use mpd_command::{CommandSet, Request};
 use mpd_text::{Answer, SharedText, Song};
 use partition::{Limits, ListOutcome, Partition, Setup};
 use player_events::{Event, Outcome};
@@ -32,6 +32,7 @@ fn library(alloc: Global, uris: &str) -> Result<Library, AllocError> {
         songs: SharedDb::new(alloc, songs)?,
         rate: Rate::lowest(),
         scan: Scan::never(),
+        updated: 0,
     })
 }
 
@@ -271,7 +272,7 @@ fn says(
     line: &str,
     all: &mut String,
 ) -> Result<(), AllocError> {
-    let request = Request::of_line(alloc, line, false)?;
+    let request = Request::of_line(alloc, line, CommandSet::base())?;
     happens(lent, alloc, 3, Event::line(client, stand, request), all)
 }
 
@@ -282,7 +283,14 @@ fn says_with_leave(
     line: &str,
     all: &mut String,
 ) -> Result<(), AllocError> {
-    let request = Request::of_line(alloc, line, true)?;
+    let request = Request::of_line(
+        alloc,
+        line,
+        CommandSet {
+            kill: true,
+            everyday: false,
+        },
+    )?;
     happens(lent, alloc, 3, Event::line(1, Stand::Alone, request), all)
 }
 
@@ -306,7 +314,7 @@ fn requests(alloc: Global, lines: &str) -> Result<Vec<Request>, AllocError> {
         return Ok(requests);
     }
     for line in lines.split(';') {
-        requests.push(Request::of_line(alloc, line, false)?)?;
+        requests.push(Request::of_line(alloc, line, CommandSet::base())?)?;
     }
     Ok(requests)
 }
@@ -375,7 +383,7 @@ fn scans(lent: &mut Lent, alloc: Global, word: &str, all: &mut String) -> Result
     let event = if word == "asks" {
         Event::ScanQuestion
     } else {
-        Event::ScanResult(found(alloc, word)?)
+        Event::ScanResult(found(alloc, word)?, 0)
     };
     happens(lent, alloc, 5, event, all)
 }

@@ -1,7 +1,9 @@
 -- What an event does to what one player owns (MPD protocol reference, Controlling playback; The queue;
 -- Playback options; Audio output devices; Client to client; the decoder's and the outputs' steps are this
 -- profile's).
-use Rattle.std.specs.Prelude.{ℕ, Bool, false, ◌&&◌, not, nat_le, List, Option, Some, None, option_map, slice_get}
+use Rattle.std.specs.Prelude.{ℕ, ◌+◌, Bool, false, ◌&&◌, not, nat_le, if◌then◌else◌, List, Option, Some, None, option_map, slice_get}
+use Rattle.client_tags.specs.Choices.{with_tags, without}
+use Rattle.client_tags.specs.declared.clients.ChosenTags.{ChosenTags}
 use Rattle.idle_notes.specs.Channels.{MemberData, subscribed, unsubscribed, sent, emptied, left}
 use Rattle.song_queue.specs.declared.entry.Entry.{Entry}
 use Rattle.song_queue.specs.declared.edit.Edit.{Edit}
@@ -14,7 +16,7 @@ use Rattle.player_core.specs.Steps as steps
 use Rattle.player_core.specs.Decoding as decoding
 use Rattle.player_state.specs.declared.effect.Effect.{Effect}
 use Rattle.player_state.specs.declared.effect.Effect.TheVariants.{ByCommand, ByAudio}
-use Rattle.player_state.specs.declared.effect.CommandEffect.TheVariants.{Rests, Edits, Shuffles, SetsVolume, SetsRepeat, SetsRandom, SetsSingle, SetsConsume, SetsCrossfade, ClearsError, Plays, PlaysPlace, Pauses, TogglesPause, Stops, GoesOn, GoesBack, Seeks, Switches, Subscribes, Unsubscribes, Sends, ReadsMessages, Leaves}
+use Rattle.player_state.specs.declared.effect.CommandEffect.TheVariants.{Rests, Edits, Shuffles, SetsVolume, SetsRepeat, SetsRandom, SetsSingle, SetsConsume, SetsCrossfade, ClearsError, Plays, PlaysPlace, Pauses, TogglesPause, Stops, GoesOn, GoesBack, Seeks, Switches, Subscribes, Unsubscribes, Sends, ReadsMessages, ChoosesTags, Leaves}
 use Rattle.player_state.specs.declared.effect.AudioStep.TheVariants.{Wants, Accepts, Fails, Settles}
 use Rattle.player_state.specs.declared.report.Feed.{Feed}
 use Rattle.player_state.specs.declared.report.Report.{Report}
@@ -102,6 +104,7 @@ player_after rate part (ByCommand (Subscribes client channel)) = part.player
 player_after rate part (ByCommand (Unsubscribes client channel)) = part.player
 player_after rate part (ByCommand (Sends channel text)) = part.player
 player_after rate part (ByCommand (ReadsMessages client)) = part.player
+player_after rate part (ByCommand (ChoosesTags client tags)) = part.player
 player_after rate part (ByCommand (Leaves client)) = part.player
 
 -- what an event makes of the queue: an edit, or what a step of the player leaves of it
@@ -139,6 +142,29 @@ channels_after channels (ByCommand (ReadsMessages client)) = emptied client chan
 channels_after channels (ByCommand (Leaves client)) = left client channels
 channels_after channels _ = channels
 
+-- the tags that each client is shown
+abbrev pub tags_after : List ChosenTags → Effect → List ChosenTags
+tags_after chosen (ByCommand (ChoosesTags client tags)) = with_tags client tags chosen
+tags_after chosen (ByCommand (Leaves client)) = without client chosen
+tags_after chosen _ = chosen
+
+-- as many frames as can be counted
+abbrev pub counted : ℕ → ℕ
+counted frames = if nat_le frames 18446744073709551615 then frames else 18446744073709551615
+
+-- how many frames were decoded, with those of a have, which has a cut where it was accepted
+abbrev pub played_with : ℕ → Option ℕ → ℕ → ℕ
+played_with played None frames = played
+played_with played (Some cut) frames = counted (played + frames)
+
+abbrev pub played_after : Part → Effect → ℕ
+played_after part (ByAudio (Accepts number frames)) = played_with part.played (had part number frames).feed frames
+played_after part _ = part.played
+
+-- the player takes frames of a job
+abbrev pub part_with : Part → ℕ → ℕ → Part
+part_with part number frames = record (part_stepped part (had part number frames).stepped) { played = played_with part.played (had part number frames).feed frames }
+
 -- what one player owns, after an event
 abbrev pub part_after : ℕ → Part → Effect → Part
 part_after rate part effect = record {
@@ -147,6 +173,8 @@ part_after rate part effect = record {
   volume = volume_after part.volume effect;
   outputs = outputs_after part.outputs effect;
   channels = channels_after part.channels effect;
+  tags = tags_after part.tags effect;
+  played = played_after part effect;
 }
 
 abbrev pub feed_of : ℕ → Option ℕ → Option Feed

@@ -24,4 +24,4 @@ is_last scan = nat_le 9223372036854775807 scan.last
 abbrev pub scan_after : ScanData → ScanMove → ScanData
 scan_after scan Stay = scan
 scan_after scan Begin = if scan.runs || is_last scan then scan else record { last = scan.last + 1; runs = true }
-scan_after scan (End songs) = record scan { runs = false }
+scan_after scan (End songs second) = record scan { runs = false }

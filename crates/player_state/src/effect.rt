@@ -1,16 +1,18 @@
 //! What an event does to what one player owns.
 ghost use Rattle.std.specs.Prelude.{◌≡◌, ℕ, true, None, IfErr, OnOk, OnErr};
-ghost use Rattle.idle_notes.specs.Channels.{sent, send_refusal, subscribed, subscribe_refusal, unsubscribed, unsubscribe_refusal};
+ghost use Rattle.client_tags.specs.Choices.{with_tags, without};
+ghost use Rattle.idle_notes.specs.Channels.{left, sent, send_refusal, subscribed, subscribe_refusal, unsubscribed, unsubscribe_refusal};
 ghost use Rattle.song_queue.specs.Laws.{Takes};
 ghost use Rattle.player_core.specs.Player as player;
 ghost use Rattle.player_state.specs.Outputs.{turned};
 ghost use Rattle.player_state.specs.Fits.{Fits};
-ghost use Rattle.player_state.specs.Effects.{feed_of as feed_of_lem, had, heard_after_turn, part_after, part_edited, part_stepped, played_place, player_after, player_edited, report_after, sought_place, told_or as told_or_lem, wanted, with_channels};
+ghost use Rattle.player_state.specs.Effects.{feed_of as feed_of_lem, had, heard_after_turn, part_after, part_edited, part_stepped, part_with, played_place, played_with as played_with_lem, player_after, player_edited, report_after, sought_place, told_or as told_or_lem, wanted, with_channels};
 ghost use Rattle.player_state.specs.Outcomes.{IsAtLimitOnlyBeyond, IsDoneOnlyWithin, Reports};
 
 use crate::report::{Feed, Report};
 use crate::state::Part;
 use command_arguments::Volume;
+use known_tags::TagSet;
 use mpd_text::Text;
 use play_order::{Consume, Single};
 use player_core::PlayerFault;
@@ -55,7 +57,9 @@ pub enum CommandEffect {
     Sends(Text, Text),
     /// The messages that wait for a client are read.
     ReadsMessages(u32),
-    /// A client goes, with its channels and its messages.
+    /// A client is shown these tags from now on.
+    ChoosesTags(u32, TagSet),
+    /// A client goes, with its channels, its messages and its set of tags.
     Leaves(u32),
 }
 
@@ -86,6 +90,7 @@ impl Drop for CommandEffect {
             | CommandEffect::Unsubscribes(_, _)
             | CommandEffect::Sends(_, _)
             | CommandEffect::ReadsMessages(_)
+            | CommandEffect::ChoosesTags(_, _)
             | CommandEffect::Leaves(_) => {}
         }
     }
@@ -126,7 +131,8 @@ impl CommandEffect {
             CommandEffect::Unsubscribes(client, channel) => { unsubscribe(part, client, channel.as_str()); Ok(done(part)) }
             CommandEffect::Sends(channel, text) => { send(part, channel.as_str(), text.as_str())?; Ok(done(part)) }
             CommandEffect::ReadsMessages(client) => { let _ = part.channels.read(client); Ok(done(part)) }
-            CommandEffect::Leaves(client) => { part.channels.leave(client); Ok(done(part)) }
+            CommandEffect::ChoosesTags(client, tags) => { choose_tags(part, client, tags)?; Ok(done(part)) }
+            CommandEffect::Leaves(client) => { leave(part, client); Ok(done(part)) }
         }
     }
 }
@@ -227,6 +233,23 @@ fn send(part: &mut Part, channel: &str, text: &str) -> Result<(), PlayerFault>
         .map_err(|_| PlayerFault::NoMemory)
 }
 
+fn choose_tags(part: &mut Part, client: u32, tags: TagSet) -> Result<(), PlayerFault>
+    ensures part { OnOk result (part.new ≡ record part.old { tags = with_tags client tags part.old.tags }) }
+    ensures memory { IfErr result (λ fault. fault ≡ PlayerFault.NoMemory) }
+    ensures err { OnErr result (part.new ≡ part.old) }
+{
+    part.tags
+        .set(client, tags)
+        .map_err(|_| PlayerFault::NoMemory)
+}
+
+fn leave(part: &mut Part, client: u32)
+    ensures { part.new ≡ record part.old { channels = left client part.old.channels; tags = without client part.old.tags } }
+{
+    part.channels.leave(client);
+    part.tags.leave(client);
+}
+
 fn settle(part: &mut Part, output: usize, failed: bool) -> Report
     ensures part { part.new ≡ record part.old { outputs = turned part.old.outputs output failed } }
     ensures report { result ≡ heard_after_turn part.old output failed }
@@ -322,15 +345,26 @@ fn want(part: &mut Part, rate: &Rate, owes: bool) -> Result<Report, PlayerFault>
 }
 
 fn accept(part: &mut Part, number: u64, frames: u64) -> Result<Report, PlayerFault>
-    ensures part { OnOk result (part.new ≡ part_stepped part.old (had part.old number frames).stepped) }
+    ensures part { OnOk result (part.new ≡ part_with part.old number frames) }
     ensures report { Reports result (Report.ToFeed (feed_of_lem part.old.volume (had part.old number frames).feed)) }
     ensures within { IsDoneOnlyWithin result (had part.old number frames).stepped.player }
     ensures limit { IsAtLimitOnlyBeyond result (had part.old number frames).stepped.player }
     ensures err { OnErr result (part.new ≡ part.old) }
 {
     let cut = part.player.have(&mut part.queue, number, frames)?;
+    part.played = played_with(part.played, cut, frames);
     let _ = done(part);
     Ok(Report::ToFeed(feed_of(cut, &part.volume)))
+}
+
+/// How many frames were decoded, with those of a have that was accepted.
+fn played_with(played: u64, cut: Option<u64>, frames: u64) -> u64
+    ensures { result ≡ played_with_lem played cut frames }
+{
+    match cut {
+        Some(_) => played.saturating_add(frames),
+        None => played,
+    }
 }
 
 fn feed_of(cut: Option<u64>, volume: &Volume) -> Option<Feed>

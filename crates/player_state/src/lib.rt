@@ -5,6 +5,7 @@ mod effect;
 mod frame_counts;
 mod outputs;
 mod report;
+mod same;
 mod scan;
 mod state;
 
@@ -12,5 +13,6 @@ pub use effect::{AudioStep, CommandEffect, Effect, carry_out, done};
 pub use frame_counts::FrameCounts;
 pub use outputs::{MAX_OUTPUTS, Outputs};
 pub use report::{Feed, Report};
+pub use same::same_songs;
 pub use scan::{Scan, ScanMove};
 pub use state::{Client, Library, Part};

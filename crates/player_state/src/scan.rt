@@ -59,7 +59,7 @@ impl Scan {
     {
         match scan {
             ScanMove::Begin => !self.runs && max_cut <= self.last,
-            ScanMove::Stay | ScanMove::End(_) => false,
+            ScanMove::Stay | ScanMove::End(_, _) => false,
         }
     }
 
@@ -80,7 +80,7 @@ impl Scan {
         match scan {
             ScanMove::Stay => self.copied(),
             ScanMove::Begin => self.begun(),
-            ScanMove::End(_) => Scan {
+            ScanMove::End(_, _) => Scan {
                 last: self.last,
                 runs: false,
             },
@@ -107,9 +107,9 @@ pub enum ScanMove {
     Stay,
     /// A scan begins, if none runs.
     Begin,
-    /// The scan that runs ends, with the library that it found. One that failed found none, and the songs
-    /// stay.
-    End(Option<SharedDb>),
+    /// The scan that runs ends, with the library that it found, at this second from the beginning of 1970 on.
+    /// One that failed found none, and the songs stay.
+    End(Option<SharedDb>, u64),
 }
 
 impl ScanMove {

@@ -3,6 +3,7 @@ ghost use Rattle.std.specs.Prelude.{◌≡◌, IfOk};
 
 use crate::outputs::Outputs;
 use crate::scan::Scan;
+use client_tags::ClientTags;
 use command_arguments::Volume;
 use idle_notes::{Channels, Pending};
 use player_core::Player;
@@ -24,6 +25,9 @@ pub struct Library {
     /// The rate of all songs.
     pub rate: Rate,
     pub scan: Scan,
+    /// When its songs last changed: the second, from the beginning of 1970 on, at which a scan ended that found
+    /// others, or at which the player was opened.
+    pub updated: u64,
 }
 
 impl Library {
@@ -35,6 +39,7 @@ impl Library {
             songs: self.songs.clone()?,
             rate: self.rate.copied(),
             scan: self.scan.copied(),
+            updated: self.updated,
         })
     }
 }
@@ -47,6 +52,10 @@ pub struct Part {
     pub volume: Volume,
     pub outputs: Outputs,
     pub channels: Channels,
+    /// The tags that each client is shown.
+    pub tags: ClientTags,
+    /// How many frames were decoded of all songs. The count stops at its greatest value, 2^64-1.
+    pub played: u64,
 }
 
 impl Part {
@@ -61,6 +70,8 @@ impl Part {
             volume: self.volume.copied(),
             outputs: self.outputs.shared(alloc)?,
             channels: self.channels.image()?,
+            tags: self.tags.image()?,
+            played: self.played,
         })
     }
 }

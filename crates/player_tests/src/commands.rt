@@ -3,7 +3,8 @@
 //! Each line of a text is read, and told as a command with its values or as the refusal.
 use crate::wanted::wants;
 use mpd_command::{
-    Command, OptionCommand, OutputCommand, PlaybackCommand, QueueCommand, Request, StatusCommand,
+    Command, CommandSet, OptionCommand, OutputCommand, PlaybackCommand, QueueCommand, Request,
+    StatusCommand,
 };
 use queue_tests::steps::push_line;
 use std::alloc::{AllocError, Global};
@@ -70,7 +71,7 @@ fn told(alloc: Global, command: &Command) -> Result<String, AllocError> {
 }
 
 fn read(alloc: Global, line: &str) -> Result<String, AllocError> {
-    match &Request::of_line(alloc, line, false)? {
+    match &Request::of_line(alloc, line, CommandSet::base())? {
         Request::Run(_, command) => told(alloc, command),
         Request::Refused(ack) => String::from_str(alloc, ack.text.as_str()),
     }

@@ -1,7 +1,7 @@
 //! Worked sessions of the player of one thread, and what they tell.
 use crate::wanted::{wants, wants_made};
 use command_arguments::Volume;
-use mpd_command::{Name, Request, names};
+use mpd_command::{CommandSet, Name, Request, names};
 use partition::{PartitionFault, folds_are_unseen, reads_pending, replays_worlds};
 use player_sessions::session::session;
 use std::alloc::{AllocError, Global};
@@ -227,7 +227,7 @@ fn is_read_back(name: &str) -> bool {
 
 /// The name of a request.
 fn name_of(alloc: Global, line: &str) -> Result<String, AllocError> {
-    let request = Request::of_line(alloc, line, false)?;
+    let request = Request::of_line(alloc, line, CommandSet::base())?;
     String::from_str(alloc, request.name())
 }
 

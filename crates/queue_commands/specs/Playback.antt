@@ -3,12 +3,13 @@
 use Rattle.std.specs.Prelude.{ℕ, ◌+◌, ◌-◌, ◌*◌, ◌/◌, Bool, nat_lt, min, if◌then◌else◌, List, [], Option, Some, None, slice_get}
 use Rattle.command_arguments.specs.declared.forms.Seeking.{Seeking}
 use Rattle.command_arguments.specs.declared.forms.Seeking.TheVariants.{To, Forward, Back}
+use Rattle.mpd_text.specs.declared.songs.song.TagName.{TagName}
 use Rattle.song_db.specs.Lines.{millis}
 use Rattle.song_queue.specs.declared.entry.Entry.{Entry}
 use Rattle.song_queue.specs.State.{QueueState, queue_of, position_of}
 use Rattle.player_core.specs.Player.{is_stopped}
 use Rattle.transitions.specs.CommandResults.{bad_index, does, no_such_song, not_playing, shows}
-use Rattle.queue_commands.specs.Queue.{count, current_place, entry_lines}
+use Rattle.queue_commands.specs.Queue.{count, current_place, entry_lines, tags_for}
 use Rattle.player_state.specs.declared.effect.CommandEffect.TheVariants.{ClearsError, GoesBack, GoesOn, Pauses, Plays, PlaysPlace, Seeks, Stops, TogglesPause}
 use Rattle.transitions.specs.declared.asked.Asked.{Asked}
 use Rattle.player_state.specs.declared.state.Library.{Library}
@@ -82,17 +83,18 @@ seek_cur asked part library seeking =
     if is_stopped part.player.playback then not_playing asked
     else seek_current asked library (current_place part) (time_of (elapsed part library) seeking)
 
-abbrev pub lines_of_entry : ℕ → ℕ → Option Entry → List ℕ
-lines_of_entry rate place None = []
-lines_of_entry rate place (Some entry) = entry_lines rate (place, entry)
+abbrev pub lines_of_entry : List TagName → ℕ → ℕ → Option Entry → List ℕ
+lines_of_entry tags rate place None = []
+lines_of_entry tags rate place (Some entry) = entry_lines tags rate (place, entry)
 
-abbrev pub lines_at : ℕ → QueueState → Option ℕ → List ℕ
-lines_at rate queue None = []
-lines_at rate queue (Some place) = lines_of_entry rate place (slice_get (queue_of queue) place)
+abbrev pub lines_at : List TagName → ℕ → QueueState → Option ℕ → List ℕ
+lines_at tags rate queue None = []
+lines_at tags rate queue (Some place) = lines_of_entry tags rate place (slice_get (queue_of queue) place)
 
 -- the lines of the current song, if there is one
 abbrev pub current_song : Asked → Part → Library → CommandResult
-current_song asked part library = shows asked (lines_at library.rate part.queue (current_place part))
+current_song asked part library =
+    shows asked (lines_at (tags_for asked part) library.rate part.queue (current_place part))
 
 abbrev pub clear_error : Asked → CommandResult
 clear_error asked = does asked ClearsError

@@ -9,8 +9,10 @@ use Rattle.mpd_text.specs.Answers.Range.{places, within}
 use Rattle.mpd_text.specs.Songs.Song.{SongData}
 use Rattle.mpd_text.specs.declared.answers.answer.ErrorNumber.TheVariants.{PlaylistMax, PlayerSync}
 use Rattle.mpd_text.specs.declared.answers.ranges.Range.{Range}
+use Rattle.mpd_text.specs.declared.songs.song.TagName.{TagName}
+use Rattle.known_tags.specs.Lines.{song_lines_with}
+use Rattle.client_tags.specs.Choices.{tags_of}
 use Rattle.song_db.specs.Library.{song_of}
-use Rattle.song_db.specs.Lines.{song_lines}
 use Rattle.song_queue.specs.declared.edit.Edit.TheVariants.{Insert, Remove, Move, Prioritize, Swap}
 use Rattle.song_queue.specs.declared.entry.Entry.{Entry}
 use Rattle.song_queue.specs.Entries.{rows_at}
@@ -221,26 +223,43 @@ prio_id asked part priority ids = prioritize asked part (no_such_song asked) pri
 abbrev pub priority_line : ℕ → List ℕ
 priority_line priority = if priority == 0 then [] else pair_line (codes "Prio") (decimal priority)
 
--- the lines of an entry at a place
-abbrev pub entry_lines : ℕ → ℕ × Entry → List ℕ
-entry_lines rate row =
-    song_lines rate row.1.song ++ (pair_line (codes "Pos") (decimal row.0) ++ (pair_line (codes "Id") (decimal row.1.id) ++ priority_line row.1.priority))
+-- the tags that the client that asks is shown
+abbrev pub tags_for : Asked → Part → List TagName
+tags_for asked part = tags_of asked.client part.tags
+
+-- the lines of an entry at a place, with the tags of a set
+abbrev pub entry_lines : List TagName → ℕ → ℕ × Entry → List ℕ
+entry_lines tags rate row =
+    song_lines_with tags rate row.1.song ++ (pair_line (codes "Pos") (decimal row.0) ++ (pair_line (codes "Id") (decimal row.1.id) ++ priority_line row.1.priority))
 
 -- a place and the id of the entry there
 abbrev pub place_lines : ℕ × Entry → List ℕ
 place_lines row = pair_line (codes "cpos") (decimal row.0) ++ pair_line (codes "Id") (decimal row.1.id)
 
-abbrev pub show_places : Asked → Part → Library → Option (Places ℕ) → CommandResult
-show_places asked part library None = bad_index asked
-show_places asked part library (Some r) = shows asked (flat_map (entry_lines library.rate) (rows_at (queue_of part.queue) (range_with_len r.start (r.end - r.start))))
+-- the place and the URI of the entry there
+abbrev pub uri_line : ℕ × Entry → List ℕ
+uri_line row = pair_line (decimal row.0 ++ codes ":file") row.1.song.uri
+
+abbrev pub show_places : Asked → Part → (ℕ × Entry → List ℕ) → Option (Places ℕ) → CommandResult
+show_places asked part lines None = bad_index asked
+show_places asked part lines (Some r) =
+    shows asked (flat_map lines (rows_at (queue_of part.queue) (range_with_len r.start (r.end - r.start))))
+
+-- the places and URIs of all songs
+abbrev pub playlist : Asked → Part → CommandResult
+playlist asked part = show_places asked part uri_line (Some (places 0 (count part)))
+
+-- the songs at some places
+abbrev pub show_songs : Asked → Part → Library → Option (Places ℕ) → CommandResult
+show_songs asked part library places = show_places asked part (entry_lines (tags_for asked part) library.rate) places
 
 -- the songs of a range, or all of them
 abbrev pub playlist_info : Asked → Part → Library → Option Range → CommandResult
-playlist_info asked part library range = show_places asked part library (range_or_all range (count part))
+playlist_info asked part library range = show_songs asked part library (range_or_all range (count part))
 
 abbrev pub show_one : Asked → Part → Library → Option ℕ → CommandResult
 show_one asked part library None = no_such_song asked
-show_one asked part library (Some place) = show_places asked part library (Some (places place (place + 1)))
+show_one asked part library (Some place) = show_songs asked part library (Some (places place (place + 1)))
 
 -- the song with an id, or all songs
 abbrev pub playlist_id : Asked → Part → Library → Option ℕ → CommandResult
@@ -267,7 +286,8 @@ show_changed asked part lines version (Some r) = shows asked (flat_map lines (ch
 
 -- the songs at the places that changed since a version, of a range or all
 abbrev pub changes : Asked → Part → Library → ℕ → Option Range → CommandResult
-changes asked part library version range = show_changed asked part (entry_lines library.rate) version (range_or_all range (count part))
+changes asked part library version range =
+    show_changed asked part (entry_lines (tags_for asked part) library.rate) version (range_or_all range (count part))
 
 -- these places, with the ids of their songs
 abbrev pub changed_places : Asked → Part → ℕ → Option Range → CommandResult
@@ -282,6 +302,7 @@ result_of asked part library (queue.Delete range) = delete asked part range
 result_of asked part library (queue.DeleteId id) = delete_id asked part id
 result_of asked part library (queue.Move range to) = move asked part range to
 result_of asked part library (queue.MoveId id to) = move_id asked part id to
+result_of asked part library queue.Playlist = playlist asked part
 result_of asked part library (queue.PlaylistId id) = playlist_id asked part library id
 result_of asked part library (queue.PlaylistInfo range) = playlist_info asked part library range
 result_of asked part library (queue.PlChanges version range) = changes asked part library version range

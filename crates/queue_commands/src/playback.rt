@@ -9,6 +9,7 @@ ghost use Rattle.transitions.specs.Transitions.{IsDecidedBy};
 use crate::queue_edits::current_place;
 use crate::queue_songs::push_entry;
 use command_arguments::Seeking;
+use known_tags::TagSet;
 use mpd_command::PlaybackCommand;
 use mpd_text::{Answer, Millis};
 use player_core::Playback;
@@ -213,7 +214,14 @@ pub fn current_song(
 {
     let mut lines = Answer::new(alloc);
     if let Some(place) = current_place(part) {
-        push_place_lines(alloc, &mut lines, part, library, place)?;
+        push_place_lines(
+            alloc,
+            &mut lines,
+            part,
+            library,
+            place,
+            part.tags.of(asked.client),
+        )?;
     }
     Transition::shows(asked, lines)
 }
@@ -224,11 +232,12 @@ fn push_place_lines(
     part: &Part,
     library: &Library,
     place: usize,
+    tags: TagSet,
 ) -> Result<(), AllocError>
-    ensures { OnOk result (lines.new ≡ lines.old ++ lines_at library.now.rate part.now.queue (Some place)) }
+    ensures { OnOk result (lines.new ≡ lines.old ++ lines_at tags library.now.rate part.now.queue (Some place)) }
 {
     match part.queue.get(place) {
-        Some(entry) => push_entry(alloc, lines, library, place, entry),
+        Some(entry) => push_entry(alloc, lines, library, place, entry, tags),
         None => Ok(()),
     }
 }

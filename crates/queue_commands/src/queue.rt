@@ -8,7 +8,7 @@ use crate::queue_edits::{
     add, add_id, clear, delete, delete_id, move_id, move_range, prio, prio_id, shuffle, swap,
     swap_id,
 };
-use crate::queue_songs::{changed_places, changes, playlist_id, playlist_info};
+use crate::queue_songs::{changed_places, changes, playlist, playlist_id, playlist_info};
 use mpd_command::QueueCommand;
 use player_state::{Library, Part};
 use std::alloc::{AllocError, Global};
@@ -29,6 +29,7 @@ pub fn run(alloc: Global, asked: Asked, part: &Part, library: &Library, command:
         QueueCommand::DeleteId(id) => delete_id(alloc, asked, part, *id),
         QueueCommand::Move(range, to) => move_range(alloc, asked, part, *range, *to),
         QueueCommand::MoveId(id, to) => move_id(alloc, asked, part, *id, *to),
+        QueueCommand::Playlist => playlist(alloc, asked, part, library),
         QueueCommand::PlaylistId(id) => playlist_id(alloc, asked, part, library, *id),
         QueueCommand::PlaylistInfo(range) => playlist_info(alloc, asked, part, library, *range),
         QueueCommand::PlChanges(version, range) => changes(alloc, asked, part, library, *version, *range),

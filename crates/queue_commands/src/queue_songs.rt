@@ -1,13 +1,13 @@
 //! The commands that show the queue (MPD protocol reference, The queue).
 ghost use Rattle.std.specs.Prelude.{◌≡◌, ◌++◌, Some, IfOk, IfSome, OnOk};
 ghost use Rattle.std.specs.Option.{option_copied};
-ghost use Rattle.queue_commands.specs.Queue.{LieIn, changed_between, changed_places as changed_places_lem, changes as changes_lem, entry_lines, playlist_id as playlist_id_lem, playlist_info as playlist_info_lem, place_lines, priority_line, range_or_all, rows_in, show_places as show_places_lem};
-ghost use Rattle.queue_commands.specs.Shown.{changes_as, lines_of_row, lines_of_rows};
+ghost use Rattle.queue_commands.specs.Queue.{LieIn, changed_between, changed_places as changed_places_lem, changes as changes_lem, entry_lines, playlist as playlist_lem, playlist_id as playlist_id_lem, playlist_info as playlist_info_lem, place_lines, priority_line, range_or_all, rows_in, uri_line};
+ghost use Rattle.queue_commands.specs.Shown.{changes_as, row_as, rows_as, places_as};
 ghost use Rattle.transitions.specs.Transitions.{IsDecidedBy};
 
+use known_tags::{TagSet, push_song_with};
 use mpd_text::{Answer, Range};
 use player_state::{Library, Part};
-use song_db::push_song;
 use song_queue::{Entry, Queue};
 use std::alloc::{AllocError, Global};
 use std::ops;
@@ -20,6 +20,20 @@ enum Shown {
     Song,
     /// Its place and id.
     Place,
+    /// Its place and URI.
+    Uri,
+}
+
+pub(crate) fn playlist(
+    alloc: Global,
+    asked: Asked,
+    part: &Part,
+    library: &Library,
+) -> Result<Transition, AllocError>
+    ensures { IsDecidedBy result (playlist_lem asked part.now) }
+{
+    let places = 0..part.queue.len();
+    show_places(alloc, asked, part, library, Shown::Uri, places)
 }
 
 pub(crate) fn playlist_info(
@@ -32,7 +46,7 @@ pub(crate) fn playlist_info(
     ensures { IsDecidedBy result (playlist_info_lem asked part.now library.now range) }
 {
     match places_of(range, part.queue.len()) {
-        Some(places) => show_places(alloc, asked, part, library, places),
+        Some(places) => show_places(alloc, asked, part, library, Shown::Song, places),
         None => Transition::bad_index(alloc, asked),
     }
 }
@@ -50,7 +64,7 @@ pub(crate) fn playlist_id(
         return playlist_info(alloc, asked, part, library, None);
     };
     match part.queue.position_of(id) {
-        Some(place) => show_places(alloc, asked, part, library, place..place + 1),
+        Some(place) => { show_places(alloc, asked, part, library, Shown::Song, place..place + 1) }
         None => Transition::no_such_song(alloc, asked),
     }
 }
@@ -71,12 +85,14 @@ fn show_places(
     asked: Asked,
     part: &Part,
     library: &Library,
+    shown: Shown,
     places: ops::Range<usize>,
 ) -> Result<Transition, AllocError>
-    ensures { IsDecidedBy result (show_places_lem asked part.now library.now (Some places)) }
+    ensures { IsDecidedBy result (places_as asked part.now library.now shown places) }
 {
     let places: Vec<usize> = places.collect(alloc)?;
-    let lines = rows(alloc, &part.queue, library, &places, Shown::Song)?;
+    let tags = part.tags.of(asked.client);
+    let lines = rows(alloc, &part.queue, library, &places, shown, tags)?;
     Transition::shows(asked, lines)
 }
 
@@ -122,7 +138,8 @@ fn show_changed(
         return Transition::bad_index(alloc, asked);
     };
     let changed = changed_within(alloc, &part.queue, version, &places)?;
-    let lines = rows(alloc, &part.queue, library, &changed, shown)?;
+    let tags = part.tags.of(asked.client);
+    let lines = rows(alloc, &part.queue, library, &changed, shown, tags)?;
     Transition::shows(asked, lines)
 }
 
@@ -152,12 +169,14 @@ fn rows(
     library: &Library,
     places: &[usize],
     shown: Shown,
+    tags: TagSet,
 ) -> Result<Answer, AllocError>
-    ensures { IfOk result (λ lines. lines ≡ lines_of_rows shown library.now (rows_in queue.now places.now)) }
+    ensures { IfOk result (λ lines. lines ≡ rows_as shown tags library.now (rows_in queue.now places.now)) }
 {
     let mut lines = Answer::new(alloc);
     for place in places {
-        push_row(alloc, &mut lines, library, *place, queue.get(*place), shown)?;
+        let entry = queue.get(*place);
+        push_row(alloc, &mut lines, library, *place, entry, shown, tags)?;
     }
     Ok(lines)
 }
@@ -169,15 +188,17 @@ fn push_row(
     place: usize,
     entry: Option<&Entry>,
     shown: Shown,
+    tags: TagSet,
 ) -> Result<(), AllocError>
-    ensures { OnOk result (lines.new ≡ lines.old ++ lines_of_row shown library.now place (option_copied entry.entry)) }
+    ensures { OnOk result (lines.new ≡ lines.old ++ row_as shown tags library.now place (option_copied entry.entry)) }
 {
     let Some(entry) = entry else {
         return Ok(());
     };
     match shown {
-        Shown::Song => push_entry(alloc, lines, library, place, entry),
+        Shown::Song => push_entry(alloc, lines, library, place, entry, tags),
         Shown::Place => push_place(lines, place, entry),
+        Shown::Uri => push_uri(alloc, lines, place, entry),
     }
 }
 
@@ -187,10 +208,11 @@ pub(crate) fn push_entry(
     library: &Library,
     place: usize,
     entry: &Entry,
+    tags: TagSet,
 ) -> Result<(), AllocError>
-    ensures { OnOk result (lines.new ≡ lines.old ++ entry_lines library.now.rate (place, entry.now)) }
+    ensures { OnOk result (lines.new ≡ lines.old ++ entry_lines tags library.now.rate (place, entry.now)) }
 {
-    push_song(alloc, lines, entry.song.song(), &library.rate)?;
+    push_song_with(alloc, lines, entry.song.song(), &library.rate, tags)?;
     lines.pair("Pos", place)?;
     lines.pair("Id", entry.id)?;
     push_priority(lines, entry.priority)
@@ -210,4 +232,16 @@ fn push_place(lines: &mut Answer, place: usize, entry: &Entry) -> Result<(), All
 {
     lines.pair("cpos", place)?;
     lines.pair("Id", entry.id)
+}
+
+fn push_uri(
+    alloc: Global,
+    lines: &mut Answer,
+    place: usize,
+    entry: &Entry,
+) -> Result<(), AllocError>
+    ensures { OnOk result (lines.new ≡ lines.old ++ uri_line (place, entry.now)) }
+{
+    let key = format!(in alloc; "{place}:file")?;
+    lines.pair(key.as_str(), entry.song.song().uri())
 }

@@ -1,6 +1,6 @@
 //! The greatest library.
 use crate::helpers::{holds, library};
-use filters::{Case, Filter};
+use filters::{Case, Filter, Vocabulary};
 use mpd_text::{Song, Tag, TagName};
 use song_db::{Db, Rate};
 use song_search::{Count, counted, find, list_folder, listed, under};
@@ -31,7 +31,7 @@ fn greatest<R: Abort>(rt: &R, alloc: Global) -> Db {
 }
 
 fn filter<R: Abort>(rt: &R, alloc: Global, text: &str) -> Filter {
-    Filter::parse(alloc, text).expect(rt, "no filter")
+    Filter::parse(alloc, text, Vocabulary::Base).expect(rt, "no filter")
 }
 
 fn met<R: Abort>(rt: &R, alloc: Global, db: &Db, text: &str, case: Case) -> usize {

@@ -1,6 +1,6 @@
 //! A small library: filters, the texts of a tag, counts, and folders.
 use crate::helpers::{holds, joined, library, song, uris, uris_of, wants};
-use filters::{Case, Filter};
+use filters::{Case, Filter, Vocabulary};
 use mpd_text::TagName;
 use song_db::{Db, Rate};
 use song_search::{Count, counted, find, is_folder, list_folder, listed, under};
@@ -33,7 +33,7 @@ fn small<R: Abort>(rt: &R, alloc: Global) -> Db {
 }
 
 fn filter<R: Abort>(rt: &R, alloc: Global, text: &str) -> Filter {
-    Filter::parse(alloc, text).expect(rt, "no filter")
+    Filter::parse(alloc, text, Vocabulary::Base).expect(rt, "no filter")
 }
 
 fn found<R: Abort>(rt: &R, alloc: Global, db: &Db, text: &str, case: Case) -> String {

@@ -7,7 +7,7 @@ mod line;
 mod step;
 mod tag;
 
-pub use limit::{LimitName, MAX_CUT, MAX_HISTORY, MAX_ID, MAX_QUEUE, MAX_VERSION};
+pub use limit::{EVERYDAY, LimitName, MAX_CUT, MAX_HISTORY, MAX_ID, MAX_QUEUE, MAX_VERSION};
 pub use line::ScriptLine;
 pub use step::{MAX_CLIENT, MAX_URI, Step};
 pub use tag::MAX_TEXT;

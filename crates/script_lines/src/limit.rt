@@ -19,6 +19,9 @@ pub const MAX_CUT: u32 = u32::MAX;
 /// The greatest number of events that a player keeps one by one.
 pub const MAX_HISTORY: u32 = 4_096;
 
+/// The everyday profile is on, or it is not named.
+pub const EVERYDAY: u32 = 1;
+
 /// A limit that a script may lower.
 #[derive(Clone, Copy, Debug, PartialEq, Eq)]
 pub enum LimitName {
@@ -32,14 +35,17 @@ pub enum LimitName {
     MaxCut,
     /// How many events of its history a player keeps one by one.
     History,
+    /// That the commands and forms of the everyday profile are there.
+    Everyday,
 }
 
-const LIMITS: [LimitName; 5] = [
+const LIMITS: [LimitName; 6] = [
     LimitName::MaxQueue,
     LimitName::MaxVersion,
     LimitName::MaxId,
     LimitName::MaxCut,
     LimitName::History,
+    LimitName::Everyday,
 ];
 
 impl LimitName {
@@ -61,6 +67,7 @@ impl LimitName {
             LimitName::MaxId => MAX_ID,
             LimitName::MaxCut => MAX_CUT,
             LimitName::History => MAX_HISTORY,
+            LimitName::Everyday => EVERYDAY,
         }
     }
 
@@ -73,6 +80,7 @@ impl LimitName {
             LimitName::MaxId => "max_id",
             LimitName::MaxCut => "max_cut",
             LimitName::History => "history",
+            LimitName::Everyday => "everyday",
         }
     }
 }

@@ -108,3 +108,49 @@ fn a_line_too_long(rt: HostRuntime) {
     let told = too_long(rt.alloc());
     wants(&rt, told, "ok\n1 OK MPD 0.23.0\n1 OK\n! bad\n");
 }
+
+/// The limit that gives clients the everyday profile: of a value that it cannot have, before the first client
+/// line, and after it.
+const EVERYDAY: &str = "! limit everyday 2
+! limit everyday 1
+1 play -1
+1 command_list_begin
+1 play -1
+1 command_list_end
+! limit everyday 1
+";
+
+const EVERYDAY_PRINTS: &str = "ok
+! bad
+1 OK MPD 0.23.0
+1 OK
+1 OK
+! bad
+";
+
+#[test]
+fn the_everyday_profile_is_on(rt: HostRuntime) {
+    wants(&rt, run_whole(rt.alloc(), EVERYDAY), EVERYDAY_PRINTS);
+}
+
+/// The same client lines where the limit comes too late.
+const BASE: &str = "1 play -1
+! limit everyday 1
+1 play -1
+1 command_list_begin
+1 play -1
+1 command_list_end
+";
+
+const BASE_PRINTS: &str = "ok
+1 OK MPD 0.23.0
+1 ACK [2@0] {play} bad argument \"-1\"
+! bad
+1 ACK [2@0] {play} bad argument \"-1\"
+1 ACK [2@0] {play} bad argument \"-1\"
+";
+
+#[test]
+fn the_everyday_profile_is_off(rt: HostRuntime) {
+    wants(&rt, run_whole(rt.alloc(), BASE), BASE_PRINTS);
+}

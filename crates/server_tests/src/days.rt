@@ -9,6 +9,7 @@ use held_player::{Blanks, News};
 use house::House;
 use house_tests::rooms::{blanks, opened};
 use mpd_answers::Asker;
+use mpd_command::CommandSet;
 use mpd_session::{End, Goes, Session, SessionFault};
 use partition::PartitionFault;
 use shelf::MemShelf;
@@ -49,7 +50,17 @@ fn comes<L: Ledgers>(
     may_kill: bool,
 ) -> Result<Guest, PartitionFault> {
     let greeted = house.notice(rt, seat, News::Comes(client))?;
-    let session = Session::new(alloc, Asker { client, may_kill }, greeted.reply())?;
+    let session = Session::new(
+        alloc,
+        Asker {
+            client,
+            commands: CommandSet {
+                kill: may_kill,
+                everyday: false,
+            },
+        },
+        greeted.reply(),
+    )?;
     Ok(Guest {
         client,
         session,

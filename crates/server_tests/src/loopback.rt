@@ -8,6 +8,7 @@ use held_player::Blanks;
 use house::House;
 use house_tests::rooms::{blanks, opened};
 use mio::net::TcpListener as Door;
+use mpd_command::CommandSet;
 use mpd_server::{ServeFault, Server, bind, start_waker};
 use shelf::MemShelf;
 use std::alloc::Global;
@@ -65,7 +66,7 @@ fn serves_in<
     let waking = start_waker(rt, house, &mut server)?;
     let scanning = start_scanner(rt, alloc, house);
     let served = match &scanning {
-        Ok(_) => server.serve(&rt, alloc, &**house, &mut seat, &mut shelf, true),
+        Ok(_) => server.serve(&rt, alloc, &**house, &mut seat, &mut shelf, all()),
         Err(_) => Err(ServeFault::NoMemory),
     };
     let _ended = house.end(&rt, &mut seat);
@@ -506,4 +507,12 @@ fn an_address_is_listened_at(rt: HostRuntime) -> Result<(), Fail> {
         assert!(rt; bind(&rt, address.as_str()).is_err());
     }
     Ok(())
+}
+
+/// All commands of the base profile, `kill` as well.
+fn all() -> CommandSet {
+    CommandSet {
+        kill: true,
+        everyday: false,
+    }
 }

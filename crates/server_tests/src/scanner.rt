@@ -35,7 +35,7 @@ fn looks<L: Ledgers, R: Wait + Clock>(
     if matches!(report, Report::ToScan(Some(_))) {
         if let Some(songs) = no_songs(alloc) {
             // Where there is no memory, the scan goes on, and is ended at a later look.
-            let _ended = house.notice(rt, seat, News::Scanned(Some(songs)));
+            let _ended = house.notice(rt, seat, News::Scanned(Some(songs), 0));
         }
     }
     !matches!(report, Report::Ended)

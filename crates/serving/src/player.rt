@@ -37,11 +37,12 @@ fn outputs_of(alloc: Global, settings: &[OutputSettings]) -> Result<Outputs, All
     Ok(outputs)
 }
 
-/// A player over these songs, to which nothing happened.
+/// A player over these songs, to which nothing happened, at this second from the beginning of 1970 on.
 pub(crate) fn player_of(
     alloc: Global,
     settings: &Settings,
     songs: SharedDb,
+    second: u64,
 ) -> Result<Partition, DaemonFault>
     requires history { 1 ≤ settings.now.history }
     requires outputs { vec_len settings.now.outputs ≤ 8 }
@@ -56,6 +57,7 @@ pub(crate) fn player_of(
         songs,
         rate: settings.rate.copied(),
         scan: Scan::never(),
+        updated: second,
     };
     Ok(Partition::open(alloc, setup, library)?)
 }

@@ -12,6 +12,7 @@ use crew::{Crew, Scanner, close, let_go, start_decoder, start_outputs, start_sca
 use crew_steps::{Open, SongSource, output_setups};
 use held_player::{CrewShares, Settlement};
 use house::House;
+use mpd_command::CommandSet;
 use mpd_server::{ServeFault, Server, start_waker};
 use partition::PartitionFault;
 use shelf::Shelf;
@@ -28,7 +29,7 @@ pub(crate) struct Manner {
     /// How many frames the ring of an output holds.
     pub(crate) ring: usize,
     /// Whether a client may end the daemon.
-    pub(crate) may_kill: bool,
+    pub(crate) commands: CommandSet,
 }
 
 /// How often the end is asked for again where there is no memory for it, and how many milliseconds after.
@@ -70,7 +71,7 @@ pub(crate) fn run<
     // Without this thread the server looks for notices by itself.
     let waking = start_waker(rt, &house, &mut server).ok();
     let served = match start_scanner(rt, alloc, &house, &mut crew, scanner) {
-        Ok(()) => server.serve(&rt, alloc, &house, &mut seat, shelf, manner.may_kill),
+        Ok(()) => server.serve(&rt, alloc, &house, &mut seat, shelf, manner.commands),
         Err(_) => Err(ServeFault::NoMemory),
     };
     end(&rt, host, &house, &mut seat, crew, waking, served)

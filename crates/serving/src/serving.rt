@@ -10,9 +10,11 @@ use crate::hall::open_hall;
 use crate::player::player_of;
 use crate::run::{Manner, run};
 use counted_player::Ledgers;
+use crew::second_now;
 use frame_ledger::Blanks as FrameBlanks;
 use held_player::Blanks;
 use mio::net::TcpListener;
+use mpd_command::CommandSet;
 use mpd_server::{Server, bind};
 use settings::Settings;
 use shelf::Shelf;
@@ -81,7 +83,7 @@ fn serve_with<
     requires blanks { AreFor L.names blanks }
 {
     let alloc = host.alloc();
-    let player = player_of(alloc, settings, songs)?;
+    let player = player_of(alloc, settings, songs, second_now(&rt))?;
     let hall = open_hall::<L, R>(&rt, alloc, blanks, player)?;
     let server = Server::open(&rt, alloc, listener)?;
     let gear = gear_of(host, settings)?;
@@ -92,6 +94,9 @@ fn manner_of(settings: &Settings) -> Manner {
     Manner {
         rate: settings.rate.frames(),
         ring: settings.ring as usize,
-        may_kill: settings.kill,
+        commands: CommandSet {
+            kill: settings.kill,
+            everyday: settings.everyday,
+        },
     }
 }

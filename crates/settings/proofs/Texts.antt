@@ -42,6 +42,7 @@ all = record {
   history = refl;
   ring = refl;
   kill = refl;
+  everyday = refl;
   output = refl;
   no_shelf = refl;
   not_toml = not_toml;

@@ -98,7 +98,8 @@ are_outputs _ = false
 
 abbrev pub settings_keys : List Key
 settings_keys =
-    key (codes "history") (is_number 1 65536) (stands_for (integer (pos 4096)))
+    key (codes "everyday") is_flag (stands_for (boolean false))
+    ∷ key (codes "history") (is_number 1 65536) (stands_for (integer (pos 4096)))
     ∷ key (codes "kill") is_flag (stands_for (boolean false))
     ∷ key (codes "listen") is_text refused
     ∷ key (codes "music") is_text refused

@@ -32,6 +32,7 @@ pub record Readings : Type 0 where
   pub history : IsThere (codes "history") (integer (pos 4096))
   pub ring : IsThere (codes "ring") (integer (pos 8192))
   pub kill : IsThere (codes "kill") (boolean false)
+  pub everyday : IsThere (codes "everyday") (boolean false)
   pub output : IsThere (codes "output") (array no_items)
   pub no_shelf : value settings_keys (codes "shelf") least_table ≡ None
   -- no TOML

@@ -72,6 +72,7 @@ pub record Says (entries : Members) (settings : Settings) : Type 0 where
   pub history : value settings_keys (codes "history") entries ≡ Some (integer (pos settings.history))
   pub ring : value settings_keys (codes "ring") entries ≡ Some (integer (pos settings.ring))
   pub kill : value settings_keys (codes "kill") entries ≡ Some (boolean settings.kill)
+  pub everyday : value settings_keys (codes "everyday") entries ≡ Some (boolean settings.everyday)
   pub outputs : (ds : Items) × (value settings_keys (codes "output") entries ≡ Some (array ds)) × AreOutputs ds settings.outputs.items
 
 -- the settings are in their ranges

@@ -68,6 +68,7 @@ fn read(alloc: Global, table: &Table) -> Result<Settings, AllocError>
         history: number_at(table, "history", HISTORY),
         ring: number_at(table, "ring", RING),
         kill: flag_at(table, "kill", false),
+        everyday: flag_at(table, "everyday", false),
         outputs: outputs_at(alloc, table, "output")?,
     })
 }

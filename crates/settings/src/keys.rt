@@ -41,8 +41,8 @@ pub(crate) fn is_good(name: &str, value: &Value) -> bool
     ensures { result ≡ keys.is_good settings_keys name.now (view value.now) }
 {
     match name {
+        "everyday" | "kill" => value.is_bool(),
         "history" => is_number(value, HISTORY),
-        "kill" => value.is_bool(),
         "listen" | "music" | "shelf" => value.is_str(),
         "output" => are_outputs(value),
         "random_start" => natural(value).is_some(),

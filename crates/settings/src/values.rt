@@ -21,6 +21,8 @@ pub struct Settings {
     pub ring: u32,
     /// Whether clients may end the daemon; by default they may not.
     pub kill: bool,
+    /// Whether the commands and forms of the everyday profile are there; by default they are not.
+    pub everyday: bool,
     /// The outputs, at most 8, in the order of the text.
     pub outputs: Vec<OutputSettings>,
 }

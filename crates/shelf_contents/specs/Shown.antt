@@ -3,8 +3,9 @@
 use Rattle.std.specs.Prelude.{ℕ, List, ◌++◌, codes, flat_map, Option, Some, None}
 use Rattle.mpd_text.specs.Answers.Answer.{pair_line}
 use Rattle.mpd_text.specs.Songs.Song.{SongData}
+use Rattle.mpd_text.specs.declared.songs.song.TagName.{TagName}
 use Rattle.song_db.specs.Library.{song_of}
-use Rattle.song_db.specs.Lines.{song_lines}
+use Rattle.known_tags.specs.Lines.{song_lines_with}
 
 abbrev pub uri_line : List ℕ → List ℕ
 uri_line uri = pair_line (codes "file") uri
@@ -13,14 +14,15 @@ uri_line uri = pair_line (codes "file") uri
 abbrev pub uri_lines : List (List ℕ) → List ℕ
 uri_lines uris = flat_map uri_line uris
 
--- all lines of the song that the library has at a URI, or the URI alone where it has none
-abbrev pub info : ℕ → List ℕ → Option SongData → List ℕ
-info rate uri (Some song) = song_lines rate song
-info rate uri None = uri_line uri
+-- the lines of the song that the library has at a URI, with the tags of a set, or the URI alone where it has
+-- none
+abbrev pub info : List TagName → ℕ → List ℕ → Option SongData → List ℕ
+info tags rate uri (Some song) = song_lines_with tags rate song
+info tags rate uri None = uri_line uri
 
 -- the songs of a list
-abbrev pub info_lines : ℕ → List SongData → List (List ℕ) → List ℕ
-info_lines rate songs uris = flat_map (λ uri. info rate uri (song_of songs uri)) uris
+abbrev pub info_lines : List TagName → ℕ → List SongData → List (List ℕ) → List ℕ
+info_lines tags rate songs uris = flat_map (λ uri. info tags rate uri (song_of songs uri)) uris
 
 -- the names of lists
 abbrev pub playlist_lines : List (List ℕ) → List ℕ

@@ -9,5 +9,5 @@ mod walk;
 
 pub use edits::{moved, uris_of_queue, with_songs, without};
 pub use found::found_lines;
-pub use shown::{list_info_lines, list_lines, name_lines, sticker_line, sticker_lines};
+pub use shown::{list_info_lines, list_lines, name_lines, push_names, sticker_line, sticker_lines};
 pub use songs::loaded;

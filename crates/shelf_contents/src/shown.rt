@@ -5,9 +5,10 @@ ghost use Rattle.shelf.specs.Entries.{entry_texts};
 ghost use Rattle.song_db.specs.Library.{song_of};
 ghost use Rattle.shelf_contents.specs.Shown.{uri_lines, info, info_lines, playlist_lines, sticker_of, stickers_of};
 
+use known_tags::{TagSet, push_song_with};
 use mpd_text::Answer;
 use shelf::{Entry, UriList, next_uri};
-use song_db::{Db, Rate, push_song};
+use song_db::{Db, Rate};
 use std::alloc::{AllocError, Global};
 
 /// The URIs of a list (`listplaylist`).
@@ -23,36 +24,39 @@ pub fn list_lines(alloc: Global, list: &UriList) -> Result<Answer, AllocError>
     Ok(answer)
 }
 
-/// The songs of a list, and the URI alone where the library has no song (`listplaylistinfo`).
+/// The songs of a list with the tags of a set, and the URI alone where the library has no song
+/// (`listplaylistinfo`).
 pub fn list_info_lines(
     alloc: Global,
     list: &UriList,
     db: &Db,
     rate: &Rate,
+    tags: TagSet,
 ) -> Result<Answer, AllocError>
-    ensures { IfOk result (λ answer. answer ≡ info_lines rate.now db.now list.now) }
+    ensures { IfOk result (λ answer. answer ≡ info_lines tags rate.now db.now list.now) }
 {
     let mut answer = Answer::new(alloc);
     let mut rest = list.text();
     while let Some((uri, more)) = next_uri(rest) {
-        push_info(alloc, &mut answer, uri, db, rate)?;
+        push_info(alloc, &mut answer, uri, db, rate, tags)?;
         rest = more;
     }
     Ok(answer)
 }
 
-/// All lines of the song that the library has at a URI, or the URI alone.
+/// The lines of the song that the library has at a URI, or the URI alone.
 fn push_info(
     alloc: Global,
     answer: &mut Answer,
     uri: &str,
     db: &Db,
     rate: &Rate,
+    tags: TagSet,
 ) -> Result<(), AllocError>
-    ensures { OnOk result (answer.new ≡ answer.old ++ info rate.now uri.now (song_of db.now uri.now)) }
+    ensures { OnOk result (answer.new ≡ answer.old ++ info tags rate.now uri.now (song_of db.now uri.now)) }
 {
     match db.get(uri) {
-        Some(song) => push_song(alloc, answer, song, rate),
+        Some(song) => push_song_with(alloc, answer, song, rate, tags),
         None => answer.pair("file", uri),
     }
 }
@@ -62,10 +66,18 @@ pub fn name_lines(alloc: Global, names: &[String]) -> Result<Answer, AllocError>
     ensures { IfOk result (λ answer. answer ≡ playlist_lines (map string_bytes names.now)) }
 {
     let mut answer = Answer::new(alloc);
+    push_names(&mut answer, names)?;
+    Ok(answer)
+}
+
+/// Appends the names of lists to an answer. Where memory runs out, the answer may have some of them.
+pub fn push_names(answer: &mut Answer, names: &[String]) -> Result<(), AllocError>
+    ensures { OnOk result (answer.new ≡ answer.old ++ playlist_lines (map string_bytes names.now)) }
+{
     for name in names {
         answer.pair("playlist", name.as_str())?;
     }
-    Ok(answer)
+    Ok(())
 }
 
 /// A sticker (`sticker get`).

@@ -1,6 +1,6 @@
 //! A player that is lent a shelf.
 use command_lists::ListForm;
-use mpd_command::Request;
+use mpd_command::{CommandSet, Request};
 use mpd_text::Song;
 use partition::{Limits, Partition, Setup};
 use player_events::Event;
@@ -35,6 +35,7 @@ fn library(alloc: Global) -> Result<Library, AllocError> {
         songs: SharedDb::new(alloc, songs)?,
         rate: Rate::lowest(),
         scan: Scan::never(),
+        updated: 0,
     })
 }
 
@@ -69,7 +70,7 @@ fn happens<S: Shelf>(
 }
 
 fn line_of(alloc: Global, line: &str) -> Result<Event, AllocError> {
-    let request = Request::of_line(alloc, line, false)?;
+    let request = Request::of_line(alloc, line, CommandSet::base())?;
     Ok(Event::line(1, Stand::Alone, request))
 }
 
@@ -83,7 +84,7 @@ fn lists<S: Shelf>(
 ) -> Result<(), AllocError> {
     let mut requests = Vec::new(alloc);
     for command in commands.split(';') {
-        requests.push(Request::of_line(alloc, command, false)?)?;
+        requests.push(Request::of_line(alloc, command, CommandSet::base())?)?;
     }
     match player.run_list(3, shelf, 1, ListForm::ListOk, requests) {
         Ok(outcome) => {

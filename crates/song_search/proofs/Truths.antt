@@ -12,7 +12,7 @@ use Rattle.mpd_text.specs.Songs.Song.{SongData, TagData}
 use Rattle.mpd_text.specs.Songs.Tags.{tag_names}
 use Rattle.mpd_text.specs.declared.songs.song.TagName.{TagName}
 use Rattle.filters.specs.declared.expression.Field.{Field}
-use Rattle.filters.specs.declared.expression.Field.TheVariants.{Tag, File, Any}
+use Rattle.filters.specs.declared.expression.Field.TheVariants.{Tag, NoTag, File, Any}
 use Rattle.filters.specs.declared.expression.Test.{Test}
 use Rattle.filters.specs.declared.expression.Test.TheVariants.{Equals, Differs, Contains}
 use Rattle.filters.specs.declared.matching.Case.{Case}
@@ -52,6 +52,7 @@ module _ (passes : List ℕ → Bool) (P : List ℕ → Type 0) (each : (text : 
 
   has-Decides : (field : Field) (song : SongData) → Decides (has_it passes field song) (HasIt P field song)
   has-Decides (Tag name) song = each (text_of_tag name song.tags)
+  has-Decides NoTag song = each []
   has-Decides File song = each song.uri
   has-Decides Any song = some-Decides tag_names song.tags
 

@@ -6,7 +6,7 @@ use lib.Pointwise.{pointwise}
 use Rattle.mpd_text.specs.Songs.Song.{SongData}
 use Rattle.mpd_text.specs.Songs.Tags.{tag_names}
 use Rattle.filters.specs.declared.expression.Field.{Field}
-use Rattle.filters.specs.declared.expression.Field.TheVariants.{Tag, File, Any}
+use Rattle.filters.specs.declared.expression.Field.TheVariants.{Tag, NoTag, File, Any}
 use Rattle.filters.specs.declared.expression.Test.{Test}
 use Rattle.filters.specs.declared.expression.Test.TheVariants.{Equals, Differs, Contains}
 use Rattle.filters.specs.declared.matching.Case.{Case}
@@ -31,6 +31,7 @@ includes wanted (b ∷ bs) = starts_with nat_eq (b ∷ bs) wanted || includes wa
 -- whether what is compared passes: of `any` it is enough that one tag does
 abbrev pub has_it : (List ℕ → Bool) → Field → SongData → Bool
 has_it passes (Tag name) song = passes (text_of_tag name song.tags)
+has_it passes NoTag song = passes []
 has_it passes File song = passes song.uri
 has_it passes Any song = list_any (λ name. passes (text_of_tag name song.tags)) tag_names
 

@@ -3,3 +3,4 @@ pub mod Outputs
 pub mod Messages
 pub mod Options
 pub mod Status
+pub mod Stats

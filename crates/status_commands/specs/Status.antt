@@ -6,7 +6,7 @@ use Rattle.idle_notes.specs.Notes.{waits, notice_of}
 use Rattle.mpd_command.specs.declared.command.Command.{Command}
 use Rattle.mpd_command.specs.declared.command.Command.TheVariants as command
 use Rattle.mpd_text.specs.declared.answers.answer.ErrorNumber.TheVariants.{Argument}
-use Rattle.song_db.specs.Lines.{duration_text, millis}
+use Rattle.song_db.specs.Lines.{duration_text, millis, seconds_rounded}
 use Rattle.song_queue.specs.declared.entry.Entry.{Entry}
 use Rattle.song_queue.specs.State.{QueueState, queue_of, position_of}
 use Rattle.play_order.specs.declared.modes.Modes.{Modes}
@@ -31,6 +31,7 @@ use Rattle.player_state.specs.declared.state.Part.{Part}
 use Rattle.player_state.specs.declared.state.Library.{Library}
 use Rattle.transitions.specs.Transitions.{CommandResult}
 use Rattle.player_state.specs.Scans.{running}
+use Rattle.status_commands.specs.Stats.{stats}
 use Rattle.mpd_text.specs.Answers.Answer.{pair_line}
 use Rattle.mpd_command.specs.declared.status.StatusCommand.{StatusCommand}
 use Rattle.mpd_command.specs.declared.status.StatusCommand.TheVariants as status_command
@@ -156,11 +157,29 @@ duration_of rate (Some entry) = duration_line rate entry.song.frames
 abbrev pub current_duration : ℕ → Part → List ℕ
 current_duration rate part = duration_of rate (current_entry part.player (queue_of part.queue))
 
+-- how long so many frames are in whole seconds, a half up
+abbrev pub whole_seconds : ℕ → ℕ → ℕ
+whole_seconds rate frames = seconds_rounded (millis rate frames)
+
+-- how far a song is and how long it is
+unfoldable pub time_line : ℕ → ℕ → ℕ → List ℕ
+time_line rate place frames = pair_line (codes "time") (decimal (whole_seconds rate place) ++ codes ":" ++ decimal (whole_seconds rate frames))
+
+abbrev pub time_of : ℕ → ℕ → Option Entry → List ℕ
+time_of rate place None = []
+time_of rate place (Some entry) = time_line rate place entry.song.frames
+
+-- in the everyday profile, how far the current song is and how long it is, if there is one
+abbrev pub current_time : ℕ → Part → Bool → List ℕ
+current_time rate part false = []
+current_time rate part true = time_of rate part.player.place (current_entry part.player (queue_of part.queue))
+
 -- these are shown where the player does not stand still
-abbrev pub progress_lines : ℕ → Part → List ℕ
-progress_lines rate part =
+abbrev pub progress_lines : ℕ → Part → Bool → List ℕ
+progress_lines rate part everyday =
     if is_stopped part.player.playback then []
-    else elapsed_line rate part.player.place ++ (current_duration rate part ++ audio_line rate)
+    else current_time rate part everyday
+    ++ (elapsed_line rate part.player.place ++ (current_duration rate part ++ audio_line rate))
 
 -- why the player stopped, where that was an error
 abbrev pub error_line : Option (List ℕ) → List ℕ
@@ -180,11 +199,11 @@ scan_line (Some number) = pair_line (codes "updating_db") (decimal number)
 abbrev pub last_lines : Part → Library → List ℕ
 last_lines part library = fade_line part.player.crossfade ++ (scan_line (running library.scan) ++ error_line part.player.error)
 
-abbrev pub status : Asked → Part → Library → CommandResult
-status asked part library =
+abbrev pub status : Asked → Part → Library → Bool → CommandResult
+status asked part library everyday =
     shows asked (mode_lines part.volume part.player.modes ++ (queue_lines_of part
     ++ (current_lines part.queue part.player.current ++ (next_lines_of part
-    ++ (progress_lines library.rate part ++ last_lines part library)))))
+    ++ (progress_lines library.rate part everyday ++ last_lines part library)))))
 
 -- what each command makes of the player; those by which a client waits are wishes and make nothing of it
 unfoldable pub result_of : Asked → Part → Library → StatusCommand → CommandResult
@@ -192,4 +211,5 @@ result_of asked part library status_command.ClearError = clear_error asked
 result_of asked part library status_command.CurrentSong = current_song asked part library
 result_of asked part library (status_command.Idle named) = only shut
 result_of asked part library status_command.NoIdle = only shut
-result_of asked part library status_command.Status = status asked part library
+result_of asked part library status_command.Stats = stats asked part library
+result_of asked part library (status_command.Status everyday) = status asked part library everyday

@@ -1,14 +1,15 @@
-//! The commands of the connection, which need nothing of the player (MPD protocol reference, Connection
-//! settings; Reflection).
+//! The commands of the connection, which need nothing of the player but the tags that each client is shown (MPD
+//! protocol reference, Connection settings; Reflection; Mounts and neighbors).
 ghost use Rattle.std.specs.Prelude.{◌≡◌, ◌++◌, IfOk, OnOk};
 ghost use Rattle.player_state.specs.Fits.{Fits};
 ghost use Rattle.transitions.specs.Answers.{Responds, stays};
 ghost use Rattle.transitions.specs.Transitions.{IsDecidedBy};
-ghost use Rattle.status_commands.specs.Connection.{command_line, command_lines, command_lines_among, commands as commands_lem, not_commands as not_commands_lem, ping as ping_lem, result_of, tag_type_lines, tag_types as tag_types_lem};
+ghost use Rattle.status_commands.specs.Connection.{chooses_tags as chooses_tags_lem, command_line, command_lines, command_lines_among, commands as commands_lem, decoder_lines, decoders as decoders_lem, mount_lines, mounts as mounts_lem, not_commands as not_commands_lem, ping as ping_lem, result_of, tag_types as tag_types_lem, type_lines, url_handlers as url_handlers_lem, wave_lines, with_tags as with_tags_lem, without_tags as without_tags_lem};
 
-use mpd_command::{ConnectionCommand, is_forbidden, names};
-use mpd_text::{Answer, TAG_NAMES};
-use player_state::Part;
+use known_tags::{KnownTag, TagSet, push_tagtypes};
+use mpd_command::{CommandSet, ConnectionCommand, is_forbidden, is_there, names};
+use mpd_text::{Answer, Sequence};
+use player_state::{CommandEffect, Part};
 use std::alloc::{AllocError, Global};
 use transitions::{Asked, Response, Transition, shows, succeeds};
 
@@ -16,16 +17,23 @@ use transitions::{Asked, Response, Transition, shows, succeeds};
 #[rattlefmt::skip]
 #[tactic(auto, unfolding(crate::specs::Connection::result_of))]
 pub fn run(alloc: Global, asked: Asked, part: &Part, command: &ConnectionCommand) -> Result<Transition, AllocError>
-    ensures transition { IsDecidedBy result (result_of asked command.now) }
+    ensures transition { IsDecidedBy result (result_of asked part.now command.now) }
     ensures fits { IfOk result (λ transition. Fits part.now transition.effect) }
 {
     match command {
+        ConnectionCommand::AllTags => chooses_tags(alloc, asked, TagSet::all()),
         ConnectionCommand::Close => Transition::closes_client(alloc, asked),
-        ConnectionCommand::Commands(allow_kill) => Ok(Transition::only(commands(alloc, asked, *allow_kill)?)),
+        ConnectionCommand::Commands(set) => Ok(Transition::only(commands(alloc, asked, *set)?)),
+        ConnectionCommand::Decoders => Ok(Transition::only(decoders(alloc, asked)?)),
         ConnectionCommand::Kill => Transition::ends_daemon(alloc, asked),
-        ConnectionCommand::NotCommands(allow_kill) => Ok(Transition::only(not_commands(alloc, asked, *allow_kill)?)),
+        ConnectionCommand::ListMounts => Ok(Transition::only(mounts(alloc, asked)?)),
+        ConnectionCommand::NoTags => chooses_tags(alloc, asked, TagSet::empty()),
+        ConnectionCommand::NotCommands(set) => Ok(Transition::only(not_commands(alloc, asked, *set)?)),
         ConnectionCommand::Ping => Ok(Transition::only(ping(alloc, asked)?)),
-        ConnectionCommand::TagTypes => Ok(Transition::only(tag_types(alloc, asked)?)),
+        ConnectionCommand::TagTypes => Ok(Transition::only(tag_types(alloc, asked, part)?)),
+        ConnectionCommand::UrlHandlers => Ok(Transition::only(url_handlers(alloc, asked)?)),
+        ConnectionCommand::WithTags(named) => with_tags(alloc, asked, part, named),
+        ConnectionCommand::WithoutTags(named) => without_tags(alloc, asked, part, named),
     }
 }
 
@@ -35,64 +43,138 @@ fn ping(alloc: Global, asked: Asked) -> Result<Response, AllocError>
     succeeds(alloc, asked)
 }
 
-fn tag_types(alloc: Global, asked: Asked) -> Result<Response, AllocError>
-    ensures { Responds result (stays (tag_types_lem asked)) }
+/// The tags that the client is shown.
+fn tag_types(alloc: Global, asked: Asked, part: &Part) -> Result<Response, AllocError>
+    ensures { Responds result (stays (tag_types_lem asked part.now)) }
 {
     let mut answer = Answer::new(alloc);
-    push_types(&mut answer)?;
+    push_tagtypes(&mut answer, part.tags.of(asked.client))?;
     shows(asked, answer)
 }
 
-fn push_types(answer: &mut Answer) -> Result<(), AllocError>
-    ensures { OnOk result (answer.new ≡ answer.old ++ tag_type_lines) }
+/// The client is shown these tags from now on.
+fn chooses_tags(alloc: Global, asked: Asked, tags: TagSet) -> Result<Transition, AllocError>
+    ensures { IsDecidedBy result (chooses_tags_lem asked tags) }
 {
-    for name in TAG_NAMES {
-        answer.pair("tagtype", name.text())?;
-    }
-    Ok(())
+    Transition::does(alloc, asked, CommandEffect::ChoosesTags(asked.client, tags))
+}
+
+fn with_tags(
+    alloc: Global,
+    asked: Asked,
+    part: &Part,
+    named: &Sequence<KnownTag>,
+) -> Result<Transition, AllocError>
+    ensures { IsDecidedBy result (with_tags_lem asked part.now named.now) }
+{
+    let tags = part.tags.of(asked.client);
+    chooses_tags(alloc, asked, tags.enable(named.items()))
+}
+
+fn without_tags(
+    alloc: Global,
+    asked: Asked,
+    part: &Part,
+    named: &Sequence<KnownTag>,
+) -> Result<Transition, AllocError>
+    ensures { IsDecidedBy result (without_tags_lem asked part.now named.now) }
+{
+    let tags = part.tags.of(asked.client);
+    chooses_tags(alloc, asked, tags.disable(named.items()))
+}
+
+fn decoders(alloc: Global, asked: Asked) -> Result<Response, AllocError>
+    ensures { Responds result (stays (decoders_lem asked)) }
+{
+    let mut answer = Answer::new(alloc);
+    push_decoders(&mut answer)?;
+    shows(asked, answer)
+}
+
+fn push_decoders(answer: &mut Answer) -> Result<(), AllocError>
+    ensures { OnOk result (answer.new ≡ answer.old ++ decoder_lines) }
+{
+    push_decoder(answer)?;
+    push_types(answer)
+}
+
+#[tactic(auto, unfolding(crate::specs::Connection::wave_lines))]
+fn push_decoder(answer: &mut Answer) -> Result<(), AllocError>
+    ensures { OnOk result (answer.new ≡ answer.old ++ wave_lines) }
+{
+    answer.pair("plugin", "wave")?;
+    answer.pair("suffix", "wav")
+}
+
+#[tactic(auto, unfolding(crate::specs::Connection::type_lines))]
+fn push_types(answer: &mut Answer) -> Result<(), AllocError>
+    ensures { OnOk result (answer.new ≡ answer.old ++ type_lines) }
+{
+    answer.pair("mime_type", "audio/wav")?;
+    answer.pair("mime_type", "audio/x-wav")
+}
+
+fn mounts(alloc: Global, asked: Asked) -> Result<Response, AllocError>
+    ensures { Responds result (stays (mounts_lem asked)) }
+{
+    let mut answer = Answer::new(alloc);
+    push_mounts(&mut answer)?;
+    shows(asked, answer)
+}
+
+#[tactic(auto, unfolding(crate::specs::Connection::mount_lines))]
+fn push_mounts(answer: &mut Answer) -> Result<(), AllocError>
+    ensures { OnOk result (answer.new ≡ answer.old ++ mount_lines) }
+{
+    answer.pair("mount", "")
+}
+
+fn url_handlers(alloc: Global, asked: Asked) -> Result<Response, AllocError>
+    ensures { Responds result (stays (url_handlers_lem asked)) }
+{
+    succeeds(alloc, asked)
 }
 
 /// The commands that may be run.
-fn commands(alloc: Global, asked: Asked, allow_kill: bool) -> Result<Response, AllocError>
-    ensures { Responds result (stays (commands_lem asked allow_kill)) }
+fn commands(alloc: Global, asked: Asked, set: CommandSet) -> Result<Response, AllocError>
+    ensures { Responds result (stays (commands_lem asked set)) }
 {
     let mut answer = Answer::new(alloc);
-    push_all_commands(&mut answer, allow_kill, false)?;
+    push_all_commands(&mut answer, set, false)?;
     shows(asked, answer)
 }
 
 /// The commands that may not be run.
-fn not_commands(alloc: Global, asked: Asked, allow_kill: bool) -> Result<Response, AllocError>
-    ensures { Responds result (stays (not_commands_lem asked allow_kill)) }
+fn not_commands(alloc: Global, asked: Asked, set: CommandSet) -> Result<Response, AllocError>
+    ensures { Responds result (stays (not_commands_lem asked set)) }
 {
     let mut answer = Answer::new(alloc);
-    push_all_commands(&mut answer, allow_kill, true)?;
+    push_all_commands(&mut answer, set, true)?;
     shows(asked, answer)
 }
 
-/// Shows the commands that are forbidden, or those that are not.
-
+/// Shows the commands that are forbidden, or those that are not, of those that there are.
 fn push_all_commands(
     answer: &mut Answer,
-    allow_kill: bool,
+    set: CommandSet,
     forbidden: bool,
 ) -> Result<(), AllocError>
-    ensures { OnOk result (answer.new ≡ answer.old ++ command_lines allow_kill forbidden) }
+    ensures { OnOk result (answer.new ≡ answer.old ++ command_lines set forbidden) }
 {
-    push_commands(answer, names(), allow_kill, forbidden)
+    push_commands(answer, names(), set, forbidden)
 }
 
-/// Shows those of some commands that are forbidden, or those that are not.
+/// Shows those of some commands that are there, and are forbidden, or are not.
 fn push_commands(
     answer: &mut Answer,
     names: &[&'static str],
-    allow_kill: bool,
+    set: CommandSet,
     forbidden: bool,
 ) -> Result<(), AllocError>
-    ensures { OnOk result (answer.new ≡ answer.old ++ command_lines_among allow_kill forbidden names.now) }
+    ensures { OnOk result (answer.new ≡ answer.old ++ command_lines_among set forbidden names.now) }
 {
     for name in names {
-        push_command(answer, *name, allow_kill, forbidden)?;
+        push_command(answer, *name, set, forbidden)?;
     }
     Ok(())
 }
@@ -100,12 +182,12 @@ fn push_commands(
 fn push_command(
     answer: &mut Answer,
     name: &str,
-    allow_kill: bool,
+    set: CommandSet,
     forbidden: bool,
 ) -> Result<(), AllocError>
-    ensures { OnOk result (answer.new ≡ answer.old ++ command_line allow_kill forbidden name.now) }
+    ensures { OnOk result (answer.new ≡ answer.old ++ command_line set forbidden name.now) }
 {
-    if is_forbidden(name, allow_kill) == forbidden {
+    if is_there(name, set) && is_forbidden(name, set) == forbidden {
         answer.pair("command", name)?;
     }
     Ok(())

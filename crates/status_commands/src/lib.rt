@@ -5,4 +5,5 @@ pub mod connection;
 pub mod messages;
 pub mod options;
 pub mod outputs;
+mod stats;
 pub mod status;

@@ -1,10 +1,10 @@
 //! The commands that set the player (MPD protocol reference, Playback options).
-ghost use Rattle.std.specs.Prelude.{◌≡◌, IfOk};
-ghost use Rattle.status_commands.specs.Options.{consume as consume_lem, consume_of as consume_of_lem, crossfade as crossfade_lem, get_volume as get_volume_lem, mode_of as mode_of_lem, random as random_lem, repeat as repeat_lem, result_of, set_volume as set_volume_lem, single as single_lem};
+ghost use Rattle.std.specs.Prelude.{◌≡◌, IfOk, min};
+ghost use Rattle.status_commands.specs.Options.{change_volume as change_volume_lem, changed as changed_lem, consume as consume_lem, consume_of as consume_of_lem, crossfade as crossfade_lem, get_volume as get_volume_lem, mode_of as mode_of_lem, random as random_lem, repeat as repeat_lem, replay_gain as replay_gain_lem, result_of, set_replay_gain as set_replay_gain_lem, set_volume as set_volume_lem, single as single_lem};
 ghost use Rattle.player_state.specs.Fits.{Fits};
 ghost use Rattle.transitions.specs.Transitions.{IsDecidedBy};
 
-use command_arguments::{FadeSeconds, SingleMode, Volume};
+use command_arguments::{FadeSeconds, ReplayGain, SingleMode, Volume, VolumeChange};
 use mpd_command::OptionCommand;
 use mpd_text::Answer;
 use play_order::{Consume, Single};
@@ -20,11 +20,14 @@ pub fn run(alloc: Global, asked: Asked, part: &Part, command: &OptionCommand) ->
     ensures fits { IfOk result (λ transition. Fits part.now transition.effect) }
 {
     match command {
+        OptionCommand::ChangeVolume(change) => change_volume(alloc, asked, part, change),
         OptionCommand::Consume(on) => consume(alloc, asked, *on),
         OptionCommand::Crossfade(seconds) => crossfade(alloc, asked, seconds),
         OptionCommand::GetVol => get_volume(alloc, asked, part),
         OptionCommand::Random(on) => random(alloc, asked, *on),
         OptionCommand::Repeat(on) => repeat(alloc, asked, *on),
+        OptionCommand::ReplayGainStatus => replay_gain(alloc, asked),
+        OptionCommand::SetReplayGain(gain) => set_replay_gain(alloc, asked, *gain),
         OptionCommand::SetVol(volume) => set_volume(alloc, asked, volume),
         OptionCommand::Single(mode) => single(alloc, asked, *mode),
     }
@@ -91,5 +94,57 @@ fn get_volume(alloc: Global, asked: Asked, part: &Part) -> Result<Transition, Al
 {
     let mut answer = Answer::new(alloc);
     answer.pair("volume", part.volume.percent())?;
+    Transition::shows(asked, answer)
+}
+
+fn change_volume(
+    alloc: Global,
+    asked: Asked,
+    part: &Part,
+    change: &VolumeChange,
+) -> Result<Transition, AllocError>
+    ensures { IsDecidedBy result (change_volume_lem asked part.now change.now) }
+{
+    Transition::does(
+        alloc,
+        asked,
+        CommandEffect::SetsVolume(changed(&part.volume, change)),
+    )
+}
+
+/// The volume, so much more or less, and no more than can be.
+fn changed(volume: &Volume, change: &VolumeChange) -> Volume
+    ensures { result ≡ changed_lem volume.now change.now }
+{
+    match change {
+        VolumeChange::Up(amount) => up_to_full(volume.percent() + amount.percent()),
+        VolumeChange::Down(amount) => up_to_full(volume.percent().saturating_sub(amount.percent())),
+    }
+}
+
+/// The volume of a number, and as loud as can be above 100.
+fn up_to_full(percent: u8) -> Volume
+    ensures { result ≡ min 100 percent }
+{
+    match Volume::new(u32::from(percent)) {
+        Some(volume) => volume,
+        None => Volume::full(),
+    }
+}
+
+/// Songs are played as loud as they are, before and after.
+fn set_replay_gain(alloc: Global, asked: Asked, gain: ReplayGain) -> Result<Transition, AllocError>
+    ensures { IsDecidedBy result (set_replay_gain_lem asked gain) }
+{
+    match gain {
+        ReplayGain::Off => Transition::does(alloc, asked, CommandEffect::Rests),
+    }
+}
+
+fn replay_gain(alloc: Global, asked: Asked) -> Result<Transition, AllocError>
+    ensures { IsDecidedBy result (replay_gain_lem asked) }
+{
+    let mut answer = Answer::new(alloc);
+    answer.pair("replay_gain_mode", "off")?;
     Transition::shows(asked, answer)
 }

@@ -2,12 +2,13 @@
 ghost use Rattle.std.specs.Prelude.{◌≡◌, IfOk, OnOk, ◌++◌, codes};
 ghost use Rattle.idle_notes.specs.Notes.{waits, notice_of};
 ghost use Rattle.std.specs.Option.{option_copied};
-ghost use Rattle.status_commands.specs.Status.{ToWait, ToGoOn, audio_line, consume_text as consume_text_lem, current_duration, current_lines, digit as digit_lem, duration_line, elapsed_line, error_line, fade_line, idles, last_lines, mode_lines, next_lines_of, next_place_lines, progress_lines, queue_lines_of, result_of, resumes, scan_line, single_text as single_text_lem, song_place_lines, state_text as state_text_lem, status as status_lem, wished};
+ghost use Rattle.status_commands.specs.Status.{ToWait, ToGoOn, audio_line, consume_text as consume_text_lem, current_duration, current_lines, current_time, digit as digit_lem, duration_line, elapsed_line, error_line, fade_line, idles, last_lines, mode_lines, next_lines_of, next_place_lines, progress_lines, queue_lines_of, result_of, resumes, scan_line, single_text as single_text_lem, song_place_lines, state_text as state_text_lem, status as status_lem, time_line, whole_seconds as whole_seconds_lem, wished};
 ghost use Rattle.mpd_text.specs.declared.answers.answer.ErrorNumber.TheVariants.{Argument};
 ghost use Rattle.transitions.specs.Answers.{Responds, refuses_command, stays};
 ghost use Rattle.transitions.specs.Transitions.{IsDecidedBy};
 ghost use Rattle.player_state.specs.Fits.{Fits};
 
+use crate::stats::stats;
 use idle_notes::Subsystems;
 use mpd_command::StatusCommand;
 use mpd_text::{Answer, ErrorNumber, SharedText};
@@ -15,7 +16,7 @@ use play_order::{Consume, Modes, Single};
 use player_core::Playback;
 use player_state::{Client, Library, Part};
 use queue_commands::playback::{clear_error, current_song, is_stopped};
-use song_db::{Rate, duration, length_of};
+use song_db::{Rate, duration, length_of, rounded};
 use std::alloc::{AllocError, Global};
 use transitions::{Asked, Move, Next, Response, Stand, Transition, refuses, shut, tells};
 
@@ -32,7 +33,8 @@ pub fn run(alloc: Global, asked: Asked, part: &Part, library: &Library, command:
         StatusCommand::CurrentSong => current_song(alloc, asked, part, library),
         StatusCommand::Idle(_) => Ok(Transition::only(shut(alloc)?)),
         StatusCommand::NoIdle => Ok(Transition::only(shut(alloc)?)),
-        StatusCommand::Status => status(alloc, asked, part, library),
+        StatusCommand::Stats => stats(alloc, asked, part, library),
+        StatusCommand::Status(everyday) => status(alloc, asked, part, library, *everyday),
     }
 }
 
@@ -41,15 +43,16 @@ fn status(
     asked: Asked,
     part: &Part,
     library: &Library,
+    everyday: bool,
 ) -> Result<Transition, AllocError>
-    ensures { IsDecidedBy result (status_lem asked part.now library.now) }
+    ensures { IsDecidedBy result (status_lem asked part.now library.now everyday) }
 {
     let mut lines = Answer::new(alloc);
     push_modes(&mut lines, part.volume.percent(), part.player.modes())?;
     push_queue(&mut lines, part)?;
     push_current(&mut lines, part)?;
     push_next(&mut lines, part)?;
-    push_progress(alloc, &mut lines, part, library)?;
+    push_progress(alloc, &mut lines, part, &library.rate, everyday)?;
     push_last(&mut lines, part, library)?;
     Transition::shows(asked, lines)
 }
@@ -153,16 +156,63 @@ fn push_progress(
     alloc: Global,
     lines: &mut Answer,
     part: &Part,
-    library: &Library,
+    rate: &Rate,
+    everyday: bool,
 ) -> Result<(), AllocError>
-    ensures { OnOk result (lines.new ≡ lines.old ++ progress_lines library.now.rate part.now) }
+    ensures { OnOk result (lines.new ≡ lines.old ++ progress_lines rate.now part.now everyday) }
 {
     if is_stopped(part) {
         return Ok(());
     }
-    push_elapsed(alloc, lines, part.player.place(), &library.rate)?;
-    push_duration(alloc, lines, part, &library.rate)?;
-    push_audio(alloc, lines, &library.rate)
+    push_time(alloc, lines, part, rate, everyday)?;
+    push_elapsed(alloc, lines, part.player.place(), rate)?;
+    push_duration(alloc, lines, part, rate)?;
+    push_audio(alloc, lines, rate)
+}
+
+/// In the everyday profile, how far the current song is and how long, if it is in the queue.
+fn push_time(
+    alloc: Global,
+    lines: &mut Answer,
+    part: &Part,
+    rate: &Rate,
+    everyday: bool,
+) -> Result<(), AllocError>
+    ensures { OnOk result (lines.new ≡ lines.old ++ current_time rate.now part.now everyday) }
+{
+    if !everyday {
+        return Ok(());
+    }
+    match part.player.current_entry(&part.queue) {
+        Some(entry) => {
+            let frames = entry.song.song().frames();
+            push_time_line(alloc, lines, part.player.place(), frames, rate)
+        }
+        None => Ok(()),
+    }
+}
+
+#[tactic(auto, unfolding(crate::specs::Status::time_line))]
+fn push_time_line(
+    alloc: Global,
+    lines: &mut Answer,
+    place: u64,
+    frames: u64,
+    rate: &Rate,
+) -> Result<(), AllocError>
+    ensures { OnOk result (lines.new ≡ lines.old ++ time_line rate.now place frames) }
+{
+    let elapsed = whole_seconds(place, rate);
+    let length = whole_seconds(frames, rate);
+    let text = format!(in alloc; "{elapsed}:{length}")?;
+    lines.pair("time", text.as_str())
+}
+
+/// How long so many frames are in whole seconds, a half up.
+fn whole_seconds(frames: u64, rate: &Rate) -> u128
+    ensures { result ≡ whole_seconds_lem rate.now frames }
+{
+    rounded(length_of(frames, rate))
 }
 
 #[tactic(auto, unfolding(crate::specs::Status::elapsed_line))]

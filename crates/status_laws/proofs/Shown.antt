@@ -22,7 +22,7 @@ use Rattle.player_state.specs.declared.state.Part.{Part}
 use Rattle.player_state.specs.declared.state.Library.{Library}
 use Rattle.transitions.specs.CommandResults.{shows}
 use Rattle.status_commands.specs.Status as status
-use Rattle.status_laws.specs.Shown.{IsPlaceOf, Shown, ShowsConsume, ShowsFade, ShowsFlag, ShowsLength, ShowsProgress, ShowsScan, ShowsSingle, ShowsSong, ShowsState, ShowsWorld, StatusShowsWorld, line_if, seconds, text_of}
+use Rattle.status_laws.specs.Shown.{IsPlaceOf, Shown, ShowsConsume, ShowsFade, ShowsFlag, ShowsLength, ShowsProgress, ShowsScan, ShowsSingle, ShowsSong, ShowsState, ShowsTime, ShowsWhole, ShowsWorld, StatusShowsWorld, line_if, seconds, text_of, whole_seconds}
 
 -- the place of the first entry with an id
 behind : (id : ℕ) (e : Entry) (es : List Entry) (c : Bool) (n : ℕ) → (e.id == id) ≡ false → IsPlaceOf es id (cond c (Some n) None) → IsPlaceOf (e ∷ es) id (cond c (Some (1 + n)) None)
@@ -67,6 +67,19 @@ length-of : (rate : ℕ) (es : List Entry) (current : Option ℕ) → ShowsLengt
 length-of rate es None = refl
 length-of rate es (Some id) = length-by rate es id (entry_of es id) refl
 
+whole-by : (rate place : ℕ) (es : List Entry) (id : ℕ) (o : Option Entry) → entry_of es id ≡ o
+    → ShowsWhole rate es place (Some id) (option_map (λ (e : Entry). whole_seconds rate place ++ codes ":" ++ whole_seconds rate e.song.frames) o)
+whole-by rate place es id None found = none-of id es found
+whole-by rate place es id (Some e) found =
+    let there = find-there (has_id id) es e found in
+    let is : e.id ≡ id = grind (arith, there.1) in
+    (e, there.0, is, refl)
+
+whole-of : (rate place : ℕ) (es : List Entry) (current : Option ℕ)
+    → ShowsWhole rate es place current (option_map (λ (e : Entry). whole_seconds rate place ++ codes ":" ++ whole_seconds rate e.song.frames) (entry_by es current))
+whole-of rate place es None = refl
+whole-of rate place es (Some id) = whole-by rate place es id (entry_of es id) refl
+
 -- the values that are shown
 abbrev place-text : QueueState → Option ℕ → Option (List ℕ)
 place-text q None = None
@@ -83,11 +96,15 @@ unless-stopped _ text = text
 abbrev length-text : ℕ → Option Entry → Option (List ℕ)
 length-text rate entry = option_map (λ (e : Entry). seconds rate e.song.frames) entry
 
+abbrev time-text : Bool → ℕ → ℕ → Option Entry → Option (List ℕ)
+time-text false rate place entry = None
+time-text true rate place entry = option_map (λ (e : Entry). whole_seconds rate place ++ codes ":" ++ whole_seconds rate e.song.frames) entry
+
 abbrev next-id : Option Entry → Option ℕ
 next-id entry = option_map (λ (e : Entry). e.id) entry
 
-abbrev shown-of : Part → Library → Shown
-shown-of part library = record {
+abbrev shown-of : Bool → Part → Library → Shown
+shown-of everyday part library = record {
   volume = decimal part.volume;
   repeat = decimal (status.digit part.player.modes.repeat);
   random = decimal (status.digit part.player.modes.random);
@@ -101,6 +118,7 @@ shown-of part library = record {
   songid = id-text part.queue part.player.current;
   nextsong = place-text part.queue (next-id (peek part.player (queue_of part.queue)));
   nextsongid = id-text part.queue (next-id (peek part.player (queue_of part.queue)));
+  time = unless-stopped part.player.playback (time-text everyday library.rate part.player.place (current_entry part.player (queue_of part.queue)));
   elapsed = unless-stopped part.player.playback (Some (seconds library.rate part.player.place));
   duration = unless-stopped part.player.playback (length-text library.rate (current_entry part.player (queue_of part.queue)));
   audio = unless-stopped part.player.playback (Some (decimal library.rate ++ codes ":16:2"));
@@ -133,6 +151,15 @@ song : (q : QueueState) (id : Option ℕ) → ShowsSong (queue_of q) id (place-t
 song q None = (refl, refl)
 song q (Some id) = (position_of q id, place-of id q.slots, refl, refl)
 
+time : (everyday : Bool) (p : Playback) (rate : ℕ) (part : Part)
+    → ShowsTime everyday p rate part (unless-stopped p (time-text everyday rate part.player.place (current_entry part.player (queue_of part.queue))))
+time false Stop rate part = refl
+time false Play rate part = refl
+time false Pause rate part = refl
+time true Stop rate part = refl
+time true Play rate part = whole-of rate part.player.place (queue_of part.queue) part.player.current
+time true Pause rate part = whole-of rate part.player.place (queue_of part.queue) part.player.current
+
 progress : (p : Playback) (rate : ℕ) (part : Part) → ShowsProgress p rate part (unless-stopped p (Some (seconds rate part.player.place)))
     (unless-stopped p (length-text rate (current_entry part.player (queue_of part.queue)))) (unless-stopped p (Some (decimal rate ++ codes ":16:2")))
 progress Stop rate part = (refl, refl, refl)
@@ -147,8 +174,8 @@ scan : (b : Bool) (n : ℕ) → ShowsScan b n (cond b (Some (decimal n)) None)
 scan true n = refl
 scan false n = refl
 
-world : (part : Part) (library : Library) → ShowsWorld part library (shown-of part library)
-world part library = record {
+world : (everyday : Bool) (part : Part) (library : Library) → ShowsWorld everyday part library (shown-of everyday part library)
+world everyday part library = record {
   volume = refl;
   repeat = flag part.player.modes.repeat;
   random = flag part.player.modes.random;
@@ -160,6 +187,7 @@ world part library = record {
   state = state part.player.playback;
   song = song part.queue part.player.current;
   next = song part.queue (next-id (peek part.player (queue_of part.queue)));
+  time = time everyday part.player.playback library.rate part;
   progress = progress part.player.playback library.rate part;
   fade = fade part.player.crossfade (part.player.crossfade == 0) refl;
   scan = scan library.scan.runs library.scan.last;
@@ -223,13 +251,39 @@ played-lines rate place None r = two (pair_line (codes "elapsed") (seconds rate 
 played-lines rate place (Some e) r =
     three (pair_line (codes "elapsed") (seconds rate place)) (pair_line (codes "duration") (seconds rate e.song.frames)) (pair_line (codes "audio") (decimal rate ++ codes ":16:2")) r
 
-progress-lines : (p : Playback) (rate place : ℕ) (o : Option Entry) (r : List ℕ)
-    → (if is_stopped p then [] else status.elapsed_line rate place ++ (status.duration_of rate o ++ status.audio_line rate)) ++ r
-    ≡ line_if (codes "elapsed") (unless-stopped p (Some (seconds rate place))) ++ (line_if (codes "duration") (unless-stopped p (length-text rate o))
-    ++ (line_if (codes "audio") (unless-stopped p (Some (decimal rate ++ codes ":16:2"))) ++ r))
-progress-lines Stop rate place o r = refl
-progress-lines Play rate place o r = played-lines rate place o r
-progress-lines Pause rate place o r = played-lines rate place o r
+time-of : (rate place : ℕ) (o : Option Entry) → status.time_of rate place o ≡ line_if (codes "time") (time-text true rate place o)
+unfolding status.time_line
+time-of rate place None = refl
+time-of rate place (Some e) = refl
+
+-- the line of the time, before those that follow it
+timed-lines : (everyday : Bool) (rate : ℕ) (part : Part) (rest r : List ℕ) → (status.current_time rate part everyday ++ rest) ++ r
+    ≡ line_if (codes "time") (time-text everyday rate part.player.place (current_entry part.player (queue_of part.queue))) ++ (rest ++ r)
+timed-lines false rate part rest r = refl
+timed-lines true rate part rest r =
+    append_assoc (status.current_time rate part true) rest r
+    ∙ ap (λ l. l ++ (rest ++ r)) (time-of rate part.player.place (current_entry part.player (queue_of part.queue)))
+
+going-lines : (everyday : Bool) (rate : ℕ) (part : Part) (r : List ℕ)
+    → (status.current_time rate part everyday ++ (status.elapsed_line rate part.player.place ++ (status.current_duration rate part ++ status.audio_line rate))) ++ r
+    ≡ line_if (codes "time") (time-text everyday rate part.player.place (current_entry part.player (queue_of part.queue)))
+    ++ (pair_line (codes "elapsed") (seconds rate part.player.place) ++ (line_if (codes "duration") (length-text rate (current_entry part.player (queue_of part.queue)))
+    ++ (pair_line (codes "audio") (decimal rate ++ codes ":16:2") ++ r)))
+going-lines everyday rate part r =
+    timed-lines everyday rate part (status.elapsed_line rate part.player.place ++ (status.current_duration rate part ++ status.audio_line rate)) r
+    ∙ ap (λ l. line_if (codes "time") (time-text everyday rate part.player.place (current_entry part.player (queue_of part.queue))) ++ l)
+    (played-lines rate part.player.place (current_entry part.player (queue_of part.queue)) r)
+
+progress-lines : (p : Playback) (everyday : Bool) (rate : ℕ) (part : Part) (r : List ℕ)
+    → (if is_stopped p then []
+    else status.current_time rate part everyday ++ (status.elapsed_line rate part.player.place ++ (status.current_duration rate part ++ status.audio_line rate))) ++ r
+    ≡ line_if (codes "time") (unless-stopped p (time-text everyday rate part.player.place (current_entry part.player (queue_of part.queue))))
+    ++ (line_if (codes "elapsed") (unless-stopped p (Some (seconds rate part.player.place)))
+    ++ (line_if (codes "duration") (unless-stopped p (length-text rate (current_entry part.player (queue_of part.queue))))
+    ++ (line_if (codes "audio") (unless-stopped p (Some (decimal rate ++ codes ":16:2"))) ++ r)))
+progress-lines Stop everyday rate part r = refl
+progress-lines Play everyday rate part r = going-lines everyday rate part r
+progress-lines Pause everyday rate part r = going-lines everyday rate part r
 
 fade-line : (n : ℕ) (b : Bool) → cond b [] (pair_line (codes "xfade") (decimal n)) ≡ line_if (codes "xfade") (cond b None (Some (decimal n)))
 fade-line n true = refl
@@ -254,21 +308,21 @@ last-lines : (n : ℕ) (runs : Bool) (number : ℕ) (error : Option (List ℕ))
 last-lines n runs number error =
     rw (fade-line n (n == 0)) (rw (scan-line number runs) (rw (error-line error) (rw (append-nil (line_if (codes "error") error)) refl)))
 
-lines : (part : Part) (library : Library) → status.mode_lines part.volume part.player.modes ++ (status.queue_lines_of part
-    ++ (status.current_lines part.queue part.player.current ++ (status.next_lines_of part ++ (status.progress_lines library.rate part ++ status.last_lines part library))))
-    ≡ text_of (shown-of part library)
-lines part library =
-    let s : Shown = shown-of part library in
+lines : (everyday : Bool) (part : Part) (library : Library) → status.mode_lines part.volume part.player.modes ++ (status.queue_lines_of part
+    ++ (status.current_lines part.queue part.player.current ++ (status.next_lines_of part ++ (status.progress_lines library.rate part everyday ++ status.last_lines part library))))
+    ≡ text_of (shown-of everyday part library)
+lines everyday part library =
+    let s : Shown = shown-of everyday part library in
     let queue : QueueState = part.queue in
     let next : Option Entry = peek part.player (queue_of part.queue) in
     let last = last-lines part.player.crossfade library.scan.runs library.scan.last part.player.error in
     let r5 : List ℕ = status.last_lines part library in
-    let r4 : List ℕ = status.progress_lines library.rate part ++ r5 in
+    let r4 : List ℕ = status.progress_lines library.rate part everyday ++ r5 in
     let r3 : List ℕ = status.next_lines_of part ++ r4 in
     let r2 : List ℕ = status.current_lines part.queue part.player.current ++ r3 in
     let r1 : List ℕ = status.queue_lines_of part ++ r2 in
-    let e4 = progress-lines part.player.playback library.rate part.player.place (current_entry part.player (queue_of part.queue)) r5
-    ∙ ap (λ l. line_if (codes "elapsed") s.elapsed ++ (line_if (codes "duration") s.duration ++ (line_if (codes "audio") s.audio ++ l))) last in
+    let e4 = progress-lines part.player.playback everyday library.rate part r5
+    ∙ ap (λ l. line_if (codes "time") s.time ++ (line_if (codes "elapsed") s.elapsed ++ (line_if (codes "duration") s.duration ++ (line_if (codes "audio") s.audio ++ l)))) last in
     let e3 = next-lines queue next r4 ∙ ap (λ l. line_if (codes "nextsong") s.nextsong ++ (line_if (codes "nextsongid") s.nextsongid ++ l)) e4 in
     let e2 = song-lines queue part.player.current r3 ∙ ap (λ l. line_if (codes "song") s.song ++ (line_if (codes "songid") s.songid ++ l)) e3 in
     let e1 = queue-lines part.queue.version (length (queue_of part.queue)) part.player.playback r2
@@ -279,4 +333,4 @@ lines part library =
     ++ (pair_line (codes "single") s.single ++ (pair_line (codes "consume") s.consume ++ l))))) e1
 
 pub status_shows_world : StatusShowsWorld
-status_shows_world asked part library = (shown-of part library, ap (shows asked) (lines part library), world part library)
+status_shows_world asked everyday part library = (shown-of everyday part library, ap (shows asked) (lines everyday part library), world everyday part library)

@@ -1,6 +1,6 @@
 -- What `status` shows, said once more: field by field, in the words of the rules (MPD protocol reference,
 -- Querying MPD's status; that a song is named by its place and its id is this profile's too).
-use Rattle.std.specs.Prelude.{ℕ, ◌≡◌, ◌≢◌, ◌*◌, ◌/◌, ◌%◌, Bool, true, false, List, [], ◌∷◌, ◌++◌, length, slice_get, Option, Some, None, option_map, codes, decimal}
+use Rattle.std.specs.Prelude.{ℕ, ◌≡◌, ◌≢◌, ◌+◌, ◌*◌, ◌/◌, ◌%◌, Bool, true, false, List, [], ◌∷◌, ◌++◌, length, slice_get, Option, Some, None, option_map, codes, decimal}
 use Rattle.std.specs.List.{Contains, flat_map}
 use Rattle.mpd_text.specs.Answers.Answer.{pair_line}
 use Rattle.song_queue.specs.declared.entry.Entry.{Entry}
@@ -33,6 +33,7 @@ pub record Shown : Type 0 where
   pub songid : Option (List ℕ)
   pub nextsong : Option (List ℕ)
   pub nextsongid : Option (List ℕ)
+  pub time : Option (List ℕ)
   pub elapsed : Option (List ℕ)
   pub duration : Option (List ℕ)
   pub audio : Option (List ℕ)
@@ -61,6 +62,7 @@ lines_of shown =
     ∷ line_if (codes "songid") shown.songid
     ∷ line_if (codes "nextsong") shown.nextsong
     ∷ line_if (codes "nextsongid") shown.nextsongid
+    ∷ line_if (codes "time") shown.time
     ∷ line_if (codes "elapsed") shown.elapsed
     ∷ line_if (codes "duration") shown.duration
     ∷ line_if (codes "audio") shown.audio
@@ -120,6 +122,24 @@ ShowsLength rate entries (Some id) None = (entry : Entry) → Contains entries e
 ShowsLength rate entries (Some id) (Some text) =
     (entry : Entry) × Contains entries entry × (entry.id ≡ id) × (text ≡ seconds rate entry.song.frames)
 
+-- so many frames in whole seconds, a half up
+abbrev pub whole_seconds : ℕ → ℕ → List ℕ
+whole_seconds rate frames = decimal ((frames * 1000 / rate + 500) / 1000)
+
+-- how far the song is that has this id, and how long it is, both in whole seconds
+abbrev pub ShowsWhole : ℕ → List Entry → ℕ → Option ℕ → Option (List ℕ) → Type 0
+ShowsWhole rate entries place None text = text ≡ None
+ShowsWhole rate entries place (Some id) None = (entry : Entry) → Contains entries entry → entry.id ≢ id
+ShowsWhole rate entries place (Some id) (Some text) =
+    (entry : Entry) × Contains entries entry × (entry.id ≡ id)
+    × (text ≡ whole_seconds rate place ++ codes ":" ++ whole_seconds rate entry.song.frames)
+
+-- this is shown of the current song in the everyday profile, and of a player that stands still nothing
+abbrev pub ShowsTime : Bool → Playback → ℕ → Part → Option (List ℕ) → Type 0
+ShowsTime false playback rate part time = time ≡ None
+ShowsTime true Stop rate part time = time ≡ None
+ShowsTime true _ rate part time = ShowsWhole rate (queue_of part.queue) part.player.place part.player.current time
+
 -- how far the current song is, how long it is, and what its frames are; of a player that stands still nothing
 abbrev pub ShowsProgress : Playback → ℕ → Part → Option (List ℕ) → Option (List ℕ) → Option (List ℕ) → Type 0
 ShowsProgress Stop rate part elapsed duration audio = (elapsed ≡ None) × (duration ≡ None) × (audio ≡ None)
@@ -139,7 +159,7 @@ ShowsScan true number text = text ≡ Some (decimal number)
 ShowsScan false number text = text ≡ None
 
 -- each field is the player's or the library's
-pub record ShowsWorld (part : Part) (library : Library) (shown : Shown) : Type 0 where
+pub record ShowsWorld (everyday : Bool) (part : Part) (library : Library) (shown : Shown) : Type 0 where
   pub volume : shown.volume ≡ decimal part.volume
   pub repeat : ShowsFlag part.player.modes.repeat shown.repeat
   pub random : ShowsFlag part.player.modes.random shown.random
@@ -154,13 +174,14 @@ pub record ShowsWorld (part : Part) (library : Library) (shown : Shown) : Type 0
   pub next :
       ShowsSong (queue_of part.queue) (option_map (λ (entry : Entry). entry.id) (peek part.player (queue_of part.queue)))
       shown.nextsong shown.nextsongid
+  pub time : ShowsTime everyday part.player.playback library.rate part shown.time
   pub progress : ShowsProgress part.player.playback library.rate part shown.elapsed shown.duration shown.audio
   pub fade : ShowsFade part.player.crossfade shown.xfade
   pub scan : ShowsScan library.scan.runs library.scan.last shown.updating_db
   pub error : shown.error ≡ part.player.error
 
--- what `status` answers are the lines of such fields
+-- what `status` answers are the lines of such fields, in the everyday profile or without it
 abbrev pub StatusShowsWorld : Type 0
 StatusShowsWorld =
-    (asked : Asked) (part : Part) (library : Library)
-    → (shown : Shown) × (status asked part library ≡ shows asked (text_of shown)) × ShowsWorld part library shown
+    (asked : Asked) (everyday : Bool) (part : Part) (library : Library)
+    → (shown : Shown) × (status asked part library everyday ≡ shows asked (text_of shown)) × ShowsWorld everyday part library shown

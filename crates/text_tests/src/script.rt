@@ -107,6 +107,10 @@ limit history 1 => History 1
 limit history 4096 => History 4096
 limit history 0 => bad
 limit history 4097 => bad
+limit everyday 1 => Everyday 1
+limit everyday 2 => bad
+limit everyday 0 => bad
+limit everyday => bad
 limit History 5 => bad
 limit Max_cut 5 => bad
 limit max_line 5 => bad
@@ -133,7 +137,8 @@ fn is_limit(word: &str, name: LimitName, greatest: u32) -> bool {
 #[test]
 fn limits(rt: HostRuntime) {
     let told = compared(rt.alloc(), Reads::Step, LIMITS);
-    wants(&rt, told, "37 lines agree");
+    wants(&rt, told, "41 lines agree");
+    assert!(rt; is_limit("everyday", LimitName::Everyday, 1));
     assert!(rt; is_limit("history", LimitName::History, 4_096));
     assert!(rt; is_limit("max_cut", LimitName::MaxCut, 4_294_967_295));
     assert!(rt; is_limit("max_id", LimitName::MaxId, 2_147_483_647));

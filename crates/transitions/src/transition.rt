@@ -2,7 +2,8 @@
 ghost use Rattle.std.specs.Prelude.{◌≡◌, if◌then◌else◌, true, false, IfOk, IsErrOf, OnOk, OnErr};
 ghost use Rattle.transitions.specs.CommandResults.{begins_scan as begins_scan_lem, bad_index as bad_index_lem, bad_name as bad_name_lem, closes_client as closes_client_lem, does as does_lem, edits, ends_daemon as ends_daemon_lem, no_such_song as no_such_song_lem, not_playing as not_playing_lem, refusal, shows as shows_lem, writes as writes_lem};
 ghost use Rattle.player_state.specs.Effects.{part_after};
-ghost use Rattle.player_state.specs.Libraries.{library_after};
+ghost use Rattle.player_state.specs.Libraries.{library_after, second_after};
+ghost use Rattle.player_state.specs.declared.scan.ScanMove.TheVariants.{End};
 ghost use Rattle.player_state.specs.Fits.{Fits};
 ghost use Rattle.transitions.specs.Shelves.{is_written};
 ghost use Rattle.player_state.specs.declared.report.Report.{Report};
@@ -16,8 +17,9 @@ use mpd_text::{Answer, ErrorNumber};
 use player_core::PlayerFault;
 use player_state::{
     AudioStep, CommandEffect, Effect, Library, Part, Report, ScanMove,
-    carry_out as carry_out_effect,
+    carry_out as carry_out_effect, same_songs,
 };
+use song_db::SharedDb;
 use song_queue::Edit;
 use std::alloc::{AllocError, Global};
 use std::marker::Model;
@@ -360,10 +362,34 @@ fn move_scan(library: &mut Library, scan: ScanMove)
     ensures { library.new ≡ library_after library.old scan }
 {
     let scans = library.scan.after(&scan);
-    if let ScanMove::End(Some(songs)) = scan {
-        if library.scan.running().is_some() {
-            library.songs = songs;
-        }
+    if let ScanMove::End(found, second) = scan {
+        take_found(library, found, second);
     }
     library.scan = scans;
+}
+
+/// What a scan that ran found until this second takes the place of the songs. Whether one runs stays as it is.
+#[tactic(auto, using(crate::proofs::Scans::second_stays))]
+fn take_found(library: &mut Library, found: Option<SharedDb>, second: u64)
+    ensures { library.new ≡ record (library_after library.old (End found second)) { scan = library.old.scan } }
+{
+    if library.scan.running().is_none() {
+        return;
+    }
+    if let Some(songs) = found {
+        take_songs(library, songs, second);
+    }
+}
+
+/// These songs take the place of those before. Where they are others, the library changed at this second.
+fn take_songs(library: &mut Library, songs: SharedDb, second: u64)
+    ensures songs { library.new.songs ≡ songs }
+    ensures second { library.new.updated ≡ second_after library.old.songs songs second library.old.updated }
+    ensures rate { library.new.rate ≡ library.old.rate }
+    ensures scan { library.new.scan ≡ library.old.scan }
+{
+    if !same_songs(library.songs.db().songs(), songs.db().songs()) {
+        library.updated = second;
+    }
+    library.songs = songs;
 }

@@ -4,4 +4,4 @@ use Rattle.filters.proofs.pairs.read_pairs.Given as goal
 
 -- the pairs so far and those that are left are all of them
 abbrev pub invariant-loop-pair : goal.invariant-loop-pair
-invariant-loop-pair l = joined_with l.test l.filter (drop l.pair-index l.more) ≡ pairs_of l.test l.pairs
+invariant-loop-pair l = joined_with l.vocabulary l.test l.filter (drop l.pair-index l.more) ≡ pairs_of l.vocabulary l.test l.pairs

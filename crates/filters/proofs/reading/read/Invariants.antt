@@ -6,6 +6,6 @@ use Rattle.filters.proofs.reading.read.Given as goal
 abbrev pub invariant-loop-i : goal.invariant-loop-i
 invariant-loop-i l =
     record {
-      run : run true l.i l.state l.purposes (drop l.i l.text) ≡ parsed l.text;
+      run : run l.vocabulary true l.i l.state l.purposes (drop l.i l.text) ≡ parsed l.vocabulary l.text;
       cut : IsCut l.state (drop l.i l.text);
     }

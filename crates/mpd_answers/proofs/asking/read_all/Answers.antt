@@ -7,6 +7,6 @@ use Rattle.mpd_answers.proofs.asking.read_all.Goals as goal
 pub loop-place-preserved : goal.loop-place-preserved
 loop-place-preserved c =
     c.in-Ok.ensures.ok
-    ∙ ap (λ rs. rs ++ read_line c.args.may_kill (line_of_list c.index-lines-place.result) ∷ []) c.loop-place.invariant
-    ∙ ap (λ line. take c.loop-place.place (read_lines c.args.may_kill c.args.lines.now) ++ read_line c.args.may_kill (line_of_list line) ∷ []) c.index-lines-place.is
-    ∙ take_more (λ (line : ListLine). read_line c.args.may_kill (line_of_list line)) c.args.lines.now c.loop-place.place c.index-lines-place.result c.loop-place-test.true
+    ∙ ap (λ rs. rs ++ read_line c.args.set (line_of_list c.index-lines-place.result) ∷ []) c.loop-place.invariant
+    ∙ ap (λ line. take c.loop-place.place (read_lines c.args.set c.args.lines.now) ++ read_line c.args.set (line_of_list line) ∷ []) c.index-lines-place.is
+    ∙ take_more (λ (line : ListLine). read_line c.args.set (line_of_list line)) c.args.lines.now c.loop-place.place c.index-lines-place.result c.loop-place-test.true

@@ -3,4 +3,4 @@ use Rattle.mpd_answers.specs.Answers.{read_lines}
 use Rattle.mpd_answers.proofs.asking.read_all.Given as goal
 
 abbrev pub invariant-loop-place : goal.invariant-loop-place
-invariant-loop-place l = l.requests.items ≡ take l.place (read_lines l.may_kill l.lines)
+invariant-loop-place l = l.requests.items ≡ take l.place (read_lines l.set l.lines)

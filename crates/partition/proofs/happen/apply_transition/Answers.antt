@@ -1,5 +1,5 @@
 use Rattle.std.proofs.Common.{◌∙◌, not, sym, rules}
-use Rattle.idle_clients.specs.Clients.{same_songs}
+use Rattle.player_state.specs.Libraries.{same_songs}
 use Rattle.partition.specs.Image.{Image, image_of_state}
 use Rattle.player_state.specs.Libraries.{songs_after}
 use Rattle.idle_clients.specs.Rooms.{listed, room_in}

@@ -7,5 +7,5 @@ use Rattle.queue_commands.proofs.queue_songs.rows.Given as goal
 
 abbrev pub invariant-loop-place : goal.invariant-loop-place
 invariant-loop-place l =
-    l.lines ++ flat_map (row_lines l.shown l.library.rate) (rows_at (queue_of l.queue) (drop l.place-index l.places))
-    ≡ flat_map (row_lines l.shown l.library.rate) (rows_at (queue_of l.queue) l.places)
+    l.lines ++ flat_map (row_lines l.shown l.tags l.library.rate) (rows_at (queue_of l.queue) (drop l.place-index l.places))
+    ≡ flat_map (row_lines l.shown l.tags l.library.rate) (rows_at (queue_of l.queue) l.places)

@@ -28,5 +28,8 @@ number_at-requires-2 c = good_at settings_keys (codes "ring") (table_view c.args
 pub flag_at-requires : goal.flag_at-requires
 flag_at-requires c = good_at settings_keys (codes "kill") (table_view c.args.table.now) c.requires.good
 
+pub flag_at-requires-2 : goal.flag_at-requires-2
+flag_at-requires-2 c = good_at settings_keys (codes "everyday") (table_view c.args.table.now) c.requires.good
+
 pub outputs_at-requires : goal.outputs_at-requires
 outputs_at-requires c = good_at settings_keys (codes "output") (table_view c.args.table.now) c.requires.good

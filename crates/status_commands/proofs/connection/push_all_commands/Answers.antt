@@ -13,5 +13,5 @@ pub returns : goal.returns
 unfolding command_lines
 returns c =
     on_ok c.push_commands.result
-    (λ same. same ∙ ap (λ (lines : List ℕ). c.args.answer.now ++ lines) (lines_of_names c.args.allow_kill c.args.forbidden c.names.result.now all_names c.names.ensures))
+    (λ same. same ∙ ap (λ (lines : List ℕ). c.args.answer.now ++ lines) (lines_of_names c.args.set c.args.forbidden c.names.result.now all_names c.names.ensures))
     c.push_commands.ensures

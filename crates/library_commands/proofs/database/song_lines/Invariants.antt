@@ -1,0 +1,9 @@
+use Rattle.std.proofs.Common.{◌≡◌, ◌++◌, drop}
+use Rattle.std.specs.List.{flat_map}
+use Rattle.known_tags.specs.Lines.{song_lines_with}
+use Rattle.library_commands.proofs.database.song_lines.Given as goal
+
+abbrev pub invariant-loop-song : goal.invariant-loop-song
+invariant-loop-song l =
+    l.lines ++ flat_map (song_lines_with l.tags l.library.rate) (drop l.song-index l.songs)
+    ≡ flat_map (song_lines_with l.tags l.library.rate) l.songs

@@ -1,0 +1,10 @@
+use Rattle.std.proofs.Common.{◌≡◌, length}
+use lib.Pointwise.{pointwise}
+use Rattle.song_queue.specs.Entries.{same_tag}
+use Rattle.player_state.proofs.same.same_tags.Given as goal
+
+abbrev pub decreases-loop-ones : goal.decreases-loop-ones
+decreases-loop-ones l = length l.ones
+
+abbrev pub invariant-loop-ones : goal.invariant-loop-ones
+invariant-loop-ones l = pointwise same_tag l.ones l.others ≡ pointwise same_tag l.first l.second

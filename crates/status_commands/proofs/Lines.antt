@@ -1,0 +1,8 @@
+-- Lines that are put after others.
+use Rattle.std.proofs.Common.{◌≡◌, ℕ, List, ◌++◌, Result, Ok, Err, ap, append_assoc, ◌∙◌}
+use Rattle.std.specs.Prelude.{OnOk}
+
+-- a line after a first one
+pub after_first : {X E : Type 0} (r : Result X E) (old first second mid new : List ℕ) → mid ≡ old ++ first → OnOk r (new ≡ mid ++ second) → OnOk r (new ≡ old ++ (first ++ second))
+after_first (Ok x) old first second mid new one two = two ∙ ap (λ (lines : List ℕ). lines ++ second) one ∙ append_assoc old first second
+after_first (Err e) old first second mid new one two = tt
