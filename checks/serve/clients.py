@@ -305,9 +305,11 @@ def run_ncmpc(steps, port, folder):
         before = steps.status('volume')
         screen.press('-')
         steps.step('ncmpc', 'the volume', steps.status('volume') != before, screen.text)
+        before = float(steps.status('elapsed') or 0)
+        # a second for each key
         screen.press('f', 'f', 'f', 'f')
         time.sleep(1)
-        steps.step('ncmpc', 'seeks', float(steps.status('elapsed') or 0) >= 6, screen.text, lacks='time')
+        steps.step('ncmpc', 'seeks', float(steps.status('elapsed') or 0) >= before + 4, screen.text, lacks='time')
         screen.press('3')
         steps.step('ncmpc', 'browses', screen.shows('First', 'Second'), screen.text)
         screen.press('Down', 'Space')
