@@ -97,7 +97,8 @@ impl<'h, L: Ledgers, N: Scanner + Drop, R: Wait + Clock> Scanning<'h, L, N, R> {
     }
 }
 
-/// The second that it is, from the beginning of 1970 on; 0 where the clock cannot be read or stands before that.
+/// The second that it is, from the beginning of 1970 on; 0 where the clock cannot be read or stands before
+/// that.
 pub fn second_now<R: Clock>(rt: &R) -> u64 {
     let Ok(now) = SystemTime::now(rt) else {
         return 0;

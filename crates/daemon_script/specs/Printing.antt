@@ -5,12 +5,12 @@ use Rattle.std.specs.Global.{Vec}
 use Rattle.command_lists.specs.declared.list.CommandList.{CommandList}
 use Rattle.daemon_script.specs.Kinds.{Shelved, images}
 use Rattle.daemon_script.specs.Pieces.{found_in}
-use Rattle.daemon_script.specs.Script.{LineRun, ScriptData, Shown, alone_run, asked_run, client_run, connect_run, ending_of, found_first, found_then, lines_for, list_of, notices_by_number, notices_to, once_read, refusal, too_large_run, with_list}
+use Rattle.daemon_script.specs.Script.{LineRun, ScriptData, Shown, alone_run, asked_run, client_run, commands_run, connect_run, ending_of, found_first, found_then, line_run, lines_for, list_of, notices_by_number, notices_to, once_read, refusal, shown_client, too_large_run, with_list}
 use Rattle.idle_clients.specs.declared.notices.Notice.{Notice}
 use Rattle.partition.specs.Lists.{Stop, answers_of, stop_text}
 use Rattle.player_events.specs.Outcomes.{OutcomeData}
 use Rattle.std.specs.List.{flat_map}
-use Rattle.daemon_script.specs.declared.client_lines.LineRun as line_run
+use Rattle.daemon_script.specs.declared.client_lines.LineRun as code_run
 use Rattle.daemon_script.specs.declared.memory.Memory.{Memory}
 use Rattle.daemon_script.specs.declared.memory.Memory.TheVariants.{Ample}
 use Rattle.mpd_command.specs.declared.request.Request.{Request}
@@ -48,12 +48,24 @@ module _ {M P : Type 0} where
   abbrev pub PrintsRun : (M → LineRun P) → Vec ℕ → Vec ℕ → M → Type 0
   PrintsRun run old new memory = Prints old new (run memory).text
 
+-- the line of a client that is there
+abbrev pub run_line : CommandSet → Shelved Image → Option CommandList → ℕ → List ℕ → Memory → LineRun (Shelved Image)
+run_line set player list number line memory = line_run images set player list number line memory
+
+-- a command list that has ended
+abbrev pub run_list : CommandSet → Shelved Image → ℕ → CommandList → Memory → LineRun (Shelved Image)
+run_list set player number commands memory = commands_run images set player number commands memory
+
+-- a client's line in a script
+abbrev pub run_client : ScriptData (Shelved Image) → ℕ → List ℕ → Memory → Shown (Shelved Image)
+run_client script number line memory = shown_client images script script.player number line memory
+
 -- a client's line, by what the code says of its run
-abbrev pub run_of : CommandSet → Shelved Image → Option CommandList → ℕ → List ℕ → line_run.LineRun → LineRun (Shelved Image)
+abbrev pub run_of : CommandSet → Shelved Image → Option CommandList → ℕ → List ℕ → code_run.LineRun → LineRun (Shelved Image)
 run_of set player list number line ran = client_run images set player list number line ran.memory
 
 -- the same over the lists of all clients
-abbrev pub run_in : CommandSet → Shelved Image → List (Option CommandList) → ℕ → List ℕ → line_run.LineRun → LineRun (Shelved Image)
+abbrev pub run_in : CommandSet → Shelved Image → List (Option CommandList) → ℕ → List ℕ → code_run.LineRun → LineRun (Shelved Image)
 run_in set player lists number line ran = run_of set player (list_of number lists) number line ran
 
 -- the connect of a client that is not there, by what it found of memory where it was refused
@@ -85,7 +97,7 @@ abbrev pub notices_in_turn : List Notice → List ℕ → List ℕ
 notices_in_turn notices numbers = flat_map (λ number. notices_to number notices) numbers
 
 -- the code says that a client was there when its line was run just where it was
-abbrev pub WasConnected : (line_run.LineRun → LineRun (Shelved Image)) → line_run.LineRun → Type 0
+abbrev pub WasConnected : (code_run.LineRun → LineRun (Shelved Image)) → code_run.LineRun → Type 0
 WasConnected run ran = ran.connected ≡ (run ran).connected
 
 -- what a line in no list found of memory, by why its request was refused, if it was

@@ -43,8 +43,8 @@ use Rattle.script_reports.specs.Reports.{report_text, window_text}
 use Rattle.daemon_script.specs.declared.memory.Memory.{Memory}
 use Rattle.daemon_script.specs.declared.memory.Memory.TheVariants.{NoneToConnect, NoneToFoldFirst, NoneToRead, NoneToRun, NoneToFold}
 
--- the limits, the commands that clients may give and the songs that were collected, the command list that each
--- client has open, by its number, and the player, which is there from the first client line on
+-- the limits, the commands that clients may give and the songs that were collected, the command list that
+-- each client has open, by its number, and the player, which is there from the first client line on
 pub record ScriptData (P : Type 0) : Type 0 where
   pub limits : Limits
   pub commands : CommandSet

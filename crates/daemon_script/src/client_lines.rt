@@ -1,9 +1,9 @@
 //! Client lines, and the lines that they print.
-ghost use Rattle.daemon_script.specs.Printing.{IsFoundByRefused, LeavesList, LeavesPlayer, PrintsRun, WasConnected, asking, closing_list, connecting, run_of};
+ghost use Rattle.daemon_script.specs.Printing.{IsFoundByRefused, LeavesList, LeavesPlayer, PrintsRun, WasConnected, asking, closing_list, connecting, run_line, run_of};
 ghost use Rattle.std.specs.Prelude.{◌≡◌, ◌++◌, None, Some, is_none, false, IfOk, OnOk};
 ghost use Rattle.daemon_script.specs.Kinds.{images};
 ghost use Rattle.daemon_script.specs.Pieces.{found_by, found_in};
-ghost use Rattle.daemon_script.specs.Script.{Enough, alone_run, fault_for, found_first, found_then, label, client_run, line_run, lines_for, notice_lines, notices_for, reply_for, told_for};
+ghost use Rattle.daemon_script.specs.Script.{Enough, alone_run, fault_for, found_first, found_then, label, client_run, lines_for, notice_lines, notices_for, reply_for, told_for};
 
 use crate::lists::run_commands;
 use crate::memory::Memory;
@@ -102,9 +102,9 @@ fn run_connected_line(
     line: &str,
     shown: &mut Vec<u8>,
 ) -> Result<Memory, AllocError>
-    ensures player { IfOk result (LeavesPlayer (line_run images set player.old list.old number line.now) player.new) }
-    ensures list { IfOk result (LeavesList (line_run images set player.old list.old number line.now) list.new) }
-    ensures text { IfOk result (PrintsRun (line_run images set player.old list.old number line.now) shown.old shown.new) }
+    ensures player { IfOk result (LeavesPlayer (run_line set player.old list.old number line.now) player.new) }
+    ensures list { IfOk result (LeavesList (run_line set player.old list.old number line.now) list.new) }
+    ensures text { IfOk result (PrintsRun (run_line set player.old list.old number line.now) shown.old shown.new) }
     ensures connects { IfOk result (λ memory. found_first memory ≡ Enough) }
 {
     if list.is_too_large_with(Some(line)) {

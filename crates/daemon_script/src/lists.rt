@@ -1,10 +1,9 @@
 //! Command lists that have ended, and the lines that they print.
-ghost use Rattle.daemon_script.specs.Printing.{LeavesPlayer, Prints, PrintsRun, list_lines, notices_in_turn, stopped_lines, whole_answer_of};
+ghost use Rattle.daemon_script.specs.Printing.{LeavesPlayer, Prints, PrintsRun, list_lines, notices_in_turn, run_list, stopped_lines, whole_answer_of};
 ghost use Rattle.std.specs.Prelude.{◌≡◌, ℕ, ◌++◌, ◌∷◌, [], map, string_bytes, IfOk, OnErr, OnOk};
 ghost use Rattle.std.specs.List.{flat_map};
-ghost use Rattle.daemon_script.specs.Kinds.{images};
 ghost use Rattle.daemon_script.specs.Pieces.{stopped_at as stopped_at_lem};
-ghost use Rattle.daemon_script.specs.Script.{commands_run, end_of as end_of_lem, notices_by_number, notices_to, Enough, found_at, found_first, read_of, request_in as request_in_lem};
+ghost use Rattle.daemon_script.specs.Script.{end_of as end_of_lem, notices_by_number, notices_to, Enough, found_at, found_first, read_of, request_in as request_in_lem};
 
 use crate::client_lines::{push_lines, push_notice};
 use crate::memory::Memory;
@@ -30,8 +29,8 @@ pub(crate) fn run_commands(
     commands: &CommandList,
     shown: &mut Vec<u8>,
 ) -> Result<Memory, AllocError>
-    ensures player { IfOk result (LeavesPlayer (commands_run images set player.old number commands.now) player.new) }
-    ensures text { IfOk result (PrintsRun (commands_run images set player.old number commands.now) shown.old shown.new) }
+    ensures player { IfOk result (LeavesPlayer (run_list set player.old number commands.now) player.new) }
+    ensures text { IfOk result (PrintsRun (run_list set player.old number commands.now) shown.old shown.new) }
     ensures connects { IfOk result (λ memory. found_first memory ≡ Enough) }
 {
     let (requests, memory) = read_all(alloc, set, commands.lines.items());

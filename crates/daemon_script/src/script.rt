@@ -1,5 +1,5 @@
 //! A script: what it collects, and its player.
-ghost use Rattle.daemon_script.specs.Printing.{IsRead, Leaves, LeavesLists, LeavesPlayer, Prints, PrintsBy, PrintsRun, WasConnected, run_in};
+ghost use Rattle.daemon_script.specs.Printing.{IsRead, Leaves, LeavesLists, LeavesPlayer, Prints, PrintsBy, PrintsRun, WasConnected, run_client, run_in};
 ghost use Rattle.std.specs.Prelude.{◌≡◌, ◌<◌, ◌≤◌, ◌++◌, length, false, codes, None, Some, IfOk, OnOk, if◌then◌else◌};
 ghost use Rattle.mpd_text.specs.Lines.Split.{view as view_of_line};
 ghost use Rattle.song_db.specs.Library.{in_byte_order, is_twice_named};
@@ -238,8 +238,8 @@ impl Script {
         shown: &mut Vec<u8>,
     ) -> Result<Memory, AllocError>
         requires { number < 10 }
-        ensures script { IfOk result (Leaves (shown_client images self.old self.old.player number line.now) self.new) }
-        ensures text { IfOk result (PrintsBy (shown_client images self.old self.old.player number line.now) shown.old shown.new) }
+        ensures script { IfOk result (Leaves (run_client self.old number line.now) self.new) }
+        ensures text { IfOk result (PrintsBy (run_client self.old number line.now) shown.old shown.new) }
     {
         let Some(player) = &mut self.player else {
             return self.run_first_line(number, line, shown);

@@ -1,5 +1,5 @@
--- The table of commands of the connection (MPD protocol reference, Connection settings; Reflection; Mounts and
--- neighbors).
+-- The table of commands of the connection (MPD protocol reference, Connection settings; Reflection; Mounts
+-- and neighbors).
 use Rattle.std.specs.Prelude.{ℕ, Bool, true, false, List, [], ◌∷◌, Result, Err, codes, if◌then◌else◌}
 use Rattle.std.specs.Str.{bytes_eq}
 use Rattle.known_tags.specs.KnownTags.{tag_of}

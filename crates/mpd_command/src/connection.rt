@@ -1,4 +1,5 @@
-//! Commands of the connection (MPD protocol reference, Connection settings; Reflection; Mounts and neighbors).
+//! Commands of the connection (MPD protocol reference, Connection settings; Reflection; Mounts and
+//! neighbors).
 ghost use Rattle.std.specs.Prelude.{string_bytes, map};
 ghost use Rattle.command_arguments.specs.Readers.{Gives};
 ghost use Rattle.mpd_command.specs.Tables.{found};

@@ -86,6 +86,17 @@ has_unsent s = if s.owes then true else is_some_byte s.held.unsent
 abbrev pub HasMore : SessionData → Type 0
 HasMore s = (s.held.pending.piece ≢ []) ⊎ (s.held.pending.lines ≢ []) ⊎ (s.owes ≡ true)
 
+-- A piece that was read is not split.
+abbrev pub HasPiece : Conversation → Type 0
+HasPiece c = c.piece.items ≢ []
+
+-- Memory ran out where something is not done, or before the reader was asked.
+abbrev pub IsShort : SessionData → CallCounts → CallCounts → Type 0
+IsShort s reader reader' = HasMore s ⊎ (reader' ≡ reader)
+
+abbrev pub StopsShort : Conversation → CallCounts → CallCounts → Type 0
+StopsShort c reader reader' = IsShort (session_of c) reader reader'
+
 -- what was written and what is not grow by the output, and bytes go from the second to the first
 abbrev pub Grows : Option (List ℕ) → List ℕ → Option (List ℕ) → List ℕ → List ℕ → Type 0
 Grows old unsent new unsent' output = (sent : List ℕ) × Appends old new sent × (unsent ++ output ≡ sent ++ unsent')
@@ -251,10 +262,17 @@ turn_answer (Some end) all = closing_answer end
 turn_answer None true = Ok On
 turn_answer None false = Err fault.NoMemory
 
--- A session that stays open goes on; or memory ran out, and something is not done, or the reader was not asked.
+-- A session that was open and is closed now answers how it closed.
+abbrev pub AnswersClosing : Result TurnAnswer SessionFault → Option End → Option End → Type 0
+AnswersClosing result ended ended' = (end : End) → ended ≡ None → ended' ≡ Some end → result ≡ closing_answer end
+
+-- A session that stays open goes on, unless it is short of memory.
 abbrev pub GoesOnUnlessShort : Result TurnAnswer SessionFault → SessionData → CallCounts → CallCounts → Type 0
 GoesOnUnlessShort result new reader reader' =
-    new.held.ended ≡ None → (result ≡ Ok On) ⊎ ((result ≡ Err fault.NoMemory) × (HasMore new ⊎ (reader' ≡ reader)))
+    new.held.ended ≡ None → (result ≡ Ok On) ⊎ ((result ≡ Err fault.NoMemory) × IsShort new reader reader')
+
+abbrev pub LastsUnlessShort : Result TurnAnswer SessionFault → Conversation → CallCounts → CallCounts → Type 0
+LastsUnlessShort result new reader reader' = GoesOnUnlessShort result (session_of new) reader reader'
 
 -- what comes with more bytes
 abbrev pub then_read : Coming → List ℕ → Coming

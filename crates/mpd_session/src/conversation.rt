@@ -7,7 +7,7 @@ ghost use Rattle.mpd_answers.specs.Answers.{Answers, caller};
 ghost use Rattle.mpd_answers.specs.Owing.{is_nothing};
 ghost use Rattle.mpd_answers.specs.Requests.{is_over};
 ghost use Rattle.mpd_session.specs.declared.end.End.{End};
-ghost use Rattle.mpd_session.specs.Sessions.{Blames, BlamesNone, BlamesReader, BlamesWriter, GoesOnUnlessShort, HasFailedSince, HasMore, IsWithinLimits, ReadsAs, Runs, Says, Sends, TellsOf, Turns, closing_answer, coming, end_by as end_by_lem, end_in_list as end_in_list_lem, has_unsent as has_unsent_lem, held_of, opening, pending_of, session_of, turn_answer, EndsByWrite, EndsForLongLine, EndsWithoutBytes, FailsAsItsWriter, HasNoLongLine, HasRunAll, KeepsAllButRead, KeepsAllButSplit, KeepsAllButTold, ReadsInto, SendsOnceClosed};
+ghost use Rattle.mpd_session.specs.Sessions.{AnswersClosing, Blames, BlamesNone, BlamesReader, BlamesWriter, HasFailedSince, HasMore, HasPiece, IsWithinLimits, LastsUnlessShort, ReadsAs, Runs, Says, Sends, StopsShort, TellsOf, Turns, coming, end_by as end_by_lem, end_in_list as end_in_list_lem, has_unsent as has_unsent_lem, held_of, opening, pending_of, session_of, turn_answer, EndsByWrite, EndsForLongLine, EndsWithoutBytes, FailsAsItsWriter, HasNoLongLine, HasRunAll, KeepsAllButRead, KeepsAllButSplit, KeepsAllButTold, ReadsInto, SendsOnceClosed};
 
 use crate::end::{End, Goes, SessionFault};
 use crate::unsent::Unsent;
@@ -127,8 +127,8 @@ impl Conversation {
         ensures goes { result ≡ Ok Goes.On → HasRunAll (held_of self.new) }
         ensures within { result ≡ Ok Goes.On → IsWithinLimits (held_of self.new) }
         ensures settled { result ≡ Ok Goes.On → is_nothing self.new.owed ≡ true }
-        ensures lasts { GoesOnUnlessShort result (session_of self.new) (I.call_counts reader.old) (I.call_counts reader.new) }
-        ensures closes { (end : End) → self.old.ended ≡ None → self.new.ended ≡ Some end → result ≡ closing_answer end }
+        ensures lasts { LastsUnlessShort result self.new (I.call_counts reader.old) (I.call_counts reader.new) }
+        ensures closes { AnswersClosing result self.old.ended self.new.ended }
         ensures stays { (end : End) → self.old.ended ≡ Some end → result ≡ Ok (Goes.Closed end) }
         ensures ends { (end : End) → result ≡ Ok (Goes.Closed end) → self.new.ended ≡ Some end }
         ensures read_fault { result ≡ Err SessionFault.ReadFault → self.new.ended ≡ Some End.ReadFault }
@@ -162,7 +162,7 @@ impl Conversation {
         ensures open { self.new.ended ≡ None → is_over self.new.gatherer ≡ false }
         ensures nothing { is_ok result ≡ true → is_nothing self.new.owed ≡ true }
         ensures long { is_ok result ≡ true → HasNoLongLine self.new }
-        ensures more { OnErr result (HasMore (session_of self.new) ⊎ (I.call_counts reader.new ≡ I.call_counts reader.old)) }
+        ensures more { OnErr result (StopsShort self.new (I.call_counts reader.old) (I.call_counts reader.new)) }
         ensures turns { Turns (Answers S.standing S.failed self.old.asker) (held_of self.old) (caller seat.old shelf.old) (I.remaining reader.old) (O.contents writer.old) (held_of self.new) (caller seat.new shelf.new) (I.remaining reader.new) (O.contents writer.new) }
         ensures all { OnOk result (self.new.ended ≡ None → self.new.lines.items ≡ []) }
         ensures calm { (O.call_counts writer.old).failures ≤ (O.call_counts writer.new).failures }
@@ -181,7 +181,7 @@ impl Conversation {
     fn take_in<I: Source>(&mut self, reader: &mut I) -> Result<(), AllocError>
         requires { self.old.ended ≡ None }
         ensures frame { KeepsAllButRead self.old self.new }
-        ensures more { OnErr result ((self.new.piece.items ≢ []) ⊎ (I.call_counts reader.new ≡ I.call_counts reader.old)) }
+        ensures more { OnErr result (HasPiece self.new ⊎ (I.call_counts reader.new ≡ I.call_counts reader.old)) }
         ensures reads { ReadsInto self.old (I.remaining reader.old) self.new (I.remaining reader.new) }
         ensures blamed { BlamesReader self.new.ended (I.call_counts reader.old) (I.call_counts reader.new) }
     {

@@ -35,7 +35,7 @@ impl Model for Session {
 impl Session {
     ghost use Rattle.std.specs.Prelude.{◌≡◌, ◌≢◌, None, Some, Ok, Err, false, IfOk};
     ghost use Rattle.mpd_answers.specs.Answers.{Answers, caller};
-    ghost use Rattle.mpd_session.specs.Sessions.{Blames, GoesOnUnlessShort, HasRunAll, IsWithinLimits, StaysClosed, Turns, closing_answer, has_unsent as has_unsent_lem, opening};
+    ghost use Rattle.mpd_session.specs.Sessions.{AnswersClosing, Blames, GoesOnUnlessShort, HasRunAll, IsWithinLimits, StaysClosed, Turns, has_unsent as has_unsent_lem, opening};
     ghost use Rattle.mpd_session.specs.declared.end.End.{End};
 
     /// The session of a client that the player let in, and what it was greeted with. Nothing was read, and
@@ -93,7 +93,7 @@ impl Session {
         ensures within { result ≡ Ok Goes.On → IsWithinLimits self.new.held }
         ensures settled { result ≡ Ok Goes.On → self.new.owes ≡ false }
         ensures lasts { GoesOnUnlessShort result self.new (I.call_counts reader.old) (I.call_counts reader.new) }
-        ensures closes { (end : End) → self.old.held.ended ≡ None → self.new.held.ended ≡ Some end → result ≡ closing_answer end }
+        ensures closes { AnswersClosing result self.old.held.ended self.new.held.ended }
         ensures stays { (end : End) → self.old.held.ended ≡ Some end → result ≡ Ok (Goes.Closed end) }
         ensures ends { (end : End) → result ≡ Ok (Goes.Closed end) → self.new.held.ended ≡ Some end }
         ensures read_fault { result ≡ Err SessionFault.ReadFault → self.new.held.ended ≡ Some End.ReadFault }

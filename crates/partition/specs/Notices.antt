@@ -29,8 +29,8 @@ abbrev pub with_order_of : PlayerState → PlayerState → PlayerState
 with_order_of p other = record p { round = other.round; place = other.place; jobs = other.jobs; job = other.job; fade = other.fade; gave_up = other.gave_up }
 
 -- two worlds are one but for who is there and who waits, the order of play and the decoder's work, which
--- outputs have failed, the messages that wait, the tags that clients are shown, how many frames were decoded, and
--- whether the daemon has ended
+-- outputs have failed, the messages that wait, the tags that clients are shown, how many frames were decoded,
+-- and whether the daemon has ended
 abbrev pub AgreeButForUnwatched : World → World → Type 0
 AgreeButForUnwatched before after =
     (after ≡ record before { player = with_order_of before.player after.player; outputs = record before.outputs { failed = after.outputs.failed }; channels = after.channels; tags = after.tags; played = after.played; clients = after.clients; ended = after.ended })

@@ -44,8 +44,8 @@ pub record Listener : Type 0 where
   pub waiting : Option Subsystems
 
 -- all queues that the player had, the newest first; its limits, its library, what is played, the volume, the
--- outputs, who listens to which channel and the messages that wait, the tags that each client is shown, how many
--- frames were decoded, the clients, and whether the daemon has ended
+-- outputs, who listens to which channel and the messages that wait, the tags that each client is shown, how
+-- many frames were decoded, the clients, and whether the daemon has ended
 pub record World : Type 0 where
   pub past : List (List Entry)
   pub limits : Greatest

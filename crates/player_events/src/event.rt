@@ -24,8 +24,8 @@ pub enum Event {
     Line(u32, Stand, Request, StoreReply),
     /// Whether a scan is to be made.
     ScanQuestion,
-    /// The library that a scan found, and at which second from the beginning of 1970 on; one that failed found
-    /// none.
+    /// The library that a scan found, and at which second from the beginning of 1970 on; one that failed
+    /// found none.
     ScanResult(Option<SharedDb>, u64),
     /// The decoder wants a job; whether a feeder still owes frames of an earlier one.
     Want(bool),

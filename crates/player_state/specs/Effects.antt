@@ -148,6 +148,10 @@ tags_after chosen (ByCommand (ChoosesTags client tags)) = with_tags client tags 
 tags_after chosen (ByCommand (Leaves client)) = without client chosen
 tags_after chosen _ = chosen
 
+-- a client leaves: what it subscribed to and the tags that it chose go
+abbrev pub part_left : ℕ → Part → Part
+part_left client part = record part { channels = left client part.channels; tags = without client part.tags }
+
 -- as many frames as can be counted
 abbrev pub counted : ℕ → ℕ
 counted frames = if nat_le frames 18446744073709551615 then frames else 18446744073709551615

@@ -1,12 +1,12 @@
 //! What an event does to what one player owns.
 ghost use Rattle.std.specs.Prelude.{◌≡◌, ℕ, true, None, IfErr, OnOk, OnErr};
-ghost use Rattle.client_tags.specs.Choices.{with_tags, without};
-ghost use Rattle.idle_notes.specs.Channels.{left, sent, send_refusal, subscribed, subscribe_refusal, unsubscribed, unsubscribe_refusal};
+ghost use Rattle.client_tags.specs.Choices.{with_tags};
+ghost use Rattle.idle_notes.specs.Channels.{sent, send_refusal, subscribed, subscribe_refusal, unsubscribed, unsubscribe_refusal};
 ghost use Rattle.song_queue.specs.Laws.{Takes};
 ghost use Rattle.player_core.specs.Player as player;
 ghost use Rattle.player_state.specs.Outputs.{turned};
 ghost use Rattle.player_state.specs.Fits.{Fits};
-ghost use Rattle.player_state.specs.Effects.{feed_of as feed_of_lem, had, heard_after_turn, part_after, part_edited, part_stepped, part_with, played_place, played_with as played_with_lem, player_after, player_edited, report_after, sought_place, told_or as told_or_lem, wanted, with_channels};
+ghost use Rattle.player_state.specs.Effects.{feed_of as feed_of_lem, had, heard_after_turn, part_after, part_edited, part_left, part_stepped, part_with, played_place, played_with as played_with_lem, player_after, player_edited, report_after, sought_place, told_or as told_or_lem, wanted, with_channels};
 ghost use Rattle.player_state.specs.Outcomes.{IsAtLimitOnlyBeyond, IsDoneOnlyWithin, Reports};
 
 use crate::report::{Feed, Report};
@@ -244,7 +244,7 @@ fn choose_tags(part: &mut Part, client: u32, tags: TagSet) -> Result<(), PlayerF
 }
 
 fn leave(part: &mut Part, client: u32)
-    ensures { part.new ≡ record part.old { channels = left client part.old.channels; tags = without client part.old.tags } }
+    ensures { part.new ≡ part_left client part.old }
 {
     part.channels.leave(client);
     part.tags.leave(client);

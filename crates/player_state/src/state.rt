@@ -25,8 +25,8 @@ pub struct Library {
     /// The rate of all songs.
     pub rate: Rate,
     pub scan: Scan,
-    /// When its songs last changed: the second, from the beginning of 1970 on, at which a scan ended that found
-    /// others, or at which the player was opened.
+    /// When its songs last changed: the second, from the beginning of 1970 on, at which a scan ended that
+    /// found others, or at which the player was opened.
     pub updated: u64,
 }
 

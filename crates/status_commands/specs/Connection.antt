@@ -1,5 +1,5 @@
--- The commands of the connection, which need nothing of the player but the tags that each client is shown (MPD
--- protocol reference, Connection settings; Reflection; Mounts and neighbors; what can be decoded is this
+-- The commands of the connection, which need nothing of the player but the tags that each client is shown
+-- (MPD protocol reference, Connection settings; Reflection; Mounts and neighbors; what can be decoded is this
 -- profile's).
 use Rattle.std.specs.Prelude.{ℕ, Bool, true, false, ◌&&◌, List, [], ◌++◌, codes, if◌then◌else◌}
 use Rattle.std.specs.Borrow.{Bor}
@@ -77,7 +77,8 @@ command_line set forbidden name =
 abbrev pub command_lines_among : CommandSet → Bool → List (Bor (List ℕ)) → List ℕ
 command_lines_among set forbidden names = flat_map (λ name. command_line set forbidden name.now) names
 
--- the names of the commands that are forbidden, or of those that are not, of those that there are, in their order
+-- the names of the commands that are forbidden, or of those that are not, of those that there are, in their
+-- order
 unfoldable pub command_lines : CommandSet → Bool → List ℕ
 command_lines set forbidden = flat_map (command_line set forbidden) all_names
 

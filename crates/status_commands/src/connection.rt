@@ -1,5 +1,5 @@
-//! The commands of the connection, which need nothing of the player but the tags that each client is shown (MPD
-//! protocol reference, Connection settings; Reflection; Mounts and neighbors).
+//! The commands of the connection, which need nothing of the player but the tags that each client is shown
+//! (MPD protocol reference, Connection settings; Reflection; Mounts and neighbors).
 ghost use Rattle.std.specs.Prelude.{◌≡◌, ◌++◌, IfOk, OnOk};
 ghost use Rattle.player_state.specs.Fits.{Fits};
 ghost use Rattle.transitions.specs.Answers.{Responds, stays};

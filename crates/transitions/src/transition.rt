@@ -368,7 +368,7 @@ fn move_scan(library: &mut Library, scan: ScanMove)
     library.scan = scans;
 }
 
-/// What a scan that ran found until this second takes the place of the songs. Whether one runs stays as it is.
+/// What a scan that ran found until this second takes the place of the songs. Whether one runs stays.
 #[tactic(auto, using(crate::proofs::Scans::second_stays))]
 fn take_found(library: &mut Library, found: Option<SharedDb>, second: u64)
     ensures { library.new ≡ record (library_after library.old (End found second)) { scan = library.old.scan } }
