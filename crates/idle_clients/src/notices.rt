@@ -72,7 +72,8 @@ impl Notices {
 
     /// The same notices; room in which there are none is given back.
     pub fn trimmed(self) -> Notices
-        ensures { listed result ≡ listed self }
+        ensures list { listed result ≡ listed self }
+        ensures room { listed self ≡ [] → room_in result ≡ 0 }
     {
         if self.as_slice().is_empty() {
             return Notices { list: None };
