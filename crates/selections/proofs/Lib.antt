@@ -1,0 +1,4 @@
+pub mod LastOptions
+pub mod LastGroups
+pub mod SameTags
+pub mod DistinctTags

@@ -1,0 +1,38 @@
+//! The order of songs: a tag, and a minus in front of it where the greatest text comes first.
+ghost use Rattle.std.specs.Prelude.{◌<◌};
+ghost use Rattle.command_arguments.specs.Forms.{IsAfterSign};
+ghost use Rattle.selections.specs.Options.{sort_of};
+
+use command_arguments::Form;
+use known_tags::KnownTag;
+use std::alloc::{AllocError, Global};
+
+/// By which tag songs are ordered, and whether from the greatest text down.
+#[derive(Clone, Copy, Debug, PartialEq, Eq)]
+pub struct SortBy {
+    pub tag: KnownTag,
+    pub falling: bool,
+}
+
+/// `TAG` or `-TAG`.
+impl Form for SortBy {
+    ghost read_gives = { sort_of };
+
+    fn read(_alloc: Global, word: &str) -> Result<Option<SortBy>, AllocError> {
+        if let Some(tag) = after_sign(word, '-') {
+            return Ok(KnownTag::of_word(tag).map(|tag| SortBy { tag, falling: true }));
+        }
+        Ok(KnownTag::of_word(word).map(|tag| SortBy {
+            tag,
+            falling: false,
+        }))
+    }
+}
+
+/// The rest of a word after a sign, if the word begins with that.
+pub(crate) fn after_sign(word: &str, sign: char) -> Option<&str>
+    requires { sign < 128 }
+    ensures { IsAfterSign result sign word.now }
+{
+    word.strip_prefix(sign)
+}
