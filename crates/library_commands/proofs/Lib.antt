@@ -1,2 +1,3 @@
+pub mod Columns
 pub mod Uris
 pub mod Windows

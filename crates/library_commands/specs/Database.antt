@@ -1,22 +1,31 @@
 -- The commands that ask for songs and folders of the library, and add them (MPD protocol reference, The music
 -- database).
-use Rattle.std.specs.Prelude.{ℕ, ◌+◌, ◌-◌, ◌==◌, Bool, ◌&&◌, if◌then◌else◌, List, [], ◌++◌, Option, Some, None, length, take, drop, codes, decimal}
+use Rattle.std.specs.Prelude.{ℕ, ◌+◌, ◌-◌, ◌==◌, Bool, ◌&&◌, if◌then◌else◌, List, [], ◌++◌, Option, Some, None, length, map, reverse, take, drop, codes, decimal}
 use Rattle.std.specs.List.{flat_map}
 use Rattle.filters.specs.Expressions.{Expression, Under}
 use Rattle.filters.specs.declared.matching.Case.{Case}
 use Rattle.filters.specs.declared.matching.Case.TheVariants.{Heeded, Ignored}
+use Rattle.command_arguments.specs.declared.forms.Place.{Place}
 use Rattle.command_arguments.specs.declared.forms.Uri.{Uri}
 use Rattle.command_arguments.specs.declared.wanted.Wanted.{Wanted}
 use Rattle.command_arguments.specs.declared.wanted.Wanted.TheVariants.{Meeting, Refused}
 use Rattle.command_arguments.specs.declared.forms.Window.{Window}
 use Rattle.mpd_text.specs.Answers.Answer.{pair_line}
 use Rattle.mpd_text.specs.Songs.Song.{SongData}
-use Rattle.mpd_text.specs.Songs.Tags.{tag_text}
 use Rattle.mpd_text.specs.declared.answers.answer.ErrorNumber.TheVariants.{Argument, NoExist, UpdateAlready}
 use Rattle.mpd_text.specs.declared.songs.song.TagName.{TagName}
 use Rattle.song_db.specs.Library.{song_of}
+use Rattle.known_tags.specs.KnownTags.{read_of, text_of}
 use Rattle.known_tags.specs.Lines.{song_lines_with}
-use Rattle.song_search.specs.Answers.{found, listed, playtime}
+use Rattle.known_tags.specs.declared.known_tag.KnownTag.{KnownTag}
+use Rattle.selections.specs.declared.asked.Counting.{Counting}
+use Rattle.selections.specs.declared.asked.Grouping.{Grouping}
+use Rattle.selections.specs.declared.asked.Selection.{Selection}
+use Rattle.selections.specs.declared.sort_by.SortBy.{SortBy}
+use Rattle.song_search.specs.Answers.{found, playtime}
+use Rattle.song_groups.specs.Counts.{groups, lines_of_groups}
+use Rattle.song_groups.specs.Order.{ordered as by_tag}
+use Rattle.song_groups.specs.Tuples.{lines_of_tuples, tuples}
 use Rattle.song_search.specs.Folders.{direct_folders, direct_songs, is_folder, under}
 use Rattle.shelf_contents.specs.Shown.{playlist_lines}
 use Rattle.transitions.specs.CommandResults.{begins_scan, refusal, shows}
@@ -31,7 +40,7 @@ use Rattle.transitions.specs.Transitions.{CommandResult}
 use Rattle.player_state.specs.Scans.{running}
 use Rattle.mpd_command.specs.declared.database.DatabaseCommand.{DatabaseCommand}
 use Rattle.mpd_command.specs.declared.database.DatabaseCommand.TheVariants as database
-use Rattle.library_commands.specs.Playlists.{refused, misread}
+use Rattle.library_commands.specs.Playlists.{append, asks_list, misread, named, refused}
 use Rattle.library_commands.specs.Stickers.{of_song}
 
 -- the lines of songs with the tags of a set, one after the other
@@ -62,36 +71,93 @@ windowed (Some window) songs = take (window.end - window.start) (drop window.sta
 abbrev pub unreadable : Asked → List ℕ → CommandResult
 unreadable asked text = refusal asked Argument text
 
--- the songs that meet a filter, in byte order of URI, or those of them that a window shows
-abbrev pub find : Asked → Part → Library → Case → Wanted → Option Window → CommandResult
-find asked part library case (Meeting e) window =
-    shows asked (lines_for asked part library (windowed window (found case e library.songs)))
-find asked part library case (Refused text) window = unreadable asked text
+-- some songs as they stand, in byte order of URI, or in the order of a tag
+abbrev pub sorted_by : Option SortBy → List SongData → List SongData
+sorted_by None songs = songs
+sorted_by (Some by) songs = by_tag (read_of by.tag) by.falling songs
 
--- the songs that meet a filter are added
-abbrev pub find_add : Asked → Part → Library → Case → Wanted → CommandResult
-find_add asked part library case (Meeting e) = add_songs asked part (found case e library.songs)
-find_add asked part library case (Refused text) = unreadable asked text
+-- the songs that meet a filter, in this order
+abbrev pub ordered : Library → Case → Expression → Option SortBy → List SongData
+ordered library case e sort = sorted_by sort (found case e library.songs)
 
--- the texts of a tag, a line each
-unfoldable pub lines_of_texts : TagName → List (List ℕ) → List ℕ
-lines_of_texts name texts = flat_map (pair_line (tag_text name)) texts
+-- those of them that a window shows
+abbrev pub selected : Library → Case → Expression → Selection → List SongData
+selected library case e selection = windowed selection.window (ordered library case e selection.sort)
 
-abbrev pub list_texts : Asked → Library → TagName → Expression → CommandResult
-list_texts asked library name e = shows asked (lines_of_texts name (listed name e library.songs))
+abbrev pub find_met : Asked → Part → Library → Case → Selection → Wanted → CommandResult
+find_met asked part library case selection (Meeting e) =
+    shows asked (lines_for asked part library (selected library case e selection))
+find_met asked part library case selection (Refused text) = unreadable asked text
 
--- the texts that a tag has among the songs that meet a filter, or among all: in byte order, each once, and
--- none empty
-abbrev pub list : Asked → Library → TagName → Option Wanted → CommandResult
-list asked library name None = list_texts asked library name (Under [])
-list asked library name (Some (Meeting e)) = list_texts asked library name e
-list asked library name (Some (Refused text)) = unreadable asked text
+-- the songs of a selection are shown
+abbrev pub find : Asked → Part → Library → Case → Selection → CommandResult
+find asked part library case selection = find_met asked part library case selection selection.wanted
 
--- how many songs meet a filter, and how many seconds they play
-abbrev pub count_songs : Asked → Library → Wanted → CommandResult
-count_songs asked library (Meeting e) =
-    shows asked (pair_line (codes "songs") (decimal (length (found Heeded e library.songs))) ++ pair_line (codes "playtime") (decimal (playtime library.rate (found Heeded e library.songs))))
-count_songs asked library (Refused text) = unreadable asked text
+abbrev pub add_met : Asked → Part → Library → Case → Selection → Option Place → Wanted → CommandResult
+add_met asked part library case selection place (Meeting e) = add_songs asked part (selected library case e selection) place
+add_met asked part library case selection place (Refused text) = unreadable asked text
+
+-- the songs of a selection are added to the queue
+abbrev pub find_add : Asked → Part → Library → Case → Selection → Option Place → CommandResult
+find_add asked part library case selection place = add_met asked part library case selection place selection.wanted
+
+-- songs go to the end of a stored playlist; no songs change nothing
+abbrev pub append_found : Asked → Read → List ℕ → List SongData → CommandResult
+append_found asked read name songs = if length songs == 0 then shows asked (codes "") else append asked read name songs
+
+abbrev pub append_met : Asked → Library → Read → List ℕ → Selection → Wanted → CommandResult
+append_met asked library read name selection (Meeting e) = append_found asked read name (selected library Ignored e selection)
+append_met asked library read name selection (Refused text) = unreadable asked text
+
+-- the songs of a selection, where case does not count, go to the end of a stored playlist
+abbrev pub search_add_list : Asked → Library → Read → List ℕ → Selection → CommandResult
+search_add_list asked library read name selection =
+    named asked name (append_met asked library read name selection selection.wanted)
+
+-- the columns of tags that are listed and grouped by: those of the groups from the last, then that of the
+-- first tag
+abbrev pub columns_of : List KnownTag → List (Option TagName)
+columns_of tags = reverse (map read_of tags)
+
+abbrev pub labels_of : List KnownTag → List (List ℕ)
+labels_of tags = reverse (map text_of tags)
+
+-- the texts of the first tag among the songs that meet a filter, for each text of the others: in byte order,
+-- each once, and none empty
+unfoldable pub list_texts : Asked → Library → List KnownTag → Expression → CommandResult
+list_texts asked library tags e =
+    shows asked (lines_of_tuples (labels_of tags) (tuples (columns_of tags) (found Heeded e library.songs)))
+
+abbrev pub list_met : Asked → Library → List KnownTag → Option Wanted → CommandResult
+list_met asked library tags None = list_texts asked library tags (Under [])
+list_met asked library tags (Some (Meeting e)) = list_texts asked library tags e
+list_met asked library tags (Some (Refused text)) = unreadable asked text
+
+-- the same among the songs that meet a filter, or among all
+abbrev pub list : Asked → Library → Grouping → CommandResult
+list asked library grouping = list_met asked library grouping.tags grouping.wanted
+
+-- how many songs there are, and how many seconds they play
+abbrev pub count_lines : ℕ → List SongData → List ℕ
+count_lines rate songs =
+    pair_line (codes "songs") (decimal (length songs)) ++ pair_line (codes "playtime") (decimal (playtime rate songs))
+
+-- the same for each text of a tag, the empty one too
+abbrev pub counts_of : Option KnownTag → ℕ → List SongData → List ℕ
+counts_of None rate songs = count_lines rate songs
+counts_of (Some tag) rate songs = lines_of_groups (text_of tag) (groups (read_of tag) rate songs)
+
+abbrev pub count_found : Asked → Library → Option KnownTag → Expression → CommandResult
+count_found asked library group e = shows asked (counts_of group library.rate (found Heeded e library.songs))
+
+abbrev pub count_met : Asked → Library → Option KnownTag → Option Wanted → CommandResult
+count_met asked library group None = count_found asked library group (Under [])
+count_met asked library group (Some (Meeting e)) = count_found asked library group e
+count_met asked library group (Some (Refused text)) = unreadable asked text
+
+-- the same of the songs that meet a filter, or of all
+abbrev pub count_songs : Asked → Library → Counting → CommandResult
+count_songs asked library counting = count_met asked library counting.group counting.wanted
 
 abbrev pub no_such_directory : Asked → CommandResult
 no_such_directory asked = refusal asked NoExist (codes "no such directory")
@@ -198,21 +264,23 @@ asks_names uri everyday = if shows_playlists uri everyday then AskNames else NoQ
 -- what a command asks the shelf
 abbrev pub question_of : DatabaseCommand → Question
 question_of (database.LsInfo uri everyday) = asks_names (uri_or_all uri) everyday
+question_of (database.SearchAddPl name selection) = asks_list name
 question_of _ = NoQuestion
 
 -- what each command makes of the player
 unfoldable pub result_of : Asked → Part → Library → Read → DatabaseCommand → CommandResult
 result_of asked part library read (database.AlbumArt uri offset) = album_art asked library uri.0
-result_of asked part library read (database.Count wanted) = count_songs asked library wanted
-result_of asked part library read (database.Find wanted window) = find asked part library Heeded wanted window
-result_of asked part library read (database.FindAdd wanted) = find_add asked part library Heeded wanted
-result_of asked part library read (database.List name wanted) = list asked library name wanted
+result_of asked part library read (database.Count counting) = count_songs asked library counting
+result_of asked part library read (database.Find selection) = find asked part library Heeded selection
+result_of asked part library read (database.FindAdd selection place) = find_add asked part library Heeded selection place
+result_of asked part library read (database.List grouping) = list asked library grouping
 result_of asked part library read (database.ListAll uri everyday) = list_all asked library (uri_or_all uri) everyday
 result_of asked part library read (database.ListAllInfo uri) = list_all_info asked part library (uri_or_all uri)
 result_of asked part library read (database.LsInfo uri everyday) = list_info asked part library read (uri_or_all uri) everyday
 result_of asked part library read (database.ReadComments uri) = read_nothing asked library uri.0
 result_of asked part library read (database.ReadPicture uri offset) = read_nothing asked library uri.0
 result_of asked part library read (database.Rescan uri) = update asked library
-result_of asked part library read (database.Search wanted window) = find asked part library Ignored wanted window
-result_of asked part library read (database.SearchAdd wanted) = find_add asked part library Ignored wanted
+result_of asked part library read (database.Search selection) = find asked part library Ignored selection
+result_of asked part library read (database.SearchAdd selection place) = find_add asked part library Ignored selection place
+result_of asked part library read (database.SearchAddPl name selection) = search_add_list asked library read name selection
 result_of asked part library read (database.Update uri) = update asked library

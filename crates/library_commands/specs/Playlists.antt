@@ -5,6 +5,7 @@ use Rattle.std.specs.List.{remove as remove_at}
 use Rattle.std.specs.Str.{bytes_eq}
 use lib.Pointwise.{pointwise}
 use Rattle.std.specs.declared.ops.Range.{Range as Places}
+use Rattle.command_arguments.specs.declared.forms.Place.{Place}
 use Rattle.shelf.specs.declared.faults.ShelfFault.{ShelfFault}
 use Rattle.shelf.specs.declared.faults.ShelfFault.TheVariants.{NoSuchList, StoreFault}
 use Rattle.shelf.specs.Maps.{is_list_name}
@@ -68,18 +69,20 @@ list_playlists asked (Names names) = shows asked (playlist_lines names)
 list_playlists asked (Refused fault) = refused asked fault
 list_playlists asked _ = misread asked
 
-abbrev pub load_places : Asked → Part → Library → List (List ℕ) → Option (Places ℕ) → CommandResult
-load_places asked part library uris None = bad_index asked
-load_places asked part library uris (Some r) = add_songs asked part (loaded library.songs uris r.start r.end)
+abbrev pub load_places : Asked → Part → Library → List (List ℕ) → Option Place → Option (Places ℕ) → CommandResult
+load_places asked part library uris place None = bad_index asked
+load_places asked part library uris place (Some r) = add_songs asked part (loaded library.songs uris r.start r.end) place
 
 -- a range counts all entries of the list
-abbrev pub load_range : Asked → Part → Library → Option Range → List (List ℕ) → CommandResult
-load_range asked part library None uris = add_songs asked part (loaded library.songs uris 0 (length uris))
-load_range asked part library (Some range) uris = load_places asked part library uris (within range (length uris))
+abbrev pub load_range : Asked → Part → Library → Option Range → Option Place → List (List ℕ) → CommandResult
+load_range asked part library None place uris = add_songs asked part (loaded library.songs uris 0 (length uris)) place
+load_range asked part library (Some range) place uris =
+    load_places asked part library uris place (within range (length uris))
 
 -- the songs of a list that the library has are added to the queue, all together
-abbrev pub load : Asked → Part → Library → Read → List ℕ → Option Range → CommandResult
-load asked part library read name range = named asked name (on_list asked read (load_range asked part library range))
+abbrev pub load : Asked → Part → Library → Read → List ℕ → Option Range → Option Place → CommandResult
+load asked part library read name range place =
+    named asked name (on_list asked read (load_range asked part library range place))
 
 -- the list of the queue's songs is kept under a new name
 abbrev pub save : Asked → Part → List ℕ → CommandResult
@@ -144,7 +147,7 @@ abbrev pub question_of : PlaylistCommand → Question
 question_of playlists.ListPlaylists = AskNames
 question_of (playlists.ListPlaylist name) = asks_list name
 question_of (playlists.ListPlaylistInfo name) = asks_list name
-question_of (playlists.Load name range) = asks_list name
+question_of (playlists.Load name range place) = asks_list name
 question_of (playlists.PlaylistAdd name uri) = asks_list name
 question_of (playlists.PlaylistClear name) = asks_list name
 question_of (playlists.PlaylistDelete name place) = asks_list name
@@ -158,7 +161,7 @@ unfoldable pub result_of : Asked → Part → Library → Read → PlaylistComma
 result_of asked part library read (playlists.ListPlaylist name) = list_playlist asked read name
 result_of asked part library read (playlists.ListPlaylistInfo name) = list_playlist_info asked part library read name
 result_of asked part library read playlists.ListPlaylists = list_playlists asked read
-result_of asked part library read (playlists.Load name range) = load asked part library read name range
+result_of asked part library read (playlists.Load name range place) = load asked part library read name range place
 result_of asked part library read (playlists.PlaylistAdd name uri) = playlist_add asked library read name uri.0
 result_of asked part library read (playlists.PlaylistClear name) = playlist_clear asked read name
 result_of asked part library read (playlists.PlaylistDelete name place) = playlist_delete asked read name place

@@ -5,27 +5,29 @@ ghost use Rattle.std.specs.Option.{option_copied};
 ghost use Rattle.filters.specs.Expressions.{Under};
 ghost use Rattle.std.specs.List.{flat_map};
 ghost use Rattle.mpd_text.specs.Answers.Answer.{pair_line};
-ghost use Rattle.mpd_text.specs.Songs.Tags.{tag_text};
-ghost use Rattle.library_commands.specs.Database.{album_art as album_art_lem, asks_names, count_songs as count_songs_lem, find as find_lem, find_add as find_add_lem, lines_with, lines_in, lines_of_folders, lines_of_texts, lines_of_uris, list as list_lem, list_all as list_all_lem, list_all_info as list_all_info_lem, list_folder as list_folder_lem, list_folder_info as list_folder_info_lem, list_info as list_info_lem, list_place as list_place_lem, list_root as list_root_lem, list_texts as list_texts_lem, list_uris as list_uris_lem, no_such_directory as no_such_directory_lem, question_of, read_nothing as read_nothing_lem, result_of, show_folder as show_folder_lem, show_song as show_song_lem, show_uri as show_uri_lem, shows_playlists as shows_playlists_lem, unreadable as unreadable_lem, update as update_lem, uri_or_all as uri_or_all_lem, windowed as windowed_lem};
+ghost use Rattle.player_state.specs.declared.effect.CommandEffect.TheVariants.{Rests};
+ghost use Rattle.player_state.specs.declared.effect.Effect.TheVariants.{ByCommand};
+ghost use Rattle.known_tags.specs.KnownTags.{read_of, text_of};
+ghost use Rattle.library_commands.specs.Database.{album_art as album_art_lem, append_found as append_found_lem, asks_names, columns_of, count_found as count_found_lem, count_songs as count_songs_lem, find as find_lem, find_add as find_add_lem, labels_of, lines_with, lines_in, lines_of_folders, lines_of_uris, list as list_lem, list_all as list_all_lem, list_all_info as list_all_info_lem, list_folder as list_folder_lem, list_folder_info as list_folder_info_lem, list_info as list_info_lem, list_place as list_place_lem, list_root as list_root_lem, list_texts as list_texts_lem, list_uris as list_uris_lem, no_such_directory as no_such_directory_lem, ordered as ordered_lem, question_of, read_nothing as read_nothing_lem, result_of, search_add_list as search_add_list_lem, selected as selected_lem, show_folder as show_folder_lem, show_song as show_song_lem, show_uri as show_uri_lem, shows_playlists as shows_playlists_lem, unreadable as unreadable_lem, update as update_lem, uri_or_all as uri_or_all_lem, windowed as windowed_lem};
 ghost use Rattle.transitions.specs.Shelves.{ReadsFor, TurnsByReading};
 ghost use Rattle.transitions.specs.Transitions.{IsDecidedBy};
 ghost use Rattle.player_state.specs.Fits.{Fits};
 
-use crate::playlists::{ask_names, misread, refused};
+use crate::playlists::{append, ask_list, ask_names, misread, refused};
 use crate::stickers::is_song;
-use command_arguments::{Uri, Wanted, Window};
+use command_arguments::{Place, Uri, Wanted, Window};
 use filters::{Case, Filter, Test, Vocabulary};
-use known_tags::{TagSet, push_song_with};
+use known_tags::{KnownTag, TagSet, push_song_with};
 use mpd_command::DatabaseCommand;
-use mpd_text::{Answer, ErrorNumber, Song, TagName};
+use mpd_text::{Answer, ErrorNumber, Sequence, Song, TagName, Text};
 use player_state::{Library, Part};
-use queue_commands::queue_edits::add_found;
-use shelf::Shelf;
+use queue_commands::queue_edits::{add_songs, shares_of_found};
+use selections::{Counting, Grouping, Selection, SortBy};
+use shelf::{Shelf, is_list_name};
 use shelf_contents::push_names;
 use song_db::SharedSong;
-use song_search::{
-    counted, find as find_songs, is_folder, list_folder as direct_in, listed, under,
-};
+use song_groups::{count_groups, order, push_counts, push_tuples, tuples};
+use song_search::{counted, find as find_songs, is_folder, list_folder as direct_in, under};
 use std::alloc::{AllocError, Global};
 use transitions::{Asked, Read, Transition};
 
@@ -38,18 +40,19 @@ pub fn run(alloc: Global, asked: Asked, part: &Part, library: &Library, read: &R
 {
     match command {
         DatabaseCommand::AlbumArt(uri, _) => album_art(alloc, asked, library, uri),
-        DatabaseCommand::Count(wanted) => count(alloc, asked, library, wanted),
-        DatabaseCommand::Find(wanted, window) => find(alloc, asked, part, library, Case::Heeded, wanted, *window),
-        DatabaseCommand::FindAdd(wanted) => find_add(alloc, asked, part, library, Case::Heeded, wanted),
-        DatabaseCommand::List(name, wanted) => list(alloc, asked, library, *name, wanted.as_ref()),
+        DatabaseCommand::Count(counting) => count(alloc, asked, library, counting),
+        DatabaseCommand::Find(selection) => find(alloc, asked, part, library, Case::Heeded, selection),
+        DatabaseCommand::FindAdd(selection, place) => find_add(alloc, asked, part, library, Case::Heeded, selection, *place),
+        DatabaseCommand::List(grouping) => list(alloc, asked, library, grouping),
         DatabaseCommand::ListAll(uri, everyday) => list_all(alloc, asked, library, uri_or_all(uri.as_ref()), *everyday),
         DatabaseCommand::ListAllInfo(uri) => list_all_info(alloc, asked, part, library, uri_or_all(uri.as_ref())),
         DatabaseCommand::LsInfo(uri, everyday) => list_info(alloc, asked, part, library, read, uri_or_all(uri.as_ref()), *everyday),
         DatabaseCommand::ReadComments(uri) => read_nothing(alloc, asked, library, uri),
         DatabaseCommand::ReadPicture(uri, _) => read_nothing(alloc, asked, library, uri),
         DatabaseCommand::Rescan(_) => update(alloc, asked, library),
-        DatabaseCommand::Search(wanted, window) => find(alloc, asked, part, library, Case::Ignored, wanted, *window),
-        DatabaseCommand::SearchAdd(wanted) => find_add(alloc, asked, part, library, Case::Ignored, wanted),
+        DatabaseCommand::Search(selection) => find(alloc, asked, part, library, Case::Ignored, selection),
+        DatabaseCommand::SearchAdd(selection, place) => find_add(alloc, asked, part, library, Case::Ignored, selection, *place),
+        DatabaseCommand::SearchAddPl(name, selection) => search_add_list(alloc, asked, library, read, name, selection),
         DatabaseCommand::Update(_) => update(alloc, asked, library),
     }
 }
@@ -60,16 +63,15 @@ fn find(
     part: &Part,
     library: &Library,
     case: Case,
-    wanted: &Wanted,
-    window: Option<Window>,
+    selection: &Selection,
 ) -> Result<Transition, AllocError>
-    ensures { IsDecidedBy result (find_lem asked part.now library.now case wanted.now window) }
+    ensures { IsDecidedBy result (find_lem asked part.now library.now case selection.now) }
 {
-    match wanted {
+    match &selection.wanted {
         Wanted::Meeting(filter) => {
-            let songs = find_songs(alloc, library.songs.db(), filter, case)?;
+            let songs = ordered(alloc, library, filter, case, selection.sort)?;
+            let shown = windowed(&songs, selection.window);
             let mut lines = Answer::new(alloc);
-            let shown = windowed(&songs, window);
             push_songs(
                 alloc,
                 &mut lines,
@@ -81,6 +83,23 @@ fn find(
         }
         Wanted::Refused(text) => unreadable(alloc, asked, text.as_str()),
     }
+}
+
+/// The songs that meet a filter: in byte order of URI, or in the order of a tag.
+fn ordered<'a>(
+    alloc: Global,
+    library: &'a Library,
+    filter: &Filter,
+    case: Case,
+    sort: Option<SortBy>,
+) -> Result<Vec<&'a SharedSong>, AllocError>
+    ensures { IfOk result (λ songs. map (λ song. song.now) songs.items ≡ ordered_lem library.now case filter.now sort) }
+{
+    let mut songs = find_songs(alloc, library.songs.db(), filter, case)?;
+    if let Some(by) = sort {
+        order(&mut songs, by.tag.read_as(), by.falling)?;
+    }
+    Ok(songs)
 }
 
 /// A filter that cannot be read.
@@ -145,32 +164,90 @@ fn find_add(
     part: &Part,
     library: &Library,
     case: Case,
-    wanted: &Wanted,
+    selection: &Selection,
+    place: Option<Place>,
 ) -> Result<Transition, AllocError>
-    ensures transition { IsDecidedBy result (find_add_lem asked part.now library.now case wanted.now) }
+    ensures transition { IsDecidedBy result (find_add_lem asked part.now library.now case selection.now place) }
     ensures fits { IfOk result (λ transition. Fits part.now transition.effect) }
 {
-    match wanted {
+    match &selection.wanted {
         Wanted::Meeting(filter) => {
-            let songs = find_songs(alloc, library.songs.db(), filter, case)?;
-            add_found(alloc, asked, part, &songs)
+            let songs = selected(alloc, library, filter, case, selection)?;
+            add_songs(alloc, asked, part, songs, place)
         }
         Wanted::Refused(text) => unreadable(alloc, asked, text.as_str()),
     }
+}
+
+/// A handle to each of the songs that a selection shows.
+fn selected(
+    alloc: Global,
+    library: &Library,
+    filter: &Filter,
+    case: Case,
+    selection: &Selection,
+) -> Result<Sequence<SharedSong>, AllocError>
+    ensures { IfOk result (λ songs. songs ≡ selected_lem library.now case filter.now selection.now) }
+{
+    let songs = ordered(alloc, library, filter, case, selection.sort)?;
+    shares_of_found(alloc, windowed(&songs, selection.window))
+}
+
+/// Puts the songs that a selection shows at the end of a stored playlist; where there are none, nothing is
+/// done.
+fn search_add_list(
+    alloc: Global,
+    asked: Asked,
+    library: &Library,
+    read: &Read,
+    name: &Text,
+    selection: &Selection,
+) -> Result<Transition, AllocError>
+    ensures transition { IsDecidedBy result (search_add_list_lem asked library.now read.now name.now selection.now) }
+    ensures rests { IfOk result (λ transition. transition.effect ≡ ByCommand Rests) }
+{
+    if !is_list_name(name.as_str()) {
+        return Transition::bad_name(alloc, asked, name.as_str());
+    }
+    match &selection.wanted {
+        Wanted::Meeting(filter) => {
+            let songs = selected(alloc, library, filter, Case::Ignored, selection)?;
+            append_found(alloc, asked, read, name, songs.items())
+        }
+        Wanted::Refused(text) => unreadable(alloc, asked, text.as_str()),
+    }
+}
+
+/// Puts songs at the end of a stored playlist, if there are some.
+fn append_found(
+    alloc: Global,
+    asked: Asked,
+    read: &Read,
+    name: &Text,
+    songs: &[SharedSong],
+) -> Result<Transition, AllocError>
+    ensures transition { IsDecidedBy result (append_found_lem asked read.now name.now songs.now) }
+    ensures rests { IfOk result (λ transition. transition.effect ≡ ByCommand Rests) }
+{
+    if songs.is_empty() {
+        return Transition::shows(asked, Answer::new(alloc));
+    }
+    append(alloc, asked, read, name, songs)
 }
 
 fn list(
     alloc: Global,
     asked: Asked,
     library: &Library,
-    name: TagName,
-    wanted: Option<&Wanted>,
+    grouping: &Grouping,
 ) -> Result<Transition, AllocError>
-    ensures { IsDecidedBy result (list_lem asked library.now name (option_copied wanted.entry)) }
+    ensures transition { IsDecidedBy result (list_lem asked library.now grouping.now) }
+    ensures rests { IfOk result (λ transition. transition.effect ≡ ByCommand Rests) }
 {
-    match wanted {
-        None => list_texts(alloc, asked, library, name, &all_songs(alloc)?),
-        Some(Wanted::Meeting(filter)) => list_texts(alloc, asked, library, name, filter),
+    let tags = grouping.tags.items();
+    match &grouping.wanted {
+        None => list_texts(alloc, asked, library, tags, &all_songs(alloc)?),
+        Some(Wanted::Meeting(filter)) => list_texts(alloc, asked, library, tags, filter),
         Some(Wanted::Refused(text)) => unreadable(alloc, asked, text.as_str()),
     }
 }
@@ -185,50 +262,102 @@ fn all_songs(alloc: Global) -> Result<Filter, AllocError>
     }
 }
 
-/// The texts of a tag among the songs that meet a filter.
+/// The texts of a tag among the songs that meet a filter, for each text of the tags after it.
+#[tactic(auto, unfolding(crate::specs::Database::list_texts))]
 fn list_texts(
     alloc: Global,
     asked: Asked,
     library: &Library,
-    name: TagName,
+    tags: &[KnownTag],
     filter: &Filter,
 ) -> Result<Transition, AllocError>
-    ensures { IsDecidedBy result (list_texts_lem asked library.now name filter.now) }
+    ensures transition { IsDecidedBy result (list_texts_lem asked library.now tags.now filter.now) }
+    ensures rests { IfOk result (λ transition. transition.effect ≡ ByCommand Rests) }
 {
-    let texts = listed(alloc, library.songs.db(), name, filter)?;
-    let lines = text_lines(alloc, name, &texts)?;
+    let songs = find_songs(alloc, library.songs.db(), filter, Case::Heeded)?;
+    let found = tuples(alloc, &songs, &columns(alloc, tags)?)?;
+    let labels = labels(alloc, tags)?;
+    let mut lines = Answer::new(alloc);
+    push_tuples(&mut lines, &labels, &found)?;
     Transition::shows(asked, lines)
 }
 
-#[tactic(auto, unfolding(crate::specs::Database::lines_of_texts))]
-fn text_lines(alloc: Global, name: TagName, texts: &[&str]) -> Result<Answer, AllocError>
-    ensures { IfOk result (λ lines. lines ≡ lines_of_texts name (map (λ text. text.now) texts.now)) }
+/// The columns of tags that are listed and grouped by.
+fn columns(alloc: Global, tags: &[KnownTag]) -> Result<Vec<Option<TagName>>, AllocError>
+    ensures { IfOk result (λ columns. columns.items ≡ columns_of tags.now) }
 {
-    let mut lines = Answer::new(alloc);
-    for text in texts {
-        lines.pair(name.text(), *text)?;
+    let mut columns = tags_read(alloc, tags)?;
+    columns.reverse();
+    Ok(columns)
+}
+
+fn tags_read(alloc: Global, tags: &[KnownTag]) -> Result<Vec<Option<TagName>>, AllocError>
+    ensures { IfOk result (λ read. read.items ≡ map read_of tags.now) }
+{
+    tags.iter().map(|tag| tag.read_as()).collect(alloc)
+}
+
+/// The names of their columns.
+#[tactic(auto, using(crate::proofs::Columns::turned))]
+fn labels(alloc: Global, tags: &[KnownTag]) -> Result<Vec<&'static str>, AllocError>
+    ensures { IfOk result (λ labels. map (λ label. label.now) labels.items ≡ labels_of tags.now) }
+{
+    let mut labels = names(alloc, tags)?;
+    labels.reverse();
+    Ok(labels)
+}
+
+fn names(alloc: Global, tags: &[KnownTag]) -> Result<Vec<&'static str>, AllocError>
+    ensures { IfOk result (λ names. map (λ name. name.now) names.items ≡ map text_of tags.now) }
+{
+    let mut names = Vec::new(alloc);
+    for tag in tags {
+        names.push(tag.text())?;
     }
-    Ok(lines)
+    Ok(names)
 }
 
 fn count(
     alloc: Global,
     asked: Asked,
     library: &Library,
-    wanted: &Wanted,
+    counting: &Counting,
 ) -> Result<Transition, AllocError>
-    ensures { IsDecidedBy result (count_songs_lem asked library.now wanted.now) }
+    ensures { IsDecidedBy result (count_songs_lem asked library.now counting.now) }
 {
-    match wanted {
-        Wanted::Meeting(filter) => {
+    match &counting.wanted {
+        None => count_found(alloc, asked, library, counting.group, &all_songs(alloc)?),
+        Some(Wanted::Meeting(filter)) => {
+            count_found(alloc, asked, library, counting.group, filter)
+        }
+        Some(Wanted::Refused(text)) => unreadable(alloc, asked, text.as_str()),
+    }
+}
+
+/// How many songs meet a filter and how long they play: together, or for each text of a tag.
+fn count_found(
+    alloc: Global,
+    asked: Asked,
+    library: &Library,
+    group: Option<KnownTag>,
+    filter: &Filter,
+) -> Result<Transition, AllocError>
+    ensures { IsDecidedBy result (count_found_lem asked library.now group filter.now) }
+{
+    let mut lines = Answer::new(alloc);
+    match group {
+        None => {
             let count = counted(library.songs.db(), filter, &library.rate);
-            let mut lines = Answer::new(alloc);
             lines.pair("songs", count.songs)?;
             lines.pair("playtime", count.seconds)?;
-            Transition::shows(asked, lines)
         }
-        Wanted::Refused(text) => unreadable(alloc, asked, text.as_str()),
+        Some(tag) => {
+            let songs = find_songs(alloc, library.songs.db(), filter, Case::Heeded)?;
+            let groups = count_groups(alloc, &songs, tag.read_as(), &library.rate)?;
+            push_counts(&mut lines, tag.text(), &groups)?;
+        }
     }
+    Transition::shows(asked, lines)
 }
 
 fn list_info(
@@ -532,6 +661,7 @@ pub(crate) fn ask<S: Shelf>(shelf: &mut S, command: &DatabaseCommand) -> Result<
             uri_or_all(uri.as_ref()),
             *everyday,
         ),
+        DatabaseCommand::SearchAddPl(name, _) => ask_list(shelf, name.as_str()),
         _ => Ok(Read::Nothing),
     }
 }

@@ -10,11 +10,11 @@ ghost use Rattle.transitions.specs.Shelves.{AskNames, ReadsFor, TurnsByReading};
 ghost use Rattle.transitions.specs.Transitions.{IsDecidedBy};
 ghost use Rattle.player_state.specs.Fits.{Fits};
 
-use command_arguments::Uri;
+use command_arguments::{Place, Uri};
 use mpd_command::PlaylistCommand;
 use mpd_text::{ErrorNumber, Range, Text};
 use player_state::{Library, Part};
-use queue_commands::queue_edits::add_loaded;
+use queue_commands::queue_edits::{add_songs, shares};
 use shelf::{Shelf, ShelfFault, UriList, is_list_name};
 use shelf_contents::{
     list_info_lines, list_lines, loaded, moved, name_lines, uris_of_queue, with_songs, without,
@@ -35,7 +35,7 @@ pub fn run(alloc: Global, asked: Asked, part: &Part, library: &Library, read: &R
         PlaylistCommand::ListPlaylist(name) => list_playlist(alloc, asked, read, name),
         PlaylistCommand::ListPlaylistInfo(name) => list_playlist_info(alloc, asked, part, library, read, name),
         PlaylistCommand::ListPlaylists => list_playlists(alloc, asked, read),
-        PlaylistCommand::Load(name, range) => load(alloc, asked, part, library, read, name, *range),
+        PlaylistCommand::Load(name, range, place) => load(alloc, asked, part, library, read, name, *range, *place),
         PlaylistCommand::PlaylistAdd(name, uri) => playlist_add(alloc, asked, library, read, name, uri),
         PlaylistCommand::PlaylistClear(name) => playlist_clear(alloc, asked, read, name),
         PlaylistCommand::PlaylistDelete(name, place) => playlist_delete(alloc, asked, read, name, *place),
@@ -128,15 +128,16 @@ fn load(
     read: &Read,
     name: &Text,
     range: Option<Range>,
+    place: Option<Place>,
 ) -> Result<Transition, AllocError>
-    ensures transition { IsDecidedBy result (load_lem asked part.now library.now read.now name.now range) }
+    ensures transition { IsDecidedBy result (load_lem asked part.now library.now read.now name.now range place) }
     ensures fits { IfOk result (λ transition. Fits part.now transition.effect) }
 {
     if !is_list_name(name.as_str()) {
         return Transition::bad_name(alloc, asked, name.as_str());
     }
     match read {
-        Read::List(uris) => load_range(alloc, asked, part, library, range, uris),
+        Read::List(uris) => load_range(alloc, asked, part, library, range, place, uris),
         Read::Refused(fault) => refused(alloc, asked, *fault),
         _ => misread(alloc, asked),
     }
@@ -148,9 +149,10 @@ fn load_range(
     part: &Part,
     library: &Library,
     range: Option<Range>,
+    place: Option<Place>,
     uris: &UriList,
 ) -> Result<Transition, AllocError>
-    ensures transition { IsDecidedBy result (load_range_lem asked part.now library.now range uris.now) }
+    ensures transition { IsDecidedBy result (load_range_lem asked part.now library.now range place uris.now) }
     ensures fits { IfOk result (λ transition. Fits part.now transition.effect) }
 {
     let all = uris.len();
@@ -162,7 +164,7 @@ fn load_range(
         },
     };
     let songs = loaded(alloc, library.songs.db(), uris, places.start, places.end)?;
-    add_loaded(alloc, asked, part, songs)
+    add_songs(alloc, asked, part, shares(alloc, &songs)?, place)
 }
 
 fn save(alloc: Global, asked: Asked, part: &Part, name: &Text) -> Result<Transition, AllocError>
@@ -238,7 +240,7 @@ fn append_folder(
 }
 
 /// Puts songs at the end of a list; one that is not there is made.
-fn append(
+pub(crate) fn append(
     alloc: Global,
     asked: Asked,
     read: &Read,
@@ -376,7 +378,7 @@ pub(crate) fn ask<S: Shelf>(shelf: &mut S, command: &PlaylistCommand) -> Result<
         PlaylistCommand::ListPlaylists => ask_names(shelf),
         PlaylistCommand::ListPlaylist(name) => ask_list(shelf, name.as_str()),
         PlaylistCommand::ListPlaylistInfo(name) => ask_list(shelf, name.as_str()),
-        PlaylistCommand::Load(name, _) => ask_list(shelf, name.as_str()),
+        PlaylistCommand::Load(name, _, _) => ask_list(shelf, name.as_str()),
         PlaylistCommand::PlaylistAdd(name, _) => ask_list(shelf, name.as_str()),
         PlaylistCommand::PlaylistClear(name) => ask_list(shelf, name.as_str()),
         PlaylistCommand::PlaylistDelete(name, _) => ask_list(shelf, name.as_str()),
@@ -400,7 +402,7 @@ pub(crate) fn ask_names<S: Shelf>(shelf: &mut S) -> Result<Read, AllocError>
 }
 
 /// Asks for a list, if the name can be one's.
-fn ask_list<S: Shelf>(shelf: &mut S, name: &str) -> Result<Read, AllocError>
+pub(crate) fn ask_list<S: Shelf>(shelf: &mut S, name: &str) -> Result<Read, AllocError>
     ensures turns { TurnsByReading S.standing shelf.old shelf.new result }
     ensures read { ReadsFor S.standing S.failed shelf.old shelf.new (asks_list name.now) result }
 {

@@ -38,14 +38,15 @@ fewest = record { kill = false; everyday = false }
 -- the names of all tables, in their byte order
 unfoldable pub all_names : List (List ℕ)
 all_names =
-    sorted (names_of (status_rows fewest) ++ names_of options_rows ++ names_of (playback_rows fewest) ++ names_of queue_rows ++ names_of playlists_rows
+    sorted (names_of (status_rows fewest) ++ names_of options_rows ++ names_of (playback_rows fewest) ++ names_of (queue_rows fewest) ++ names_of (playlists_rows fewest)
     ++ names_of (database_rows fewest) ++ names_of stickers_rows ++ names_of (connection_rows fewest) ++ names_of outputs_rows ++ names_of messages_rows)
 
 -- the names of the commands that the everyday profile adds, in their byte order
 abbrev pub everyday_names : List (List ℕ)
 everyday_names =
-    codes "albumart" ∷ codes "decoders" ∷ codes "listallinfo" ∷ codes "listmounts" ∷ codes "playlist" ∷ codes "readcomments" ∷ codes "readpicture"
-    ∷ codes "replay_gain_mode" ∷ codes "replay_gain_status" ∷ codes "stats" ∷ codes "urlhandlers" ∷ codes "volume" ∷ []
+    codes "albumart" ∷ codes "decoders" ∷ codes "listallinfo" ∷ codes "listmounts" ∷ codes "playlist" ∷ codes "playlistfind"
+    ∷ codes "playlistsearch" ∷ codes "readcomments" ∷ codes "readpicture" ∷ codes "replay_gain_mode" ∷ codes "replay_gain_status"
+    ∷ codes "searchaddpl" ∷ codes "stats" ∷ codes "urlhandlers" ∷ codes "volume" ∷ []
 
 -- whether there is a command of this name: one that the everyday profile adds has to be asked for
 abbrev pub is_there : List ℕ → CommandSet → Bool

@@ -1,18 +1,32 @@
 -- The table of commands of stored playlists (MPD protocol reference, Stored playlists).
-use Rattle.std.specs.Prelude.{List, [], ◌∷◌, codes}
+use Rattle.std.specs.Prelude.{ℕ, Bool, ◌&&◌, ◌==◌, List, [], ◌∷◌, length, Option, Some, None, Result, codes, if◌then◌else◌}
 use Rattle.mpd_text.specs.Answers.Number.{number_of}
 use Rattle.mpd_text.specs.Answers.Range.{range_of}
-use Rattle.command_arguments.specs.Forms.{any_text, uri_of}
-use Rattle.mpd_command.specs.Tables.{Row, none, one, two, three, one_perhaps}
+use Rattle.mpd_text.specs.declared.answers.ranges.Range.{Range}
+use Rattle.command_arguments.specs.Forms.{any_text, place_of, uri_of}
+use Rattle.command_arguments.specs.Readers.{map_ok, one_perhaps_of, three_of}
+use Rattle.command_arguments.specs.declared.forms.Place.{Place}
+use Rattle.command_arguments.specs.declared.readers.Misread.{Misread}
+use Rattle.mpd_command.specs.Tables.{Arguments, Row, none, one, two, three}
+use Rattle.mpd_command.specs.declared.command_set.CommandSet.{CommandSet}
 use Rattle.mpd_command.specs.declared.playlists.PlaylistCommand.{PlaylistCommand}
 use Rattle.mpd_command.specs.declared.playlists.PlaylistCommand.TheVariants as playlists
 
-unfoldable pub rows : List (Row PlaylistCommand)
-rows =
+-- the name of a list, perhaps a range, and in the everyday profile perhaps a place after that
+abbrev pub list_range_place_of : Bool → List (List ℕ) → Result (List ℕ × Option Range × Option Place) Misread
+list_range_place_of everyday words =
+    if everyday && length words == 3 then map_ok (λ p. (p.0, Some p.1, Some p.2)) (three_of any_text range_of place_of words)
+    else map_ok (λ p. (p.0, p.1, None)) (one_perhaps_of any_text range_of words)
+
+abbrev pub list_range_place : {A : Type 0} → Bool → (List ℕ → Option Range → Option Place → A) → Arguments A
+list_range_place everyday f words = map_ok (λ p. f p.0 p.1 p.2) (list_range_place_of everyday words)
+
+unfoldable pub rows : CommandSet → List (Row PlaylistCommand)
+rows set =
     (codes "listplaylist", one any_text playlists.ListPlaylist)
     ∷ (codes "listplaylistinfo", one any_text playlists.ListPlaylistInfo)
     ∷ (codes "listplaylists", none playlists.ListPlaylists)
-    ∷ (codes "load", one_perhaps any_text range_of playlists.Load)
+    ∷ (codes "load", list_range_place set.everyday playlists.Load)
     ∷ (codes "playlistadd", two any_text uri_of playlists.PlaylistAdd)
     ∷ (codes "playlistclear", one any_text playlists.PlaylistClear)
     ∷ (codes "playlistdelete", two any_text number_of playlists.PlaylistDelete)

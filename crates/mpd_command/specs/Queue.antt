@@ -1,15 +1,29 @@
 -- The table of commands of the queue (MPD protocol reference, The Queue).
-use Rattle.std.specs.Prelude.{List, [], ◌∷◌, codes}
+use Rattle.std.specs.Prelude.{ℕ, Bool, List, [], ◌∷◌, Option, None, Result, codes, if◌then◌else◌}
+use Rattle.filters.specs.declared.expression.Test.TheVariants.{Equals, Contains}
 use Rattle.mpd_text.specs.Answers.Number.{number_of}
 use Rattle.mpd_text.specs.Answers.Range.{range_of}
 use Rattle.command_arguments.specs.Forms.{uri_of, byte_of, place_of}
-use Rattle.mpd_command.specs.Tables.{Row, none, one, perhaps, two, one_perhaps, one_many}
+use Rattle.command_arguments.specs.Readers.{map_ok, one_of, one_perhaps_of}
+use Rattle.command_arguments.specs.declared.forms.Place.{Place}
+use Rattle.command_arguments.specs.declared.forms.Uri.{Uri}
+use Rattle.command_arguments.specs.declared.readers.Misread.{Misread}
+use Rattle.mpd_command.specs.Tables.{Arguments, Row, filter, none, one, perhaps, two, one_perhaps, one_many}
+use Rattle.mpd_command.specs.declared.command_set.CommandSet.{CommandSet}
 use Rattle.mpd_command.specs.declared.queue.QueueCommand.{QueueCommand}
 use Rattle.mpd_command.specs.declared.queue.QueueCommand.TheVariants as queue
 
-unfoldable pub rows : List (Row QueueCommand)
-rows =
-    (codes "add", one uri_of queue.Add)
+-- a URI, and in the everyday profile perhaps a place
+abbrev pub uri_perhaps_place_of : Bool → List (List ℕ) → Result (Uri × Option Place) Misread
+uri_perhaps_place_of everyday words =
+    if everyday then one_perhaps_of uri_of place_of words else map_ok (λ uri. (uri, None)) (one_of uri_of words)
+
+abbrev pub uri_perhaps_place : {A : Type 0} → Bool → (Uri → Option Place → A) → Arguments A
+uri_perhaps_place everyday f words = map_ok (λ p. f p.0 p.1) (uri_perhaps_place_of everyday words)
+
+unfoldable pub rows : CommandSet → List (Row QueueCommand)
+rows set =
+    (codes "add", uri_perhaps_place set.everyday queue.Add)
     ∷ (codes "addid", one_perhaps uri_of place_of queue.AddId)
     ∷ (codes "clear", none queue.Clear)
     ∷ (codes "delete", one range_of queue.Delete)
@@ -17,8 +31,10 @@ rows =
     ∷ (codes "move", two range_of number_of queue.Move)
     ∷ (codes "moveid", two number_of number_of queue.MoveId)
     ∷ (codes "playlist", none queue.Playlist)
+    ∷ (codes "playlistfind", filter Equals queue.PlaylistFind)
     ∷ (codes "playlistid", perhaps number_of queue.PlaylistId)
     ∷ (codes "playlistinfo", perhaps range_of queue.PlaylistInfo)
+    ∷ (codes "playlistsearch", filter Contains queue.PlaylistSearch)
     ∷ (codes "plchanges", one_perhaps number_of range_of queue.PlChanges)
     ∷ (codes "plchangesposid", one_perhaps number_of range_of queue.PlChangesPosId)
     ∷ (codes "prio", one_many byte_of range_of queue.Prio)

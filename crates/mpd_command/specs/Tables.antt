@@ -1,14 +1,18 @@
 -- Tables of commands: each row a name, and what the words after it are read as.
-use Rattle.std.specs.Prelude.{ℕ, List, [], ◌∷◌, Option, Some, None, Result, Ok, Err, map, if◌then◌else◌}
+use Rattle.std.specs.Prelude.{ℕ, Bool, List, [], ◌∷◌, Option, Some, None, Result, Ok, Err, map, if◌then◌else◌}
 use Rattle.std.specs.Str.{bytes_eq}
 use Rattle.filters.specs.declared.expression.Test.{Test}
-use Rattle.filters.specs.declared.words.Vocabulary.{Vocabulary}
-use Rattle.idle_notes.specs.declared.sets.Subsystems.{Subsystems}
-use Rattle.command_arguments.specs.Readers.{map_ok, none_of, one_of, perhaps_of, two_of, three_of, one_perhaps_of, one_many_of, subsystems_of}
-use Rattle.command_arguments.specs.Wanted.{filter_of, filter_window_of, one_filter_of}
-use Rattle.command_arguments.specs.declared.forms.Window.{Window}
+use Rattle.command_arguments.specs.Readers.{map_ok, none_of, one_of, perhaps_of, two_of, three_of, one_perhaps_of, one_many_of}
+use Rattle.command_arguments.specs.declared.forms.Place.{Place}
 use Rattle.command_arguments.specs.declared.readers.Misread.{Misread}
+use Rattle.command_arguments.specs.Wanted.{filter_of}
 use Rattle.command_arguments.specs.declared.wanted.Wanted.{Wanted}
+use Rattle.filters.specs.declared.words.Vocabulary.TheVariants.{Known}
+use Rattle.selections.specs.Groupings.{counting_of, grouping_of}
+use Rattle.selections.specs.Selections.{name_selection_of, placed_selection_of, selection_of}
+use Rattle.selections.specs.declared.asked.Counting.{Counting}
+use Rattle.selections.specs.declared.asked.Grouping.{Grouping}
+use Rattle.selections.specs.declared.asked.Selection.{Selection}
 
 -- what the words after a name are read as
 abbrev pub Arguments : Type 0 → Type 0
@@ -65,18 +69,26 @@ one_perhaps first second f words = map_ok (λ p. f p.0 p.1) (one_perhaps_of firs
 abbrev pub one_many : {A B C : Type 0} → (List ℕ → Option A) → (List ℕ → Option B) → (A → List B → C) → Arguments C
 one_many first second f words = map_ok (λ p. f p.0 p.1) (one_many_of first second words)
 
--- any number of subsystems
-abbrev pub subsystems : {A : Type 0} → (Subsystems → A) → Arguments A
-subsystems f words = map_ok f (subsystems_of words)
+-- a filter of all tags that clients know, whose pairs ask by this test
+abbrev pub filter : {A : Type 0} → Test → (Wanted → A) → Arguments A
+filter test f words = map_ok f (filter_of Known test words)
 
--- a filter, whose pairs ask by this test
-abbrev pub filter : {A : Type 0} → Vocabulary → Test → (Wanted → A) → Arguments A
-filter vocabulary test f words = map_ok f (filter_of vocabulary test words)
+-- a filter, an order and a window
+abbrev pub selection : {A : Type 0} → Bool → Test → (Selection → A) → Arguments A
+selection everyday test f words = map_ok f (selection_of everyday test words)
 
--- a filter, and perhaps a window after it
-abbrev pub filter_window : {A : Type 0} → Vocabulary → Test → (Wanted → Option Window → A) → Arguments A
-filter_window vocabulary test f words = map_ok (λ p. f p.0 p.1) (filter_window_of vocabulary test words)
+-- the same, and where the songs go
+abbrev pub placed_selection : {A : Type 0} → Bool → Test → (Selection → Option Place → A) → Arguments A
+placed_selection everyday test f words = map_ok (λ p. f p.0 p.1) (placed_selection_of everyday test words)
 
--- one argument, and perhaps a filter after it
-abbrev pub one_filter : {A B : Type 0} → (List ℕ → Option A) → Vocabulary → Test → (A → Option Wanted → B) → Arguments B
-one_filter form vocabulary test f words = map_ok (λ p. f p.0 p.1) (one_filter_of form vocabulary test words)
+-- a name, and then a filter, an order and a window
+abbrev pub name_selection : {A : Type 0} → Test → (List ℕ → Selection → A) → Arguments A
+name_selection test f words = map_ok (λ p. f p.0 p.1) (name_selection_of test words)
+
+-- a tag, a filter, and other tags
+abbrev pub grouping : {A : Type 0} → Bool → (Grouping → A) → Arguments A
+grouping everyday f words = map_ok f (grouping_of everyday words)
+
+-- a filter and a tag, or one of them
+abbrev pub counting : {A : Type 0} → Bool → (Counting → A) → Arguments A
+counting everyday f words = map_ok f (counting_of everyday words)

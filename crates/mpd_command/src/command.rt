@@ -52,7 +52,7 @@ pub(crate) fn read(
     if let Some(command) = playback::read(alloc, set, word, words)? {
         return Ok(Some(Command::Playback(command)));
     }
-    if let Some(command) = queue::read(alloc, word, words)? {
+    if let Some(command) = queue::read(alloc, set, word, words)? {
         return Ok(Some(Command::Queue(command)));
     }
     if let Some(command) = options::read(alloc, word, words)? {
@@ -61,7 +61,7 @@ pub(crate) fn read(
     if let Some(command) = database::read(alloc, set, word, words)? {
         return Ok(Some(Command::Database(command)));
     }
-    if let Some(command) = playlists::read(alloc, word, words)? {
+    if let Some(command) = playlists::read(alloc, set, word, words)? {
         return Ok(Some(Command::Playlists(command)));
     }
     if let Some(command) = sticker::read(alloc, word, words)? {

@@ -2,14 +2,15 @@
 ghost use Rattle.std.specs.Prelude.{◌≡◌, string_bytes, map};
 ghost use Rattle.command_arguments.specs.Readers.{Gives};
 ghost use Rattle.mpd_command.specs.Tables.{found};
-ghost use Rattle.mpd_command.specs.Database.{rows, vocabulary as vocabulary_lem};
+ghost use Rattle.mpd_command.specs.Database.{rows};
 
 use crate::command_set::CommandSet;
-use command_arguments::{
-    Misread, Uri, Wanted, Window, filter, filter_window, one, one_filter, perhaps, two,
+use command_arguments::{Misread, Place, Uri, one, perhaps, two};
+use filters::Test;
+use mpd_text::Text;
+use selections::{
+    Counting, Grouping, Selection, counting, grouping, name_selection, placed_selection, selection,
 };
-use filters::{Test, Vocabulary};
-use mpd_text::TagName;
 use std::alloc::Global;
 
 /// A command of the library.
@@ -17,14 +18,18 @@ use std::alloc::Global;
 pub enum DatabaseCommand {
     /// `albumart URI OFFSET`: a picture that lies beside a song: there is none.
     AlbumArt(Uri, u32),
-    /// `count FILTER`: how many songs meet a filter, and how long they play.
-    Count(Wanted),
-    /// `find FILTER [WINDOW]`: the songs that meet a filter, of a window or all.
-    Find(Wanted, Option<Window>),
-    /// `findadd FILTER`: puts the songs that meet a filter at the end of the queue.
-    FindAdd(Wanted),
-    /// `list TAG [FILTER]`: the texts that a tag has among the songs that meet a filter, or among all.
-    List(TagName, Option<Wanted>),
+    /// `count FILTER`: how many songs meet a filter, and how long they play; in the everyday profile
+    /// `count [FILTER] [group TAG]`, for each text of a tag.
+    Count(Counting),
+    /// `find FILTER [WINDOW]`: the songs that meet a filter, of a window or all; in the everyday profile in
+    /// the order of a tag, where one is named.
+    Find(Selection),
+    /// `findadd FILTER`: puts the songs that meet a filter at the end of the queue; in the everyday profile
+    /// those that `find` shows, at its end or at a place.
+    FindAdd(Selection, Option<Place>),
+    /// `list TAG [FILTER]`: the texts that a tag has among the songs that meet a filter, or among all; in the
+    /// everyday profile `list TAG [FILTER] [group TAG]...`, for each text of other tags.
+    List(Grouping),
     /// `listall [URI]`: the songs under a folder, or all; in the everyday profile of a song that one.
     ListAll(Option<Uri>, bool),
     /// `listallinfo [URI]`: the same with all that is known of each.
@@ -40,9 +45,11 @@ pub enum DatabaseCommand {
     Rescan(Option<Uri>),
     /// `search FILTER [WINDOW]`: as `find`, where case does not count and a pair asks for a part of the
     /// text.
-    Search(Wanted, Option<Window>),
+    Search(Selection),
     /// `searchadd FILTER`: as `findadd`, where case does not count and a pair asks for a part of the text.
-    SearchAdd(Wanted),
+    SearchAdd(Selection, Option<Place>),
+    /// `searchaddpl NAME FILTER`: puts the songs that `search` shows at the end of a stored playlist.
+    SearchAddPl(Text, Selection),
     /// `update [URI]`: scans the library anew.
     Update(Option<Uri>),
 }
@@ -55,30 +62,20 @@ pub(crate) fn read(alloc: Global, set: CommandSet, word: &str, words: &[String])
 {
     Ok(Some(match word {
         "albumart" => { let (uri, offset) = two(alloc, words)?; DatabaseCommand::AlbumArt(uri, offset) }
-        "count" => DatabaseCommand::Count(filter(alloc, vocabulary(set), words, Test::Equals)?),
-        "find" => { let (wanted, window) = filter_window(alloc, vocabulary(set), words, Test::Equals)?; DatabaseCommand::Find(wanted, window) }
-        "findadd" => DatabaseCommand::FindAdd(filter(alloc, vocabulary(set), words, Test::Equals)?),
-        "list" => { let (tag, wanted) = one_filter(alloc, vocabulary(set), words, Test::Equals)?; DatabaseCommand::List(tag, wanted) }
+        "count" => DatabaseCommand::Count(counting(alloc, set.everyday, words)?),
+        "find" => DatabaseCommand::Find(selection(alloc, set.everyday, words, Test::Equals)?),
+        "findadd" => { let (selection, place) = placed_selection(alloc, set.everyday, words, Test::Equals)?; DatabaseCommand::FindAdd(selection, place) }
+        "list" => DatabaseCommand::List(grouping(alloc, set.everyday, words)?),
         "listall" => DatabaseCommand::ListAll(perhaps(alloc, words)?, set.everyday),
         "listallinfo" => DatabaseCommand::ListAllInfo(perhaps(alloc, words)?),
         "lsinfo" => DatabaseCommand::LsInfo(perhaps(alloc, words)?, set.everyday),
         "readcomments" => DatabaseCommand::ReadComments(one(alloc, words)?),
         "readpicture" => { let (uri, offset) = two(alloc, words)?; DatabaseCommand::ReadPicture(uri, offset) }
         "rescan" => DatabaseCommand::Rescan(perhaps(alloc, words)?),
-        "search" => { let (wanted, window) = filter_window(alloc, vocabulary(set), words, Test::Contains)?; DatabaseCommand::Search(wanted, window) }
-        "searchadd" => DatabaseCommand::SearchAdd(filter(alloc, vocabulary(set), words, Test::Contains)?),
+        "search" => DatabaseCommand::Search(selection(alloc, set.everyday, words, Test::Contains)?),
+        "searchadd" => { let (selection, place) = placed_selection(alloc, set.everyday, words, Test::Contains)?; DatabaseCommand::SearchAdd(selection, place) }
+        "searchaddpl" => { let (name, selection) = name_selection(alloc, words, Test::Contains)?; DatabaseCommand::SearchAddPl(name, selection) }
         "update" => DatabaseCommand::Update(perhaps(alloc, words)?),
         _ => return Ok(None),
     }))
-}
-
-/// Which words name what a filter compares.
-fn vocabulary(set: CommandSet) -> Vocabulary
-    ensures { result ≡ vocabulary_lem set.everyday }
-{
-    if set.everyday {
-        Vocabulary::Known
-    } else {
-        Vocabulary::Base
-    }
 }

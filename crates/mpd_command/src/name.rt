@@ -15,19 +15,21 @@ const NAMES: &[&'static str] = &[
     "listall", "listallinfo", "listmounts", "listplaylist", "listplaylistinfo",
     "listplaylists", "load", "lsinfo", "move", "moveid", "next", "noidle", "notcommands",
     "outputs", "pause", "ping", "play", "playid", "playlist", "playlistadd", "playlistclear",
-    "playlistdelete", "playlistid", "playlistinfo", "playlistmove", "plchanges",
-    "plchangesposid", "previous", "prio", "prioid", "random", "readcomments", "readmessages",
-    "readpicture", "rename", "repeat", "replay_gain_mode", "replay_gain_status", "rescan",
-    "rm", "save", "search", "searchadd", "seek", "seekcur", "seekid", "sendmessage", "setvol",
-    "shuffle", "single", "stats", "status", "sticker", "stop", "subscribe", "swap", "swapid",
-    "tagtypes", "toggleoutput", "unsubscribe", "update", "urlhandlers", "volume",
+    "playlistdelete", "playlistfind", "playlistid", "playlistinfo", "playlistmove",
+    "playlistsearch", "plchanges", "plchangesposid", "previous", "prio", "prioid", "random",
+    "readcomments", "readmessages", "readpicture", "rename", "repeat", "replay_gain_mode",
+    "replay_gain_status", "rescan", "rm", "save", "search", "searchadd", "searchaddpl", "seek",
+    "seekcur", "seekid", "sendmessage", "setvol", "shuffle", "single", "stats", "status",
+    "sticker", "stop", "subscribe", "swap", "swapid", "tagtypes", "toggleoutput",
+    "unsubscribe", "update", "urlhandlers", "volume",
 ];
 
 /// The names of the commands that the everyday profile adds, in their byte order.
 #[rattlefmt::skip]
 const EVERYDAY: &[&'static str] = &[
-    "albumart", "decoders", "listallinfo", "listmounts", "playlist", "readcomments",
-    "readpicture", "replay_gain_mode", "replay_gain_status", "stats", "urlhandlers", "volume",
+    "albumart", "decoders", "listallinfo", "listmounts", "playlist", "playlistfind",
+    "playlistsearch", "readcomments", "readpicture", "replay_gain_mode", "replay_gain_status",
+    "searchaddpl", "stats", "urlhandlers", "volume",
 ];
 
 /// The names of all commands, in their byte order (MPD protocol reference, Command reference).

@@ -2,9 +2,10 @@
 ghost use Rattle.std.specs.Prelude.{string_bytes, map};
 ghost use Rattle.command_arguments.specs.Readers.{Gives};
 ghost use Rattle.mpd_command.specs.Tables.{found};
-ghost use Rattle.mpd_command.specs.Playlists.{rows};
+ghost use Rattle.mpd_command.specs.Playlists.{rows, list_range_place_of};
 
-use command_arguments::{Misread, Uri, none, one, one_perhaps, three, two};
+use crate::command_set::CommandSet;
+use command_arguments::{Misread, Place, Uri, none, one, one_perhaps, three, two};
 use mpd_text::{Range, Text};
 use std::alloc::Global;
 
@@ -18,8 +19,8 @@ pub enum PlaylistCommand {
     /// `listplaylists`: the names of the stored playlists.
     ListPlaylists,
     /// `load NAME [RANGE]`: puts the songs of a stored playlist, of a range or all, at the end of the
-    /// queue.
-    Load(Text, Option<Range>),
+    /// queue; in the everyday profile `load NAME [RANGE [POSITION]]`, at its end or at a place.
+    Load(Text, Option<Range>, Option<Place>),
     /// `playlistadd NAME URI`: puts a song, or the songs under a folder, at the end of a stored playlist.
     PlaylistAdd(Text, Uri),
     /// `playlistclear NAME`: takes all songs out of a stored playlist.
@@ -40,14 +41,14 @@ pub enum PlaylistCommand {
 /// The rows: what the words after each name are read as.
 #[rattlefmt::skip]
 #[tactic(auto, unfolding(crate::specs::Playlists::rows))]
-pub(crate) fn read(alloc: Global, word: &str, words: &[String]) -> Result<Option<PlaylistCommand>, Misread>
-    ensures { Gives result (found rows word.now (map string_bytes words.now)) }
+pub(crate) fn read(alloc: Global, set: CommandSet, word: &str, words: &[String]) -> Result<Option<PlaylistCommand>, Misread>
+    ensures { Gives result (found (rows set) word.now (map string_bytes words.now)) }
 {
     Ok(Some(match word {
         "listplaylist" => PlaylistCommand::ListPlaylist(one(alloc, words)?),
         "listplaylistinfo" => PlaylistCommand::ListPlaylistInfo(one(alloc, words)?),
         "listplaylists" => none(words, PlaylistCommand::ListPlaylists)?,
-        "load" => { let (list, range) = one_perhaps(alloc, words)?; PlaylistCommand::Load(list, range) }
+        "load" => { let (list, range, place) = list_range_place(alloc, set.everyday, words)?; PlaylistCommand::Load(list, range, place) }
         "playlistadd" => { let (list, uri) = two(alloc, words)?; PlaylistCommand::PlaylistAdd(list, uri) }
         "playlistclear" => PlaylistCommand::PlaylistClear(one(alloc, words)?),
         "playlistdelete" => { let (list, place) = two(alloc, words)?; PlaylistCommand::PlaylistDelete(list, place) }
@@ -57,4 +58,20 @@ pub(crate) fn read(alloc: Global, word: &str, words: &[String]) -> Result<Option
         "save" => PlaylistCommand::Save(one(alloc, words)?),
         _ => return Ok(None),
     }))
+}
+
+/// The name of a list, perhaps a range, and in the everyday profile perhaps a place after that.
+fn list_range_place(
+    alloc: Global,
+    everyday: bool,
+    words: &[String],
+) -> Result<(Text, Option<Range>, Option<Place>), Misread>
+    ensures { Gives result (list_range_place_of everyday (map string_bytes words.now)) }
+{
+    if everyday && words.len() == 3 {
+        let (list, range, place) = three(alloc, words)?;
+        return Ok((list, Some(range), Some(place)));
+    }
+    let (list, range) = one_perhaps(alloc, words)?;
+    Ok((list, range, None))
 }

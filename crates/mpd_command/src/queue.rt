@@ -2,17 +2,22 @@
 ghost use Rattle.std.specs.Prelude.{string_bytes, map};
 ghost use Rattle.command_arguments.specs.Readers.{Gives};
 ghost use Rattle.mpd_command.specs.Tables.{found};
-ghost use Rattle.mpd_command.specs.Queue.{rows};
+ghost use Rattle.mpd_command.specs.Queue.{rows, uri_perhaps_place_of};
 
-use command_arguments::{Misread, Place, Uri, none, one, one_many, one_perhaps, perhaps, two};
+use crate::command_set::CommandSet;
+use command_arguments::{
+    Misread, Place, Uri, Wanted, filter, none, one, one_many, one_perhaps, perhaps, two,
+};
+use filters::{Test, Vocabulary};
 use mpd_text::{Range, Sequence};
 use std::alloc::Global;
 
 /// A command of the queue.
 #[derive(Drop)]
 pub enum QueueCommand {
-    /// `add URI`: puts a song of the library at the end of the queue.
-    Add(Uri),
+    /// `add URI`: puts a song of the library, or all songs under a folder, at the end of the queue; in the
+    /// everyday profile `add URI [POSITION]`, at its end or at a place.
+    Add(Uri, Option<Place>),
     /// `addid URI [POSITION]`: puts a song into the queue, at its end or at a place, and tells its id.
     AddId(Uri, Option<Place>),
     /// `clear`: takes all songs out of the queue.
@@ -27,10 +32,15 @@ pub enum QueueCommand {
     MoveId(u32, u32),
     /// `playlist`: the place and the URI of each song of the queue.
     Playlist,
+    /// `playlistfind FILTER`: the songs of the queue that meet a filter.
+    PlaylistFind(Wanted),
     /// `playlistid [ID]`: the song with an id, or all songs of the queue.
     PlaylistId(Option<u32>),
     /// `playlistinfo [RANGE]`: the songs of a range, or all songs of the queue.
     PlaylistInfo(Option<Range>),
+    /// `playlistsearch FILTER`: as `playlistfind`, where case does not count and a pair asks for a part of
+    /// the text.
+    PlaylistSearch(Wanted),
     /// `plchanges V [RANGE]`: the songs at the places that changed since a version, of a range or all.
     PlChanges(u32, Option<Range>),
     /// `plchangesposid V [RANGE]`: the places that changed since a version, with their ids, of a range or
@@ -51,11 +61,11 @@ pub enum QueueCommand {
 /// The rows: what the words after each name are read as.
 #[rattlefmt::skip]
 #[tactic(auto, unfolding(crate::specs::Queue::rows))]
-pub(crate) fn read(alloc: Global, word: &str, words: &[String]) -> Result<Option<QueueCommand>, Misread>
-    ensures { Gives result (found rows word.now (map string_bytes words.now)) }
+pub(crate) fn read(alloc: Global, set: CommandSet, word: &str, words: &[String]) -> Result<Option<QueueCommand>, Misread>
+    ensures { Gives result (found (rows set) word.now (map string_bytes words.now)) }
 {
     Ok(Some(match word {
-        "add" => QueueCommand::Add(one(alloc, words)?),
+        "add" => { let (uri, place) = uri_perhaps_place(alloc, set.everyday, words)?; QueueCommand::Add(uri, place) }
         "addid" => { let (uri, place) = one_perhaps(alloc, words)?; QueueCommand::AddId(uri, place) }
         "clear" => none(words, QueueCommand::Clear)?,
         "delete" => QueueCommand::Delete(one(alloc, words)?),
@@ -63,8 +73,10 @@ pub(crate) fn read(alloc: Global, word: &str, words: &[String]) -> Result<Option
         "move" => { let (range, to) = two(alloc, words)?; QueueCommand::Move(range, to) }
         "moveid" => { let (id, to) = two(alloc, words)?; QueueCommand::MoveId(id, to) }
         "playlist" => none(words, QueueCommand::Playlist)?,
+        "playlistfind" => QueueCommand::PlaylistFind(filter(alloc, Vocabulary::Known, words, Test::Equals)?),
         "playlistid" => QueueCommand::PlaylistId(perhaps(alloc, words)?),
         "playlistinfo" => QueueCommand::PlaylistInfo(perhaps(alloc, words)?),
+        "playlistsearch" => QueueCommand::PlaylistSearch(filter(alloc, Vocabulary::Known, words, Test::Contains)?),
         "plchanges" => { let (version, range) = one_perhaps(alloc, words)?; QueueCommand::PlChanges(version, range) }
         "plchangesposid" => { let (version, range) = one_perhaps(alloc, words)?; QueueCommand::PlChangesPosId(version, range) }
         "prio" => { let (priority, ranges) = one_many(alloc, words)?; QueueCommand::Prio(priority, ranges) }
@@ -74,4 +86,18 @@ pub(crate) fn read(alloc: Global, word: &str, words: &[String]) -> Result<Option
         "swapid" => { let (first, second) = two(alloc, words)?; QueueCommand::SwapId(first, second) }
         _ => return Ok(None),
     }))
+}
+
+/// A URI, and in the everyday profile perhaps a place.
+fn uri_perhaps_place(
+    alloc: Global,
+    everyday: bool,
+    words: &[String],
+) -> Result<(Uri, Option<Place>), Misread>
+    ensures { Gives result (uri_perhaps_place_of everyday (map string_bytes words.now)) }
+{
+    if everyday {
+        return one_perhaps(alloc, words);
+    }
+    Ok((one(alloc, words)?, None))
 }

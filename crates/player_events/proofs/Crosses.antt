@@ -11,13 +11,16 @@ use Rattle.mpd_command.proofs.options.OptionCommand.TheSendSync as options
 use Rattle.mpd_command.proofs.outputs.OutputCommand.TheSendSync as outputs
 use Rattle.mpd_command.proofs.playback.PlaybackCommand.TheSendSync as playback
 use Rattle.mpd_command.proofs.playlists.PlaylistCommand.TheSendSync as playlists
-use Rattle.mpd_command.proofs.queue.QueueCommand.TheSendSync as queue
 use Rattle.mpd_command.proofs.status.StatusCommand.TheSendSync as status
 use Rattle.mpd_command.proofs.sticker.StickerCommand.TheSendSync as stickers
 use Rattle.mpd_command.proofs.request.Ack.TheSendSync as ack
 use Rattle.mpd_command.specs.contracts.command.Command as Command
 use Rattle.mpd_command.specs.contracts.database.DatabaseCommand as DatabaseCommand
+use Rattle.mpd_command.specs.contracts.queue.QueueCommand as QueueCommand
 use Rattle.mpd_command.specs.contracts.request.Request as Request
+use Rattle.selections.specs.contracts.asked.Counting as Counting
+use Rattle.selections.specs.contracts.asked.Grouping as Grouping
+use Rattle.selections.specs.contracts.asked.Selection as Selection
 use Rattle.command_arguments.specs.contracts.wanted.FilterHandle as Handle
 use Rattle.player_events.proofs.event.Outcome.TheSendSync as outcome
 use Rattle.transitions.proofs.shelf_calls.StoreReply.TheSendSync as heard
@@ -36,22 +39,55 @@ handle_send = search (filter.crosses, parts) depth 60 fits 20000
 
 ruleset with_filter = (handle_send, parts)
 
+counting_send : IsSend Counting.the_row
+counting_send = declared_send Counting.the_type (search parts depth 60 fits 20000 ⨟ search with_filter depth 60 fits 20000 ⨟ tt)
+
+grouping_send : IsSend Grouping.the_row
+grouping_send = declared_send Grouping.the_type (search parts depth 60 fits 20000 ⨟ search with_filter depth 60 fits 20000 ⨟ tt)
+
+selection_send : IsSend Selection.the_row
+selection_send = declared_send Selection.the_type (search with_filter depth 60 fits 20000 ⨟ search parts depth 60 fits 20000 ⨟ search parts depth 60 fits 20000 ⨟ tt)
+
 database_send : IsSend DatabaseCommand.the_row
 database_send = variants_send DatabaseCommand.enum (
     (search parts depth 60 fits 20000 ⨟ search parts depth 60 fits 20000 ⨟ tt) ⨟
-    (search with_filter depth 60 fits 20000 ⨟ tt) ⨟
-    (search with_filter depth 60 fits 20000 ⨟ search parts depth 60 fits 20000 ⨟ tt) ⨟
-    (search with_filter depth 60 fits 20000 ⨟ tt) ⨟
-    (search parts depth 60 fits 20000 ⨟ search with_filter depth 60 fits 20000 ⨟ tt) ⨟
+    (counting_send ⨟ tt) ⨟
+    (selection_send ⨟ tt) ⨟
+    (selection_send ⨟ search parts depth 60 fits 20000 ⨟ tt) ⨟
+    (grouping_send ⨟ tt) ⨟
     (search parts depth 60 fits 20000 ⨟ search parts depth 60 fits 20000 ⨟ tt) ⨟
     (search parts depth 60 fits 20000 ⨟ tt) ⨟
     (search parts depth 60 fits 20000 ⨟ search parts depth 60 fits 20000 ⨟ tt) ⨟
     (search parts depth 60 fits 20000 ⨟ tt) ⨟
     (search parts depth 60 fits 20000 ⨟ search parts depth 60 fits 20000 ⨟ tt) ⨟
     (search parts depth 60 fits 20000 ⨟ tt) ⨟
-    (search with_filter depth 60 fits 20000 ⨟ search parts depth 60 fits 20000 ⨟ tt) ⨟
+    (selection_send ⨟ tt) ⨟
+    (selection_send ⨟ search parts depth 60 fits 20000 ⨟ tt) ⨟
+    (search parts depth 60 fits 20000 ⨟ selection_send ⨟ tt) ⨟
+    (search parts depth 60 fits 20000 ⨟ tt) ⨟
+    tt)
+
+queue_send : IsSend QueueCommand.the_row
+queue_send = variants_send QueueCommand.enum (
+    (search parts depth 60 fits 20000 ⨟ search parts depth 60 fits 20000 ⨟ tt) ⨟
+    (search parts depth 60 fits 20000 ⨟ search parts depth 60 fits 20000 ⨟ tt) ⨟
+    tt ⨟
+    (search parts depth 60 fits 20000 ⨟ tt) ⨟
+    (search parts depth 60 fits 20000 ⨟ tt) ⨟
+    (search parts depth 60 fits 20000 ⨟ search parts depth 60 fits 20000 ⨟ tt) ⨟
+    (search parts depth 60 fits 20000 ⨟ search parts depth 60 fits 20000 ⨟ tt) ⨟
+    tt ⨟
     (search with_filter depth 60 fits 20000 ⨟ tt) ⨟
     (search parts depth 60 fits 20000 ⨟ tt) ⨟
+    (search parts depth 60 fits 20000 ⨟ tt) ⨟
+    (search with_filter depth 60 fits 20000 ⨟ tt) ⨟
+    (search parts depth 60 fits 20000 ⨟ search parts depth 60 fits 20000 ⨟ tt) ⨟
+    (search parts depth 60 fits 20000 ⨟ search parts depth 60 fits 20000 ⨟ tt) ⨟
+    (search parts depth 60 fits 20000 ⨟ search parts depth 60 fits 20000 ⨟ tt) ⨟
+    (search parts depth 60 fits 20000 ⨟ search parts depth 60 fits 20000 ⨟ tt) ⨟
+    (search parts depth 60 fits 20000 ⨟ tt) ⨟
+    (search parts depth 60 fits 20000 ⨟ search parts depth 60 fits 20000 ⨟ tt) ⨟
+    (search parts depth 60 fits 20000 ⨟ search parts depth 60 fits 20000 ⨟ tt) ⨟
     tt)
 
 command_send : IsSend Command.the_row
@@ -59,7 +95,7 @@ command_send = variants_send Command.enum (
     (status.the_send ⨟ tt) ⨟
     (options.the_send ⨟ tt) ⨟
     (playback.the_send ⨟ tt) ⨟
-    (queue.the_send ⨟ tt) ⨟
+    (queue_send ⨟ tt) ⨟
     (playlists.the_send ⨟ tt) ⨟
     (database_send ⨟ tt) ⨟
     (stickers.the_send ⨟ tt) ⨟

@@ -1,2 +1,3 @@
 pub mod Gathers
+pub mod Meetings
 pub mod Rows

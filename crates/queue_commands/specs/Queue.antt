@@ -1,13 +1,18 @@
 -- The commands that edit and show the queue (MPD protocol reference, The queue).
-use Rattle.std.specs.Prelude.{ℕ, ◌≤◌, ◌+◌, ◌-◌, ◌==◌, nat_lt, nat_le, Bool, ◌&&◌, ◌||◌, List, [], ◌∷◌, ◌++◌, Option, Some, None, length, filter, All, if◌then◌else◌, codes, decimal}
+use Rattle.std.specs.Prelude.{ℕ, ◌≤◌, ◌+◌, ◌-◌, ◌==◌, nat_lt, nat_le, Bool, false, ◌&&◌, ◌||◌, List, [], ◌∷◌, ◌++◌, Option, Some, None, Result, Ok, Err, length, filter, slice_get, All, if◌then◌else◌, codes, decimal}
 use Rattle.std.specs.List.{flat_map, range_with_len}
 use Rattle.std.specs.declared.ops.Range.{Range as Places}
 use Rattle.command_arguments.specs.declared.forms.Place.{Place}
 use Rattle.command_arguments.specs.declared.forms.Place.TheVariants.{At, After, Before}
+use Rattle.command_arguments.specs.declared.wanted.Wanted.{Wanted}
+use Rattle.command_arguments.specs.declared.wanted.Wanted.TheVariants.{Meeting, Refused}
+use Rattle.filters.specs.Expressions.{Expression}
+use Rattle.filters.specs.declared.matching.Case.{Case}
+use Rattle.filters.specs.declared.matching.Case.TheVariants.{Heeded, Ignored}
 use Rattle.mpd_text.specs.Answers.Answer.{pair_line}
 use Rattle.mpd_text.specs.Answers.Range.{places, within}
 use Rattle.mpd_text.specs.Songs.Song.{SongData}
-use Rattle.mpd_text.specs.declared.answers.answer.ErrorNumber.TheVariants.{PlaylistMax, PlayerSync}
+use Rattle.mpd_text.specs.declared.answers.answer.ErrorNumber.TheVariants.{Argument, PlaylistMax, PlayerSync}
 use Rattle.mpd_text.specs.declared.answers.ranges.Range.{Range}
 use Rattle.mpd_text.specs.declared.songs.song.TagName.{TagName}
 use Rattle.known_tags.specs.Lines.{song_lines_with}
@@ -18,6 +23,9 @@ use Rattle.song_queue.specs.declared.entry.Entry.{Entry}
 use Rattle.song_queue.specs.Entries.{rows_at}
 use Rattle.song_queue.specs.State.{QueueState, queue_of, changed, position_of}
 use Rattle.song_search.specs.Folders.{is_folder, under}
+use Rattle.song_search.specs.Truth.{meets}
+use Rattle.queue_commands.specs.declared.queue_edits.Misplaced.{Misplaced}
+use Rattle.queue_commands.specs.declared.queue_edits.Misplaced.TheVariants.{NoCurrentSong, OutOfRange}
 use Rattle.transitions.specs.CommandResults.{bad_index, does, edits, no_such_song, refusal, shows}
 use Rattle.player_state.specs.declared.effect.CommandEffect.TheVariants.{Shuffles}
 use Rattle.transitions.specs.declared.asked.Asked.{Asked}
@@ -48,43 +56,8 @@ unless_lacking asked part (Some text) added = refusal asked PlaylistMax text
 abbrev pub with_room : Asked → Part → ℕ → CommandResult → CommandResult
 with_room asked part songs added = unless_lacking asked part (lack part songs) added
 
--- songs go to the end of the queue: all of them, or none
-abbrev pub add_songs : Asked → Part → List SongData → CommandResult
-add_songs asked part songs = with_room asked part (length songs) (edits asked (Insert (count part) songs) (codes ""))
-
-abbrev pub add_folder : Asked → Part → Library → List ℕ → CommandResult
-add_folder asked part library folder = if is_folder folder library.songs then add_songs asked part (under folder library.songs) else no_such_song asked
-
-abbrev pub add_song_or_folder : Asked → Part → Library → Option SongData → List ℕ → CommandResult
-add_song_or_folder asked part library (Some song) uri = add_songs asked part (song ∷ [])
-add_song_or_folder asked part library None uri = add_folder asked part library uri
-
--- a song is added, or all songs under a folder; a name that is a song's is taken as the song
-abbrev pub add : Asked → Part → Library → List ℕ → CommandResult
-add asked part library uri = add_song_or_folder asked part library (song_of library.songs uri) uri
-
--- a song goes to a place, where nothing lacks, and these lines are shown
-abbrev pub insert_one : Asked → Part → SongData → ℕ → List ℕ → CommandResult
-insert_one asked part song place lines = with_room asked part 1 (edits asked (Insert place (song ∷ [])) lines)
-
--- a song goes to a place, and its id is told
-abbrev pub insert_at : Asked → Part → SongData → ℕ → CommandResult
-insert_at asked part song place =
-    if nat_lt (count part) place then bad_index asked
-    else insert_one asked part song place (pair_line (codes "Id") (decimal (part.queue.greatest_id + 1)))
-
 abbrev pub no_current_song : Asked → CommandResult
 no_current_song asked = refusal asked PlayerSync (codes "no current song")
-
--- at a place after the one that follows the current song
-abbrev pub insert_after : Asked → Part → SongData → Option ℕ → ℕ → CommandResult
-insert_after asked part song None steps = no_current_song asked
-insert_after asked part song (Some place) steps = insert_at asked part song (place + 1 + steps)
-
--- at a place before the current song
-abbrev pub insert_before : Asked → Part → SongData → Option ℕ → ℕ → CommandResult
-insert_before asked part song None steps = no_current_song asked
-insert_before asked part song (Some place) steps = if nat_lt place steps then bad_index asked else insert_at asked part song (place - steps)
 
 -- the place of the song with an id, if there is one
 abbrev pub place_of_id : QueueState → Option ℕ → Option ℕ
@@ -95,12 +68,59 @@ place_of_id queue (Some id) = position_of queue id
 abbrev pub current_place : Part → Option ℕ
 current_place part = place_of_id part.queue part.player.current
 
--- without a place it goes to the end; a place may count from the current song
+-- a place of the queue, or the one after its last
+abbrev pub within_queue : Part → ℕ → Result ℕ Misplaced
+within_queue part place = if nat_lt (count part) place then Err OutOfRange else Ok place
+
+-- so many steps after the one that follows the current song
+abbrev pub place_after : Part → Option ℕ → ℕ → Result ℕ Misplaced
+place_after part None steps = Err NoCurrentSong
+place_after part (Some place) steps = within_queue part (place + 1 + steps)
+
+-- so many steps before the current song
+abbrev pub place_before : Option ℕ → ℕ → Result ℕ Misplaced
+place_before None steps = Err NoCurrentSong
+place_before (Some place) steps = if nat_lt place steps then Err OutOfRange else Ok (place - steps)
+
+-- the place that is meant: without one the end; it may count from the current song
+abbrev pub place_in : Part → Option Place → Result ℕ Misplaced
+place_in part None = Ok (count part)
+place_in part (Some (At place)) = within_queue part place
+place_in part (Some (After steps)) = place_after part (current_place part) steps
+place_in part (Some (Before steps)) = place_before (current_place part) steps
+
+abbrev pub refused_place : Asked → Misplaced → CommandResult
+refused_place asked NoCurrentSong = no_current_song asked
+refused_place asked OutOfRange = bad_index asked
+
+-- songs go to a place, where nothing lacks, and these lines are shown
+abbrev pub insert : Asked → Part → List SongData → ℕ → List ℕ → CommandResult
+insert asked part songs place lines = with_room asked part (length songs) (edits asked (Insert place songs) lines)
+
+abbrev pub insert_where : Asked → Part → List SongData → List ℕ → Result ℕ Misplaced → CommandResult
+insert_where asked part songs lines (Ok place) = insert asked part songs place lines
+insert_where asked part songs lines (Err fault) = refused_place asked fault
+
+-- songs go to a place or to the end of the queue: all of them, or none. The first of them stands there
+abbrev pub add_songs : Asked → Part → List SongData → Option Place → CommandResult
+add_songs asked part songs place = insert_where asked part songs (codes "") (place_in part place)
+
+abbrev pub add_folder : Asked → Part → Library → List ℕ → Option Place → CommandResult
+add_folder asked part library folder place =
+    if is_folder folder library.songs then add_songs asked part (under folder library.songs) place else no_such_song asked
+
+abbrev pub add_song_or_folder : Asked → Part → Library → Option SongData → List ℕ → Option Place → CommandResult
+add_song_or_folder asked part library (Some song) uri place = add_songs asked part (song ∷ []) place
+add_song_or_folder asked part library None uri place = add_folder asked part library uri place
+
+-- a song is added, or all songs under a folder; a name that is a song's is taken as the song
+abbrev pub add : Asked → Part → Library → List ℕ → Option Place → CommandResult
+add asked part library uri place = add_song_or_folder asked part library (song_of library.songs uri) uri place
+
+-- a song goes to a place, and its id is told
 abbrev pub insert_song : Asked → Part → SongData → Option Place → CommandResult
-insert_song asked part song None = insert_at asked part song (count part)
-insert_song asked part song (Some (At place)) = insert_at asked part song place
-insert_song asked part song (Some (After steps)) = insert_after asked part song (current_place part) steps
-insert_song asked part song (Some (Before steps)) = insert_before asked part song (current_place part) steps
+insert_song asked part song place =
+    insert_where asked part (song ∷ []) (pair_line (codes "Id") (decimal (part.queue.greatest_id + 1))) (place_in part place)
 
 abbrev pub add_one : Asked → Part → Option SongData → Option Place → CommandResult
 add_one asked part None place = no_such_song asked
@@ -249,6 +269,25 @@ show_places asked part lines (Some r) =
 abbrev pub playlist : Asked → Part → CommandResult
 playlist asked part = show_places asked part uri_line (Some (places 0 (count part)))
 
+-- whether there is an entry whose song meets a filter
+abbrev pub met_by : Case → Expression → Option Entry → Bool
+met_by case e None = false
+met_by case e (Some entry) = meets case e entry.song
+
+abbrev pub meets_at : QueueState → Case → Expression → ℕ → Bool
+meets_at queue case e place = met_by case e (slice_get (queue_of queue) place)
+
+-- the entries whose songs meet a filter, each with its place
+abbrev pub meeting : QueueState → Case → Expression → List (ℕ × Entry)
+meeting queue case e =
+    filter (λ (row : ℕ × Entry). meets case e row.1.song) (rows_at (queue_of queue) (range_with_len 0 (length (queue_of queue))))
+
+-- the songs of the queue that meet a filter, by their places
+abbrev pub playlist_find : Asked → Part → Library → Case → Wanted → CommandResult
+playlist_find asked part library case (Meeting e) =
+    shows asked (flat_map (entry_lines (tags_for asked part) library.rate) (meeting part.queue case e))
+playlist_find asked part library case (Refused text) = refusal asked Argument text
+
 -- the songs at some places
 abbrev pub show_songs : Asked → Part → Library → Option (Places ℕ) → CommandResult
 show_songs asked part library places = show_places asked part (entry_lines (tags_for asked part) library.rate) places
@@ -295,7 +334,7 @@ changed_places asked part version range = show_changed asked part place_lines ve
 
 -- what each command makes of the player
 unfoldable pub result_of : Asked → Part → Library → QueueCommand → CommandResult
-result_of asked part library (queue.Add uri) = add asked part library uri.0
+result_of asked part library (queue.Add uri place) = add asked part library uri.0 place
 result_of asked part library (queue.AddId uri place) = add_id asked part library uri.0 place
 result_of asked part library queue.Clear = clear asked part
 result_of asked part library (queue.Delete range) = delete asked part range
@@ -303,8 +342,10 @@ result_of asked part library (queue.DeleteId id) = delete_id asked part id
 result_of asked part library (queue.Move range to) = move asked part range to
 result_of asked part library (queue.MoveId id to) = move_id asked part id to
 result_of asked part library queue.Playlist = playlist asked part
+result_of asked part library (queue.PlaylistFind wanted) = playlist_find asked part library Heeded wanted
 result_of asked part library (queue.PlaylistId id) = playlist_id asked part library id
 result_of asked part library (queue.PlaylistInfo range) = playlist_info asked part library range
+result_of asked part library (queue.PlaylistSearch wanted) = playlist_find asked part library Ignored wanted
 result_of asked part library (queue.PlChanges version range) = changes asked part library version range
 result_of asked part library (queue.PlChangesPosId version range) = changed_places asked part version range
 result_of asked part library (queue.Prio priority ranges) = prio asked part priority ranges

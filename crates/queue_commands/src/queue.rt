@@ -8,7 +8,10 @@ use crate::queue_edits::{
     add, add_id, clear, delete, delete_id, move_id, move_range, prio, prio_id, shuffle, swap,
     swap_id,
 };
-use crate::queue_songs::{changed_places, changes, playlist, playlist_id, playlist_info};
+use crate::queue_songs::{
+    changed_places, changes, playlist, playlist_find, playlist_id, playlist_info,
+};
+use filters::Case;
 use mpd_command::QueueCommand;
 use player_state::{Library, Part};
 use std::alloc::{AllocError, Global};
@@ -22,7 +25,7 @@ pub fn run(alloc: Global, asked: Asked, part: &Part, library: &Library, command:
     ensures fits { IfOk result (λ transition. Fits part.now transition.effect) }
 {
     match command {
-        QueueCommand::Add(uri) => add(alloc, asked, part, library, uri),
+        QueueCommand::Add(uri, place) => add(alloc, asked, part, library, uri, *place),
         QueueCommand::AddId(uri, place) => add_id(alloc, asked, part, library, uri, *place),
         QueueCommand::Clear => clear(alloc, asked, part),
         QueueCommand::Delete(range) => delete(alloc, asked, part, *range),
@@ -30,8 +33,10 @@ pub fn run(alloc: Global, asked: Asked, part: &Part, library: &Library, command:
         QueueCommand::Move(range, to) => move_range(alloc, asked, part, *range, *to),
         QueueCommand::MoveId(id, to) => move_id(alloc, asked, part, *id, *to),
         QueueCommand::Playlist => playlist(alloc, asked, part, library),
+        QueueCommand::PlaylistFind(wanted) => playlist_find(alloc, asked, part, library, Case::Heeded, wanted),
         QueueCommand::PlaylistId(id) => playlist_id(alloc, asked, part, library, *id),
         QueueCommand::PlaylistInfo(range) => playlist_info(alloc, asked, part, library, *range),
+        QueueCommand::PlaylistSearch(wanted) => playlist_find(alloc, asked, part, library, Case::Ignored, wanted),
         QueueCommand::PlChanges(version, range) => changes(alloc, asked, part, library, *version, *range),
         QueueCommand::PlChangesPosId(version, range) => changed_places(alloc, asked, part, library, *version, *range),
         QueueCommand::Prio(priority, ranges) => prio(alloc, asked, part, *priority, ranges.items()),

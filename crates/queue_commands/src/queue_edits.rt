@@ -1,11 +1,11 @@
 //! The commands that edit the queue (MPD protocol reference, The queue).
 ghost use Rattle.player_state.specs.declared.effect.Effect.TheVariants.{ByCommand};
 ghost use Rattle.player_state.specs.declared.effect.CommandEffect.TheVariants.{Rests};
-ghost use Rattle.std.specs.Prelude.{◌≡◌, ◌≤◌, ◌<◌, IfOk, IfSome, IfNone, length, map};
+ghost use Rattle.std.specs.Prelude.{◌≡◌, ◌≤◌, ◌<◌, [], ◌∷◌, IfOk, IfSome, IfNone, length, map};
 ghost use Rattle.std.specs.Option.{option_copied};
 ghost use Rattle.song_queue.specs.State.{queue_of};
 ghost use Rattle.player_state.specs.declared.effect.CommandEffect.{CommandEffect};
-ghost use Rattle.queue_commands.specs.Queue.{AllLieIn, CanAdd, LieIn, add as add_lem, add_folder as add_folder_lem, add_songs, lack as lack_lem, add_id as add_id_lem, insert_song as insert_song_lem, insert_after as insert_after_lem, insert_at as insert_at_lem, insert_before as insert_before_lem, insert_one as insert_one_lem, current_place as current_place_lem, no_current_song as no_current_song_lem, shuffle as shuffle_lem, clear as clear_lem, delete as delete_lem, delete_id as delete_id_lem, move as move_lem, move_id as move_id_lem, swap as swap_lem, swap_id as swap_id_lem, prio as prio_lem, prio_id as prio_id_lem, all_within, all_with_ids, place_with};
+ghost use Rattle.queue_commands.specs.Queue.{AllLieIn, CanAdd, LieIn, add as add_lem, add_folder as add_folder_lem, add_songs as add_songs_lem, lack as lack_lem, add_id as add_id_lem, insert as insert_lem, insert_song as insert_song_lem, refused_place as refused_place_lem, place_after as place_after_lem, place_before as place_before_lem, place_in as place_in_lem, within_queue as within_queue_lem, current_place as current_place_lem, no_current_song as no_current_song_lem, shuffle as shuffle_lem, clear as clear_lem, delete as delete_lem, delete_id as delete_id_lem, move as move_lem, move_id as move_id_lem, swap as swap_lem, swap_id as swap_id_lem, prio as prio_lem, prio_id as prio_id_lem, all_within, all_with_ids, place_with};
 ghost use Rattle.transitions.specs.Transitions.{IsDecidedBy};
 ghost use Rattle.player_state.specs.Fits.{Fits};
 
@@ -20,22 +20,21 @@ use std::alloc::{AllocError, Global};
 use std::ops;
 use transitions::{Asked, Transition};
 
+/// Adds a song, or all songs under a folder, at a place or at the end.
 pub(crate) fn add(
     alloc: Global,
     asked: Asked,
     part: &Part,
     library: &Library,
     uri: &Uri,
+    place: Option<Place>,
 ) -> Result<Transition, AllocError>
-    ensures transition { IsDecidedBy result (add_lem asked part.now library.now uri.now.0) }
+    ensures transition { IsDecidedBy result (add_lem asked part.now library.now uri.now.0 place) }
     ensures fits { IfOk result (λ transition. Fits part.now transition.effect) }
 {
     match library.songs.db().share(uri.0.as_str())? {
-        Some(song) => {
-            let end = part.queue.len();
-            insert_one(alloc, asked, part, song, end, Answer::new(alloc))
-        }
-        None => add_folder(alloc, asked, part, library, uri.0.as_str()),
+        Some(song) => add_songs(alloc, asked, part, one_song(alloc, song)?, place),
+        None => add_folder(alloc, asked, part, library, uri.0.as_str(), place),
     }
 }
 
@@ -46,23 +45,29 @@ fn add_folder(
     part: &Part,
     library: &Library,
     folder: &str,
+    place: Option<Place>,
 ) -> Result<Transition, AllocError>
-    ensures transition { IsDecidedBy result (add_folder_lem asked part.now library.now folder.now) }
+    ensures transition { IsDecidedBy result (add_folder_lem asked part.now library.now folder.now place) }
     ensures fits { IfOk result (λ transition. Fits part.now transition.effect) }
 {
     if !is_folder(library.songs.db(), folder) {
         return Transition::no_such_song(alloc, asked);
     }
-    let songs = under(library.songs.db(), folder);
-    if let Some(text) = lack(part, songs.len()) {
-        return Transition::refuses(alloc, asked, ErrorNumber::PlaylistMax, text);
-    }
-    let edit = Edit::Insert(part.queue.len(), shares(alloc, songs)?);
-    Transition::edits(asked, edit, Answer::new(alloc))
+    let songs = shares(alloc, under(library.songs.db(), folder))?;
+    add_songs(alloc, asked, part, songs, place)
+}
+
+/// A song alone.
+fn one_song(alloc: Global, song: SharedSong) -> Result<Sequence<SharedSong>, AllocError>
+    ensures { IfOk result (λ songs. songs ≡ song ∷ []) }
+{
+    let mut songs = Sequence::new(alloc);
+    songs.push(song).map_err(AllocError::from)?;
+    Ok(songs)
 }
 
 /// A handle to each of some songs.
-fn shares(alloc: Global, songs: &[SharedSong]) -> Result<Sequence<SharedSong>, AllocError>
+pub fn shares(alloc: Global, songs: &[SharedSong]) -> Result<Sequence<SharedSong>, AllocError>
     ensures { IfOk result (λ shared. shared ≡ songs.now) }
 {
     let mut shared = Sequence::new(alloc);
@@ -72,42 +77,11 @@ fn shares(alloc: Global, songs: &[SharedSong]) -> Result<Sequence<SharedSong>, A
     Ok(shared)
 }
 
-/// Adds songs that were found.
-pub fn add_found(
-    alloc: Global,
-    asked: Asked,
-    part: &Part,
-    songs: &[&SharedSong],
-) -> Result<Transition, AllocError>
-    ensures transition { IsDecidedBy result (add_songs asked part.now (map (λ song. song.now) songs.now)) }
-    ensures fits { IfOk result (λ transition. Fits part.now transition.effect) }
-{
-    if let Some(text) = lack(part, songs.len()) {
-        return Transition::refuses(alloc, asked, ErrorNumber::PlaylistMax, text);
-    }
-    let edit = Edit::Insert(part.queue.len(), shares_of_found(alloc, songs)?);
-    Transition::edits(asked, edit, Answer::new(alloc))
-}
-
-/// Adds songs of a stored playlist.
-pub fn add_loaded(
-    alloc: Global,
-    asked: Asked,
-    part: &Part,
-    songs: Vec<SharedSong>,
-) -> Result<Transition, AllocError>
-    ensures transition { IsDecidedBy result (add_songs asked part.now songs.items) }
-    ensures fits { IfOk result (λ transition. Fits part.now transition.effect) }
-{
-    if let Some(text) = lack(part, songs.len()) {
-        return Transition::refuses(alloc, asked, ErrorNumber::PlaylistMax, text);
-    }
-    let edit = Edit::Insert(part.queue.len(), shares(alloc, &songs)?);
-    Transition::edits(asked, edit, Answer::new(alloc))
-}
-
 /// A handle to each of some songs that were found.
-fn shares_of_found(alloc: Global, songs: &[&SharedSong]) -> Result<Sequence<SharedSong>, AllocError>
+pub fn shares_of_found(
+    alloc: Global,
+    songs: &[&SharedSong],
+) -> Result<Sequence<SharedSong>, AllocError>
     ensures { IfOk result (λ shared. shared ≡ map (λ song. song.now) songs.now) }
 {
     let mut shared = Sequence::new(alloc);
@@ -115,6 +89,95 @@ fn shares_of_found(alloc: Global, songs: &[&SharedSong]) -> Result<Sequence<Shar
         shared.push((*song).clone()?).map_err(AllocError::from)?;
     }
     Ok(shared)
+}
+
+/// Adds songs at a place or at the end: all of them, or none.
+pub fn add_songs(
+    alloc: Global,
+    asked: Asked,
+    part: &Part,
+    songs: Sequence<SharedSong>,
+    place: Option<Place>,
+) -> Result<Transition, AllocError>
+    ensures transition { IsDecidedBy result (add_songs_lem asked part.now songs place) }
+    ensures fits { IfOk result (λ transition. Fits part.now transition.effect) }
+{
+    match place_in(part, place) {
+        Ok(place) => insert(alloc, asked, part, songs, place, Answer::new(alloc)),
+        Err(fault) => refused_place(alloc, asked, fault),
+    }
+}
+
+/// Why there is no such place in the queue.
+#[derive(Clone, Copy)]
+enum Misplaced {
+    /// It counts from the current song, and there is none.
+    NoCurrentSong,
+    /// It lies outside of the queue.
+    OutOfRange,
+}
+
+/// The place in the queue that is meant: without one its end.
+fn place_in(part: &Part, place: Option<Place>) -> Result<usize, Misplaced>
+    ensures place { result ≡ place_in_lem part.now place }
+    ensures inside { IfOk result (λ place. place ≤ length (queue_of part.now.queue)) }
+{
+    match place {
+        None => Ok(part.queue.len()),
+        Some(Place::At(place)) => within_queue(part, place as usize),
+        Some(Place::After(steps)) => place_after(part, steps as usize),
+        Some(Place::Before(steps)) => place_before(part, steps as usize),
+    }
+}
+
+/// A place, where it is not behind the end of the queue.
+fn within_queue(part: &Part, place: usize) -> Result<usize, Misplaced>
+    ensures place { result ≡ within_queue_lem part.now place }
+    ensures inside { IfOk result (λ place. place ≤ length (queue_of part.now.queue)) }
+{
+    if place > part.queue.len() {
+        return Err(Misplaced::OutOfRange);
+    }
+    Ok(place)
+}
+
+/// The place so many steps after the one that follows the current song.
+fn place_after(part: &Part, steps: usize) -> Result<usize, Misplaced>
+    ensures place { result ≡ place_after_lem part.now (current_place_lem part.now) steps }
+    ensures inside { IfOk result (λ place. place ≤ length (queue_of part.now.queue)) }
+{
+    let Some(place) = current_place(part) else {
+        return Err(Misplaced::NoCurrentSong);
+    };
+    if steps >= part.queue.len() - place {
+        return Err(Misplaced::OutOfRange);
+    }
+    Ok(place + 1 + steps)
+}
+
+/// The place so many steps before the current song.
+fn place_before(part: &Part, steps: usize) -> Result<usize, Misplaced>
+    ensures place { result ≡ place_before_lem (current_place_lem part.now) steps }
+    ensures inside { IfOk result (λ place. place ≤ length (queue_of part.now.queue)) }
+{
+    let Some(place) = current_place(part) else {
+        return Err(Misplaced::NoCurrentSong);
+    };
+    if place < steps {
+        return Err(Misplaced::OutOfRange);
+    }
+    Ok(place - steps)
+}
+
+/// There is no such place.
+fn refused_place(alloc: Global, asked: Asked, fault: Misplaced) -> Result<Transition, AllocError>
+    ensures transition { IsDecidedBy result (refused_place_lem asked fault) }
+    ensures rests { IfOk result (λ transition. transition.effect ≡ ByCommand Rests) }
+{
+    match fault {
+        Misplaced::NoCurrentSong => no_current_song(alloc, asked),
+        Misplaced::OutOfRange => Transition::bad_index(alloc, asked),
+    }
 }
 
 /// Why so many songs cannot be added, if they cannot.
@@ -131,24 +194,22 @@ fn lack(part: &Part, songs: usize) -> Option<&'static str>
     None
 }
 
-/// Puts a song in where there is room and an id, and shows these lines.
-fn insert_one(
+/// Puts songs in where there is room and an id for each, and shows these lines.
+fn insert(
     alloc: Global,
     asked: Asked,
     part: &Part,
-    song: SharedSong,
+    songs: Sequence<SharedSong>,
     place: usize,
     lines: Answer,
 ) -> Result<Transition, AllocError>
     requires { place ≤ length (queue_of part.now.queue) }
-    ensures transition { IsDecidedBy result (insert_one_lem asked part.now song place lines) }
+    ensures transition { IsDecidedBy result (insert_lem asked part.now songs place lines) }
     ensures fits { IfOk result (λ transition. Fits part.now transition.effect) }
 {
-    if let Some(text) = lack(part, 1) {
+    if let Some(text) = lack(part, songs.items().len()) {
         return Transition::refuses(alloc, asked, ErrorNumber::PlaylistMax, text);
     }
-    let mut songs = Sequence::new(alloc);
-    songs.push(song).map_err(AllocError::from)?;
     Transition::edits(asked, Edit::Insert(place, songs), lines)
 }
 
@@ -169,6 +230,7 @@ pub(crate) fn add_id(
     }
 }
 
+/// Puts a song in at a place, and tells its id.
 fn insert_song(
     alloc: Global,
     asked: Asked,
@@ -179,52 +241,14 @@ fn insert_song(
     ensures transition { IsDecidedBy result (insert_song_lem asked part.now song place) }
     ensures fits { IfOk result (λ transition. Fits part.now transition.effect) }
 {
-    match place {
-        None => insert_at(alloc, asked, part, song, part.queue.len()),
-        Some(Place::At(place)) => insert_at(alloc, asked, part, song, place as usize),
-        Some(Place::After(steps)) => insert_after(alloc, asked, part, song, steps as usize),
-        Some(Place::Before(steps)) => insert_before(alloc, asked, part, song, steps as usize),
+    match place_in(part, place) {
+        Ok(place) => {
+            let mut lines = Answer::new(alloc);
+            lines.pair("Id", u64::from(part.queue.greatest_id()) + 1)?;
+            insert(alloc, asked, part, one_song(alloc, song)?, place, lines)
+        }
+        Err(fault) => refused_place(alloc, asked, fault),
     }
-}
-
-/// Puts a song in at a place after the one that follows the current song.
-fn insert_after(
-    alloc: Global,
-    asked: Asked,
-    part: &Part,
-    song: SharedSong,
-    steps: usize,
-) -> Result<Transition, AllocError>
-    ensures transition { IsDecidedBy result (insert_after_lem asked part.now song (current_place_lem part.now) steps) }
-    ensures fits { IfOk result (λ transition. Fits part.now transition.effect) }
-{
-    let Some(place) = current_place(part) else {
-        return no_current_song(alloc, asked);
-    };
-    if steps >= part.queue.len() - place {
-        return Transition::bad_index(alloc, asked);
-    }
-    insert_at(alloc, asked, part, song, place + 1 + steps)
-}
-
-/// Puts a song in at a place before the current song.
-fn insert_before(
-    alloc: Global,
-    asked: Asked,
-    part: &Part,
-    song: SharedSong,
-    steps: usize,
-) -> Result<Transition, AllocError>
-    ensures transition { IsDecidedBy result (insert_before_lem asked part.now song (current_place_lem part.now) steps) }
-    ensures fits { IfOk result (λ transition. Fits part.now transition.effect) }
-{
-    let Some(place) = current_place(part) else {
-        return no_current_song(alloc, asked);
-    };
-    if place < steps {
-        return Transition::bad_index(alloc, asked);
-    }
-    insert_at(alloc, asked, part, song, place - steps)
 }
 
 /// The place of the current song, if there is one.
@@ -240,25 +264,6 @@ fn no_current_song(alloc: Global, asked: Asked) -> Result<Transition, AllocError
     ensures rests { IfOk result (λ transition. transition.effect ≡ ByCommand Rests) }
 {
     Transition::refuses(alloc, asked, ErrorNumber::PlayerSync, "no current song")
-}
-
-/// Puts a song in at a place, and tells its id.
-fn insert_at(
-    alloc: Global,
-    asked: Asked,
-    part: &Part,
-    song: SharedSong,
-    place: usize,
-) -> Result<Transition, AllocError>
-    ensures transition { IsDecidedBy result (insert_at_lem asked part.now song place) }
-    ensures fits { IfOk result (λ transition. Fits part.now transition.effect) }
-{
-    if place > part.queue.len() {
-        return Transition::bad_index(alloc, asked);
-    }
-    let mut lines = Answer::new(alloc);
-    lines.pair("Id", u64::from(part.queue.greatest_id()) + 1)?;
-    insert_one(alloc, asked, part, song, place, lines)
 }
 
 pub(crate) fn clear(alloc: Global, asked: Asked, part: &Part) -> Result<Transition, AllocError>

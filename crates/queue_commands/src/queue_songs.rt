@@ -1,14 +1,17 @@
 //! The commands that show the queue (MPD protocol reference, The queue).
 ghost use Rattle.std.specs.Prelude.{◌≡◌, ◌++◌, Some, IfOk, IfSome, OnOk};
 ghost use Rattle.std.specs.Option.{option_copied};
-ghost use Rattle.queue_commands.specs.Queue.{LieIn, changed_between, changed_places as changed_places_lem, changes as changes_lem, entry_lines, playlist as playlist_lem, playlist_id as playlist_id_lem, playlist_info as playlist_info_lem, place_lines, priority_line, range_or_all, rows_in, uri_line};
+ghost use Rattle.queue_commands.specs.Queue.{LieIn, changed_between, changed_places as changed_places_lem, changes as changes_lem, entry_lines, meeting, meets_at as meets_at_lem, playlist as playlist_lem, playlist_find as playlist_find_lem, playlist_id as playlist_id_lem, playlist_info as playlist_info_lem, place_lines, priority_line, range_or_all, rows_in, uri_line};
 ghost use Rattle.queue_commands.specs.Shown.{changes_as, row_as, rows_as, places_as};
 ghost use Rattle.transitions.specs.Transitions.{IsDecidedBy};
 
+use command_arguments::Wanted;
+use filters::{Case, Filter};
 use known_tags::{TagSet, push_song_with};
-use mpd_text::{Answer, Range};
+use mpd_text::{Answer, ErrorNumber, Range};
 use player_state::{Library, Part};
 use song_queue::{Entry, Queue};
+use song_search::does_meet;
 use std::alloc::{AllocError, Global};
 use std::ops;
 use transitions::{Asked, Transition};
@@ -66,6 +69,58 @@ pub(crate) fn playlist_id(
     match part.queue.position_of(id) {
         Some(place) => { show_places(alloc, asked, part, library, Shown::Song, place..place + 1) }
         None => Transition::no_such_song(alloc, asked),
+    }
+}
+
+/// Shows the songs of the queue that meet a filter.
+pub(crate) fn playlist_find(
+    alloc: Global,
+    asked: Asked,
+    part: &Part,
+    library: &Library,
+    case: Case,
+    wanted: &Wanted,
+) -> Result<Transition, AllocError>
+    ensures { IsDecidedBy result (playlist_find_lem asked part.now library.now case wanted.now) }
+{
+    match wanted {
+        Wanted::Meeting(filter) => {
+            let places = places_meeting(alloc, &part.queue, filter, case)?;
+            let tags = part.tags.of(asked.client);
+            let lines = rows(alloc, &part.queue, library, &places, Shown::Song, tags)?;
+            Transition::shows(asked, lines)
+        }
+        Wanted::Refused(text) => {
+            Transition::refuses(alloc, asked, ErrorNumber::Argument, text.as_str())
+        }
+    }
+}
+
+/// The places whose songs meet a filter, rising.
+fn places_meeting(
+    alloc: Global,
+    queue: &Queue,
+    filter: &Filter,
+    case: Case,
+) -> Result<Vec<usize>, AllocError>
+    ensures { IfOk result (λ places. rows_in queue.now places.items ≡ meeting queue.now case filter.now) }
+{
+    let mut places = Vec::new(alloc);
+    for place in 0..queue.len() {
+        if meets_at(queue, place, filter, case)? {
+            places.push(place)?;
+        }
+    }
+    Ok(places)
+}
+
+/// Whether there is a song at a place that meets a filter.
+fn meets_at(queue: &Queue, place: usize, filter: &Filter, case: Case) -> Result<bool, AllocError>
+    ensures { IfOk result (λ met. met ≡ meets_at_lem queue.now case filter.now place) }
+{
+    match queue.get(place) {
+        Some(entry) => does_meet(entry.song.song(), filter, case),
+        None => Ok(false),
     }
 }
 

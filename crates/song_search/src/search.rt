@@ -39,7 +39,7 @@ pub fn find<'a>(
 }
 
 /// Whether a song meets a filter.
-fn does_meet(song: &Song, filter: &Filter, case: Case) -> Result<bool, AllocError>
+pub fn does_meet(song: &Song, filter: &Filter, case: Case) -> Result<bool, AllocError>
     ensures { IfOk result (λ met. met ≡ meets case filter.now song.now) }
 {
     match filter.matches(song, case) {
