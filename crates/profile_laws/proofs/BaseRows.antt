@@ -1,0 +1,342 @@
+-- What the rows of the tables read in the base profile.
+use Rattle.std.proofs.Common.{◌≡◌, ◌∙◌, ℕ, Bool, true, false, cond, List, [], ◌∷◌, take, drop, Option, Some, None, Result, Ok, Err, refl, sym, ap}
+use Rattle.std.specs.Str.{bytes_eq}
+use Rattle.std.proofs.lemmas.Slice.Eq.{bytes_eq-Decides}
+use Rattle.mpd_text.specs.declared.songs.song.TagName.{TagName}
+use Rattle.mpd_text.specs.declared.songs.song.TagName.TheVariants as six
+use Rattle.known_tags.specs.KnownTags.{base_of}
+use Rattle.filters.specs.declared.expression.Test.{Test}
+use Rattle.filters.specs.declared.expression.Test.TheVariants.{Equals, Contains}
+use Rattle.filters.specs.declared.words.Vocabulary.TheVariants.{Base}
+use Rattle.command_arguments.specs.Forms as forms
+use Rattle.command_arguments.specs.Readers.{map_ok, one_of, one_perhaps_of}
+use Rattle.command_arguments.specs.Wanted.{filter_length, filter_of, filter_window_of, one_filter_of, perhaps_window_of}
+use Rattle.command_arguments.specs.declared.forms.Place.{Place}
+use Rattle.command_arguments.specs.declared.forms.Uri.{Uri}
+use Rattle.command_arguments.specs.declared.readers.Misread.{Misread}
+use Rattle.selections.specs.Groupings.{counting_of, grouping_of, known_as}
+use Rattle.selections.specs.Selections.{placed_selection_of, selection_of}
+use Rattle.selections.specs.declared.asked.Selection.{Selection}
+use Rattle.mpd_text.specs.Answers.Range.{range_of}
+use Rattle.mpd_command.specs.Names.{is_there}
+use Rattle.mpd_command.specs.Tables.{Row, found}
+use Rattle.mpd_command.specs.Connection.{rows as connection_rows}
+use Rattle.mpd_command.specs.Database.{rows as database_rows}
+use Rattle.mpd_command.specs.Options.{rows as options_rows}
+use Rattle.mpd_command.specs.Playlists.{rows as playlists_rows}
+use Rattle.mpd_command.specs.Queue.{rows as queue_rows}
+use Rattle.mpd_command.specs.Status.{rows as status_rows}
+use Rattle.command_arguments.specs.declared.forms.Window.{Window}
+use Rattle.command_arguments.specs.declared.wanted.Wanted.{Wanted}
+use Rattle.profile_laws.proofs.BaseFilters.{Reads, alone, both-first, filter-base, from-read, mapped, one-filter-base}
+use Rattle.profile_laws.specs.Base.{IsBaseFilter, MayBeFilter, IsBaseAddition, IsBaseConnection, IsBaseCounting, IsBaseDatabase, IsBaseGrouping, IsBaseOption, IsBasePlaylist, IsBaseQueue, IsBaseSelection, IsBaseStatus, base_set}
+
+-- what is found is so, where something is found
+abbrev pub Finds : {A : Type 0} → (A → Type 0) → Result (Option A) Misread → Type 0
+Finds P (Ok None) = Unit {0}
+Finds P (Ok (Some a)) = P a
+Finds P (Err e) = Unit {0}
+
+-- each row that is there reads so
+abbrev Rows : {A : Type 0} → (A → Type 0) → Bool → List (Row A) → Type 0
+Rows P kill [] = Unit {0}
+Rows P kill (row ∷ rows) = ((words : List (List ℕ)) → is_there row.0 (base_set kill) ≡ true → Reads P (row.1 words)) × Rows P kill rows
+
+chosen : {A : Type 0} (P : A → Type 0) (b : Bool) (r : Result A Misread) (rest : Result (Option A) Misread)
+    → (b ≡ true → Reads P r) → Finds P rest → Finds P (cond b (map_ok Some r) rest)
+chosen P true (Ok a) rest h k = h refl
+chosen P true (Err e) rest h k = tt
+chosen P false r rest h k = k
+
+found-in : {A : Type 0} (P : A → Type 0) (kill : Bool) (rows : List (Row A)) → Rows P kill rows
+    → (word : List ℕ) (words : List (List ℕ)) → is_there word (base_set kill) ≡ true → Finds P (found rows word words)
+found-in P kill [] h word words there = tt
+found-in P kill (row ∷ rows) h word words there =
+    chosen P (bytes_eq word row.0) (row.1 words) (found rows word words)
+    (λ same. h.0 words (ap (λ w. is_there w (base_set kill)) (sym ((bytes_eq-Decides word row.0).0 same)) ∙ there))
+    (found-in P kill rows h.1 word words there)
+
+-- a row that the everyday profile adds is not there
+none-there : {B : Type 0} → false ≡ true → B
+none-there e = absurd (cc)
+
+-- the readers of the base profile
+counts : (words : List (List ℕ)) → Reads IsBaseCounting (counting_of false words)
+unfolding counting_of
+counts words = from-read IsBaseFilter IsBaseCounting _ (filter_of Base Equals words) (filter-base Equals words) (λ wanted h. (wanted, refl, h, refl))
+
+is-six : (name : TagName) → base_of (known_as name) ≡ Some name
+is-six six.Title = refl
+is-six six.Artist = refl
+is-six six.Album = refl
+is-six six.Date = refl
+is-six six.Genre = refl
+is-six six.Comment = refl
+
+abbrev HasFilter : TagName × Option Wanted → Type 0
+HasFilter p = MayBeFilter p.1
+
+groups : (words : List (List ℕ)) → Reads IsBaseGrouping (grouping_of false words)
+unfolding grouping_of
+groups words =
+    from-read HasFilter IsBaseGrouping _ (one_filter_of forms.tag_of Base Equals words) (one-filter-base forms.tag_of Equals words) (λ p h. (known_as p.0, p.0, refl, is-six p.0, h))
+
+abbrev IsFiltered : Wanted × Option Window → Type 0
+IsFiltered p = IsBaseFilter p.0
+
+selects : (test : Test) (words : List (List ℕ)) → Reads IsBaseSelection (selection_of false test words)
+unfolding selection_of
+selects test words =
+    let own : List (List ℕ) = take (filter_length words) words in
+    from-read IsFiltered IsBaseSelection _ (filter_window_of Base test words)
+    (both-first IsBaseFilter (filter_of Base test own) (perhaps_window_of (drop (filter_length words) words)) (filter-base test own)) (λ p h. (h, refl))
+
+abbrev IsAddition : Selection × Option Place → Type 0
+IsAddition p = IsBaseAddition p.0 p.1
+
+adds : (test : Test) (words : List (List ℕ)) → Reads IsAddition (placed_selection_of false test words)
+unfolding placed_selection_of
+adds test words = from-read IsBaseFilter IsAddition _ (filter_of Base test words) (filter-base test words) (λ wanted h. ((h, refl), refl, refl))
+
+-- the tables
+connection : (kill : Bool) → Rows IsBaseConnection kill (connection_rows (base_set kill))
+unfolding connection_rows
+connection kill = (
+  (λ words there. alone IsBaseConnection _ words tt),
+  (
+    (λ words there. alone IsBaseConnection _ words refl),
+    (
+      (λ words there. none-there there),
+      (
+        (λ words there. alone IsBaseConnection _ words tt),
+        (
+          (λ words there. none-there there),
+          (
+            (λ words there. alone IsBaseConnection _ words refl),
+            (
+              (λ words there. alone IsBaseConnection _ words tt),
+              (
+                (λ words there. alone IsBaseConnection _ words tt),
+                ((λ words there. none-there there), tt),
+              ),
+            ),
+          ),
+        ),
+      ),
+    ),
+  ),
+)
+
+status : (kill : Bool) → Rows IsBaseStatus kill (status_rows (base_set kill))
+unfolding status_rows
+status kill = (
+  (λ words there. alone IsBaseStatus _ words tt),
+  (
+    (λ words there. alone IsBaseStatus _ words tt),
+    (
+      (λ words there. search mapped),
+      (
+        (λ words there. alone IsBaseStatus _ words tt),
+        (
+          (λ words there. none-there there),
+          ((λ words there. alone IsBaseStatus _ words refl), tt),
+        ),
+      ),
+    ),
+  ),
+)
+
+abbrev AtEnd : Uri × Option Place → Type 0
+AtEnd p = p.1 ≡ None
+
+queue : (kill : Bool) → Rows IsBaseQueue kill (queue_rows (base_set kill))
+unfolding queue_rows
+queue kill = (
+  (λ words there. from-read AtEnd IsBaseQueue _ _ (mapped AtEnd _ (one_of forms.uri_of words) (λ uri. refl)) (λ p none. none)),
+  (
+    (λ words there. search mapped),
+    (
+      (λ words there. alone IsBaseQueue _ words tt),
+      (
+        (λ words there. search mapped),
+        (
+          (λ words there. search mapped),
+          (
+            (λ words there. search mapped),
+            (
+              (λ words there. search mapped),
+              (
+                (λ words there. none-there there),
+                (
+                  (λ words there. none-there there),
+                  (
+                    (λ words there. search mapped),
+                    (
+                      (λ words there. search mapped),
+                      (
+                        (λ words there. none-there there),
+                        (
+                          (λ words there. search mapped),
+                          (
+                            (λ words there. search mapped),
+                            (
+                              (λ words there. search mapped),
+                              (
+                                (λ words there. search mapped),
+                                (
+                                  (λ words there. search mapped),
+                                  (
+                                    (λ words there. search mapped),
+                                    ((λ words there. search mapped), tt),
+                                  ),
+                                ),
+                              ),
+                            ),
+                          ),
+                        ),
+                      ),
+                    ),
+                  ),
+                ),
+              ),
+            ),
+          ),
+        ),
+      ),
+    ),
+  ),
+)
+
+options : (kill : Bool) → Rows IsBaseOption kill options_rows
+unfolding options_rows
+options kill = (
+  (λ words there. search mapped),
+  (
+    (λ words there. search mapped),
+    (
+      (λ words there. alone IsBaseOption _ words tt),
+      (
+        (λ words there. search mapped),
+        (
+          (λ words there. search mapped),
+          (
+            (λ words there. none-there there),
+            (
+              (λ words there. none-there there),
+              (
+                (λ words there. search mapped),
+                (
+                  (λ words there. search mapped),
+                  ((λ words there. none-there there), tt),
+                ),
+              ),
+            ),
+          ),
+        ),
+      ),
+    ),
+  ),
+)
+
+database : (kill : Bool) → Rows IsBaseDatabase kill (database_rows (base_set kill))
+unfolding database_rows
+database kill = (
+  (λ words there. none-there there),
+  (
+    (λ words there. from-read IsBaseCounting IsBaseDatabase _ _ (counts words) (λ counting h. h)),
+    (
+      (λ words there. from-read IsBaseSelection IsBaseDatabase _ _ (selects Equals words) (λ selection h. h)),
+      (
+        (λ words there. from-read IsAddition IsBaseDatabase _ _ (adds Equals words) (λ p h. h)),
+        (
+          (λ words there. from-read IsBaseGrouping IsBaseDatabase _ _ (groups words) (λ grouping h. h)),
+          (
+            (λ words there. search mapped),
+            (
+              (λ words there. none-there there),
+              (
+                (λ words there. search mapped),
+                (
+                  (λ words there. none-there there),
+                  (
+                    (λ words there. none-there there),
+                    (
+                      (λ words there. search mapped),
+                      (
+                        (λ words there. from-read IsBaseSelection IsBaseDatabase _ _ (selects Contains words) (λ selection h. h)),
+                        (
+                          (λ words there. from-read IsAddition IsBaseDatabase _ _ (adds Contains words) (λ p h. h)),
+                          (
+                            (λ words there. none-there there),
+                            ((λ words there. search mapped), tt),
+                          ),
+                        ),
+                      ),
+                    ),
+                  ),
+                ),
+              ),
+            ),
+          ),
+        ),
+      ),
+    ),
+  ),
+)
+
+abbrev WithoutPlace : {A B : Type 0} → A × B × Option Place → Type 0
+WithoutPlace p = p.2 ≡ None
+
+playlists : (kill : Bool) → Rows IsBasePlaylist kill (playlists_rows (base_set kill))
+unfolding playlists_rows
+playlists kill = (
+  (λ words there. search mapped),
+  (
+    (λ words there. search mapped),
+    (
+      (λ words there. alone IsBasePlaylist _ words tt),
+      (
+        (λ words there. from-read WithoutPlace IsBasePlaylist _ _ (mapped WithoutPlace _ (one_perhaps_of forms.any_text range_of words) (λ p. refl)) (λ p none. none)),
+        (
+          (λ words there. search mapped),
+          (
+            (λ words there. search mapped),
+            (
+              (λ words there. search mapped),
+              (
+                (λ words there. search mapped),
+                (
+                  (λ words there. search mapped),
+                  (
+                    (λ words there. search mapped),
+                    ((λ words there. search mapped), tt),
+                  ),
+                ),
+              ),
+            ),
+          ),
+        ),
+      ),
+    ),
+  ),
+)
+
+-- what is found in them
+module _ (kill : Bool) (word : List ℕ) (words : List (List ℕ)) (there : is_there word (base_set kill) ≡ true) where
+  pub connection-found : Finds IsBaseConnection (found (connection_rows (base_set kill)) word words)
+  connection-found = found-in IsBaseConnection kill (connection_rows (base_set kill)) (connection kill) word words there
+
+  pub status-found : Finds IsBaseStatus (found (status_rows (base_set kill)) word words)
+  status-found = found-in IsBaseStatus kill (status_rows (base_set kill)) (status kill) word words there
+
+  pub queue-found : Finds IsBaseQueue (found (queue_rows (base_set kill)) word words)
+  queue-found = found-in IsBaseQueue kill (queue_rows (base_set kill)) (queue kill) word words there
+
+  pub options-found : Finds IsBaseOption (found options_rows word words)
+  options-found = found-in IsBaseOption kill options_rows (options kill) word words there
+
+  pub database-found : Finds IsBaseDatabase (found (database_rows (base_set kill)) word words)
+  database-found = found-in IsBaseDatabase kill (database_rows (base_set kill)) (database kill) word words there
+
+  pub playlists-found : Finds IsBasePlaylist (found (playlists_rows (base_set kill)) word words)
+  playlists-found = found-in IsBasePlaylist kill (playlists_rows (base_set kill)) (playlists kill) word words there

@@ -1,0 +1,9 @@
+pub mod HiddenLines
+pub mod HiddenInQueue
+pub mod HiddenInLibrary
+pub mod SetsOfTags
+pub mod HiddenAnswers
+pub mod KeptInQueue
+pub mod KeptInStatus
+pub mod KeptInLibrary
+pub mod KeptTags

@@ -1,0 +1,4 @@
+pub mod HiddenTags
+pub mod ShownSongs
+pub mod Results
+pub mod HiddenLines
