@@ -1,5 +1,6 @@
 #!/usr/bin/env python3
-"""Real clients against a served folder of music: mpc, python3-mpd, ncmpc and ncmpcpp (both under tmux), from Debian.
+"""Real clients against a served folder of music: mpc, python3-mpd, ncmpc and ncmpcpp (both under tmux), and with --everyday
+Cantata (under Xvfb, pressed by xdotool), from Debian.
 
     checks/serve/clients.py [PROGRAM] [--everyday]
 
@@ -26,7 +27,8 @@ LEFT_OUT = ('addtagid', 'albumart', 'binarylimit', 'clearmounts', 'cleartagid', 
             'listallinfo', 'listfiles', 'listmounts', 'listneighbors', 'listpartitions', 'mixrampdb', 'outputset', 'password', 'playlistfind',
             'playlistsearch', 'rangeid', 'readcomments', 'readpicture', 'replay_gain_status', 'searchaddpl', 'stats', 'tagtypes ', 'urlhandlers', 'volume')
 # .. of which these are there with `everyday = true`
-EVERYDAY = ('albumart', 'decoders', 'listallinfo', 'listmounts', 'readcomments', 'readpicture', 'replay_gain_status', 'stats', 'tagtypes ', 'urlhandlers', 'volume')
+EVERYDAY = ('albumart', 'decoders', 'list album', 'listallinfo', 'listmounts', 'playlistfind', 'playlistsearch', 'readcomments', 'readpicture',
+            'replay_gain_status', 'searchaddpl', 'stats', 'tagtypes ', 'urlhandlers', 'volume')
 is_everyday = '--everyday' in sys.argv[1:]
 
 
@@ -203,6 +205,12 @@ def run_mpc(steps, port):
     step(['enable', '1'], lambda told: 'enabled' in told)
     step(['channels'], lambda told: 'error' not in told)
     step(['stats'], lambda told: 'Artists' in told)
+    if is_everyday:
+        step(['list', 'album', 'group', 'albumartist'], lambda told: told.split() == ['Ann', 'First', 'Bob', 'Second', 'Zoë', 'Second'])
+        step(['volume', '-5'], lambda told: steps.becomes('volume', '40'))
+        step(['seek', '50%'], lambda told: 9 <= float(steps.status('elapsed')) <= 13)
+        step(['seekthrough', '-00:00:03'], lambda told: 5 <= float(steps.status('elapsed')) <= 11)
+        step(['searchadd', 'artist', 'ZOË'], lambda told: steps.becomes('playlistlength', '2'))
     step(['stop'], lambda told: steps.becomes('state', 'stop'))
     step(['clear'], lambda told: steps.becomes('playlistlength', '0'))
     waiting = subprocess.Popen(['mpc', '-p', str(port), 'idle'], stdout=subprocess.PIPE, text=True)
@@ -245,13 +253,27 @@ step('outputs', client.outputs, lambda found: found[0]['outputname'] == 'out0')
 step('commands', client.commands, lambda found: 'playlistinfo' in found)
 step('an error', lambda: client.play(99), lambda found: False)
 step('stats', client.stats, lambda found: 'songs' in found)
+if sys.argv[2:] == ['everyday']:
+    files = lambda found: [entry['file'] for entry in found]
+    step('list with groups', lambda: client.list('album', 'group', 'albumartist'),
+         lambda found: [(entry['albumartist'], entry['album']) for entry in found] == [('Ann', 'First'), ('Bob', 'Second'), ('Zoë', 'Second')])
+    step('find in an order', lambda: client.find('album', 'Second', 'sort', 'title'), lambda found: files(found) == ['Second/3.wav', 'Second/2.wav'])
+    step('find in the other order, in a window', lambda: client.find('album', 'Second', 'sort', '-title', 'window', '1:2'), lambda found: files(found) == ['Second/3.wav'])
+    step('add at a place', lambda: (client.clear(), client.add('First'), client.add('Second/2.wav', 1), client.playlistinfo())[3],
+         lambda found: files(found) == ['First/0.wav', 'Second/2.wav', 'First/1.wav'])
+    step('findadd at a place', lambda: (client.findadd('title', 'Dew', 'position', '0'), client.playlistinfo())[1],
+         lambda found: files(found) == ['Second/3.wav', 'First/0.wav', 'Second/2.wav', 'First/1.wav'])
+    step('playlistfind', lambda: client.playlistfind('artist', 'Ann'), lambda found: [entry['pos'] for entry in found] == ['1', '3'])
+    step('playlistsearch', lambda: client.playlistsearch('title', 'EA'), lambda found: files(found) == ['Second/2.wav'])
+    step('searchaddpl', lambda: (client.searchaddpl('y', 'artist', 'zoë'), client.listplaylist('y'), client.rm('y'))[1], lambda found: found == ['Second/3.wav'])
+    step('albums of phones', lambda: client.find('albumartist', 'Ann', 'album', 'First'), lambda found: len(found) == 2)
 step('stop, clear', lambda: (client.stop(), client.clear(), client.status())[2], lambda found: found['playlistlength'] == '0')
 '''
 
 
 def run_library(steps, port):
     """python3-mpd: an own process of Debian's Python, since the module is installed for it."""
-    run = subprocess.run(['/usr/bin/python3', '-c', LIBRARY, str(port)], capture_output=True, text=True, timeout=60)
+    run = subprocess.run(['/usr/bin/python3', '-c', LIBRARY, str(port), *(['everyday'] if is_everyday else [])], capture_output=True, text=True, timeout=60)
     for line in run.stdout.splitlines():
         what, works, told = line.split('\t', 2)
         if what == 'an error':
@@ -372,6 +394,39 @@ def run_ncmpcpp(steps, port, folder):
         screen.end()
 
 
+def run_cantata(steps, port, folder):
+    """Cantata: its library is shown where a press on its first artist, and on `play` below the list, plays that artist's songs."""
+    for line in ('stop', 'clear', 'random 0', 'single 0', 'consume 0'):
+        steps.client.must(line)
+    home, run = os.path.join(folder, 'cantata'), os.path.join(folder, 'run')
+    os.makedirs(os.path.join(home, '.config', 'cantata'))
+    os.makedirs(run, mode=0o700)
+    with open(os.path.join(home, '.config', 'cantata', 'cantata.conf'), 'w') as file:
+        file.write('[General]\nversion=2.5.0\npage=LibraryPage\n[Connection]\nhost=127.0.0.1\nport=%d\ndir=%s\n' % (port, folder))
+    around = dict(os.environ, HOME=home, XDG_RUNTIME_DIR=run, DISPLAY=':97', QT_QPA_PLATFORM='xcb', LANG='C.UTF-8')
+    screen = subprocess.Popen(['Xvfb', ':97', '-screen', '0', '1200x800x24'], stderr=subprocess.DEVNULL)
+    time.sleep(2)
+    cantata = subprocess.Popen(['cantata'], env=around, stdout=subprocess.DEVNULL, stderr=subprocess.DEVNULL)
+
+    def press(x, y):
+        subprocess.run(['xdotool', 'mousemove', str(x), str(y), 'click', '1'], env=around, capture_output=True)
+        time.sleep(1)
+
+    try:
+        time.sleep(10)
+        steps.step('cantata', 'connects', cantata.poll() is None)
+        press(140, 78)
+        press(367, 670)
+        steps.step('cantata', "plays its library's first artist", steps.becomes('playlistlength', '2') and steps.becomes('state', 'play'))
+        press(55, 29)
+        steps.step('cantata', 'pauses', steps.becomes('state', 'pause'))
+        press(101, 29)
+        steps.step('cantata', 'the next song', steps.becomes('song', '1'))
+    finally:
+        cantata.kill()
+        screen.kill()
+
+
 def main():
     words = [word for word in sys.argv[1:] if word != '--everyday']
     program = program_of(words[0] if words else None)
@@ -388,7 +443,8 @@ def main():
         try:
             for needed, run in [(['mpc'], lambda: run_mpc(steps, proxy.port)), (['/usr/lib/python3/dist-packages/mpd'], lambda: run_library(steps, proxy.port)),
                                 (['ncmpc', 'tmux'], lambda: run_ncmpc(steps, proxy.port, folder)),
-                                (['ncmpcpp', 'tmux'], lambda: run_ncmpcpp(steps, proxy.port, folder))]:
+                                (['ncmpcpp', 'tmux'], lambda: run_ncmpcpp(steps, proxy.port, folder)),
+                                *([(['cantata', 'Xvfb', 'xdotool'], lambda: run_cantata(steps, proxy.port, folder))] if is_everyday else [])]:
                 missing = [name for name in needed if not (shutil.which(name) or os.path.exists(name))]
                 if missing:
                     table.row(os.path.basename(needed[0]), 'left out', 'not installed: %s' % ', '.join(missing))
