@@ -1,9 +1,10 @@
 -- The tuples of songs, and their lines.
-use Rattle.std.proofs.Common.{◌≡◌, ◌∙◌, ℕ, suc, ◌+◌, ◌-◌, Bool, true, false, cond, ◌&&◌, ◌||◌, List, [], ◌∷◌, ◌++◌, map, length, drop, min, Option, Some, refl, sym, ap, inl, inr, arith, Bor}
+use Rattle.std.proofs.Common.{◌≡◌, ◌∙◌, ℕ, suc, ◌+◌, ◌-◌, ◌<◌, Bool, true, false, cond, ◌&&◌, ◌||◌, List, [], ◌∷◌, ◌++◌, map, length, get_or, take, drop, min, Option, Some, refl, sym, ap, inl, inr, arith, Bor}
 use Rattle.std.specs.Prelude.{◌↔◌, IsTrue, IsPermutation, nat_eq, nat_lt, not, slice_get}
 use Rattle.std.specs.Global.{Vec}
 use lib.Pointwise.{pointwise}
-use Rattle.std.specs.List.{filter, Contains, dedup, common_prefix_len}
+use Rattle.std.specs.Bool.{MatchBool}
+use Rattle.std.specs.List.{filter, list_any, Contains, dedup, common_prefix_len}
 use Rattle.std.specs.List.Sorted.{IsStrictlySortedBy, IsSorted}
 use Rattle.std.specs.Ordering.{eq_by_cmp, is_eq, ordering_then, nat_cmp}
 use Rattle.std.specs.declared.cmp.Ordering.{Ordering}
@@ -12,13 +13,15 @@ use Rattle.std.specs.Cmp.Lexicographic.{slice_cmp, on_texts, texts_ties, lists_t
 use Rattle.std.specs.FinMap.{IsAntisymmetric, slice_cmp-IsAntisymmetric}
 use Rattle.std.proofs.lemmas.Bool.Decides.{nat_tests}
 use Rattle.std.proofs.lemmas.Bool.{and_parts, and_from, cases_lt}
-use Rattle.std.proofs.lemmas.List.{append-nil, drop_all, drop-map}
+use Rattle.std.proofs.lemmas.List.{append-nil, drop_all, drop-map, map-append}
+use Rattle.std.proofs.Math.Seq.{take-suc}
 use Rattle.std.proofs.lemmas.List.Kept.{IsStrictlySortedBy-dedup}
+use Rattle.std.proofs.lemmas.List.Sorted.{IsPermutation-map, list_any-IsPermutation}
 use Rattle.mpd_text.specs.Songs.Song.{SongData}
 use Rattle.mpd_text.specs.declared.songs.song.TagName.{TagName}
 use Rattle.song_groups.specs.Columns.{text_in}
-use Rattle.song_groups.specs.Tuples.{tuple_of, has_last, by_texts, ascending_tuples, listed_tuples, tuples, tuples_now, labelled, tuple_lines, unchanged}
-use Rattle.song_groups.proofs.Once.{among, once-rises, has-each, among_from, among_gives, sorts}
+use Rattle.song_groups.specs.Tuples.{tuple_of, has_last, by_texts, ascending_tuples, listed_tuples, tuples, tuples_now, stands_in, HaveTheSame, labelled, tuple_lines, unchanged}
+use Rattle.song_groups.proofs.Once.{among, once-rises, same_once, has-each, among_from, among_gives, sorts}
 use Rattle.song_groups.proofs.Orders.{bytes, bytes_apart}
 
 texts : IsTotalOrder by_texts
@@ -153,3 +156,105 @@ changed labels before tuple ls ts start e l t =
     ∙ ap (λ (zs : List (List ℕ)). labelled zs (map (λ r. r.now) (drop start tuple))) (sym (drop-map (λ (r : Bor (List ℕ)). r.now) start labels))
     ∙ ap (labelled (drop start (map (λ r. r.now) labels))) (sym (drop-map (λ (r : Bor (List ℕ)). r.now) start tuple))
     ∙ ap (λ k. labelled (drop k (map (λ r. r.now) labels)) (drop k (map (λ r. r.now) tuple))) e
+
+-- ---- the tuples of a hash set
+
+-- lists with the same tuples have one list of them in order
+pub same_ascending : (tuples others : List (List (List ℕ))) → HaveTheSame tuples others → ascending_tuples tuples ≡ ascending_tuples others
+unfolding ascending_tuples
+same_ascending tuples others h = same_once texts texts_apart tuples others h
+
+in_memory : (tuple : Vec (Bor (List ℕ))) (keys : List (Vec (Bor (List ℕ)))) → list_any (eq_now tuple) keys ≡ stands_in (now tuple) (tuples_now keys)
+in_memory tuple [] = refl
+in_memory tuple (key ∷ keys) =
+    ap (λ b. b || list_any (eq_now tuple) keys) (eq-now tuple key ∙ ap is_eq (cmp-now tuple.items key.items))
+    ∙ ap (λ b. eq_by_cmp by_texts (now tuple) (now key) || b) (in_memory tuple keys)
+
+either : (a b c : Bool) → b ≡ c → (a || b) ≡ (c || a)
+either true true true e = refl
+either true true false e = cc
+either true false true e = cc
+either true false false e = refl
+either false true true e = refl
+either false true false e = cc
+either false false true e = cc
+either false false false e = refl
+
+already : (a b c : Bool) → b ≡ c → (a ≡ true → b ≡ true) → b ≡ (c || a)
+already true true true e h = refl
+already true true false e h = cc
+already true false c e h = let no : false ≡ true = h refl in cc
+already false true true e h = refl
+already false true false e h = cc
+already false false true e h = cc
+already false false false e h = refl
+
+regrouped : (a b c : Bool) → (a || (b || c)) ≡ ((a || b) || c)
+regrouped true b c = refl
+regrouped false b c = refl
+
+one_more : (tuple : List (List ℕ)) (others : List (List (List ℕ))) (last : List (List ℕ)) → stands_in tuple (others ++ last ∷ []) ≡ (stands_in tuple others || eq_by_cmp by_texts tuple last)
+one_more tuple [] last = either (eq_by_cmp by_texts tuple last) false false refl
+one_more tuple (other ∷ others) last =
+    ap (λ b. eq_by_cmp by_texts tuple other || b) (one_more tuple others last) ∙ regrouped (eq_by_cmp by_texts tuple other) (stands_in tuple others) (eq_by_cmp by_texts tuple last)
+
+-- a set that a tuple was put into, whether it was there or not
+pub puts_tuple : (keys new : List (Vec (Bor (List ℕ)))) (tuple : Vec (Bor (List ℕ))) (added : Bool) (others : List (List (List ℕ))) → HaveTheSame (tuples_now keys) others
+    → added ≡ not (list_any (eq_now tuple) keys) → MatchBool added (IsPermutation (tuple ∷ keys) new) (new ≡ keys) → HaveTheSame (tuples_now new) (others ++ now tuple ∷ [])
+puts_tuple keys new tuple true others same added moved = λ x.
+    sym (list_any-IsPermutation (eq_by_cmp by_texts x) (tuples_now (tuple ∷ keys)) (tuples_now new) (IsPermutation-map now (tuple ∷ keys) new moved))
+    ∙ either (eq_by_cmp by_texts x (now tuple)) (stands_in x (tuples_now keys)) (stands_in x others) (same x)
+    ∙ sym (one_more x others (now tuple))
+puts_tuple keys new tuple false others same added moved = λ x.
+    ap (λ (ks : List (Vec (Bor (List ℕ)))). stands_in x (tuples_now ks)) moved
+    ∙ already (eq_by_cmp by_texts x (now tuple)) (stands_in x (tuples_now keys)) (stands_in x others) (same x)
+    (λ e. ap (λ (y : List (List ℕ)). stands_in y (tuples_now keys)) (texts_apart x (now tuple) ((Equal-is (by_texts x (now tuple))).0 e)) ∙ sym (in_memory tuple keys) ∙ there (list_any (eq_now tuple) keys) added)
+    ∙ sym (one_more x others (now tuple))
+  where
+    there : (b : Bool) → false ≡ not b → b ≡ true
+    there true e = refl
+    there false e = cc
+
+kept_or_left : (b : Bool) (x : List (List ℕ)) (xs ys zs : List (List (List ℕ))) → xs ≡ ys ++ zs → cond b (x ∷ xs) xs ≡ cond b (x ∷ ys) ys ++ zs
+kept_or_left true x xs ys zs e = ap (λ (rest : List (List (List ℕ))). x ∷ rest) e
+kept_or_left false x xs ys zs e = e
+
+listed-last : (columns : List (Option TagName)) (songs : List SongData) (song : SongData)
+    → listed_tuples columns (songs ++ song ∷ []) ≡ listed_tuples columns songs ++ cond (has_last (tuple_of columns song)) (tuple_of columns song ∷ []) []
+listed-last columns [] song = refl
+listed-last columns (first ∷ songs) song =
+    kept_or_left (has_last (tuple_of columns first)) (tuple_of columns first) (listed_tuples columns (songs ++ song ∷ [])) (listed_tuples columns songs)
+    (cond (has_last (tuple_of columns song)) (tuple_of columns song ∷ []) []) (listed-last columns songs song)
+
+-- the tuples of one song more
+pub listed_more : (columns : List (Option TagName)) (songs : List (Bor SongData)) (n : ℕ) (song : Bor SongData) → n < length songs → song ≡ get_or songs n song
+    → listed_tuples columns (map (λ s. s.now) (take (n + 1) songs)) ≡ listed_tuples columns (map (λ s. s.now) (take n songs)) ++ cond (has_last (tuple_of columns song.now)) (tuple_of columns song.now ∷ []) []
+listed_more columns songs n song within is =
+    let place : n + 1 ≡ suc n = omega arith in
+    ap (λ k. listed_tuples columns (map (λ s. s.now) (take k songs))) place
+    ∙ ap (λ (ss : List (Bor SongData)). listed_tuples columns (map (λ s. s.now) ss)) (take-suc songs n song within ∙ ap (λ (s : Bor SongData). take n songs ++ s ∷ []) (sym is))
+    ∙ ap (listed_tuples columns) (map-append (λ (s : Bor SongData). s.now) (take n songs) (song ∷ []))
+    ∙ listed-last columns (map (λ s. s.now) (take n songs)) song.now
+
+-- a song whose tuple is put into the set
+pub song_put : (columns : List (Option TagName)) (songs : List (Bor SongData)) (n : ℕ) (song : Bor SongData) (keys new : List (Vec (Bor (List ℕ)))) (tuple : Vec (Bor (List ℕ))) (added : Bool)
+    → n < length songs → song ≡ get_or songs n song → HaveTheSame (tuples_now keys) (listed_tuples columns (map (λ s. s.now) (take n songs)))
+    → has_last (tuple_of columns song.now) ≡ true → now tuple ≡ tuple_of columns song.now → added ≡ not (list_any (eq_now tuple) keys)
+    → MatchBool added (IsPermutation (tuple ∷ keys) new) (new ≡ keys) → HaveTheSame (tuples_now new) (listed_tuples columns (map (λ s. s.now) (take (n + 1) songs)))
+song_put columns songs n song keys new tuple added within is same has shows put moved = λ x.
+    let before : List (List (List ℕ)) = listed_tuples columns (map (λ s. s.now) (take n songs)) in
+    puts_tuple keys new tuple added before same put moved x
+    ∙ ap (λ (t : List (List ℕ)). stands_in x (before ++ t ∷ [])) shows
+    ∙ ap (λ b. stands_in x (before ++ cond b (tuple_of columns song.now ∷ []) [])) (sym has)
+    ∙ ap (stands_in x) (sym (listed_more columns songs n song within is))
+
+-- a song that has no tuple
+pub song_passed : (columns : List (Option TagName)) (songs : List (Bor SongData)) (n : ℕ) (song : Bor SongData) (keys : List (Vec (Bor (List ℕ))))
+    → n < length songs → song ≡ get_or songs n song → HaveTheSame (tuples_now keys) (listed_tuples columns (map (λ s. s.now) (take n songs)))
+    → has_last (tuple_of columns song.now) ≡ false → HaveTheSame (tuples_now keys) (listed_tuples columns (map (λ s. s.now) (take (n + 1) songs)))
+song_passed columns songs n song keys within is same has = λ x.
+    let before : List (List (List ℕ)) = listed_tuples columns (map (λ s. s.now) (take n songs)) in
+    same x
+    ∙ ap (stands_in x) (sym (append-nil before))
+    ∙ ap (λ b. stands_in x (before ++ cond b (tuple_of columns song.now ∷ []) [])) (sym has)
+    ∙ ap (stands_in x) (sym (listed_more columns songs n song within is))

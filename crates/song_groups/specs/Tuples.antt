@@ -2,7 +2,8 @@
 -- with `group`; the order of the tuples is this profile's).
 use Rattle.std.specs.Prelude.{ℕ, ◌≡◌, ◌≢◌, ◌↔◌, ◌⊎◌, ◌+◌, ◌-◌, ◌<◌, ◌≤◌, min, Bool, false, IsTrue, nat_eq, nat_lt, List, [], ◌∷◌, ◌++◌, length, map, take, drop, Option}
 use Rattle.std.specs.Global.{Vec}
-use Rattle.std.specs.List.{filter, common_prefix_len, Contains}
+use Rattle.std.specs.List.{filter, common_prefix_len, list_any, Contains}
+use Rattle.std.specs.Ordering.{eq_by_cmp}
 use Rattle.std.specs.List.Sorted.{IsStrictlySortedBy}
 use Rattle.std.specs.FinMap.{keys, from_entries}
 use Rattle.std.specs.Cmp.Lexicographic.{slice_cmp}
@@ -41,6 +42,14 @@ key_of tuple = (tuple, tt)
 -- each
 unfoldable pub ascending_tuples : List (List (List ℕ)) → List (List (List ℕ))
 ascending_tuples tuples = keys (from_entries {R = slice_cmp by_bytes} (map key_of tuples))
+
+-- whether a tuple stands in a list
+abbrev pub stands_in : List (List ℕ) → List (List (List ℕ)) → Bool
+stands_in tuple tuples = list_any (eq_by_cmp by_texts tuple) tuples
+
+-- two lists have the same tuples, in whatever order and however often
+abbrev pub HaveTheSame : List (List (List ℕ)) → List (List (List ℕ)) → Type 0
+HaveTheSame tuples others = (tuple : List (List ℕ)) → stands_in tuple tuples ≡ stands_in tuple others
 
 -- the distinct tuples of some songs whose last text is not empty, in their order
 abbrev pub tuples : List (Option TagName) → List SongData → List (List (List ℕ))

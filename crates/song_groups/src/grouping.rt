@@ -5,12 +5,13 @@ ghost use Rattle.std.specs.List.{common_prefix_len};
 ghost use Rattle.mpd_text.specs.Songs.Song.{SongData};
 ghost use Rattle.mpd_text.specs.declared.songs.song.TagName.{TagName};
 ghost use Rattle.song_search.specs.Texts.{values_now};
-ghost use Rattle.song_groups.specs.Tuples.{tuple_of as tuple_of_lem, has_last, listed_tuples as listed_tuples_lem, ascending_tuples, tuples as tuples_lem, tuples_now, unchanged as unchanged_lem, labelled, tuple_lines_now, lines_after_now, lines_of_tuples, TuplesRise, StandsIfASongs, HasLineIfChanged};
+ghost use Rattle.song_groups.specs.Tuples.{tuple_of as tuple_of_lem, has_last, listed_tuples as listed_tuples_lem, ascending_tuples, tuples as tuples_lem, tuples_now, unchanged as unchanged_lem, labelled, tuple_lines_now, lines_after_now, lines_of_tuples, TuplesRise, StandsIfASongs, HasLineIfChanged, HaveTheSame};
 
 use crate::columns::text_in;
 use mpd_text::{Answer, Song, TagName};
 use song_db::SharedSong;
 use std::alloc::{AllocError, Global};
+use std::collections::HashSet;
 
 /// The law that the tuples of an answer rise strictly, so that each stands there once; that each is a song's
 /// and has a last text; and that each such tuple of a song is there.
@@ -34,24 +35,36 @@ pub fn tuples<'a>(
 ) -> Result<Vec<Vec<&'a str>>, AllocError>
     ensures { IfOk result (λ found. tuples_now found.items ≡ tuples_lem columns.now (values_now songs.now)) }
 {
-    let mut found = listed_tuples(alloc, songs, columns)?;
+    let listed = listed_tuples(alloc, songs, columns)?;
+    let mut found = in_any_order(alloc, listed)?;
     sort_tuples_once(&mut found);
     Ok(found)
 }
 
-/// The tuples whose last text is not empty, song by song.
+/// The tuples of a set, in the order in which the set has them.
+fn in_any_order<'a>(
+    alloc: Global,
+    tuples: HashSet<Vec<&'a str>>,
+) -> Result<Vec<Vec<&'a str>>, AllocError>
+    ensures { IfOk result (λ found. found.items ≡ tuples.entry.keys) }
+{
+    tuples.into_iter().collect(alloc)
+}
+
+/// The tuples whose last text is not empty. Many songs have one tuple: a set has fewer to sort than there are
+/// songs.
 fn listed_tuples<'a>(
     alloc: Global,
     songs: &[&'a SharedSong],
     columns: &[Option<TagName>],
-) -> Result<Vec<Vec<&'a str>>, AllocError>
-    ensures { IfOk result (λ found. tuples_now found.items ≡ listed_tuples_lem columns.now (values_now songs.now)) }
+) -> Result<HashSet<Vec<&'a str>>, AllocError>
+    ensures { IfOk result (λ found. HaveTheSame (tuples_now found.keys) (listed_tuples_lem columns.now (values_now songs.now))) }
 {
-    let mut found = Vec::new(alloc);
+    let mut found = HashSet::new(alloc);
     for song in songs {
         if is_listed(song.song(), columns) {
             let tuple = tuple_of(alloc, song.song(), columns)?;
-            found.push(tuple).map_err(AllocError::from)?;
+            found.insert(tuple)?;
         }
     }
     Ok(found)
