@@ -3,7 +3,7 @@ use crate::helpers::{holds, library};
 use filters::{Case, Filter, Vocabulary};
 use mpd_text::{Song, Tag, TagName};
 use song_db::{Db, Rate};
-use song_search::{Count, counted, find, list_folder, listed, under};
+use song_search::{Count, counted, find, list_folder, under};
 use std::alloc::Global;
 use std::process::Abort;
 
@@ -40,12 +40,6 @@ fn met<R: Abort>(rt: &R, alloc: Global, db: &Db, text: &str, case: Case) -> usiz
         .len()
 }
 
-fn texts<R: Abort>(rt: &R, alloc: Global, db: &Db) -> usize {
-    listed(alloc, db, TagName::Artist, &filter(rt, alloc, "(base '')"))
-        .expect(rt, "no memory")
-        .len()
-}
-
 fn all<R: Abort>(rt: &R, alloc: Global, db: &Db) -> Count {
     counted(db, &filter(rt, alloc, "(base '')"), &Rate::lowest())
 }
@@ -66,7 +60,6 @@ fn check_the_greatest_library<R: Abort>(rt: &R, alloc: Global) {
     holds(rt, count == 1_000, "an artist");
     let count = met(rt, alloc, &db, "(any contains 'ARTIST')", Case::Ignored);
     holds(rt, count == 100_000, "any artist");
-    holds(rt, texts(rt, alloc, &db) == 100, "artists");
     let count = all(rt, alloc, &db);
     holds(rt, count.songs == 100_000, "all songs");
     // at 8,000 a second 2^64-1 frames are 2305843009213693951 thousandths, cut, of each song

@@ -1,9 +1,8 @@
-//! A small library: filters, the texts of a tag, counts, and folders.
+//! A small library: filters, counts, and folders.
 use crate::helpers::{holds, joined, library, song, uris, uris_of, wants};
 use filters::{Case, Filter, Vocabulary};
-use mpd_text::TagName;
 use song_db::{Db, Rate};
-use song_search::{Count, counted, find, is_folder, list_folder, listed, under};
+use song_search::{Count, counted, find, is_folder, list_folder, under};
 use std::alloc::Global;
 use std::process::Abort;
 
@@ -69,28 +68,6 @@ fn check_songs_that_meet_a_filter<R: Abort>(rt: &R, alloc: Global) {
 #[test]
 fn songs_that_meet_a_filter(rt: HostRuntime) {
     check_songs_that_meet_a_filter(&rt, rt.alloc());
-}
-
-fn list<R: Abort>(rt: &R, alloc: Global, db: &Db, name: TagName, text: &str) -> String {
-    let texts = listed(alloc, db, name, &filter(rt, alloc, text)).expect(rt, "no memory");
-    joined(rt, alloc, texts.as_slice())
-}
-
-fn check_texts_of_a_tag<R: Abort>(rt: &R, alloc: Global) {
-    let db = small(rt, alloc);
-    let told = list(rt, alloc, &db, TagName::Artist, "(base '')");
-    wants(rt, "artists", told.as_str(), "Bee Zoe zoe \u{c9}mile ");
-    let told = list(rt, alloc, &db, TagName::Title, "(base '')");
-    wants(rt, "titles", told.as_str(), "One ");
-    let told = list(rt, alloc, &db, TagName::Artist, "(base 'a')");
-    wants(rt, "in a folder", told.as_str(), "Bee Zoe zoe ");
-    let told = list(rt, alloc, &db, TagName::Album, "(Title == 'One')");
-    wants(rt, "albums", told.as_str(), "");
-}
-
-#[test]
-fn texts_of_a_tag(rt: HostRuntime) {
-    check_texts_of_a_tag(&rt, rt.alloc());
 }
 
 fn count<R: Abort>(rt: &R, alloc: Global, db: &Db, text: &str) -> Count {

@@ -1,4 +1,4 @@
-//! Songs that meet a filter (MPD protocol reference, The music database: `find`, `search`, `list`, `count`).
+//! Songs that meet a filter (MPD protocol reference, The music database: `find`, `search`, `count`).
 ghost use Rattle.std.specs.Prelude.{◌≡◌, ◌↔◌, ◌≤◌, ◌^◌, IfOk, IsTrue, length};
 ghost use Rattle.mpd_text.specs.Songs.Song.{SongData};
 ghost use Rattle.filters.specs.Expressions.{Expression};
@@ -6,10 +6,9 @@ ghost use Rattle.filters.specs.Truth.{Holds, text_of_tag as text_of_tag_lem};
 ghost use Rattle.filters.specs.declared.matching.Case.TheVariants.{Heeded};
 ghost use Rattle.song_db.specs.Lines.{millis};
 ghost use Rattle.song_search.specs.Truth.{meets};
-ghost use Rattle.song_search.specs.Answers.{found, tag_texts as tag_texts_lem, listed as listed_lem, playtime};
+ghost use Rattle.song_search.specs.Answers.{found, playtime};
 ghost use Rattle.song_search.specs.Texts.{values_now};
 
-use crate::texts::sort_once;
 use filters::{Case, Filter};
 use mpd_text::{Song, Tag, TagName};
 use song_db::{Db, Rate, SharedSong};
@@ -56,42 +55,6 @@ fn is_met(song: &Song, filter: &Filter) -> bool
         Ok(met) => met,
         Err(_) => unreachable!(),
     }
-}
-
-/// The texts that a tag has among the songs that meet a filter, where case is heeded: in byte order, each
-/// once, and none empty. No text is copied.
-pub fn listed<'a>(
-    alloc: Global,
-    db: &'a Db,
-    name: TagName,
-    filter: &Filter,
-) -> Result<Vec<&'a str>, AllocError>
-    ensures { IfOk result (λ texts. values_now texts.items ≡ listed_lem name filter.now db.now) }
-{
-    let mut texts = tag_texts(alloc, db.songs(), name, filter)?;
-    sort_once(&mut texts);
-    Ok(texts)
-}
-
-/// The texts of a tag that are not empty, of each song that meets a filter.
-fn tag_texts<'a>(
-    alloc: Global,
-    songs: &'a [SharedSong],
-    name: TagName,
-    filter: &Filter,
-) -> Result<Vec<&'a str>, AllocError>
-    ensures { IfOk result (λ texts. values_now texts.items ≡ tag_texts_lem name (found Heeded filter.now songs.now)) }
-{
-    let mut texts = Vec::new(alloc);
-    for song in songs {
-        if is_met(song.song(), filter) {
-            let text = text_of_tag(song.song().tags(), name);
-            if !text.is_empty() {
-                texts.push(text).map_err(AllocError::from)?;
-            }
-        }
-    }
-    Ok(texts)
 }
 
 /// The text of the first tag of a name; empty where there is none.
