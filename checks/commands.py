@@ -4,8 +4,8 @@
     checks/commands.py              says whether README has the list as the tables make it
     checks/commands.py --write      writes it there
 
-A command's form is what stands in backquotes at the front of its variant's doc, in the file of its group. Each name of the list
-`NAMES` has a variant, and no other. The names of the list `EVERYDAY`, and more forms of a base command, are those of the everyday profile. The exit status is 1 where something differs.
+A command's form is what stands in backquotes at the front of its variant's doc, in the file of its group. Each name of the table
+`COMMANDS` has a variant, and no other. The names that are `ADDED` there, and more forms of a base command, are those of the everyday profile. The exit status is 1 where something differs.
 """
 import os
 import re
@@ -42,10 +42,11 @@ def forms_of(group):
     return re.findall(r'(?:\A|,\n)    /// `([^`]+)`', enum)
 
 
-def names_in(table):
-    """The names of a table of `src/name.rt`."""
-    found, = re.findall(r'^const %s: [^\n]* = &\[\n(.*?)^\];' % table, read(SOURCES % 'name'), re.M | re.S)
-    return re.findall(r'"(\w+)"', found)
+def names_in_table():
+    """The names of the table of `src/name.rt`, and those of them that the everyday profile adds."""
+    table, = re.findall(r'^const COMMANDS: [^\n]* \{\n(.*?)^\};', read(SOURCES % 'name'), re.M | re.S)
+    rows = re.findall(r'"(\w+)": (BASE|ADDED)', table)
+    return [name for name, _ in rows], [name for name, profile in rows if profile == 'ADDED']
 
 
 def shown(forms):
@@ -54,7 +55,7 @@ def shown(forms):
 
 def list_of():
     """README's list, and the names of the commands in it."""
-    everyday = names_in('EVERYDAY')
+    _, everyday = names_in_table()
     lines, names, added = [], [], []
     for title, files in GROUPS:
         forms = [form for file in files for form in forms_of(file)]
@@ -68,7 +69,7 @@ def list_of():
 
 def main():
     made, names = list_of()
-    known = names_in('NAMES')
+    known, _ = names_in_table()
     wrong = ['%s has no variant with its form' % name for name in known if name not in names]
     wrong += ['%s is no command' % name for name in names if name not in known]
     readme = read('README.md')

@@ -1,7 +1,7 @@
 -- The names of commands, in their byte order.
-use Rattle.std.specs.Prelude.{ℕ, Bool, false, not, ◌&&◌, ◌||◌, List, [], ◌∷◌, ◌++◌, Option, codes, if◌then◌else◌, position, slice_index_or}
+use Rattle.std.specs.Prelude.{ℕ, Bool, false, not, ◌&&◌, ◌||◌, List, [], ◌∷◌, ◌++◌, Option, codes, if◌then◌else◌, ◌-◌, map, position, slice_index, slice_index_or}
 use Rattle.std.specs.Cmp.Lexicographic.{slice_cmp}
-use Rattle.std.specs.List.{list_any}
+use Rattle.std.specs.List.{list_any, prefix_len}
 use Rattle.std.specs.Option.{option_map}
 use Rattle.std.specs.Ordering.{is_lt, nat_cmp}
 use Rattle.std.specs.Str.{bytes_eq}
@@ -48,9 +48,21 @@ everyday_names =
     ∷ codes "playlistsearch" ∷ codes "readcomments" ∷ codes "readpicture" ∷ codes "replay_gain_mode" ∷ codes "replay_gain_status"
     ∷ codes "searchaddpl" ∷ codes "stats" ∷ codes "urlhandlers" ∷ codes "volume" ∷ []
 
+-- whether the everyday profile adds the command of this name
+abbrev pub is_added_name : List ℕ → Bool
+is_added_name name = list_any (λ other. bytes_eq other name) everyday_names
+
+-- how many names come before each letter, from `a` on, and before the character after `z`
+unfoldable pub starts : List ℕ
+starts = map (λ letter. prefix_len (λ name. comes_before name (letter ∷ [])) all_names) (codes "abcdefghijklmnopqrstuvwxyz{")
+
+-- the letter that a word begins with, by its place from `a` on
+abbrev pub letter_of : List ℕ → ℕ
+letter_of word = slice_index word 0 - 97
+
 -- whether there is a command of this name: one that the everyday profile adds has to be asked for
 abbrev pub is_there : List ℕ → CommandSet → Bool
-is_there name set = set.everyday || not (list_any (λ other. bytes_eq other name) everyday_names)
+is_there name set = set.everyday || not (is_added_name name)
 
 -- the text of a name
 abbrev pub text_of : Name → List ℕ

@@ -1,35 +1,57 @@
 //! The names of commands.
-ghost use Rattle.std.specs.Prelude.{◌≡◌, Option, map, position};
+ghost use Rattle.std.specs.Prelude.{◌≡◌, Option, map, position, slice_index_or};
 ghost use Rattle.std.specs.Str.{bytes_eq};
-ghost use Rattle.std.specs.List.{list_any};
-ghost use Rattle.mpd_command.specs.Names.{all_names, everyday_names, is_forbidden as is_forbidden_lem, is_there as is_there_lem, name_of, text_of};
+ghost use Rattle.mpd_command.specs.Names.{all_names, is_added_name, is_forbidden as is_forbidden_lem, is_there as is_there_lem, letter_of as letter_of_lem, name_of, starts as starts_lem, text_of};
 
 use crate::command_set::CommandSet;
 
-/// The names of all commands, in their byte order.
-#[rattlefmt::skip]
-const NAMES: &[&'static str] = &[
-    "add", "addid", "albumart", "channels", "clear", "clearerror", "close", "commands",
-    "consume", "count", "crossfade", "currentsong", "decoders", "delete", "deleteid",
-    "disableoutput", "enableoutput", "find", "findadd", "getvol", "idle", "kill", "list",
-    "listall", "listallinfo", "listmounts", "listplaylist", "listplaylistinfo",
-    "listplaylists", "load", "lsinfo", "move", "moveid", "next", "noidle", "notcommands",
-    "outputs", "pause", "ping", "play", "playid", "playlist", "playlistadd", "playlistclear",
-    "playlistdelete", "playlistfind", "playlistid", "playlistinfo", "playlistmove",
-    "playlistsearch", "plchanges", "plchangesposid", "previous", "prio", "prioid", "random",
-    "readcomments", "readmessages", "readpicture", "rename", "repeat", "replay_gain_mode",
-    "replay_gain_status", "rescan", "rm", "save", "search", "searchadd", "searchaddpl", "seek",
-    "seekcur", "seekid", "sendmessage", "setvol", "shuffle", "single", "stats", "status",
-    "sticker", "stop", "subscribe", "swap", "swapid", "tagtypes", "toggleoutput",
-    "unsubscribe", "update", "urlhandlers", "volume",
-];
+/// All commands, in the byte order of their names.
+#[derive(Clone, Copy)]
+struct Commands {
+    /// The name of each.
+    names: &'static [&'static str],
+    /// Whether the everyday profile adds it.
+    added: &'static [bool],
+}
 
-/// The names of the commands that the everyday profile adds, in their byte order.
+const BASE: bool = false;
+
+const ADDED: bool = true;
+
+macro_rules! commands {
+    ($($name:literal: $added:expr),* $(,)?) => {
+        Commands { names: &[$($name),*], added: &[$($added),*] }
+    };
+}
+
+/// The name of each command, in their byte order, and whether it is there always or the everyday profile
+/// adds it.
 #[rattlefmt::skip]
-const EVERYDAY: &[&'static str] = &[
-    "albumart", "decoders", "listallinfo", "listmounts", "playlist", "playlistfind",
-    "playlistsearch", "readcomments", "readpicture", "replay_gain_mode", "replay_gain_status",
-    "searchaddpl", "stats", "urlhandlers", "volume",
+const COMMANDS: Commands = commands! {
+    "add": BASE, "addid": BASE, "albumart": ADDED, "channels": BASE, "clear": BASE, "clearerror": BASE,
+    "close": BASE, "commands": BASE, "consume": BASE, "count": BASE, "crossfade": BASE,
+    "currentsong": BASE, "decoders": ADDED, "delete": BASE, "deleteid": BASE, "disableoutput": BASE,
+    "enableoutput": BASE, "find": BASE, "findadd": BASE, "getvol": BASE, "idle": BASE, "kill": BASE,
+    "list": BASE, "listall": BASE, "listallinfo": ADDED, "listmounts": ADDED, "listplaylist": BASE,
+    "listplaylistinfo": BASE, "listplaylists": BASE, "load": BASE, "lsinfo": BASE, "move": BASE,
+    "moveid": BASE, "next": BASE, "noidle": BASE, "notcommands": BASE, "outputs": BASE, "pause": BASE,
+    "ping": BASE, "play": BASE, "playid": BASE, "playlist": ADDED, "playlistadd": BASE,
+    "playlistclear": BASE, "playlistdelete": BASE, "playlistfind": ADDED, "playlistid": BASE,
+    "playlistinfo": BASE, "playlistmove": BASE, "playlistsearch": ADDED, "plchanges": BASE,
+    "plchangesposid": BASE, "previous": BASE, "prio": BASE, "prioid": BASE, "random": BASE,
+    "readcomments": ADDED, "readmessages": BASE, "readpicture": ADDED, "rename": BASE, "repeat": BASE,
+    "replay_gain_mode": ADDED, "replay_gain_status": ADDED, "rescan": BASE, "rm": BASE, "save": BASE,
+    "search": BASE, "searchadd": BASE, "searchaddpl": ADDED, "seek": BASE, "seekcur": BASE,
+    "seekid": BASE, "sendmessage": BASE, "setvol": BASE, "shuffle": BASE, "single": BASE,
+    "stats": ADDED, "status": BASE, "sticker": BASE, "stop": BASE, "subscribe": BASE, "swap": BASE,
+    "swapid": BASE, "tagtypes": BASE, "toggleoutput": BASE, "unsubscribe": BASE, "update": BASE,
+    "urlhandlers": ADDED, "volume": ADDED,
+};
+
+/// How many names come before each letter, from `a` on, and before the character after `z`.
+#[rattlefmt::skip]
+const STARTS: &[usize] = &[
+    0, 3, 3, 12, 16, 17, 19, 20, 20, 21, 21, 22, 31, 33, 36, 37, 55, 55, 65, 83, 85, 88, 89, 89, 89, 89, 89,
 ];
 
 /// The names of all commands, in their byte order (MPD protocol reference, Command reference).
@@ -37,14 +59,23 @@ const EVERYDAY: &[&'static str] = &[
 pub fn names() -> &'static [&'static str]
     ensures { map (λ name. name.now) result.now ≡ all_names }
 {
-    NAMES
+    COMMANDS.names
 }
 
-/// The names of the commands that the everyday profile adds, in their byte order.
-fn everyday() -> &'static [&'static str]
-    ensures { map (λ name. name.now) result.now ≡ everyday_names }
+/// Whether the everyday profile adds the command of each name.
+#[tactic(auto, unfolding(crate::specs::Names::all_names, crate::specs::Connection::rows, crate::specs::Database::rows, crate::specs::Messages::rows, crate::specs::Options::rows, crate::specs::Outputs::rows, crate::specs::Playback::rows, crate::specs::Playlists::rows, crate::specs::Queue::rows, crate::specs::Status::rows, crate::specs::Stickers::rows,))]
+fn added() -> &'static [bool]
+    ensures { result.now ≡ map is_added_name all_names }
 {
-    EVERYDAY
+    COMMANDS.added
+}
+
+/// How many names come before each letter, from `a` on, and before the character after `z`.
+#[tactic(auto, unfolding(crate::specs::Names::starts, crate::specs::Names::all_names, crate::specs::Connection::rows, crate::specs::Database::rows, crate::specs::Messages::rows, crate::specs::Options::rows, crate::specs::Outputs::rows, crate::specs::Playback::rows, crate::specs::Playlists::rows, crate::specs::Queue::rows, crate::specs::Status::rows, crate::specs::Stickers::rows,))]
+fn starts() -> &'static [usize]
+    ensures { result.now ≡ starts_lem }
+{
+    STARTS
 }
 
 /// The name of a command: its place among all names.
@@ -55,13 +86,13 @@ pub struct Name {
 
 impl Name {
     ghost use Rattle.std.specs.Prelude.{◌≡◌, Option};
-    ghost use Rattle.mpd_command.specs.Names.{name_of, text_of};
+    ghost use Rattle.mpd_command.specs.Names.{is_added_name, is_there as is_there_lem, name_of, text_of};
 
     /// The name that a word is, if it is one. Upper and lower case are two things.
     pub fn of_word(word: &str) -> Option<Name>
         ensures { result ≡ name_of word.now }
     {
-        match place_of(names(), word) {
+        match place_of(word) {
             Some(place) => Some(Name { place }),
             None => None,
         }
@@ -76,10 +107,61 @@ impl Name {
             None => "",
         }
     }
+
+    /// Whether there is such a command: one that the everyday profile adds has to be asked for.
+    pub(crate) fn is_there(self, set: CommandSet) -> bool
+        ensures { result ≡ is_there_lem (text_of self) set }
+    {
+        set.everyday || !self.is_added()
+    }
+
+    /// Whether the everyday profile adds the command.
+    fn is_added(self) -> bool
+        ensures { result ≡ is_added_name (text_of self) }
+    {
+        match added().get(self.place) {
+            Some(added) => *added,
+            None => false,
+        }
+    }
+}
+
+/// The place of a word among all names. It is compared only with those that begin with its letter: each line
+/// of a client is looked up here.
+fn place_of(word: &str) -> Option<usize>
+    ensures { result ≡ position (λ name. bytes_eq name word.now) all_names }
+{
+    let letter = letter_of(word);
+    let start = start_of(letter);
+    let texts = names().get(start..start_of(letter + 1))?;
+    match place_among(texts, word) {
+        Some(place) => Some(start + place),
+        None => None,
+    }
+}
+
+/// The letter that a word begins with, by its place from `a` on.
+fn letter_of(word: &str) -> usize
+    ensures { result ≡ letter_of_lem word.now }
+{
+    match word.as_bytes().first() {
+        Some(first) => first.saturating_sub(b'a') as usize,
+        None => 0,
+    }
+}
+
+/// How many names come before a letter; none before what is no letter.
+fn start_of(letter: usize) -> usize
+    ensures { result ≡ slice_index_or starts_lem letter 0 }
+{
+    match starts().get(letter) {
+        Some(start) => *start,
+        None => 0,
+    }
 }
 
 /// The place of a word among some texts.
-fn place_of(texts: &[&'static str], word: &str) -> Option<usize>
+fn place_among(texts: &[&'static str], word: &str) -> Option<usize>
     ensures { result ≡ position (λ text. bytes_eq text.now word.now) texts.now }
 {
     texts.iter().position(|text| *text == word)
@@ -89,13 +171,10 @@ fn place_of(texts: &[&'static str], word: &str) -> Option<usize>
 pub fn is_there(name: &str, set: CommandSet) -> bool
     ensures { result ≡ is_there_lem name.now set }
 {
-    set.everyday || !is_one_of(everyday(), name)
-}
-
-fn is_one_of(names: &[&'static str], word: &str) -> bool
-    ensures { result ≡ list_any (λ name. bytes_eq name.now word.now) names.now }
-{
-    names.iter().any(|name| *name == word)
+    match Name::of_word(name) {
+        Some(name) => name.is_there(set),
+        None => true,
+    }
 }
 
 /// Whether the command of this name may not be run: the settings have to allow `kill`.

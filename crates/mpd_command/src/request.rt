@@ -5,7 +5,7 @@ ghost use Rattle.command_arguments.specs.declared.readers.Misread.TheVariants.{W
 
 use crate::command::{Command, read};
 use crate::command_set::CommandSet;
-use crate::name::{Name, is_forbidden, is_there};
+use crate::name::{Name, is_forbidden};
 use command_arguments::Misread;
 use mpd_text::{ErrorNumber, Text, WordsFault, words};
 use std::alloc::{AllocError, Global};
@@ -90,10 +90,9 @@ fn named(alloc: Global, words: &[String], set: CommandSet) -> Result<(Name, Comm
 fn name_in_set(word: &str, set: CommandSet) -> Option<Name>
     ensures { result ≡ name_in_set_lem word.now set }
 {
-    if is_there(word, set) {
-        Name::of_word(word)
-    } else {
-        None
+    match Name::of_word(word) {
+        Some(name) if name.is_there(set) => Some(name),
+        _ => None,
     }
 }
 

@@ -1,11 +1,10 @@
-use Rattle.std.proofs.Common.{◌≡◌, ◌∙◌, ◌||◌, Bool, not, ap, sym}
-use Rattle.std.specs.Str.{bytes_eq}
-use Rattle.std.specs.List.{list_any}
-use Rattle.mpd_command.specs.Names.{everyday_names}
-use Rattle.mpd_command.proofs.Places.{same_any}
+use Rattle.std.proofs.Common.{ap, sym, ◌∙◌}
+use Rattle.mpd_command.specs.Names.{is_there}
+use Rattle.mpd_command.proofs.Known.{text-of_word, there-unnamed}
 use Rattle.mpd_command.proofs.name.is_there.Goals as goal
 
-pub returns-else-set : goal.returns-else-set
-returns-else-set c =
-    let added : Bool = list_any (λ other. bytes_eq other c.args.name.now) everyday_names in
-    ap not (c.is_one_of.ensures ∙ same_any c.everyday.result.now everyday_names c.args.name.now c.everyday.ensures) ∙ ap (λ (on : Bool). on || not added) (sym c.if-set.false)
+pub returns-in-Some : goal.returns-in-Some
+returns-in-Some c = c.is_there.ensures ∙ ap (λ word. is_there word c.args.set) (text-of_word c.args.name.now c.in-Some.name (sym c.of_word.ensures ∙ c.in-Some.is))
+
+pub returns-in-None : goal.returns-in-None
+returns-in-None c = sym (there-unnamed c.args.name.now c.args.set (sym c.of_word.ensures ∙ c.in-None.is))
