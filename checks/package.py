@@ -1,0 +1,380 @@
+#!/usr/bin/env python3
+"""The Debian package that packaging/deb makes, in a Debian of its own: it is installed, the program serves, an upgrade, and a purge.
+
+    checks/package.py [PROGRAM] [--suite bookworm] [--mirror URL] [--base FOLDER]
+
+It needs root, the network and Debian's packages debootstrap and binutils; systemd-analyze, where it is there, looks at the units. FOLDER
+is a folder that debootstrap made, which is copied in place of a new one. All is done in a temporary folder, with processes and mounts of
+its own, which end with it.
+"""
+import argparse
+import hashlib
+import os
+import shutil
+import signal
+import stat
+import subprocess
+import sys
+import tempfile
+
+sys.dont_write_bytecode = True
+HERE = os.path.dirname(os.path.abspath(__file__))
+sys.path.insert(0, os.path.join(HERE, 'serve'))
+
+from daemon import ROOT, Process, Table, free_port, program_of, put_songs
+
+DEB = os.path.join(ROOT, 'packaging', 'deb')
+STATE, RUN, SETTINGS = 'var/lib/music_daemon', 'run/music_daemon', 'etc/music_daemon.toml'
+SYSTEM, USER = 'usr/lib/systemd/system/music_daemon.service', 'usr/lib/systemd/user/music_daemon.service'
+WANTED = 'etc/systemd/system/multi-user.target.wants/music_daemon.service'
+DOCUMENTS = 'usr/share/doc/music-daemon'
+PAGE = 'usr/share/man/man1/music_daemon.1.gz'
+SONGS = 12
+MOST = 1000000   # the bytes that a package may have
+LONGEST = 600    # the seconds that a command in the folder may take
+# Owner, group and mode of what is there after the installation.
+OWNERS = {
+    'usr/bin/music_daemon': ('root', 'root', '-rwxr-xr-x'),
+    SYSTEM: ('root', 'root', '-rw-r--r--'),
+    USER: ('root', 'root', '-rw-r--r--'),
+    SETTINGS: ('root', 'root', '-rw-r--r--'),
+    PAGE: ('root', 'root', '-rw-r--r--'),
+    DOCUMENTS + '/copyright': ('root', 'root', '-rw-r--r--'),
+    DOCUMENTS + '/changelog.gz': ('root', 'root', '-rw-r--r--'),
+    DOCUMENTS + '/examples/settings.toml': ('root', 'root', '-rw-r--r--'),
+    STATE: ('music_daemon', 'audio', 'drwxr-xr-x'),
+    STATE + '/music': ('root', 'root', 'drwxr-xr-x'),
+    RUN: ('music_daemon', 'audio', 'drwxr-xr-x'),
+    RUN + '/fifo': ('music_daemon', 'audio', 'prw-r-----'),
+}
+# What is no file of the folder, and what every installation writes: records of apt and dpkg, locks and former files of users.
+PASSED_OVER = ('proc', 'sys', 'dev', 'tmp', 'var/log', 'var/cache', 'var/lib/apt', 'var/lib/dpkg', 'run/adduser', 'etc/.pwd.lock',
+               'etc/passwd-', 'etc/shadow-', 'etc/group-', 'etc/gshadow-')
+# Lines of the settings of a service.
+LINES = ('everyday = true', 'listen = "127.0.0.1:6600"', 'music = "/%s/music"' % STATE, 'shelf = "/%s/shelf"' % STATE,
+         'path = "/%s/fifo"' % RUN)
+ENVIRONMENT = {'PATH': '/usr/sbin:/usr/bin:/sbin:/bin', 'LC_ALL': 'C', 'DEBIAN_FRONTEND': 'noninteractive'}
+
+
+class Rows(Table):
+    def __init__(self):
+        super().__init__('The package', 51, 60)
+        self.passed = 0
+
+    def row(self, *cells, right=True):
+        super().row(*cells, right=right)
+        self.passed += bool(right)
+
+
+class Debian:
+    """A folder with a Debian in it."""
+
+    def __init__(self, root):
+        self.root = root
+
+    def path(self, name):
+        return os.path.join(self.root, name)
+
+    def run(self, *words, user=None):
+        """What words do in it: the status, and all that was written."""
+        ask = ['chroot'] + (['--userspec=' + user] if user else []) + [self.root, *words]
+        done = subprocess.run(ask, stdin=subprocess.DEVNULL, stdout=subprocess.PIPE, stderr=subprocess.STDOUT, env=ENVIRONMENT,
+                              timeout=LONGEST)
+        return done.returncode, done.stdout.decode(errors='replace').strip()
+
+    def install(self, package):
+        shutil.copy(package, self.path('tmp/music-daemon.deb'))
+        told = self.run('apt-get', 'install', '-y', '--no-install-recommends', '--allow-downgrades', '/tmp/music-daemon.deb')
+        os.remove(self.path('tmp/music-daemon.deb'))
+        return told
+
+    def names(self, file):
+        """The names of etc/passwd or etc/group, by number."""
+        with open(self.path('etc/' + file)) as lines:
+            return {int(line.split(':')[2]): line.split(':')[0] for line in lines}
+
+    def owner(self, name):
+        """Owner, group and mode, or None."""
+        try:
+            found = os.lstat(self.path(name))
+        except FileNotFoundError:
+            return None
+        users, groups = self.names('passwd'), self.names('group')
+        return users.get(found.st_uid, found.st_uid), groups.get(found.st_gid, found.st_gid), stat.filemode(found.st_mode)
+
+    def tree(self):
+        """What is in it: mode and owners, of files in etc what they hold, and what dpkg knows of packages."""
+        found = {}
+        for folder, below, files in os.walk(self.root):
+            within = os.path.relpath(folder, self.root)
+            for name in list(below) + files:
+                path = os.path.normpath(os.path.join(within, name))
+                if path in PASSED_OVER:
+                    if name in below:
+                        below.remove(name)
+                    continue
+                full = self.path(path)
+                seen = os.lstat(full)
+                found[path] = [stat.filemode(seen.st_mode), seen.st_uid, seen.st_gid]
+                if stat.S_ISREG(seen.st_mode) and path.startswith('etc/'):
+                    with open(full, 'rb') as file:
+                        found[path].append(hashlib.sha256(file.read()).hexdigest())
+        for name in os.listdir(self.path('var/lib/dpkg/info')):
+            found['var/lib/dpkg/info/' + name] = []
+        return found
+
+
+def last(told):
+    return told.splitlines()[-1] if told else ''
+
+
+def differ(before, after):
+    return sorted(name for name in before.keys() | after.keys() if before.get(name) != after.get(name))
+
+
+def made(program, path, version=None):
+    environment = dict(os.environ, **({'VERSION': version} if version else {}))
+    done = subprocess.run([DEB, program, path], stdout=subprocess.PIPE, stderr=subprocess.STDOUT, env=environment, timeout=300)
+    return done.returncode, done.stdout.decode(errors='replace').strip()
+
+
+def content(path):
+    with open(path, 'rb') as file:
+        return file.read()
+
+
+def check_made(rows, program, folder):
+    """The package, twice, and a newer one."""
+    paths = [os.path.join(folder, name) for name in ('one.deb', 'two.deb', 'newer.deb')]
+    status, told = made(program, paths[0])
+    rows.row('packaging/deb', last(told).replace(folder + '/', ''), right=status == 0)
+    if status:
+        return None
+    made(program, paths[1])
+    made(program, paths[2], '999')
+    size = os.path.getsize(paths[0])
+    rows.row('below 1 MB', '%d bytes' % size, right=size < MOST)
+    same = content(paths[0]) == content(paths[1])
+    rows.row('the same bytes again', 'yes' if same else 'no', right=same)
+    words = ['dpkg-deb', '--field', paths[0], 'Architecture', 'Depends']
+    fields = subprocess.run(words, stdout=subprocess.PIPE).stdout.decode().splitlines()
+    rows.row('what it needs', ', '.join(fields), right=fields[0] == 'Architecture: amd64' and 'libc6 (>= ' in fields[1])
+    return paths[0], paths[2]
+
+
+def check_refusals(rows, folder):
+    """Programs of which no package is made: a script, and one that needs another library."""
+    script = os.path.join(folder, 'script')
+    with open(script, 'w') as file:
+        file.write('#!/bin/sh\n')
+    os.chmod(script, 0o755)
+    status, told = made(script, os.path.join(folder, 'no.deb'))
+    rows.row('a script', last(told).replace(folder, '..'), right=status == 1 and 'no program for amd64' in told)
+    status, told = made('/bin/ls', os.path.join(folder, 'no.deb'))
+    rows.row('a program that needs more than libc', last(told).replace(folder, '..'), right=status == 1 and 'which is not in' in told)
+
+
+def check_installed(rows, debian):
+    for name, wanted in OWNERS.items():
+        found = debian.owner(name)
+        rows.row('/' + name, ' '.join(map(str, found)) if found else 'is not there', right=found == wanted)
+    status, told = debian.run('dpkg', '--verify', 'music-daemon')
+    rows.row('files as packed', told or 'yes', right=(status, told) == (0, ''))
+    status, told = debian.run('id', 'music_daemon')
+    rows.row('the user', told, right=status == 0 and 'groups=29(audio)' in told and int(told[4:told.index('(')]) < 1000)
+    link = debian.path(WANTED)
+    rows.row('the unit is enabled', os.readlink(link) if os.path.islink(link) else 'no', right=os.path.islink(link))
+    rows.row('nothing runs', 'yes' if not running(debian) else 'no', right=not running(debian))
+    lines = content(debian.path(SETTINGS)).decode().splitlines()
+    wrong = [line for line in LINES if line not in lines]
+    rows.row('the settings of a service', ', '.join(wrong) or 'yes', right=not wrong)
+
+
+def running(debian):
+    """Processes of the packaged program."""
+    found = []
+    for number in filter(str.isdigit, os.listdir('/proc')):
+        try:
+            if os.readlink('/proc/%s/exe' % number).startswith(debian.path('usr/bin/music_daemon')):
+                found.append(int(number))
+        except OSError:
+            pass
+    return found
+
+
+def check_units(rows, debian):
+    """systemd-analyze of this machine, on the units where they are installed, with the folder as its root."""
+    for name, words in ((SYSTEM, []), (USER, ['--user'])):
+        case = 'systemd-analyze verify, ' + ('of a user' if words else 'of the system')
+        if not shutil.which('systemd-analyze'):
+            rows.row(case, 'not looked at: there is no systemd-analyze')
+            continue
+        # It wants the program at the unit's path, which is this machine's; so it is given the path in the folder.
+        copy = os.path.join(debian.path('tmp'), os.path.basename(name))
+        with open(debian.path(name)) as file, open(copy, 'w') as unit:
+            unit.write(file.read().replace('/usr/bin/music_daemon', debian.path('usr/bin/music_daemon')))
+        done = subprocess.run(['systemd-analyze', *words, '--man=no', 'verify', copy], stdout=subprocess.PIPE, stderr=subprocess.STDOUT,
+                              env=dict(os.environ, XDG_RUNTIME_DIR=debian.path('tmp')), timeout=60)
+        # It tells of all units that it loads; of others nothing is asked.
+        lines = [line for line in done.stdout.decode(errors='replace').splitlines() if 'music_daemon' in line]
+        rows.row(case, lines[0] if lines else 'nothing to say', right=not lines)
+        os.remove(copy)
+
+
+def check_program(rows, debian, folder):
+    """The program in a Debian without a toolchain, as the package's user; it is left running."""
+    status, told = debian.run('/usr/bin/music_daemon', '--version')
+    rows.row('--version', told, right=status == 0 and told.startswith('music_daemon '))
+    put_songs(debian.path(STATE + '/music'), SONGS, 100)
+    status, told = debian.run('/usr/bin/music_daemon', 'scan', '/%s/music' % STATE, user='music_daemon:audio')
+    count = sum(line.startswith('file: ') for line in told.splitlines())
+    rows.row('scan', '%d songs, status %d' % (count, status), right=(status, count) == (0, SONGS))
+    port = free_port()
+    text = content(debian.path(SETTINGS)).decode()
+    with open(debian.path(SETTINGS), 'w') as file:
+        file.write(text.replace('127.0.0.1:6600', '127.0.0.1:%d' % port))
+    words = ['chroot', '--userspec=music_daemon:audio', debian.root, '/usr/bin/music_daemon', 'serve', '--config', '/' + SETTINGS]
+    try:
+        daemon = Process(words, port, folder, environment=ENVIRONMENT)
+    except AssertionError as fault:
+        rows.row('serve', fault, right=False)
+        return None
+    client = daemon.client()
+    answer = ' '.join(client.ask('ping'))
+    client.close()
+    rows.row('serve, and a ping', '%s, %s' % (client.greeting, answer), right=client.greeting.startswith('OK MPD ') and answer == 'OK')
+    found = debian.owner(STATE + '/shelf')
+    shown = ' '.join(map(str, found)) if found else 'is not there'
+    rows.row('the shelf that it made', shown, right=bool(found) and found[0] == 'music_daemon')
+    return daemon
+
+
+def check_upgrade(rows, debian, newer, daemon):
+    edited = content(debian.path(SETTINGS))
+    status, told = debian.install(newer)
+    told = debian.run('dpkg-query', '-W', '-f', '${Version} ${Status}', 'music-daemon')[1]
+    rows.row('a newer one over it', told, right=status == 0 and told == '999 install ok installed')
+    rows.row('the settings that were edited stay', 'yes' if content(debian.path(SETTINGS)) == edited else 'no',
+             right=content(debian.path(SETTINGS)) == edited)
+    if daemon:
+        rows.row('the daemon ran on', 'yes' if daemon.process.poll() is None else 'no', right=daemon.process.poll() is None)
+
+
+def check_removed(rows, debian, daemon):
+    status, told = debian.run('apt-get', 'remove', '-y', 'music-daemon')
+    rows.row('apt-get remove', 'status %d' % status, right=status == 0)
+    if daemon:
+        try:
+            ended = 'status %d' % daemon.process.wait(15)
+        except subprocess.TimeoutExpired:
+            ended = None
+        rows.row('the daemon ended', ended or 'no', right=ended is not None)
+    kept = [name for name in (SETTINGS, STATE + '/shelf', STATE + '/music') if os.path.lexists(debian.path(name))]
+    rows.row('settings, shelf and music are kept', ' '.join(kept), right=len(kept) == 3)
+    gone = [name for name in ('usr/bin/music_daemon', SYSTEM, USER, PAGE, DOCUMENTS, RUN) if os.path.lexists(debian.path(name))]
+    rows.row('program, units and documents are gone', ' '.join(gone) or 'yes', right=not gone)
+
+
+def check_purged(rows, debian, case, before, kept):
+    status, told = debian.run('apt-get', 'purge', '-y', 'music-daemon')
+    rows.row('apt-get purge, ' + case, 'status %d' % status, right=status == 0)
+    left = differ(dict(before, **kept), debian.tree())
+    rows.row('nothing else is left or changed', ', '.join(left[:4]) or 'yes', right=not left)
+    names = [name for file in ('passwd', 'group') for name in debian.names(file).values() if 'music' in name]
+    rows.row('no user and no group', ' '.join(names) or 'yes', right=not names)
+
+
+def check_under_systemd(rows, debian, package, newer):
+    """What the package asks of systemd: a program in the place of systemctl writes it down. The music of before is there."""
+    asked, systemctl = debian.path('tmp/asked'), debian.path('usr/bin/systemctl')
+    os.makedirs(debian.path('run/systemd/system'))
+    with open(systemctl, 'w') as file:
+        file.write('#!/bin/sh\necho "$*" >> /tmp/asked\n')
+    os.chmod(systemctl, 0o755)
+
+    def row(case, told, wanted):
+        words = content(asked).decode().splitlines() if os.path.exists(asked) else []
+        # deb-systemd-helper has it make the links of an enabled unit.
+        words = [line for line in words if not line.startswith('--root=/ ')]
+        rows.row('under systemd: ' + case, ', '.join(words), right=told[0] == 0 and words == wanted)
+        if os.path.exists(asked):
+            os.remove(asked)
+
+    row('a first installation', debian.install(package), ['--system daemon-reload'])
+    found = [debian.owner(name) for name in (STATE, STATE + '/music', RUN)]
+    rows.row('the folders, over music that was there', ' '.join(found[0]), right=found == [OWNERS[STATE], OWNERS[STATE + '/music'], None])
+    row('an upgrade', debian.install(newer), ['--system daemon-reload', 'try-restart music_daemon.service'])
+    row('a removal', debian.run('apt-get', 'remove', '-y', 'music-daemon'), ['stop music_daemon.service', '--system daemon-reload'])
+    row('a purge', debian.run('apt-get', 'purge', '-y', 'music-daemon'), ['--system daemon-reload'])
+    os.remove(systemctl)
+    os.rmdir(debian.path('run/systemd/system'))
+
+
+def check_package(given, folder):
+    rows = Rows()
+    packages = check_made(rows, program_of(given.program), folder)
+    check_refusals(rows, folder)
+    if packages:
+        root = os.path.join(folder, 'debian')
+        if given.base:
+            subprocess.run(['cp', '-a', given.base, root], check=True)
+        else:
+            words = ['debootstrap', '--variant=minbase', given.suite, root, given.mirror]
+            done = subprocess.run(words, stdout=subprocess.PIPE, stderr=subprocess.STDOUT)
+            if done.returncode:
+                sys.exit('debootstrap: ' + last(done.stdout.decode(errors='replace')))
+        subprocess.run(['mount', '-t', 'proc', 'proc', os.path.join(root, 'proc')], check=True)
+        debian = Debian(root)
+        try:
+            # What it depends on stays after it, and in Debian 13 adduser is no part of the smallest system.
+            debian.run('apt-get', 'install', '-y', '--no-install-recommends', 'adduser')
+            before = debian.tree()
+            status, told = debian.install(packages[0])
+            rows.row('apt-get install', last(told), right=status == 0)
+            check_installed(rows, debian)
+            check_units(rows, debian)
+            check_purged(rows, debian, 'no music', before, {})
+            status, told = debian.install(packages[0])
+            rows.row('apt-get install again', last(told), right=status == 0)
+            daemon = check_program(rows, debian, folder)
+            music = {name: seen for name, seen in debian.tree().items() if name.startswith(STATE + '/music')}
+            sums = {name: content(debian.path(name)) for name in music if name.endswith('.wav')}
+            check_upgrade(rows, debian, packages[1], daemon)
+            check_removed(rows, debian, daemon)
+            check_purged(rows, debian, 'with music', before, {STATE: ['drwxr-xr-x', 0, 0], **music})
+            check_under_systemd(rows, debian, *packages)
+            kept = [name for name in sums if os.path.exists(debian.path(name)) and content(debian.path(name)) == sums[name]]
+            rows.row("the household's music", '%d songs' % len(kept), right=len(kept) == SONGS)
+            for number in running(debian):
+                os.kill(number, 9)
+        finally:
+            subprocess.run(['umount', os.path.join(root, 'proc')])
+    print('\n%d passed, %d failed' % (rows.passed, rows.failed))
+    return 1 if rows.failed else 0
+
+
+def main():
+    parser = argparse.ArgumentParser(description='The Debian package, in a Debian of its own.')
+    parser.add_argument('program', nargs='?')
+    parser.add_argument('--suite', default='bookworm')
+    parser.add_argument('--mirror', default='http://deb.debian.org/debian')
+    parser.add_argument('--base')
+    parser.add_argument('--within', help=argparse.SUPPRESS)
+    given = parser.parse_args()
+    if given.within:
+        return check_package(given, given.within)
+    if os.geteuid() != 0:
+        sys.exit('checks/package.py: only root can make a Debian folder and run programs in it')
+    for tool in ('dpkg-deb', 'unshare') + (() if given.base else ('debootstrap',)):
+        if not shutil.which(tool):
+            sys.exit('checks/package.py: no %s; it is in the Debian package of that name, or in dpkg or util-linux' % tool)
+    program_of(given.program)
+    signal.signal(signal.SIGTERM, lambda *_: sys.exit(1))
+    with tempfile.TemporaryDirectory() as folder:
+        # Mounts and processes of its own: none is left, however this ends.
+        words = ['unshare', '--mount', '--pid', '--fork', '--kill-child', '--mount-proc', sys.executable, os.path.abspath(__file__)]
+        return subprocess.run(words + sys.argv[1:] + ['--within', folder]).returncode
+
+
+if __name__ == '__main__':
+    sys.exit(main())
