@@ -11,6 +11,7 @@ The exit status is 1 where a step fails that is to work; clients that are not in
 """
 import os
 import shutil
+import signal
 import socket
 import subprocess
 import sys
@@ -406,7 +407,9 @@ def run_cantata(steps, port, folder):
     around = dict(os.environ, HOME=home, XDG_RUNTIME_DIR=run, DISPLAY=':97', QT_QPA_PLATFORM='xcb', LANG='C.UTF-8')
     screen = subprocess.Popen(['Xvfb', ':97', '-screen', '0', '1200x800x24'], stderr=subprocess.DEVNULL)
     time.sleep(2)
-    cantata = subprocess.Popen(['cantata'], env=around, stdout=subprocess.DEVNULL, stderr=subprocess.DEVNULL)
+    # Without a message bus it ends at once; with one of its own no other instance is asked in its place.
+    words = ['dbus-run-session', '--', 'cantata']
+    cantata = subprocess.Popen(words, env=around, stdout=subprocess.DEVNULL, stderr=subprocess.DEVNULL, start_new_session=True)
 
     def press(x, y):
         subprocess.run(['xdotool', 'mousemove', str(x), str(y), 'click', '1'], env=around, capture_output=True)
@@ -423,7 +426,7 @@ def run_cantata(steps, port, folder):
         press(101, 29)
         steps.step('cantata', 'the next song', steps.becomes('song', '1'))
     finally:
-        cantata.kill()
+        os.killpg(cantata.pid, signal.SIGKILL)
         screen.kill()
 
 
@@ -444,7 +447,7 @@ def main():
             for needed, run in [(['mpc'], lambda: run_mpc(steps, proxy.port)), (['/usr/lib/python3/dist-packages/mpd'], lambda: run_library(steps, proxy.port)),
                                 (['ncmpc', 'tmux'], lambda: run_ncmpc(steps, proxy.port, folder)),
                                 (['ncmpcpp', 'tmux'], lambda: run_ncmpcpp(steps, proxy.port, folder)),
-                                *([(['cantata', 'Xvfb', 'xdotool'], lambda: run_cantata(steps, proxy.port, folder))] if is_everyday else [])]:
+                                *([(['cantata', 'Xvfb', 'xdotool', 'dbus-run-session'], lambda: run_cantata(steps, proxy.port, folder))] if is_everyday else [])]:
                 missing = [name for name in needed if not (shutil.which(name) or os.path.exists(name))]
                 if missing:
                     table.row(os.path.basename(needed[0]), 'left out', 'not installed: %s' % ', '.join(missing))
