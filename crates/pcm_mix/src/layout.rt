@@ -1,9 +1,12 @@
 //! How frames lie in bytes, in a WAVE file and at an output.
-ghost use Rattle.std.specs.Prelude.{◌≡◌, ◌*◌, ◌+◌, ◌≤◌, length, map, flat_map};
+ghost use Rattle.std.specs.Prelude.{◌≡◌, [], ◌∷◌, ◌*◌, ◌+◌, ◌≤◌, length, map, flat_map};
 ghost use Rattle.std.specs.List.{range_with_len};
-ghost use Rattle.pcm_mix.specs.Layouts.{width, count, sample_at, frame_at, frame_bytes};
+ghost use Rattle.pcm_mix.specs.declared.layout.Depth.TheVariants.{TwentyFour};
+ghost use Rattle.pcm_mix.specs.declared.layout.Channels.TheVariants.{Mono, Stereo};
+ghost use Rattle.pcm_mix.specs.Layouts.{width, count, signed, word_at, sample_at, frame_at, frame_bytes};
 
 use crate::Frame;
+use std::simd::prelude::*;
 
 /// Bits of a sample in a WAVE file.
 #[derive(Clone, Copy, Debug, PartialEq, Eq)]
@@ -55,9 +58,139 @@ pub fn from_bytes(bytes: &[u8], depth: Depth, channels: Channels, frames: &mut [
     requires { length frames.old * (width depth * count channels) ≤ length bytes.now }
     ensures { frames.new ≡ map (frame_at depth channels bytes.now) (range_with_len 0 (length frames.old)) }
 {
-    for i in 0..frames.len() {
+    match channels {
+        Channels::Mono => read_depth(bytes, depth, Channels::Mono, frames),
+        Channels::Stereo => read_depth(bytes, depth, Channels::Stereo, frames),
+    }
+}
+
+// This and what it calls is written into `from_bytes` once for each layout, so that no loop asks for it.
+#[inline(always)]
+fn read_depth(bytes: &[u8], depth: Depth, channels: Channels, frames: &mut [Frame])
+    requires { length frames.old * (width depth * count channels) ≤ length bytes.now }
+    ensures { frames.new ≡ map (frame_at depth channels bytes.now) (range_with_len 0 (length frames.old)) }
+{
+    match depth {
+        Depth::Eight => read(bytes, Depth::Eight, channels, frames),
+        Depth::Sixteen => read(bytes, Depth::Sixteen, channels, frames),
+        Depth::TwentyFour => read(bytes, Depth::TwentyFour, channels, frames),
+    }
+}
+
+// Eight frames a step, where that is faster, and the rest one by one.
+#[inline(always)]
+fn read(bytes: &[u8], depth: Depth, channels: Channels, frames: &mut [Frame])
+    requires { length frames.old * (width depth * count channels) ≤ length bytes.now }
+    ensures { frames.new ≡ map (frame_at depth channels bytes.now) (range_with_len 0 (length frames.old)) }
+{
+    let eights = eights(frames.len(), depth);
+    for step in 0..eights {
+        let i = 8 * step;
+        let [a, b, c, d, e, f, g, h] = eight_frames(bytes, i, depth, channels);
+        frames[i] = a;
+        frames[i + 1] = b;
+        frames[i + 2] = c;
+        frames[i + 3] = d;
+        frames[i + 4] = e;
+        frames[i + 5] = f;
+        frames[i + 6] = g;
+        frames[i + 7] = h;
+    }
+    for i in 8 * eights..frames.len() {
         frames[i] = frame_at(bytes, i, depth, channels);
     }
+}
+
+// How many steps of eight frames. Of samples of 16 bits the compiler makes vectors in the plain loop.
+#[inline(always)]
+fn eights(len: usize, depth: Depth) -> usize
+    ensures { 8 * result ≤ len }
+{
+    match depth {
+        Depth::Sixteen => 0,
+        Depth::Eight | Depth::TwentyFour => len / 8,
+    }
+}
+
+#[inline(always)]
+fn eight_frames(bytes: &[u8], place: usize, depth: Depth, channels: Channels) -> [Frame; 8]
+    requires { (place + 8) * (width depth * count channels) ≤ length bytes.now }
+    ensures { result ≡ map (λ j. frame_at depth channels bytes.now (place + j)) (range_with_len 0 8) }
+{
+    match (depth, channels) {
+        (Depth::TwentyFour, Channels::Mono) => upper_mono(bytes, place),
+        (Depth::TwentyFour, Channels::Stereo) => upper_stereo(bytes, place),
+        _ => [
+            frame_at(bytes, place, depth, channels),
+            frame_at(bytes, place + 1, depth, channels),
+            frame_at(bytes, place + 2, depth, channels),
+            frame_at(bytes, place + 3, depth, channels),
+            frame_at(bytes, place + 4, depth, channels),
+            frame_at(bytes, place + 5, depth, channels),
+            frame_at(bytes, place + 6, depth, channels),
+            frame_at(bytes, place + 7, depth, channels),
+        ],
+    }
+}
+
+#[inline(always)]
+fn upper_mono(bytes: &[u8], place: usize) -> [Frame; 8]
+    requires { 3 * (place + 8) ≤ length bytes.now }
+    ensures { result ≡ map (λ j. frame_at TwentyFour Mono bytes.now (place + j)) (range_with_len 0 8) }
+{
+    let [a, b, c, d, e, f, g, h] = upper_words(bytes, 3 * place);
+    [
+        frame_of(a, a),
+        frame_of(b, b),
+        frame_of(c, c),
+        frame_of(d, d),
+        frame_of(e, e),
+        frame_of(f, f),
+        frame_of(g, g),
+        frame_of(h, h),
+    ]
+}
+
+#[inline(always)]
+fn upper_stereo(bytes: &[u8], place: usize) -> [Frame; 8]
+    requires { 6 * (place + 8) ≤ length bytes.now }
+    ensures { result ≡ map (λ j. frame_at TwentyFour Stereo bytes.now (place + j)) (range_with_len 0 8) }
+{
+    let [a, b, c, d, e, f, g, h] = upper_words(bytes, 6 * place);
+    let [i, j, k, l, m, n, o, p] = upper_words(bytes, 6 * place + 24);
+    [
+        frame_of(a, b),
+        frame_of(c, d),
+        frame_of(e, f),
+        frame_of(g, h),
+        frame_of(i, j),
+        frame_of(k, l),
+        frame_of(m, n),
+        frame_of(o, p),
+    ]
+}
+
+// The frame whose samples have these bits.
+fn frame_of(left: u16, right: u16) -> Frame
+    ensures { result ≡ signed 32768 left ∷ signed 32768 right ∷ [] }
+{
+    [left.cast_signed(), right.cast_signed()]
+}
+
+// Of eight samples of three bytes the upper two. They are taken out of two vectors that overlap, since the
+// compiler finds no vectors for steps of three bytes.
+#[inline(always)]
+fn upper_words(bytes: &[u8], at: usize) -> [u16; 8]
+    requires { at + 24 ≤ length bytes.now }
+    ensures { result ≡ map (λ j. word_at bytes.now (at + j * 3 + 1)) (range_with_len 0 8) }
+{
+    let first = u8x16::from_slice(&bytes[at..]);
+    let second = u8x16::from_slice(&bytes[at + 8..]);
+    let upper = first.shuffle(
+        second,
+        [1, 2, 4, 5, 7, 8, 10, 11, 21, 22, 24, 25, 27, 28, 30, 31],
+    );
+    u16x8::from_le_bytes(upper).to_array()
 }
 
 fn frame_at(bytes: &[u8], place: usize, depth: Depth, channels: Channels) -> Frame

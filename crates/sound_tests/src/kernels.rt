@@ -96,6 +96,92 @@ fn frames_from_bytes(rt: HostRuntime) -> Result<(), Fail> {
     Ok(())
 }
 
+// The byte at a place of what is read below.
+fn byte_at(at: usize) -> u8 {
+    (at.wrapping_mul(167).wrapping_add(at / 5) % 256) as u8
+}
+
+// The sample whose bytes begin at a place, by the number that all its bytes are.
+fn wanted_sample(depth: Depth, at: usize) -> i64 {
+    let first = i64::from(byte_at(at));
+    let second = i64::from(byte_at(at.wrapping_add(1)));
+    let third = i64::from(byte_at(at.wrapping_add(2)));
+    let (number, half) = match depth {
+        Depth::Eight => ((first - 128) * 256, 32_768),
+        Depth::Sixteen => (first + 256 * second, 32_768),
+        Depth::TwentyFour => (first + 256 * second + 65_536 * third, 8_388_608),
+    };
+    let signed = if number < half {
+        number
+    } else {
+        number - 2 * half
+    };
+    match depth {
+        Depth::Eight | Depth::Sixteen => signed,
+        Depth::TwentyFour => signed.div_euclid(256),
+    }
+}
+
+fn wanted_frame(depth: Depth, channels: Channels, place: usize) -> [i64; 2] {
+    let width = depth.width();
+    match channels {
+        Channels::Mono => {
+            let sample = wanted_sample(depth, place.wrapping_mul(width));
+            [sample, sample]
+        }
+        Channels::Stereo => {
+            let at = place.wrapping_mul(2 * width);
+            [
+                wanted_sample(depth, at),
+                wanted_sample(depth, at.wrapping_add(width)),
+            ]
+        }
+    }
+}
+
+// So many frames of the bytes, before one that is not written.
+fn frames_read(depth: Depth, channels: Channels, count: usize) -> [[i16; 2]; 68] {
+    let mut bytes = [0u8; 402];
+    for at in 0..402usize {
+        bytes[at] = byte_at(at);
+    }
+    let mut frames = [[9i16; 2]; 68];
+    let read = &mut frames[..count.min(67)];
+    if read.len() * (depth.width() * channels.count()) <= bytes.len() {
+        from_bytes(&bytes, depth, channels, read);
+    }
+    frames
+}
+
+fn are_read_as_wanted(depth: Depth, channels: Channels, count: usize) -> bool {
+    let frames = frames_read(depth, channels, count);
+    for place in 0..68usize {
+        let found = [i64::from(frames[place][0]), i64::from(frames[place][1])];
+        let wanted = if place < count {
+            wanted_frame(depth, channels, place)
+        } else {
+            [9, 9]
+        };
+        if found != wanted {
+            return false;
+        }
+    }
+    true
+}
+
+// Frames are read in steps of eight and one by one, so all lengths up to a few steps are tried.
+#[test]
+fn layouts_at_each_length(rt: HostRuntime) {
+    for depth in [Depth::Eight, Depth::Sixteen, Depth::TwentyFour] {
+        for count in 0..68usize {
+            let mono = are_read_as_wanted(depth, Channels::Mono, count);
+            assert!(rt; mono, "{count} frames of one channel, {depth:?}");
+            let stereo = are_read_as_wanted(depth, Channels::Stereo, count);
+            assert!(rt; stereo, "{count} frames of two channels, {depth:?}");
+        }
+    }
+}
+
 #[test]
 fn bytes_of_frames(rt: HostRuntime) {
     let mut bytes = [0; 12];
