@@ -20,7 +20,7 @@ GROUPS = [
     ('playback', ['playback']),
     ('the player', ['status', 'options']),
     ('stored playlists', ['playlists']),
-    ('stickers, which are texts that clients keep with a song, such as a rating', ['sticker']),
+    ('stickers, which are texts that clients keep with a song or a stored playlist, such as a rating', ['sticker']),
     ('messages between clients', ['messages']),
     ('the outputs', ['outputs']),
     ('the connection', ['connection']),

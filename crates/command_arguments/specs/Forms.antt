@@ -14,8 +14,8 @@ use Rattle.command_arguments.specs.declared.forms.Place.{Place}
 use Rattle.command_arguments.specs.declared.forms.Place.TheVariants.{At, After, Before}
 use Rattle.command_arguments.specs.declared.forms.Seeking.{Seeking}
 use Rattle.command_arguments.specs.declared.forms.Seeking.TheVariants.{To, Forward, Back}
-use Rattle.command_arguments.specs.declared.forms.SingleMode.{SingleMode}
-use Rattle.command_arguments.specs.declared.forms.SingleMode.TheVariants.{Off, On, Oneshot}
+use Rattle.command_arguments.specs.declared.forms.SongMode.{SongMode}
+use Rattle.command_arguments.specs.declared.forms.SongMode.TheVariants.{Off, On, Oneshot}
 use Rattle.command_arguments.specs.declared.forms.Window.{Window}
 use Rattle.command_arguments.specs.declared.forms.VolumeChange.{VolumeChange}
 use Rattle.command_arguments.specs.declared.forms.VolumeChange.TheVariants.{Up, Down}
@@ -34,9 +34,9 @@ uri_of word = Some (record { 0 = if slice_index word (length word - 1) == 47 the
 abbrev pub switch_of : List ℕ → Option Bool
 switch_of word = if bytes_eq word (codes "1") then Some true else (if bytes_eq word (codes "0") then Some false else None)
 
--- 0, 1 or oneshot (MPD protocol reference, Playback options: single)
-abbrev pub single_of : List ℕ → Option SingleMode
-single_of word =
+-- 0, 1 or oneshot (MPD protocol reference, Playback options: single, consume)
+abbrev pub song_mode_of : List ℕ → Option SongMode
+song_mode_of word =
     if bytes_eq word (codes "0") then Some Off
     else (if bytes_eq word (codes "1") then Some On
     else (if bytes_eq word (codes "oneshot") then Some Oneshot else None))

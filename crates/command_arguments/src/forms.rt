@@ -6,7 +6,7 @@ ghost use Rattle.mpd_text.specs.Answers.Number.{number_of};
 ghost use Rattle.mpd_text.specs.Answers.Range.{range_of};
 ghost use Rattle.idle_notes.specs.Names.{subsystem_of};
 ghost use Rattle.known_tags.specs.KnownTags.{tag_of as known_tag_of};
-ghost use Rattle.command_arguments.specs.Forms.{IsAfterSign, any_text, uri_of, switch_of, single_of, volume_of, fade_of, byte_of, off_of, place_of, seeking_of, tag_of, volume_change_of, window_of};
+ghost use Rattle.command_arguments.specs.Forms.{IsAfterSign, any_text, uri_of, switch_of, song_mode_of, volume_of, fade_of, byte_of, off_of, place_of, seeking_of, tag_of, volume_change_of, window_of};
 
 use crate::fade::FadeSeconds;
 use crate::volume::Volume;
@@ -66,26 +66,24 @@ impl Form for bool {
     }
 }
 
-/// Whether playing ends after the current song.
+/// Whether a mode is on that may be on for one song alone: `single` and `consume`.
 #[derive(Clone, Copy, Debug, PartialEq, Eq)]
-pub enum SingleMode {
-    /// It goes on.
+pub enum SongMode {
     Off,
-    /// It ends, or plays the song again where the queue begins anew at its end.
     On,
     /// As `On` for one song, and `Off` from then on.
     Oneshot,
 }
 
 /// `0`, `1` or `oneshot`.
-impl Form for SingleMode {
-    ghost read_gives = { single_of };
+impl Form for SongMode {
+    ghost read_gives = { song_mode_of };
 
-    fn read(_alloc: Global, word: &str) -> Result<Option<SingleMode>, AllocError> {
+    fn read(_alloc: Global, word: &str) -> Result<Option<SongMode>, AllocError> {
         match word {
-            "0" => Ok(Some(SingleMode::Off)),
-            "1" => Ok(Some(SingleMode::On)),
-            "oneshot" => Ok(Some(SingleMode::Oneshot)),
+            "0" => Ok(Some(SongMode::Off)),
+            "1" => Ok(Some(SongMode::On)),
+            "oneshot" => Ok(Some(SongMode::Oneshot)),
             _ => Ok(None),
         }
     }

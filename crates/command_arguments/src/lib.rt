@@ -8,7 +8,7 @@ mod volume;
 mod wanted;
 
 pub use fade::FadeSeconds;
-pub use forms::{Form, Place, ReplayGain, Seeking, SingleMode, Uri, VolumeChange, Window};
+pub use forms::{Form, Place, ReplayGain, Seeking, SongMode, Uri, VolumeChange, Window};
 pub use readers::{
     Misread, none, number_or_none, one, one_many, one_perhaps, perhaps, read_word, some,
     subsystems, three, two,

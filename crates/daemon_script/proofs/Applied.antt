@@ -1,10 +1,12 @@
 -- Events of a player that is lent a shelf in memory.
-use Rattle.std.proofs.Common.{◌≡◌, inl, inr, ℕ, ◌+◌, Bool, true, false, [], ◌∷◌, ◌++◌, length, Option, Some, None, Result, Ok, Err, refl, sym, subst, ap, ◌∙◌, if◌then◌else◌}
+use Rattle.std.proofs.Common.{◌≡◌, inl, inr, ℕ, ◌+◌, Bool, true, false, List, [], ◌∷◌, ◌++◌, length, Option, Some, None, Result, Ok, Err, refl, sym, subst, ap, ◌∙◌, if◌then◌else◌}
 use Rattle.std.specs.Result.{IfErr, IfOk, OnOk}
 use Rattle.std.specs.FinMap.{get-empty}
 use Rattle.std.specs.Prelude.{◌||◌, nat_le, not, slice_index_or}
 use Rattle.std.proofs.lemmas.List.{length-append}
 use Rattle.shelf.specs.Maps.{Same, no_maps}
+use Rattle.shelf.specs.declared.kinds.StickerKind.{StickerKind}
+use Rattle.shelf.specs.declared.kinds.StickerKind.TheVariants.{Song, Playlist}
 use Rattle.shelf.specs.declared.memory.MemShelf.{MemShelf}
 use Rattle.player_events.specs.Outcomes.{OutcomeData}
 use Rattle.partition.specs.History.{Chronicle, folded, is_full, joined_by, with_room}
@@ -19,7 +21,7 @@ use Rattle.partition.specs.declared.partition.PartitionFault.{PartitionFault}
 use Rattle.partition.specs.declared.partition.PartitionFault.TheVariants.{HistoryFull, CutsAtLimit, AtLimit, NoMemory}
 use Rattle.transitions.specs.declared.shelf_calls.StoreReply.{StoreReply}
 use Rattle.player_events.specs.declared.event.LogEntry.{LogEntry}
-use Rattle.daemon_script.specs.Contents.{Contents, by_bytes, by_uri_and_name, no_contents}
+use Rattle.daemon_script.specs.Contents.{Contents, by_bytes, by_target_and_name, maps_in, no_contents}
 use Rattle.daemon_script.specs.Kinds.{Shelved, images, window_in_room}
 use Rattle.daemon_script.specs.Pieces.{found_by}
 use Rattle.daemon_script.specs.Script.{NoneFold, fault_of, refusal}
@@ -32,7 +34,11 @@ beside c s = record { player = c.present; shelf = contents s; window = length c.
 
 -- a shelf that shows nothing holds nothing
 pub empty_shelf : (s : MemShelf) → Same no_maps (standing_of s).maps → contents s ≡ no_contents
-empty_shelf s same = holds s no_contents (record { lists = λ name. same.lists name ∙ sym (get-empty by_bytes name); stickers = λ uri name. same.stickers uri name ∙ sym (get-empty by_uri_and_name (uri, name)) })
+empty_shelf s same = holds s no_contents (record { lists = λ name. same.lists name ∙ sym (get-empty by_bytes name); stickers = at })
+  where
+    at : (kind : StickerKind) (target name : List ℕ) → (standing_of s).maps.stickers kind target name ≡ (maps_in no_contents).stickers kind target name
+    at Song target name = same.stickers Song target name ∙ sym (get-empty by_target_and_name (target, name))
+    at Playlist target name = same.stickers Playlist target name ∙ sym (get-empty by_target_and_name (target, name))
 
 -- the limit that an event would pass, what it makes of a player and a shelf, and what clients hear
 abbrev pub Gone : Type 0

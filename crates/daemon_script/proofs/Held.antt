@@ -1,12 +1,12 @@
 -- What a shelf in memory shows is what its contents show.
 use Rattle.std.proofs.Common.{◌≡◌, ◌⊎◌, inl, inr, ℕ, true, false, cond, not, ◌&&◌, List, [], ◌∷◌, map, Option, Some, None, option_map, string_bytes, bytes_eq, refl, sym, ap, ◌∙◌, if◌then◌else◌}
 use Rattle.std.specs.FinMap as finite
-use Rattle.std.specs.FinMap.{FinMap, find, IsAntisymmetric, nat_cmp-IsAntisymmetric, slice_cmp-IsAntisymmetric, get-empty, get-insert, get-retain_keys, get-from_entries, same_map}
+use Rattle.std.specs.FinMap.{find, IsAntisymmetric, nat_cmp-IsAntisymmetric, slice_cmp-IsAntisymmetric, get-empty, get-insert, get-retain_keys, get-from_entries, same_map}
 use Rattle.std.specs.Map.{lookup}
 use Rattle.std.specs.Cmp.{IsTotalOrder}
 use Rattle.std.specs.Cmp.Lexicographic.{slice_cmp}
 use Rattle.std.specs.Ordering.{eq_by_cmp, is_eq, nat_cmp, ordering_then}
-use Rattle.std.specs.BTreeMap.{BTreeMap, get_by_text}
+use Rattle.std.specs.BTreeMap.{get_by_text}
 use Rattle.std.specs.declared.alloc.Global.{Global}
 use Rattle.std.specs.declared.cmp.Ordering.{Ordering}
 use Rattle.std.specs.declared.cmp.Ordering.TheVariants.{Less, Equal, Greater}
@@ -16,16 +16,19 @@ use Rattle.std.proofs.lemmas.Cmp.{on_total, then_total}
 use Rattle.std.specs.Cmp.Lexicographic.{nat_list_cmp_total}
 use Rattle.std.proofs.lemmas.Map.Text.{is_eq-slice_cmp}
 use Rattle.std.proofs.lemmas.Slice.Eq.{bytes_eq-Decides}
+use Rattle.shelf.specs.declared.kinds.StickerKind.{StickerKind}
+use Rattle.shelf.specs.declared.kinds.StickerKind.TheVariants.{Song, Playlist}
+use Rattle.shelf.specs.declared.memory.MemShelf.{MemShelf}
 use Rattle.shelf.specs.Maps.{Same}
-use Rattle.shelf.specs.Memory.{Lists, Texts, memory_standing, stickers_in, text_in}
-use Rattle.daemon_script.specs.Contents.{Contents, by_bytes, by_uri_and_name, contents_of, is_of_other, maps_in, stickers_by_uri, with_names}
+use Rattle.shelf.specs.Memory.{Texts, maps_of, text_in}
+use Rattle.daemon_script.specs.Contents.{Contents, Stickers, by_bytes, by_target_and_name, contents_of, entry_bytes, is_of_other, maps_in, stickers_by_target, stickers_for, with_named, without}
 
 -- ---- the two orders
 
 pub text_total : IsTotalOrder by_bytes
 text_total = nat_list_cmp_total
 
-pub pair_total : IsTotalOrder by_uri_and_name
+pub pair_total : IsTotalOrder by_target_and_name
 pair_total = then_total (on_total {K = List ℕ × List ℕ} (λ p. p.0) text_total) (on_total {K = List ℕ × List ℕ} (λ p. p.1) text_total)
 
 pub text_same : IsAntisymmetric by_bytes
@@ -36,7 +39,7 @@ both_tie Less b e = cc
 both_tie Equal b e = (refl, e)
 both_tie Greater b e = cc
 
-pair_same : IsAntisymmetric by_uri_and_name
+pair_same : IsAntisymmetric by_target_and_name
 pair_same (u, m) (v, n) e =
     let both = both_tie (by_bytes u v) (by_bytes m n) e in
     λ i. (text_same u v both.0 i, text_same m n both.1 i)
@@ -50,7 +53,7 @@ and_is Less b = refl
 and_is Equal b = refl
 and_is Greater b = refl
 
-pub pair_ties : (u n : List ℕ) (k : List ℕ × List ℕ) → eq_by_cmp by_uri_and_name (u, n) k ≡ (bytes_eq u k.0 && bytes_eq n k.1)
+pub pair_ties : (u n : List ℕ) (k : List ℕ × List ℕ) → eq_by_cmp by_target_and_name (u, n) k ≡ (bytes_eq u k.0 && bytes_eq n k.1)
 pair_ties u n k = and_is (by_bytes u k.0) (by_bytes n k.1) ∙ (λ i. is_eq-slice_cmp u k.0 i && is_eq-slice_cmp n k.1 i)
 
 pub turned : (a b : List ℕ) → bytes_eq a b ≡ bytes_eq b a
@@ -66,85 +69,99 @@ turned a b =
 pub itself : (a : List ℕ) → bytes_eq a a ≡ true
 itself a = (bytes_eq-Decides a a).1 refl
 
--- ---- what the contents of the two maps show
+-- ---- what the contents of a shelf show
 
 lists_found : (name : List ℕ) (es : List (String Global × List (List ℕ)))
     → find by_bytes name (map {B = List ℕ × List (List ℕ)} (λ e. (string_bytes e.0, e.1)) es) ≡ lookup (λ k. is_eq (slice_cmp nat_cmp name (string_bytes k))) es
 lists_found name [] = refl
 lists_found name (e ∷ es) = ap (cond (is_eq (slice_cmp nat_cmp name (string_bytes e.0))) (Some e.1)) (lists_found name es)
 
-pub shows_lists : (lists : Lists) (stickers : BTreeMap (String Global) Texts) (name : List ℕ) → finite.get (contents_of lists stickers).lists name ≡ get_by_text lists name
-shows_lists lists stickers name = get-from_entries text_total _ name ∙ lists_found name lists.entries
+pub shows_lists : (s : MemShelf) (name : List ℕ) → finite.get (contents_of s).lists name ≡ get_by_text s.lists name
+shows_lists s name = get-from_entries text_total _ name ∙ lists_found name s.lists.entries
 
--- one of a URI's names, or else what there was
-abbrev or_else : Option (List ℕ) → Option (List ℕ) → Option (List ℕ)
+-- one of a target's names, or else what there was
+abbrev pub or_else : Option (List ℕ) → Option (List ℕ) → Option (List ℕ)
 or_else None b = b
 or_else (Some a) b = Some a
 
-abbrev texts_found : List (String Global × String Global) → List ℕ → Option (List ℕ)
-texts_found es name = option_map string_bytes (lookup (λ k. is_eq (slice_cmp nat_cmp name (string_bytes k))) es)
-
-with_names-get : (u : List ℕ) (es : List (String Global × String Global)) (m : FinMap by_uri_and_name (List ℕ)) (uri name : List ℕ)
-    → finite.get (with_names u es m) (uri, name) ≡ (if bytes_eq uri u then or_else (texts_found es name) (finite.get m (uri, name)) else finite.get m (uri, name))
-with_names-get u [] m uri name = elim (bytes_eq uri u) as (λ b. finite.get m (uri, name) ≡ (if b then finite.get m (uri, name) else finite.get m (uri, name))) [ true ↦ refl | false ↦ refl ]
-with_names-get u (e ∷ es) m uri name =
-    get-insert pair_total (with_names u es m) (u, string_bytes e.0) (string_bytes e.1) (uri, name)
-    ∙ ap (λ b. cond b (Some (string_bytes e.1)) (finite.get (with_names u es m) (uri, name))) (pair_ties uri name (u, string_bytes e.0))
-    ∙ ap (λ o. cond (bytes_eq uri u && bytes_eq name (string_bytes e.0)) (Some (string_bytes e.1)) o) (with_names-get u es m uri name)
-    ∙ at (cases_Bool (bytes_eq uri u)) (cases_Bool (bytes_eq name (string_bytes e.0)))
-  where
-    tie : is_eq (slice_cmp nat_cmp name (string_bytes e.0)) ≡ bytes_eq name (string_bytes e.0)
-    tie = is_eq-slice_cmp name (string_bytes e.0)
-
-    at : (bytes_eq uri u ≡ true) ⊎ (bytes_eq uri u ≡ false) → (bytes_eq name (string_bytes e.0) ≡ true) ⊎ (bytes_eq name (string_bytes e.0) ≡ false)
-        → cond (bytes_eq uri u && bytes_eq name (string_bytes e.0)) (Some (string_bytes e.1)) (if bytes_eq uri u then or_else (texts_found es name) (finite.get m (uri, name)) else finite.get m (uri, name))
-        ≡ (if bytes_eq uri u then or_else (texts_found (e ∷ es) name) (finite.get m (uri, name)) else finite.get m (uri, name))
-    at (inl is) (inl also) = rw (is, tie, also) refl
-    at (inl is) (inr apart) = rw (is, tie, apart) refl
-    at (inr apart) other = rw apart refl
-
-or_none : (o : Option (List ℕ)) → or_else o None ≡ o
+pub or_none : (o : Option (List ℕ)) → or_else o None ≡ o
 or_none None = refl
 or_none (Some a) = refl
 
-pub others_kept : (u uri name : List ℕ) (m : FinMap by_uri_and_name (List ℕ))
-    → finite.get (finite.retain_keys m (is_of_other u)) (uri, name) ≡ (if bytes_eq u uri then None else finite.get m (uri, name))
-others_kept u uri name m =
-    get-retain_keys m (is_of_other u) (uri, name) (λ x tie. ap (is_of_other u) (sym (pair_same (uri, name) x tie)))
-    ∙ elim (bytes_eq u uri) as (λ b. cond (not b) (finite.get m (uri, name)) None ≡ (if b then None else finite.get m (uri, name))) [ true ↦ refl | false ↦ refl ]
+pub with_named-get : (t : List ℕ) (es : List (List ℕ × List ℕ)) (m : Stickers) (target name : List ℕ)
+    → finite.get (with_named t es m) (target, name) ≡ (if bytes_eq target t then or_else (find by_bytes name es) (finite.get m (target, name)) else finite.get m (target, name))
+with_named-get t [] m target name =
+    elim (bytes_eq target t) as (λ b. finite.get m (target, name) ≡ (if b then finite.get m (target, name) else finite.get m (target, name))) [ true ↦ refl | false ↦ refl ]
+with_named-get t (e ∷ es) m target name =
+    get-insert pair_total (with_named t es m) (t, e.0) e.1 (target, name)
+    ∙ ap (λ b. cond b (Some e.1) (finite.get (with_named t es m) (target, name))) (pair_ties target name (t, e.0))
+    ∙ ap (λ o. cond (bytes_eq target t && bytes_eq name e.0) (Some e.1) o) (with_named-get t es m target name)
+    ∙ at (cases_Bool (bytes_eq target t)) (cases_Bool (bytes_eq name e.0))
+  where
+    at : (bytes_eq target t ≡ true) ⊎ (bytes_eq target t ≡ false) → (bytes_eq name e.0 ≡ true) ⊎ (bytes_eq name e.0 ≡ false)
+        → cond (bytes_eq target t && bytes_eq name e.0) (Some e.1) (if bytes_eq target t then or_else (find by_bytes name es) (finite.get m (target, name)) else finite.get m (target, name))
+        ≡ (if bytes_eq target t then or_else (find by_bytes name (e ∷ es)) (finite.get m (target, name)) else finite.get m (target, name))
+    at (inl is) (inl also) = rw (is, text_ties name e.0, also) refl
+    at (inl is) (inr apart) = rw (is, text_ties name e.0, apart) refl
+    at (inr apart) other = rw apart refl
+
+pub others_kept : (t target name : List ℕ) (m : Stickers)
+    → finite.get (without t m) (target, name) ≡ (if bytes_eq t target then None else finite.get m (target, name))
+others_kept t target name m =
+    get-retain_keys m (is_of_other t) (target, name) (λ x tie. ap (is_of_other t) (sym (pair_same (target, name) x tie)))
+    ∙ elim (bytes_eq t target) as (λ b. cond (not b) (finite.get m (target, name)) None ≡ (if b then None else finite.get m (target, name))) [ true ↦ refl | false ↦ refl ]
+
+texts_found : (name : List ℕ) (es : List (String Global × String Global))
+    → find by_bytes name (map {B = List ℕ × List ℕ} entry_bytes es) ≡ option_map string_bytes (lookup (λ k. is_eq (slice_cmp nat_cmp name (string_bytes k))) es)
+texts_found name [] = refl
+texts_found name (e ∷ es) = at (cases_Bool (is_eq (slice_cmp nat_cmp name (string_bytes e.0)))) (texts_found name es)
+  where
+    at : (is_eq (slice_cmp nat_cmp name (string_bytes e.0)) ≡ true) ⊎ (is_eq (slice_cmp nat_cmp name (string_bytes e.0)) ≡ false)
+        → find by_bytes name (map {B = List ℕ × List ℕ} entry_bytes es) ≡ option_map string_bytes (lookup (λ k. is_eq (slice_cmp nat_cmp name (string_bytes k))) es)
+        → find by_bytes name (map {B = List ℕ × List ℕ} entry_bytes (e ∷ es)) ≡ option_map string_bytes (lookup (λ k. is_eq (slice_cmp nat_cmp name (string_bytes k))) (e ∷ es))
+    at (inl is) rest = rw is refl
+    at (inr apart) rest = rw apart rest
 
 abbrev stickers_found : List (String Global × Texts) → List ℕ → List ℕ → Option (List ℕ)
-stickers_found us uri name = text_in (lookup (λ k. is_eq (slice_cmp nat_cmp uri (string_bytes k))) us) name
+stickers_found ts target name = text_in (lookup (λ k. is_eq (slice_cmp nat_cmp target (string_bytes k))) ts) name
 
-shows_pairs : (us : List (String Global × Texts)) (uri name : List ℕ) → finite.get (stickers_by_uri us) (uri, name) ≡ stickers_found us uri name
-shows_pairs [] uri name = get-empty by_uri_and_name (uri, name)
-shows_pairs (u ∷ us) uri name =
-    with_names-get (string_bytes u.0) u.1.entries (finite.retain_keys (stickers_by_uri us) (is_of_other (string_bytes u.0))) uri name
-    ∙ ap (λ o. if bytes_eq uri (string_bytes u.0) then or_else (texts_found u.1.entries name) o else o) (others_kept (string_bytes u.0) uri name (stickers_by_uri us) ∙ ap (λ b. if b then None else finite.get (stickers_by_uri us) (uri, name)) (turned (string_bytes u.0) uri))
-    ∙ at (cases_Bool (bytes_eq uri (string_bytes u.0))) (shows_pairs us uri name)
+-- what is left where those of a target are taken away
+abbrev left : List ℕ → List (String Global × Texts) → List ℕ → List ℕ → Option (List ℕ)
+left t ts target name = if bytes_eq target t then None else finite.get (stickers_by_target ts) (target, name)
+
+shows_pairs : (ts : List (String Global × Texts)) (target name : List ℕ) → finite.get (stickers_by_target ts) (target, name) ≡ stickers_found ts target name
+shows_pairs [] target name = get-empty by_target_and_name (target, name)
+shows_pairs (t ∷ ts) target name =
+    with_named-get (string_bytes t.0) (map entry_bytes t.1.entries) (without (string_bytes t.0) (stickers_by_target ts)) target name
+    ∙ ap (λ o. if bytes_eq target (string_bytes t.0) then or_else (find by_bytes name (map {B = List ℕ × List ℕ} entry_bytes t.1.entries)) o else o)
+    (others_kept (string_bytes t.0) target name (stickers_by_target ts) ∙ ap (λ b. if b then None else finite.get (stickers_by_target ts) (target, name)) (turned (string_bytes t.0) target))
+    ∙ ap (λ found. if bytes_eq target (string_bytes t.0) then or_else found (left (string_bytes t.0) ts target name) else left (string_bytes t.0) ts target name) (texts_found name t.1.entries)
+    ∙ at (cases_Bool (bytes_eq target (string_bytes t.0))) (shows_pairs ts target name)
   where
-    tie : is_eq (slice_cmp nat_cmp uri (string_bytes u.0)) ≡ bytes_eq uri (string_bytes u.0)
-    tie = is_eq-slice_cmp uri (string_bytes u.0)
+    tie : is_eq (slice_cmp nat_cmp target (string_bytes t.0)) ≡ bytes_eq target (string_bytes t.0)
+    tie = is_eq-slice_cmp target (string_bytes t.0)
 
-    at : (bytes_eq uri (string_bytes u.0) ≡ true) ⊎ (bytes_eq uri (string_bytes u.0) ≡ false) → finite.get (stickers_by_uri us) (uri, name) ≡ stickers_found us uri name
-        → (if bytes_eq uri (string_bytes u.0) then or_else (texts_found u.1.entries name) (if bytes_eq uri (string_bytes u.0) then None else finite.get (stickers_by_uri us) (uri, name)) else (if bytes_eq uri (string_bytes u.0) then None else finite.get (stickers_by_uri us) (uri, name)))
-        ≡ stickers_found (u ∷ us) uri name
-    at (inl is) rest = rw (is, tie, is) (or_none (texts_found u.1.entries name))
+    at : (bytes_eq target (string_bytes t.0) ≡ true) ⊎ (bytes_eq target (string_bytes t.0) ≡ false) → finite.get (stickers_by_target ts) (target, name) ≡ stickers_found ts target name
+        → (if bytes_eq target (string_bytes t.0) then or_else (text_in (Some t.1) name) (left (string_bytes t.0) ts target name) else left (string_bytes t.0) ts target name) ≡ stickers_found (t ∷ ts) target name
+    at (inl is) rest = rw (is, tie, is) (or_none (text_in (Some t.1) name))
     at (inr apart) rest = rw (apart, tie, apart) rest
 
-pub shows_stickers : (lists : Lists) (stickers : BTreeMap (String Global) Texts) (uri name : List ℕ) → finite.get (contents_of lists stickers).stickers (uri, name) ≡ stickers_in stickers uri name
-shows_stickers lists stickers uri name = shows_pairs stickers.entries uri name
+pub shows_stickers : (s : MemShelf) (kind : StickerKind) (target name : List ℕ)
+    → finite.get (stickers_for (contents_of s) kind) (target, name) ≡ (maps_of s).stickers kind target name
+shows_stickers s Song target name = shows_pairs s.songs.targets.entries target name
+shows_stickers s Playlist target name = shows_pairs s.playlists.targets.entries target name
 
 -- contents that show the same are the same
 pub same_contents : (c d : Contents) → Same (maps_in c) (maps_in d) → c ≡ d
 same_contents c d same = λ i. record {
   lists = same_map text_total text_same c.lists d.lists (λ name. sym (same.lists name)) i;
-  stickers = same_map pair_total pair_same c.stickers d.stickers (λ key. sym (same.stickers key.0 key.1)) i;
+  songs = same_map pair_total pair_same c.songs d.songs (λ key. sym (same.stickers Song key.0 key.1)) i;
+  playlists = same_map pair_total pair_same c.playlists d.playlists (λ key. sym (same.stickers Playlist key.0 key.1)) i;
 }
 
--- the contents of the two maps are those that show what the shelf shows
-pub held : (lists : Lists) (stickers : BTreeMap (String Global) Texts) (c : Contents) → Same (maps_in c) (memory_standing lists stickers).maps → contents_of lists stickers ≡ c
-held lists stickers c same = same_contents (contents_of lists stickers) c (record {
-  lists = λ name. sym (same.lists name) ∙ sym (shows_lists lists stickers name);
-  stickers = λ uri name. sym (same.stickers uri name) ∙ sym (shows_stickers lists stickers uri name);
+-- the contents of a shelf are those that show what it shows
+pub held : (s : MemShelf) (c : Contents) → Same (maps_in c) (maps_of s) → contents_of s ≡ c
+held s c same = same_contents (contents_of s) c (record {
+  lists = λ name. sym (same.lists name) ∙ sym (shows_lists s name);
+  stickers = λ kind target name. sym (same.stickers kind target name) ∙ sym (shows_stickers s kind target name);
 })

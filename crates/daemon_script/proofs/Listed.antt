@@ -12,7 +12,7 @@ use Rattle.std.specs.declared.cmp.Ordering.{Ordering}
 use Rattle.std.specs.declared.cmp.Ordering.TheVariants.{Less, Equal, Greater}
 use Rattle.std.proofs.lemmas.Bool.{cases_Bool}
 use Rattle.shelf.specs.Maps.{AreEntries, AreKeys}
-use Rattle.daemon_script.specs.Contents.{Contents, by_bytes, by_uri_and_name, has_stickers, stickers_named, stickers_of}
+use Rattle.daemon_script.specs.Contents.{Stickers, by_bytes, by_target_and_name, has_stickers, stickers_named, stickers_of}
 use Rattle.daemon_script.proofs.Held.{itself, pair_ties, text_same, text_ties, text_total}
 
 -- ---- keys that rise
@@ -101,19 +101,19 @@ entries_are m f es same are =
     same_entries by_bytes text_total text_same es (finite.entries m) (rises es are.rising) (entries_sorted m)
     (λ q. looked_up q es ∙ are.whole q ∙ same q ∙ get-entries m q)
 
--- ---- stickers of a URI, and with a name
+-- ---- stickers of a target, and with a name
 
-of_uri : (uri name : List ℕ) (es : List ((List ℕ × List ℕ) × List ℕ))
-    → find by_bytes name (map {B = List ℕ × List ℕ} (λ e. (e.0.1, e.1)) (filter (λ e. bytes_eq uri e.0.0) es)) ≡ find by_uri_and_name (uri, name) es
-of_uri uri name [] = refl
-of_uri uri name (e ∷ es) = at (filter (λ e. bytes_eq uri e.0.0) es) (cases_Bool (bytes_eq uri e.0.0)) (of_uri uri name es)
+of_target : (target name : List ℕ) (es : List ((List ℕ × List ℕ) × List ℕ))
+    → find by_bytes name (map {B = List ℕ × List ℕ} (λ e. (e.0.1, e.1)) (filter (λ e. bytes_eq target e.0.0) es)) ≡ find by_target_and_name (target, name) es
+of_target target name [] = refl
+of_target target name (e ∷ es) = at (filter (λ e. bytes_eq target e.0.0) es) (cases_Bool (bytes_eq target e.0.0)) (of_target target name es)
   where
-    at : (left : List ((List ℕ × List ℕ) × List ℕ)) → (bytes_eq uri e.0.0 ≡ true) ⊎ (bytes_eq uri e.0.0 ≡ false)
-        → find by_bytes name (map {B = List ℕ × List ℕ} (λ e. (e.0.1, e.1)) left) ≡ find by_uri_and_name (uri, name) es
-        → find by_bytes name (map {B = List ℕ × List ℕ} (λ e. (e.0.1, e.1)) (if bytes_eq uri e.0.0 then e ∷ left else left))
-        ≡ cond (eq_by_cmp by_uri_and_name (uri, name) e.0) (Some e.1) (find by_uri_and_name (uri, name) es)
-    at left (inl is) same = rw (is, pair_ties uri name e.0, is, text_ties name e.0.1) (ap (cond (bytes_eq name e.0.1) (Some e.1)) same)
-    at left (inr apart) same = rw (apart, pair_ties uri name e.0, apart) same
+    at : (left : List ((List ℕ × List ℕ) × List ℕ)) → (bytes_eq target e.0.0 ≡ true) ⊎ (bytes_eq target e.0.0 ≡ false)
+        → find by_bytes name (map {B = List ℕ × List ℕ} (λ e. (e.0.1, e.1)) left) ≡ find by_target_and_name (target, name) es
+        → find by_bytes name (map {B = List ℕ × List ℕ} (λ e. (e.0.1, e.1)) (if bytes_eq target e.0.0 then e ∷ left else left))
+        ≡ cond (eq_by_cmp by_target_and_name (target, name) e.0) (Some e.1) (find by_target_and_name (target, name) es)
+    at left (inl is) same = rw (is, pair_ties target name e.0, is, text_ties name e.0.1) (ap (cond (bytes_eq name e.0.1) (Some e.1)) same)
+    at left (inr apart) same = rw (apart, pair_ties target name e.0, apart) same
 
 flipped : (a b : Bool) (x y : Option (List ℕ)) → cond (a && b) x y ≡ cond (b && a) x y
 flipped true true x y = refl
@@ -121,61 +121,68 @@ flipped true false x y = refl
 flipped false true x y = refl
 flipped false false x y = refl
 
-of_name : (uri name : List ℕ) (es : List ((List ℕ × List ℕ) × List ℕ))
-    → find by_bytes uri (map {B = List ℕ × List ℕ} (λ e. (e.0.0, e.1)) (filter (λ e. bytes_eq name e.0.1) es)) ≡ find by_uri_and_name (uri, name) es
-of_name uri name [] = refl
-of_name uri name (e ∷ es) = at (filter (λ e. bytes_eq name e.0.1) es) (cases_Bool (bytes_eq name e.0.1)) (of_name uri name es)
+of_name : (target name : List ℕ) (es : List ((List ℕ × List ℕ) × List ℕ))
+    → find by_bytes target (map {B = List ℕ × List ℕ} (λ e. (e.0.0, e.1)) (filter (λ e. bytes_eq name e.0.1) es)) ≡ find by_target_and_name (target, name) es
+of_name target name [] = refl
+of_name target name (e ∷ es) = at (filter (λ e. bytes_eq name e.0.1) es) (cases_Bool (bytes_eq name e.0.1)) (of_name target name es)
   where
     at : (left : List ((List ℕ × List ℕ) × List ℕ)) → (bytes_eq name e.0.1 ≡ true) ⊎ (bytes_eq name e.0.1 ≡ false)
-        → find by_bytes uri (map {B = List ℕ × List ℕ} (λ e. (e.0.0, e.1)) left) ≡ find by_uri_and_name (uri, name) es
-        → find by_bytes uri (map {B = List ℕ × List ℕ} (λ e. (e.0.0, e.1)) (if bytes_eq name e.0.1 then e ∷ left else left))
-        ≡ cond (eq_by_cmp by_uri_and_name (uri, name) e.0) (Some e.1) (find by_uri_and_name (uri, name) es)
+        → find by_bytes target (map {B = List ℕ × List ℕ} (λ e. (e.0.0, e.1)) left) ≡ find by_target_and_name (target, name) es
+        → find by_bytes target (map {B = List ℕ × List ℕ} (λ e. (e.0.0, e.1)) (if bytes_eq name e.0.1 then e ∷ left else left))
+        ≡ cond (eq_by_cmp by_target_and_name (target, name) e.0) (Some e.1) (find by_target_and_name (target, name) es)
     at left (inl is) same =
-        rw (is, pair_ties uri name e.0) (ap (λ b. cond b (Some e.1) (find by_bytes uri (map {B = List ℕ × List ℕ} (λ e. (e.0.0, e.1)) left))) (text_ties uri e.0.0) ∙ ap (cond (bytes_eq uri e.0.0) (Some e.1)) same
-        ∙ ap (λ b. cond (b && bytes_eq uri e.0.0) (Some e.1) (find by_uri_and_name (uri, name) es)) (sym is)
-        ∙ flipped (bytes_eq name e.0.1) (bytes_eq uri e.0.0) (Some e.1) (find by_uri_and_name (uri, name) es))
+        rw (is, pair_ties target name e.0) (ap (λ b. cond b (Some e.1) (find by_bytes target (map {B = List ℕ × List ℕ} (λ e. (e.0.0, e.1)) left))) (text_ties target e.0.0) ∙ ap (cond (bytes_eq target e.0.0) (Some e.1)) same
+        ∙ ap (λ b. cond (b && bytes_eq target e.0.0) (Some e.1) (find by_target_and_name (target, name) es)) (sym is)
+        ∙ flipped (bytes_eq name e.0.1) (bytes_eq target e.0.0) (Some e.1) (find by_target_and_name (target, name) es))
     at left (inr apart) same =
-        rw (apart, pair_ties uri name e.0) (same ∙ ap (λ b. cond (b && bytes_eq uri e.0.0) (Some e.1) (find by_uri_and_name (uri, name) es)) (sym apart)
-        ∙ flipped (bytes_eq name e.0.1) (bytes_eq uri e.0.0) (Some e.1) (find by_uri_and_name (uri, name) es))
+        rw (apart, pair_ties target name e.0) (same ∙ ap (λ b. cond (b && bytes_eq target e.0.0) (Some e.1) (find by_target_and_name (target, name) es)) (sym apart)
+        ∙ flipped (bytes_eq name e.0.1) (bytes_eq target e.0.0) (Some e.1) (find by_target_and_name (target, name) es))
 
-pub stickers_are : (c : Contents) (uri : List ℕ) (f : List ℕ → Option (List ℕ)) (es : List (List ℕ × List ℕ)) → ((name : List ℕ) → f name ≡ finite.get c.stickers (uri, name)) → AreEntries f es → es ≡ stickers_of c uri
-stickers_are c uri f es same are =
-    let listed : List (List ℕ × List ℕ) = map (λ e. (e.0.1, e.1)) (filter (λ e. bytes_eq uri e.0.0) (finite.entries c.stickers)) in
+-- what is found among a target's stickers is the text of the target and the name
+pub stickers_of-find : (m : Stickers) (target name : List ℕ) → find by_bytes name (stickers_of m target) ≡ finite.get m (target, name)
+stickers_of-find m target name =
+    let listed : List (List ℕ × List ℕ) = map (λ e. (e.0.1, e.1)) (filter (λ e. bytes_eq target e.0.0) (finite.entries m)) in
+    sym (get-entries (finite.from_entries {R = by_bytes} listed) name) ∙ get-from_entries text_total listed name
+    ∙ of_target target name (finite.entries m) ∙ sym (get-entries m (target, name))
+
+pub stickers_are : (m : Stickers) (target : List ℕ) (f : List ℕ → Option (List ℕ)) (es : List (List ℕ × List ℕ)) → ((name : List ℕ) → f name ≡ finite.get m (target, name)) → AreEntries f es → es ≡ stickers_of m target
+stickers_are m target f es same are =
+    let listed : List (List ℕ × List ℕ) = map (λ e. (e.0.1, e.1)) (filter (λ e. bytes_eq target e.0.0) (finite.entries m)) in
     entries_are (finite.from_entries listed) f es
-    (λ name. same name ∙ get-entries c.stickers (uri, name) ∙ sym (of_uri uri name (finite.entries c.stickers)) ∙ sym (get-from_entries text_total listed name)) are
+    (λ name. same name ∙ get-entries m (target, name) ∙ sym (of_target target name (finite.entries m)) ∙ sym (get-from_entries text_total listed name)) are
 
-pub named_are : (c : Contents) (name : List ℕ) (f : List ℕ → Option (List ℕ)) (es : List (List ℕ × List ℕ)) → ((uri : List ℕ) → f uri ≡ finite.get c.stickers (uri, name)) → AreEntries f es → es ≡ stickers_named c name
-named_are c name f es same are =
-    let listed : List (List ℕ × List ℕ) = map (λ e. (e.0.0, e.1)) (filter (λ e. bytes_eq name e.0.1) (finite.entries c.stickers)) in
+pub named_are : (m : Stickers) (name : List ℕ) (f : List ℕ → Option (List ℕ)) (es : List (List ℕ × List ℕ)) → ((target : List ℕ) → f target ≡ finite.get m (target, name)) → AreEntries f es → es ≡ stickers_named m name
+named_are m name f es same are =
+    let listed : List (List ℕ × List ℕ) = map (λ e. (e.0.0, e.1)) (filter (λ e. bytes_eq name e.0.1) (finite.entries m)) in
     entries_are (finite.from_entries listed) f es
-    (λ uri. same uri ∙ get-entries c.stickers (uri, name) ∙ sym (of_name uri name (finite.entries c.stickers)) ∙ sym (get-from_entries text_total listed uri)) are
+    (λ target. same target ∙ get-entries m (target, name) ∙ sym (of_name target name (finite.entries m)) ∙ sym (get-from_entries text_total listed target)) are
 
--- ---- whether a URI has stickers
+-- ---- whether a target has stickers
 
 abbrev has : List ℕ → List ((List ℕ × List ℕ) × List ℕ) → Bool
-has uri es = list_any (λ e. bytes_eq uri e.0.0) es
+has target es = list_any (λ e. bytes_eq target e.0.0) es
 
-one_has : (uri name : List ℕ) (es : List ((List ℕ × List ℕ) × List ℕ)) (o : Option (List ℕ)) → find by_uri_and_name (uri, name) es ≡ o → IsSome o → has uri es ≡ true
-one_has uri name [] o is some = (let clash : false ≡ true = subst IsSome (sym is) some in cc)
-one_has uri name (e ∷ es) o is some = at (cases_Bool (bytes_eq uri e.0.0)) (λ found. one_has uri name es o found some)
+one_has : (target name : List ℕ) (es : List ((List ℕ × List ℕ) × List ℕ)) (o : Option (List ℕ)) → find by_target_and_name (target, name) es ≡ o → IsSome o → has target es ≡ true
+one_has target name [] o is some = (let clash : false ≡ true = subst IsSome (sym is) some in cc)
+one_has target name (e ∷ es) o is some = at (cases_Bool (bytes_eq target e.0.0)) (λ found. one_has target name es o found some)
   where
-    at : (bytes_eq uri e.0.0 ≡ true) ⊎ (bytes_eq uri e.0.0 ≡ false) → (find by_uri_and_name (uri, name) es ≡ o → has uri es ≡ true) → (bytes_eq uri e.0.0 || has uri es) ≡ true
+    at : (bytes_eq target e.0.0 ≡ true) ⊎ (bytes_eq target e.0.0 ≡ false) → (find by_target_and_name (target, name) es ≡ o → has target es ≡ true) → (bytes_eq target e.0.0 || has target es) ≡ true
     at (inl here) rest = rw here refl
-    at (inr apart) rest = rw apart (rest (sym (rw (pair_ties uri name e.0, apart) refl) ∙ is))
+    at (inr apart) rest = rw apart (rest (sym (rw (pair_ties target name e.0, apart) refl) ∙ is))
 
-none_has : (uri : List ℕ) (es : List ((List ℕ × List ℕ) × List ℕ)) → ((name : List ℕ) → find by_uri_and_name (uri, name) es ≡ None) → has uri es ≡ false
-none_has uri [] none = refl
-none_has uri (e ∷ es) none = at (cases_Bool (bytes_eq uri e.0.0)) (λ rest. none_has uri es rest)
+none_has : (target : List ℕ) (es : List ((List ℕ × List ℕ) × List ℕ)) → ((name : List ℕ) → find by_target_and_name (target, name) es ≡ None) → has target es ≡ false
+none_has target [] none = refl
+none_has target (e ∷ es) none = at (cases_Bool (bytes_eq target e.0.0)) (λ rest. none_has target es rest)
   where
-    at : (bytes_eq uri e.0.0 ≡ true) ⊎ (bytes_eq uri e.0.0 ≡ false) → (((name : List ℕ) → find by_uri_and_name (uri, name) es ≡ None) → has uri es ≡ false) → (bytes_eq uri e.0.0 || has uri es) ≡ false
+    at : (bytes_eq target e.0.0 ≡ true) ⊎ (bytes_eq target e.0.0 ≡ false) → (((name : List ℕ) → find by_target_and_name (target, name) es ≡ None) → has target es ≡ false) → (bytes_eq target e.0.0 || has target es) ≡ false
     at (inl here) rest =
-        let own : cond (eq_by_cmp by_uri_and_name (uri, e.0.1) e.0) (Some e.1) (find by_uri_and_name (uri, e.0.1) es) ≡ Some e.1 = rw (pair_ties uri e.0.1 e.0, here, itself e.0.1) refl in
+        let own : cond (eq_by_cmp by_target_and_name (target, e.0.1) e.0) (Some e.1) (find by_target_and_name (target, e.0.1) es) ≡ Some e.1 = rw (pair_ties target e.0.1 e.0, here, itself e.0.1) refl in
         let clash : Some e.1 ≡ None = sym own ∙ none e.0.1 in
         cc
-    at (inr apart) rest = rw apart (rest (λ name. sym (rw (pair_ties uri name e.0, apart) refl) ∙ none name))
+    at (inr apart) rest = rw apart (rest (λ name. sym (rw (pair_ties target name e.0, apart) refl) ∙ none name))
 
-pub some_stickers : (c : Contents) (uri name : List ℕ) → IsSome (finite.get c.stickers (uri, name)) → has_stickers c uri ≡ true
-some_stickers c uri name some = one_has uri name (finite.entries c.stickers) _ (sym (get-entries c.stickers (uri, name))) some
+pub some_stickers : (m : Stickers) (target name : List ℕ) → IsSome (finite.get m (target, name)) → has_stickers m target ≡ true
+some_stickers m target name some = one_has target name (finite.entries m) _ (sym (get-entries m (target, name))) some
 
-pub no_stickers_at : (c : Contents) (uri : List ℕ) → ((name : List ℕ) → finite.get c.stickers (uri, name) ≡ None) → has_stickers c uri ≡ false
-no_stickers_at c uri none = none_has uri (finite.entries c.stickers) (λ name. sym (get-entries c.stickers (uri, name)) ∙ none name)
+pub no_stickers_at : (m : Stickers) (target : List ℕ) → ((name : List ℕ) → finite.get m (target, name) ≡ None) → has_stickers m target ≡ false
+no_stickers_at m target none = none_has target (finite.entries m) (λ name. sym (get-entries m (target, name)) ∙ none name)

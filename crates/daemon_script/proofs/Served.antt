@@ -3,10 +3,11 @@ use Rattle.std.proofs.Common.{◌≡◌, ℕ, Bool, true, false, List, Option, S
 use Rattle.std.specs.FinMap as finite
 use Rattle.std.proofs.lemmas.Option.{same_Some}
 use Rattle.shelf.specs.Calls.{Call}
-use Rattle.shelf.specs.Maps.{Answers, AnswersAll, Maps, Same, Standing, Turns, refusal_of_create, refusal_of_list, refusal_of_put, refusal_of_rename, refusal_of_set, refusal_of_sticker}
-use Rattle.shelf.specs.Memory.{memory_standing}
+use Rattle.shelf.specs.Maps.{Answers, AnswersAll, Maps, Same, Standing, Turns, refusal_of_create, refusal_of_list, refusal_of_put, refusal_of_rename, refusal_of_set, refusal_of_sticker, refusal_of_target, first_of}
+use Rattle.shelf.specs.Memory.{maps_of, memory_of}
 use Rattle.shelf.specs.declared.faults.ShelfFault.{ShelfFault}
 use Rattle.shelf.specs.declared.faults.ShelfFault.TheVariants.{NoSuchList, Exists, BadName, NoSticker, StoreFault, NoMemory}
+use Rattle.shelf.specs.declared.kinds.StickerKind.{StickerKind}
 use Rattle.shelf.specs.declared.memory.MemShelf.{MemShelf}
 use Rattle.player_events.specs.declared.event.Event.{Event}
 use Rattle.transitions.specs.declared.shelf_calls.StoreReply.{StoreReply}
@@ -17,29 +18,29 @@ use Rattle.transitions.specs.declared.shelf_calls.ShelfWrite.TheVariants.{Nothin
 use Rattle.partition.specs.Image.{Image}
 use Rattle.partition.specs.Lent.{question, writing}
 use Rattle.transitions.specs.Shelves.{IsAnswered, IsCause, IsRead, Question, NoQuestion, AskNames, AskList, AskSticker, AskStickers, AskFound, Serves, LeavesUnchanged, answered, is_ok_write, is_wanting, is_written, maps_after}
-use Rattle.daemon_script.specs.Contents.{Contents, contents_of, has_stickers, maps_in}
-use Rattle.daemon_script.specs.Shelf.{contents_after, contents_with, heard_by, list_read, read_in, refusal_in, shelf_after, sticker_read}
-use Rattle.daemon_script.proofs.Edited.{list_put, list_renamed, sticker_put, stickers_gone}
+use Rattle.daemon_script.specs.Contents.{Contents, contents_of, has_stickers, maps_in, stickers_for, stickers_of}
+use Rattle.daemon_script.specs.Shelf.{contents_after, contents_with, heard_by, list_read, read_in, refusal_in, refusal_of_all, refusal_of_none, shelf_after, sticker_read, unless_refused}
+use Rattle.daemon_script.proofs.Edited.{list_put, list_removed, list_renamed, sticker_put, stickers_gone}
 use Rattle.daemon_script.proofs.Held.{held, shows_lists, shows_stickers}
 use Rattle.daemon_script.proofs.Listed.{keys_are, named_are, no_stickers_at, some_stickers, stickers_are}
 
 abbrev pub standing_of : MemShelf → Standing
-standing_of s = memory_standing s.lists s.stickers
+standing_of s = memory_of (maps_of s)
 
 -- a shelf in memory never fails
 abbrev pub never_failed : MemShelf → MemShelf → Call → Type 0
 never_failed old new call = ⊥
 
 abbrev pub contents : MemShelf → Contents
-contents s = contents_of s.lists s.stickers
+contents s = contents_of s
 
 -- a shelf shows its contents
 shows : (s : MemShelf) → maps_in (contents s) ≡ (standing_of s).maps
-shows s = λ i. record { lists = λ name. shows_lists s.lists s.stickers name i; stickers = λ uri name. shows_stickers s.lists s.stickers uri name i }
+shows s = λ i. record { lists = λ name. shows_lists s name i; stickers = λ kind target name. shows_stickers s kind target name i }
 
 -- a shelf whose maps are shown by contents has these contents
 pub holds : (s : MemShelf) (c : Contents) → Same (maps_in c) (standing_of s).maps → contents s ≡ c
-holds s c same = held s.lists s.stickers c same
+holds s c same = held s c same
 
 -- ---- what a question is answered
 
@@ -59,9 +60,23 @@ list_refused : (o : Option (List (List ℕ))) (fault : ShelfFault) → (if is_so
 list_refused None fault e = ap read_variant.Refused (sym (same_Some NoSuchList fault e))
 list_refused (Some uris) fault e = never_none fault e
 
-sticker_refused : (o : Option (List ℕ)) (fault : ShelfFault) → (if is_some o then None else Some NoSticker) ≡ Some fault → read_variant.Refused fault ≡ sticker_read o
-sticker_refused None fault e = ap read_variant.Refused (sym (same_Some NoSticker fault e))
-sticker_refused (Some value) fault e = never_none fault e
+sticker_refused : (target : Option ShelfFault) (o : Option (List ℕ)) (fault : ShelfFault) → first_of target (if is_some o then None else Some NoSticker) ≡ Some fault
+    → read_variant.Refused fault ≡ unless_refused target (sticker_read o)
+sticker_refused (Some cause) o fault e = ap read_variant.Refused (sym (same_Some cause fault e))
+sticker_refused None None fault e = ap read_variant.Refused (sym (same_Some NoSticker fault e))
+sticker_refused None (Some value) fault e = never_none fault e
+
+-- a target that refuses
+target_refused : (target : Option ShelfFault) (read : Read) (fault : ShelfFault) → target ≡ Some fault → read_variant.Refused fault ≡ unless_refused target read
+target_refused target read fault e = ap (λ o. unless_refused o read) (sym e)
+
+-- a target that refuses nothing
+unrefused : (target : Option ShelfFault) (read : Read) → target ≡ None → read ≡ unless_refused target read
+unrefused target read e = ap (λ o. unless_refused o read) (sym e)
+
+first_none : (first later : Option ShelfFault) → first_of first later ≡ None → first ≡ None
+first_none None later e = refl
+first_none (Some fault) later e = e
 
 abbrev Fails : Call → Type 0
 Fails call = ⊥
@@ -80,24 +95,31 @@ reads c (AskList name) (read_variant.List uris) is = ap list_read (sym is)
 reads c (AskList name) (read_variant.Value value) is = absurd is
 reads c (AskList name) (read_variant.Entries es) is = absurd is
 reads c (AskList name) (read_variant.Refused fault) is = list_refused (finite.get c.lists name) fault (cause_is (refusal_of_list (maps_in c) name) fault is)
-reads c (AskSticker uri name) read_variant.Nothing is = absurd is
-reads c (AskSticker uri name) (read_variant.Names names) is = absurd is
-reads c (AskSticker uri name) (read_variant.List uris) is = absurd is
-reads c (AskSticker uri name) (read_variant.Value value) is = ap sticker_read (sym is)
-reads c (AskSticker uri name) (read_variant.Entries es) is = absurd is
-reads c (AskSticker uri name) (read_variant.Refused fault) is = sticker_refused (finite.get c.stickers (uri, name)) fault (cause_is (refusal_of_sticker (maps_in c) uri name) fault is)
-reads c (AskStickers uri) read_variant.Nothing is = absurd is
-reads c (AskStickers uri) (read_variant.Names names) is = absurd is
-reads c (AskStickers uri) (read_variant.List uris) is = absurd is
-reads c (AskStickers uri) (read_variant.Value value) is = absurd is
-reads c (AskStickers uri) (read_variant.Entries es) is = ap read_variant.Entries (stickers_are c uri ((maps_in c).stickers uri) es (λ name. refl) is)
-reads c (AskStickers uri) (read_variant.Refused fault) is = never_none fault (cause_is None fault is)
-reads c (AskFound name) read_variant.Nothing is = absurd is
-reads c (AskFound name) (read_variant.Names names) is = absurd is
-reads c (AskFound name) (read_variant.List uris) is = absurd is
-reads c (AskFound name) (read_variant.Value value) is = absurd is
-reads c (AskFound name) (read_variant.Entries es) is = ap read_variant.Entries (named_are c name (λ uri. (maps_in c).stickers uri name) es (λ uri. refl) is)
-reads c (AskFound name) (read_variant.Refused fault) is = never_none fault (cause_is None fault is)
+reads c (AskSticker kind target name) read_variant.Nothing is = absurd is
+reads c (AskSticker kind target name) (read_variant.Names names) is = absurd is
+reads c (AskSticker kind target name) (read_variant.List uris) is = absurd is
+reads c (AskSticker kind target name) (read_variant.Value value) is =
+    ap sticker_read (sym is.1) ∙ unrefused (refusal_of_target (maps_in c) kind target) (sticker_read (finite.get (stickers_for c kind) (target, name)))
+    (first_none (refusal_of_target (maps_in c) kind target) _ is.0)
+reads c (AskSticker kind target name) (read_variant.Entries es) is = absurd is
+reads c (AskSticker kind target name) (read_variant.Refused fault) is =
+    sticker_refused (refusal_of_target (maps_in c) kind target) (finite.get (stickers_for c kind) (target, name)) fault (cause_is (refusal_of_sticker (maps_in c) kind target name) fault is)
+reads c (AskStickers kind target) read_variant.Nothing is = absurd is
+reads c (AskStickers kind target) (read_variant.Names names) is = absurd is
+reads c (AskStickers kind target) (read_variant.List uris) is = absurd is
+reads c (AskStickers kind target) (read_variant.Value value) is = absurd is
+reads c (AskStickers kind target) (read_variant.Entries es) is =
+    ap read_variant.Entries (stickers_are (stickers_for c kind) target ((maps_in c).stickers kind target) es (λ name. refl) is.1)
+    ∙ unrefused (refusal_of_target (maps_in c) kind target) (read_variant.Entries (stickers_of (stickers_for c kind) target)) is.0
+reads c (AskStickers kind target) (read_variant.Refused fault) is =
+    target_refused (refusal_of_target (maps_in c) kind target) (read_variant.Entries (stickers_of (stickers_for c kind) target)) fault (cause_is (refusal_of_target (maps_in c) kind target) fault is)
+reads c (AskFound kind name) read_variant.Nothing is = absurd is
+reads c (AskFound kind name) (read_variant.Names names) is = absurd is
+reads c (AskFound kind name) (read_variant.List uris) is = absurd is
+reads c (AskFound kind name) (read_variant.Value value) is = absurd is
+reads c (AskFound kind name) (read_variant.Entries es) is =
+    ap read_variant.Entries (named_are (stickers_for c kind) name (λ target. (maps_in c).stickers kind target name) es (λ target. refl) is)
+reads c (AskFound kind name) (read_variant.Refused fault) is = never_none fault (cause_is None fault is)
 
 -- ---- why what is to be written is refused
 
@@ -110,15 +132,25 @@ answer_is refusal (Some NoSticker) is ample = sym is
 answer_is refusal (Some StoreFault) is ample = absurd is
 answer_is refusal (Some NoMemory) is ample = cc
 
-all_answer_is : (c : Contents) (uri : List ℕ) (r : Option ShelfFault) → AnswersAll ⊥ ((maps_in c).stickers uri) (answered r) → is_wanting r ≡ false
-    → r ≡ (if has_stickers c uri then None else Some NoSticker)
-all_answer_is c uri None is ample = sym (ap (λ b. if b then None else Some NoSticker) (some_stickers c uri is.0 is.1))
-all_answer_is c uri (Some NoSuchList) is ample = absurd is
-all_answer_is c uri (Some Exists) is ample = absurd is
-all_answer_is c uri (Some BadName) is ample = absurd is
-all_answer_is c uri (Some NoSticker) is ample = sym (ap (λ b. if b then None else Some NoSticker) (no_stickers_at c uri is))
-all_answer_is c uri (Some StoreFault) is ample = absurd is
-all_answer_is c uri (Some NoMemory) is ample = cc
+-- a target that refuses is the first cause
+first_refuses : (c : Contents) (kind : StickerKind) (target : List ℕ) (fault : ShelfFault) → refusal_of_target (maps_in c) kind target ≡ Some fault
+    → Some fault ≡ refusal_of_all c kind target
+first_refuses c kind target fault e = sym (ap (λ o. first_of o (refusal_of_none c kind target)) e)
+
+all_answer_is : (c : Contents) (kind : StickerKind) (target : List ℕ) (r : Option ShelfFault)
+    → AnswersAll ⊥ (refusal_of_target (maps_in c) kind target) ((maps_in c).stickers kind target) (answered r) → is_wanting r ≡ false
+    → r ≡ refusal_of_all c kind target
+all_answer_is c kind target None is ample =
+    sym (ap (λ o. first_of o (refusal_of_none c kind target)) is.0
+    ∙ ap (λ b. if b then None else Some NoSticker) (some_stickers (stickers_for c kind) target is.1.0 is.1.1))
+all_answer_is c kind target (Some NoSuchList) is ample = first_refuses c kind target NoSuchList is
+all_answer_is c kind target (Some Exists) is ample = first_refuses c kind target Exists is
+all_answer_is c kind target (Some BadName) is ample = first_refuses c kind target BadName is
+all_answer_is c kind target (Some NoSticker) is ample =
+    sym (ap (λ o. first_of o (refusal_of_none c kind target)) is.0
+    ∙ ap (λ b. if b then None else Some NoSticker) (no_stickers_at (stickers_for c kind) target is.1))
+all_answer_is c kind target (Some StoreFault) is ample = absurd is
+all_answer_is c kind target (Some NoMemory) is ample = cc
 
 not_refused : (r : Option ShelfFault) → answered r ≡ Ok tt → r ≡ None
 not_refused None e = refl
@@ -128,11 +160,11 @@ refuses : (c : Contents) (w : ShelfWrite) (r : Option ShelfFault) → IsAnswered
 refuses c Nothing r is ample = not_refused r is
 refuses c (Put name uris changes) r is ample = answer_is (refusal_of_put name) r is ample
 refuses c (Create name uris) r is ample = answer_is (refusal_of_create (maps_in c) name) r is ample
-refuses c (Rename name new) r is ample = answer_is (refusal_of_rename (maps_in c) name new) r is ample
-refuses c (Remove name) r is ample = answer_is (refusal_of_list (maps_in c) name) r is ample
-refuses c (SetSticker uri name value changes) r is ample = answer_is (refusal_of_set name) r is ample
-refuses c (DeleteSticker uri name) r is ample = answer_is (refusal_of_sticker (maps_in c) uri name) r is ample
-refuses c (DeleteStickers uri) r is ample = all_answer_is c uri r is ample
+refuses c (Rename name new has_stickers) r is ample = answer_is (refusal_of_rename (maps_in c) name new) r is ample
+refuses c (Remove name has_stickers) r is ample = answer_is (refusal_of_list (maps_in c) name) r is ample
+refuses c (SetSticker kind target name value changes) r is ample = answer_is (refusal_of_set (maps_in c) kind target name) r is ample
+refuses c (DeleteSticker kind target name) r is ample = answer_is (refusal_of_sticker (maps_in c) kind target name) r is ample
+refuses c (DeleteStickers kind target) r is ample = all_answer_is c kind target r is ample
 
 -- ---- the contents after
 
@@ -140,14 +172,14 @@ after_write : (c : Contents) (w : ShelfWrite) → is_written w ≡ true → Same
 after_write c Nothing e = cc
 after_write c (Put name uris changes) e = list_put c name (Some uris)
 after_write c (Create name uris) e = list_put c name (Some uris)
-after_write c (Rename name new) e = list_renamed c name new
-after_write c (Remove name) e = list_put c name None
-after_write c (SetSticker uri name value changes) e = sticker_put c uri name (Some value)
-after_write c (DeleteSticker uri name) e = sticker_put c uri name None
-after_write c (DeleteStickers uri) e = stickers_gone c uri
+after_write c (Rename name new has_stickers) e = list_renamed c name new
+after_write c (Remove name has_stickers) e = list_removed c name
+after_write c (SetSticker kind target name value changes) e = sticker_put c kind target name (Some value)
+after_write c (DeleteSticker kind target name) e = sticker_put c kind target name None
+after_write c (DeleteStickers kind target) e = stickers_gone c kind target
 
 same_between : (a b c : Maps) → Same a b → Same a c → Same b c
-same_between a b c ab ac = record { lists = λ name. ac.lists name ∙ sym (ab.lists name); stickers = λ uri name. ac.stickers uri name ∙ sym (ab.stickers uri name) }
+same_between a b c ab ac = record { lists = λ name. ac.lists name ∙ sym (ab.lists name); stickers = λ kind target name. ac.stickers kind target name ∙ sym (ab.stickers kind target name) }
 
 trusted : Unit {0} × Unit {0}
 trusted = (record {}, record {})
@@ -169,11 +201,11 @@ unwritten_same : (w : ShelfWrite) (c : Contents) → is_written w ≡ false → 
 unwritten_same Nothing c e = refl
 unwritten_same (Put name uris changes) c e = cc
 unwritten_same (Create name uris) c e = cc
-unwritten_same (Rename name new) c e = cc
-unwritten_same (Remove name) c e = cc
-unwritten_same (SetSticker uri name value changes) c e = cc
-unwritten_same (DeleteSticker uri name) c e = cc
-unwritten_same (DeleteStickers uri) c e = cc
+unwritten_same (Rename name new has_stickers) c e = cc
+unwritten_same (Remove name has_stickers) c e = cc
+unwritten_same (SetSticker kind target name value changes) c e = cc
+unwritten_same (DeleteSticker kind target name) c e = cc
+unwritten_same (DeleteStickers kind target) c e = cc
 
 written : (old new : MemShelf) (w : ShelfWrite) (r : Option ShelfFault) → Turns (standing_of old) (standing_of new) (is_ok_write w (answered r)) (maps_after w (standing_of old).maps)
     → contents new ≡ contents_after w r (contents old)

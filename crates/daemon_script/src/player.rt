@@ -48,7 +48,7 @@ impl Model for Player {
 
     ghost coded = { Prim.hlevel (codes, finite.code) };
 
-    ghost view = { λ p. record { player = p.partition.present; shelf = contents_of p.shelf.lists p.shelf.stickers; window = length p.partition.window; most = p.partition.limit } };
+    ghost view = { λ p. record { player = p.partition.present; shelf = contents_of p.shelf; window = length p.partition.window; most = p.partition.limit } };
 }
 
 impl Player {

@@ -8,6 +8,7 @@ use Rattle.std.specs.declared.ops.Range.{Range as Places}
 use Rattle.command_arguments.specs.declared.forms.Place.{Place}
 use Rattle.shelf.specs.declared.faults.ShelfFault.{ShelfFault}
 use Rattle.shelf.specs.declared.faults.ShelfFault.TheVariants.{NoSuchList, StoreFault}
+use Rattle.shelf.specs.declared.kinds.StickerKind.TheVariants.{Playlist as OfPlaylist}
 use Rattle.shelf.specs.Maps.{is_list_name}
 use Rattle.shelf_contents.specs.Edits.{loaded, moved, uris_in, uris_of}
 use Rattle.shelf_contents.specs.Shown.{info_lines, playlist_lines, uri_lines}
@@ -21,10 +22,10 @@ use Rattle.song_search.specs.Folders.{is_folder, under}
 use Rattle.transitions.specs.Answers.{refused_by_shelf}
 use Rattle.transitions.specs.CommandResults.{bad_index, bad_name, no_such_song, only, refusal, shows, writes}
 use Rattle.queue_commands.specs.Queue.{add_songs, tags_for}
-use Rattle.transitions.specs.Shelves.{Question, NoQuestion, AskNames, AskList}
+use Rattle.transitions.specs.Shelves.{Question, NoQuestion, AskNames, AskList, AskStickers}
 use Rattle.transitions.specs.declared.asked.Asked.{Asked}
 use Rattle.transitions.specs.declared.shelf_calls.Read.{Read}
-use Rattle.transitions.specs.declared.shelf_calls.Read.TheVariants.{Names, List as ListRead, Refused}
+use Rattle.transitions.specs.declared.shelf_calls.Read.TheVariants.{Names, List as ListRead, Entries, Refused}
 use Rattle.transitions.specs.declared.shelf_calls.ShelfWrite.TheVariants.{Put, Create, Rename, Remove}
 use Rattle.player_state.specs.declared.state.Library.{Library}
 use Rattle.player_state.specs.declared.state.Part.{Part}
@@ -88,11 +89,20 @@ load asked part library read name range place =
 abbrev pub save : Asked → Part → List ℕ → CommandResult
 save asked part name = named asked name (writes asked (Create name (uris_in (queue_of part.queue))))
 
-abbrev pub remove : Asked → List ℕ → CommandResult
-remove asked name = named asked name (writes asked (Remove name))
+-- what is done with a list by whether it has stickers
+abbrev pub with_stickers : Asked → Read → (Bool → CommandResult) → CommandResult
+with_stickers asked (Entries entries) command_result = command_result (not (length entries == 0))
+with_stickers asked (Refused fault) command_result = refused asked fault
+with_stickers asked _ command_result = misread asked
 
-abbrev pub rename : Asked → List ℕ → List ℕ → CommandResult
-rename asked name new = named asked name (named asked new (writes asked (Rename name new)))
+-- a list goes, with its stickers
+abbrev pub remove : Asked → Read → List ℕ → CommandResult
+remove asked read name = named asked name (with_stickers asked read (λ has_stickers. writes asked (Remove name has_stickers)))
+
+-- a list gets another name, and its stickers go along
+abbrev pub rename : Asked → Read → List ℕ → List ℕ → CommandResult
+rename asked read name new =
+    named asked name (named asked new (with_stickers asked read (λ has_stickers. writes asked (Rename name new has_stickers))))
 
 -- songs go to the end of a list of at most 16,384 entries; a list that is not there is made, also for no
 -- songs
@@ -142,6 +152,14 @@ playlist_move asked read name from to =
 abbrev pub asks_list : List ℕ → Question
 asks_list name = if is_list_name name then AskList name else NoQuestion
 
+-- the stickers of a list are asked for, where the name can be one's
+abbrev pub asks_stickers : List ℕ → Question
+asks_stickers name = if is_list_name name then AskStickers OfPlaylist name else NoQuestion
+
+-- the same, where the new name can be one's too
+abbrev pub asks_to_rename : List ℕ → List ℕ → Question
+asks_to_rename name new = if is_list_name new then asks_stickers name else NoQuestion
+
 -- what a command asks the shelf
 abbrev pub question_of : PlaylistCommand → Question
 question_of playlists.ListPlaylists = AskNames
@@ -152,8 +170,8 @@ question_of (playlists.PlaylistAdd name uri) = asks_list name
 question_of (playlists.PlaylistClear name) = asks_list name
 question_of (playlists.PlaylistDelete name place) = asks_list name
 question_of (playlists.PlaylistMove name from to) = asks_list name
-question_of (playlists.Rename name new) = NoQuestion
-question_of (playlists.Rm name) = NoQuestion
+question_of (playlists.Rename name new) = asks_to_rename name new
+question_of (playlists.Rm name) = asks_stickers name
 question_of (playlists.Save name) = NoQuestion
 
 -- what each command makes of the player
@@ -166,6 +184,6 @@ result_of asked part library read (playlists.PlaylistAdd name uri) = playlist_ad
 result_of asked part library read (playlists.PlaylistClear name) = playlist_clear asked read name
 result_of asked part library read (playlists.PlaylistDelete name place) = playlist_delete asked read name place
 result_of asked part library read (playlists.PlaylistMove name from to) = playlist_move asked read name from to
-result_of asked part library read (playlists.Rename name new) = rename asked name new
-result_of asked part library read (playlists.Rm name) = remove asked name
+result_of asked part library read (playlists.Rename name new) = rename asked read name new
+result_of asked part library read (playlists.Rm name) = remove asked read name
 result_of asked part library read (playlists.Save name) = save asked part name

@@ -3,5 +3,6 @@
 
 pub mod asking;
 pub mod database;
+pub mod playlist_stickers;
 pub mod playlists;
 pub mod stickers;

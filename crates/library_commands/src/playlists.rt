@@ -4,7 +4,7 @@ ghost use Rattle.std.specs.Prelude.{◌≡◌, IfOk, not};
 ghost use Rattle.std.specs.Option.{option_copied};
 ghost use Rattle.player_state.specs.declared.effect.Effect.TheVariants.{ByCommand};
 ghost use Rattle.player_state.specs.declared.effect.CommandEffect.TheVariants.{Rests};
-ghost use Rattle.library_commands.specs.Playlists.{asks_list, append as append_lem, append_folder as append_folder_lem, list_playlist as list_playlist_lem, list_playlist_info as list_playlist_info_lem, list_playlists as list_playlists_lem, load as load_lem, load_range as load_range_lem, misread as misread_lem, playlist_add as playlist_add_lem, playlist_clear as playlist_clear_lem, playlist_delete as playlist_delete_lem, playlist_move as playlist_move_lem, put_with as put_with_lem, question_of, refused as refused_lem, remove as remove_lem, rename as rename_lem, result_of, same_uris, save as save_lem};
+ghost use Rattle.library_commands.specs.Playlists.{asks_list, asks_stickers, asks_to_rename, append as append_lem, append_folder as append_folder_lem, list_playlist as list_playlist_lem, list_playlist_info as list_playlist_info_lem, list_playlists as list_playlists_lem, load as load_lem, load_range as load_range_lem, misread as misread_lem, playlist_add as playlist_add_lem, playlist_clear as playlist_clear_lem, playlist_delete as playlist_delete_lem, playlist_move as playlist_move_lem, put_with as put_with_lem, question_of, refused as refused_lem, remove as remove_lem, rename as rename_lem, result_of, same_uris, save as save_lem};
 ghost use Rattle.transitions.specs.CommandResults.{writes as writes_lem};
 ghost use Rattle.transitions.specs.Shelves.{AskNames, ReadsFor, TurnsByReading};
 ghost use Rattle.transitions.specs.Transitions.{IsDecidedBy};
@@ -15,14 +15,14 @@ use mpd_command::PlaylistCommand;
 use mpd_text::{ErrorNumber, Range, Text};
 use player_state::{Library, Part};
 use queue_commands::queue_edits::{add_songs, shares};
-use shelf::{Shelf, ShelfFault, UriList, is_list_name};
+use shelf::{Shelf, ShelfFault, StickerKind, UriList, is_list_name};
 use shelf_contents::{
     list_info_lines, list_lines, loaded, moved, name_lines, uris_of_queue, with_songs, without,
 };
 use song_db::SharedSong;
 use song_search::{is_folder, under};
 use std::alloc::{AllocError, Global};
-use transitions::{Asked, Names, Read, ShelfWrite, Transition, shelf_refuses};
+use transitions::{Asked, Entries, Names, Read, ShelfWrite, Transition, shelf_refuses};
 
 /// The rows: what each command of stored playlists asks of the player and the shelf.
 #[rattlefmt::skip]
@@ -40,8 +40,8 @@ pub fn run(alloc: Global, asked: Asked, part: &Part, library: &Library, read: &R
         PlaylistCommand::PlaylistClear(name) => playlist_clear(alloc, asked, read, name),
         PlaylistCommand::PlaylistDelete(name, place) => playlist_delete(alloc, asked, read, name, *place),
         PlaylistCommand::PlaylistMove(name, from, to) => playlist_move(alloc, asked, read, name, *from, *to),
-        PlaylistCommand::Rename(name, new) => rename(alloc, asked, name, new),
-        PlaylistCommand::Rm(name) => remove(alloc, asked, name),
+        PlaylistCommand::Rename(name, new) => rename(alloc, asked, read, name, new),
+        PlaylistCommand::Rm(name) => remove(alloc, asked, read, name),
         PlaylistCommand::Save(name) => save(alloc, asked, part, name),
     }
 }
@@ -178,18 +178,31 @@ fn save(alloc: Global, asked: Asked, part: &Part, name: &Text) -> Result<Transit
     Transition::writes(alloc, asked, ShelfWrite::Create(name, uris))
 }
 
-fn remove(alloc: Global, asked: Asked, name: &Text) -> Result<Transition, AllocError>
-    ensures { IsDecidedBy result (remove_lem asked name.now) }
+fn remove(alloc: Global, asked: Asked, read: &Read, name: &Text) -> Result<Transition, AllocError>
+    ensures { IsDecidedBy result (remove_lem asked read.now name.now) }
 {
     if !is_list_name(name.as_str()) {
         return Transition::bad_name(alloc, asked, name.as_str());
     }
-    let name = Text::new(alloc, name.as_str())?;
-    Transition::writes(alloc, asked, ShelfWrite::Remove(name))
+    match read {
+        Read::Entries(stickers) => {
+            let name = Text::new(alloc, name.as_str())?;
+            let write = ShelfWrite::Remove(name, !stickers.is_empty());
+            Transition::writes(alloc, asked, write)
+        }
+        Read::Refused(fault) => refused(alloc, asked, *fault),
+        _ => misread(alloc, asked),
+    }
 }
 
-fn rename(alloc: Global, asked: Asked, name: &Text, new: &Text) -> Result<Transition, AllocError>
-    ensures { IsDecidedBy result (rename_lem asked name.now new.now) }
+fn rename(
+    alloc: Global,
+    asked: Asked,
+    read: &Read,
+    name: &Text,
+    new: &Text,
+) -> Result<Transition, AllocError>
+    ensures { IsDecidedBy result (rename_lem asked read.now name.now new.now) }
 {
     if !is_list_name(name.as_str()) {
         return Transition::bad_name(alloc, asked, name.as_str());
@@ -197,9 +210,16 @@ fn rename(alloc: Global, asked: Asked, name: &Text, new: &Text) -> Result<Transi
     if !is_list_name(new.as_str()) {
         return Transition::bad_name(alloc, asked, new.as_str());
     }
-    let name = Text::new(alloc, name.as_str())?;
-    let new = Text::new(alloc, new.as_str())?;
-    Transition::writes(alloc, asked, ShelfWrite::Rename(name, new))
+    match read {
+        Read::Entries(stickers) => {
+            let name = Text::new(alloc, name.as_str())?;
+            let new = Text::new(alloc, new.as_str())?;
+            let write = ShelfWrite::Rename(name, new, !stickers.is_empty());
+            Transition::writes(alloc, asked, write)
+        }
+        Read::Refused(fault) => refused(alloc, asked, *fault),
+        _ => misread(alloc, asked),
+    }
 }
 
 fn playlist_add(
@@ -383,9 +403,9 @@ pub(crate) fn ask<S: Shelf>(shelf: &mut S, command: &PlaylistCommand) -> Result<
         PlaylistCommand::PlaylistClear(name) => ask_list(shelf, name.as_str()),
         PlaylistCommand::PlaylistDelete(name, _) => ask_list(shelf, name.as_str()),
         PlaylistCommand::PlaylistMove(name, _, _) => ask_list(shelf, name.as_str()),
-        PlaylistCommand::Rename(_, _) | PlaylistCommand::Rm(_) | PlaylistCommand::Save(_) => {
-            Ok(Read::Nothing)
-        }
+        PlaylistCommand::Rename(name, new) => ask_to_rename(shelf, name.as_str(), new.as_str()),
+        PlaylistCommand::Rm(name) => ask_stickers(shelf, name.as_str()),
+        PlaylistCommand::Save(_) => Ok(Read::Nothing),
     }
 }
 
@@ -414,4 +434,30 @@ pub(crate) fn ask_list<S: Shelf>(shelf: &mut S, name: &str) -> Result<Read, Allo
         Err(ShelfFault::NoMemory) => Err(AllocError),
         Err(fault) => Ok(Read::Refused(fault)),
     }
+}
+
+/// Asks for the stickers of a list, if the name can be one's.
+pub(crate) fn ask_stickers<S: Shelf>(shelf: &mut S, name: &str) -> Result<Read, AllocError>
+    ensures turns { TurnsByReading S.standing shelf.old shelf.new result }
+    ensures read { ReadsFor S.standing S.failed shelf.old shelf.new (asks_stickers name.now) result }
+{
+    if !is_list_name(name) {
+        return Ok(Read::Nothing);
+    }
+    match shelf.stickers_of(StickerKind::Playlist, name) {
+        Ok(stickers) => Ok(Read::Entries(Entries::of(stickers))),
+        Err(ShelfFault::NoMemory) => Err(AllocError),
+        Err(fault) => Ok(Read::Refused(fault)),
+    }
+}
+
+/// The same, if the new name can be one's too.
+fn ask_to_rename<S: Shelf>(shelf: &mut S, name: &str, new: &str) -> Result<Read, AllocError>
+    ensures turns { TurnsByReading S.standing shelf.old shelf.new result }
+    ensures read { ReadsFor S.standing S.failed shelf.old shelf.new (asks_to_rename name.now new.now) result }
+{
+    if !is_list_name(new) {
+        return Ok(Read::Nothing);
+    }
+    ask_stickers(shelf, name)
 }

@@ -4,23 +4,27 @@ ghost use Rattle.std.specs.Prelude.{◌≡◌, IfOk, not};
 ghost use Rattle.std.specs.Option.{option_copied};
 ghost use Rattle.player_state.specs.declared.effect.Effect.TheVariants.{ByCommand};
 ghost use Rattle.player_state.specs.declared.effect.CommandEffect.TheVariants.{Rests};
-ghost use Rattle.mpd_command.specs.declared.sticker.StickerCommand.TheVariants.{Delete, Find, Get, List as ListStickers, Set};
-ghost use Rattle.library_commands.specs.Stickers.{Runs, asks_all, asks_found, asks_sticker, is_place as is_place_lem, is_song as is_song_lem, question_of};
+ghost use Rattle.mpd_command.specs.declared.sticker.StickerCommand.TheVariants.{Delete, Get, List as ListStickers, Set};
+ghost use Rattle.mpd_command.specs.declared.sticker.Target.TheVariants.{Song};
+ghost use Rattle.library_commands.specs.Stickers.{FindsSongs, Runs, asks_all, asks_found, asks_sticker, is_place as is_place_lem, is_song as is_song_lem, question_of, set_value as set_value_lem, show_stickers as show_stickers_lem, show_value as show_value_lem};
 ghost use Rattle.transitions.specs.CommandResults.{writes as writes_lem};
+ghost use Rattle.transitions.specs.Transitions.{IsDecidedBy};
 ghost use Rattle.transitions.specs.Shelves.{ReadsFor, TurnsByReading};
 
-use crate::playlists::{misread, refused};
+use crate::playlist_stickers;
+use crate::playlists::{ask_stickers, misread, refused};
 use command_arguments::Uri;
-use mpd_command::{Comparison, StickerCommand};
+use mpd_command::{Comparison, StickerCommand, Target};
 use mpd_text::Text;
 use player_state::Library;
-use shelf::{Shelf, ShelfFault, is_sticker_name};
+use shelf::{Shelf, ShelfFault, StickerKind, is_sticker_name};
 use shelf_contents::{found_lines, sticker_line, sticker_lines};
 use song_search::is_folder;
 use std::alloc::{AllocError, Global};
 use transitions::{Asked, Entries, Read, ShelfWrite, Transition};
 
-/// The rows: what each command of stickers asks of the shelf. Stickers are of the songs that the library has.
+/// The rows: what each command of stickers makes of the player. Stickers are of the songs that the library
+/// has, and of the stored playlists.
 pub fn run(
     alloc: Global,
     asked: Asked,
@@ -32,16 +36,33 @@ pub fn run(
     ensures rests { IfOk result (λ transition. transition.effect ≡ ByCommand Rests) }
 {
     match command {
-        StickerCommand::Get(uri, name) => get_sticker(alloc, asked, library, read, uri, name),
-        StickerCommand::Set(uri, name, value) => {
+        StickerCommand::Get(Target::Song(uri), name) => {
+            get_sticker(alloc, asked, library, read, uri, name)
+        }
+        StickerCommand::Set(Target::Song(uri), name, value) => {
             set_sticker(alloc, asked, library, read, uri, name, value)
         }
-        StickerCommand::Delete(uri, name) => {
+        StickerCommand::Delete(Target::Song(uri), name) => {
             delete_stickers(alloc, asked, library, uri, name.as_ref())
         }
-        StickerCommand::List(uri) => list_stickers(alloc, asked, library, read, uri),
-        StickerCommand::Find(uri, name, test) => {
+        StickerCommand::List(Target::Song(uri)) => list_stickers(alloc, asked, library, read, uri),
+        StickerCommand::Find(Target::Song(uri), name, test) => {
             find_stickers(alloc, asked, library, read, uri, name, test.as_ref())
+        }
+        StickerCommand::Get(Target::Playlist(list), name) => {
+            playlist_stickers::get(alloc, asked, read, list, name)
+        }
+        StickerCommand::Set(Target::Playlist(list), name, value) => {
+            playlist_stickers::set(alloc, asked, read, list, name, value)
+        }
+        StickerCommand::Delete(Target::Playlist(list), name) => {
+            playlist_stickers::delete(alloc, asked, read, list, name.as_ref())
+        }
+        StickerCommand::List(Target::Playlist(list)) => {
+            playlist_stickers::list(alloc, asked, read, list)
+        }
+        StickerCommand::Find(Target::Playlist(list), name, test) => {
+            playlist_stickers::find(alloc, asked, read, list, name, test.as_ref())
         }
     }
 }
@@ -68,7 +89,7 @@ fn get_sticker(
     uri: &Uri,
     name: &Text,
 ) -> Result<Transition, AllocError>
-    ensures transition { Runs result asked library.now read.now (Get uri.now name.now) }
+    ensures transition { Runs result asked library.now read.now (Get (Song uri.now) name.now) }
     ensures rests { IfOk result (λ transition. transition.effect ≡ ByCommand Rests) }
 {
     if !is_song(library, uri.0.as_str()) {
@@ -77,6 +98,19 @@ fn get_sticker(
     if !is_sticker_name(name.as_str()) {
         return Transition::bad_name(alloc, asked, name.as_str());
     }
+    show_value(alloc, asked, read, name)
+}
+
+/// The line of the value that was read.
+pub(crate) fn show_value(
+    alloc: Global,
+    asked: Asked,
+    read: &Read,
+    name: &Text,
+) -> Result<Transition, AllocError>
+    ensures transition { IsDecidedBy result (show_value_lem asked read.now name.now) }
+    ensures rests { IfOk result (λ transition. transition.effect ≡ ByCommand Rests) }
+{
     match read {
         Read::Value(value) => {
             let line = sticker_line(alloc, name.as_str(), value.as_str())?;
@@ -96,7 +130,7 @@ fn set_sticker(
     name: &Text,
     value: &Text,
 ) -> Result<Transition, AllocError>
-    ensures transition { Runs result asked library.now read.now (Set uri.now name.now value.now) }
+    ensures transition { Runs result asked library.now read.now (Set (Song uri.now) name.now value.now) }
     ensures rests { IfOk result (λ transition. transition.effect ≡ ByCommand Rests) }
 {
     if !is_song(library, uri.0.as_str()) {
@@ -105,19 +139,36 @@ fn set_sticker(
     if !is_sticker_name(name.as_str()) {
         return Transition::bad_name(alloc, asked, name.as_str());
     }
+    let uri = uri.0.as_str();
+    set_value(alloc, asked, read, StickerKind::Song, uri, name, value)
+}
+
+/// Sets a value, after the one that was read.
+pub(crate) fn set_value(
+    alloc: Global,
+    asked: Asked,
+    read: &Read,
+    kind: StickerKind,
+    target: &str,
+    name: &Text,
+    value: &Text,
+) -> Result<Transition, AllocError>
+    ensures transition { IsDecidedBy result (set_value_lem asked read.now kind target.now name.now value.now) }
+    ensures rests { IfOk result (λ transition. transition.effect ≡ ByCommand Rests) }
+{
     let changes = match read {
         Read::Value(before) => before.as_str() != value.as_str(),
         Read::Refused(ShelfFault::NoSticker) => true,
         Read::Refused(fault) => return refused(alloc, asked, *fault),
         _ => return misread(alloc, asked),
     };
-    let uri = Text::new(alloc, uri.0.as_str())?;
+    let target = Text::new(alloc, target)?;
     let name = Text::new(alloc, name.as_str())?;
     let value = Text::new(alloc, value.as_str())?;
     Transition::writes(
         alloc,
         asked,
-        ShelfWrite::SetSticker(uri, name, value, changes),
+        ShelfWrite::SetSticker(kind, target, name, value, changes),
     )
 }
 
@@ -128,7 +179,7 @@ fn delete_stickers(
     uri: &Uri,
     name: Option<&Text>,
 ) -> Result<Transition, AllocError>
-    ensures transition { Runs result asked library.now Read.Nothing (Delete uri.now (option_copied name.entry)) }
+    ensures transition { Runs result asked library.now Read.Nothing (Delete (Song uri.now) (option_copied name.entry)) }
     ensures rests { IfOk result (λ transition. transition.effect ≡ ByCommand Rests) }
 {
     if !is_song(library, uri.0.as_str()) {
@@ -136,13 +187,21 @@ fn delete_stickers(
     }
     let song = Text::new(alloc, uri.0.as_str())?;
     let Some(name) = name else {
-        return Transition::writes(alloc, asked, ShelfWrite::DeleteStickers(song));
+        return Transition::writes(
+            alloc,
+            asked,
+            ShelfWrite::DeleteStickers(StickerKind::Song, song),
+        );
     };
     if !is_sticker_name(name.as_str()) {
         return Transition::bad_name(alloc, asked, name.as_str());
     }
     let name = Text::new(alloc, name.as_str())?;
-    Transition::writes(alloc, asked, ShelfWrite::DeleteSticker(song, name))
+    Transition::writes(
+        alloc,
+        asked,
+        ShelfWrite::DeleteSticker(StickerKind::Song, song, name),
+    )
 }
 
 fn list_stickers(
@@ -152,12 +211,24 @@ fn list_stickers(
     read: &Read,
     uri: &Uri,
 ) -> Result<Transition, AllocError>
-    ensures transition { Runs result asked library.now read.now (ListStickers uri.now) }
+    ensures transition { Runs result asked library.now read.now (ListStickers (Song uri.now)) }
     ensures rests { IfOk result (λ transition. transition.effect ≡ ByCommand Rests) }
 {
     if !is_song(library, uri.0.as_str()) {
         return Transition::no_such_song(alloc, asked);
     }
+    show_stickers(alloc, asked, read)
+}
+
+/// The lines of the stickers that were read.
+pub(crate) fn show_stickers(
+    alloc: Global,
+    asked: Asked,
+    read: &Read,
+) -> Result<Transition, AllocError>
+    ensures transition { IsDecidedBy result (show_stickers_lem asked read.now) }
+    ensures rests { IfOk result (λ transition. transition.effect ≡ ByCommand Rests) }
+{
     match read {
         Read::Entries(entries) => Transition::shows(
             asked,
@@ -177,7 +248,7 @@ fn find_stickers(
     name: &Text,
     test: Option<&Comparison>,
 ) -> Result<Transition, AllocError>
-    ensures transition { Runs result asked library.now read.now (Find uri.now name.now (option_copied test.entry)) }
+    ensures transition { FindsSongs result asked library.now read.now uri.now name.now (option_copied test.entry) }
     ensures rests { IfOk result (λ transition. transition.effect ≡ ByCommand Rests) }
 {
     if !is_place(library, uri.0.as_str()) {
@@ -215,16 +286,24 @@ pub(crate) fn ask<S: Shelf>(
     ensures read { ReadsFor S.standing S.failed shelf.old shelf.new (question_of library.now command.now) result }
 {
     match command {
-        StickerCommand::Get(uri, name) => {
+        StickerCommand::Get(Target::Song(uri), name)
+        | StickerCommand::Set(Target::Song(uri), name, _) => {
             ask_sticker(library, shelf, uri.0.as_str(), name.as_str())
         }
-        StickerCommand::Set(uri, name, _) => {
-            ask_sticker(library, shelf, uri.0.as_str(), name.as_str())
-        }
-        StickerCommand::Delete(_, _) => Ok(Read::Nothing),
-        StickerCommand::List(uri) => ask_all(library, shelf, uri.0.as_str()),
-        StickerCommand::Find(uri, name, _) => {
+        StickerCommand::Delete(Target::Song(_), _)
+        | StickerCommand::Delete(Target::Playlist(_), None) => Ok(Read::Nothing),
+        StickerCommand::List(Target::Song(uri)) => ask_all(library, shelf, uri.0.as_str()),
+        StickerCommand::Find(Target::Song(uri), name, _) => {
             ask_found(library, shelf, uri.0.as_str(), name.as_str())
+        }
+        StickerCommand::Get(Target::Playlist(list), name)
+        | StickerCommand::Set(Target::Playlist(list), name, _)
+        | StickerCommand::Delete(Target::Playlist(list), Some(name)) => {
+            playlist_stickers::ask(shelf, list.as_str(), name.as_str())
+        }
+        StickerCommand::List(Target::Playlist(list)) => ask_stickers(shelf, list.as_str()),
+        StickerCommand::Find(Target::Playlist(list), name, _) => {
+            playlist_stickers::ask_to_find(shelf, list.as_str(), name.as_str())
         }
     }
 }
@@ -242,7 +321,7 @@ fn ask_sticker<S: Shelf>(
     if !is_song(library, uri) || !is_sticker_name(name) {
         return Ok(Read::Nothing);
     }
-    match shelf.sticker(uri, name) {
+    match shelf.sticker(StickerKind::Song, uri, name) {
         Ok(value) => Ok(Read::Value(Text::of(value))),
         Err(ShelfFault::NoMemory) => Err(AllocError),
         Err(fault) => Ok(Read::Refused(fault)),
@@ -257,7 +336,7 @@ fn ask_all<S: Shelf>(library: &Library, shelf: &mut S, uri: &str) -> Result<Read
     if !is_song(library, uri) {
         return Ok(Read::Nothing);
     }
-    match shelf.stickers_of(uri) {
+    match shelf.stickers_of(StickerKind::Song, uri) {
         Ok(entries) => Ok(Read::Entries(Entries::of(entries))),
         Err(ShelfFault::NoMemory) => Err(AllocError),
         Err(fault) => Ok(Read::Refused(fault)),
@@ -277,7 +356,7 @@ fn ask_found<S: Shelf>(
     if !is_place(library, uri) || !is_sticker_name(name) {
         return Ok(Read::Nothing);
     }
-    match shelf.find_stickers(name) {
+    match shelf.find_stickers(StickerKind::Song, name) {
         Ok(entries) => Ok(Read::Entries(Entries::of(entries))),
         Err(ShelfFault::NoMemory) => Err(AllocError),
         Err(fault) => Ok(Read::Refused(fault)),

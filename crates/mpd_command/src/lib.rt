@@ -29,4 +29,4 @@ pub use playlists::PlaylistCommand;
 pub use queue::QueueCommand;
 pub use request::{Ack, CommandFault, Request};
 pub use status::StatusCommand;
-pub use sticker::{Comparison, Operator, StickerCommand};
+pub use sticker::{Comparison, Operator, StickerCommand, Target};

@@ -5,15 +5,15 @@ ghost use Rattle.mpd_command.specs.Tables.{found};
 ghost use Rattle.mpd_command.specs.Options.{rows};
 
 use command_arguments::{
-    FadeSeconds, Misread, ReplayGain, SingleMode, Volume, VolumeChange, none, one,
+    FadeSeconds, Misread, ReplayGain, SongMode, Volume, VolumeChange, none, one,
 };
 use std::alloc::Global;
 
 /// A command that sets how songs are played, or the volume.
 #[derive(Drop)]
 pub enum OptionCommand {
-    /// `consume 0|1`: whether a song leaves the queue once it was played.
-    Consume(bool),
+    /// `consume 0|1|oneshot`: whether a song leaves the queue once it was played.
+    Consume(SongMode),
     /// `crossfade SECONDS`: how long one song fades into the next.
     Crossfade(FadeSeconds),
     /// `getvol`.
@@ -31,7 +31,7 @@ pub enum OptionCommand {
     /// `setvol VOLUME`.
     SetVol(Volume),
     /// `single 0|1|oneshot`: whether playing ends after the current song.
-    Single(SingleMode),
+    Single(SongMode),
 }
 
 /// The rows: what the words after each name are read as.

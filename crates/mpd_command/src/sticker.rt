@@ -1,6 +1,6 @@
 //! What is asked of stickers: the words after `sticker`.
 ghost use Rattle.std.specs.Prelude.{string_bytes, map};
-ghost use Rattle.mpd_command.specs.Stickers.{rows, sticker_of, other_of, get_of, set_of, delete_of, list_of, find_of, song_of, operator_of, comparison_of};
+ghost use Rattle.mpd_command.specs.Stickers.{rows, sticker_of, other_of, get_of, set_of, delete_of, list_of, find_of, target_of, operator_of, comparison_of};
 ghost use Rattle.command_arguments.specs.Readers.{Gives};
 ghost use Rattle.mpd_command.specs.Tables.{found};
 
@@ -8,21 +8,29 @@ use command_arguments::{Form, Misread, Uri, read_word};
 use mpd_text::Text;
 use std::alloc::{AllocError, Global};
 
-/// What is asked of the stickers of songs (MPD protocol reference, Stickers).
+/// What has stickers: a song, or a folder of songs where some are looked for, or a stored playlist, or all of
+/// them where some are looked for and the name is empty.
+#[derive(Drop)]
+pub enum Target {
+    Song(Uri),
+    Playlist(Text),
+}
+
+/// What is asked of stickers (MPD protocol reference, Stickers).
 #[derive(Drop)]
 pub enum StickerCommand {
-    /// `sticker get song URI NAME`: the value of the sticker of a song that has a name.
-    Get(Uri, Text),
-    /// `sticker set song URI NAME VALUE`: gives the sticker of a song that has a name, the second, a value,
+    /// `sticker get song|playlist URI NAME`: the value of the sticker that has a name.
+    Get(Target, Text),
+    /// `sticker set song|playlist URI NAME VALUE`: gives the sticker that has a name, the second, a value,
     /// the third.
-    Set(Uri, Text, Text),
-    /// `sticker delete song URI [NAME]`: takes the sticker with a name from a song, or all of its stickers.
-    Delete(Uri, Option<Text>),
-    /// `sticker list song URI`: the stickers of a song.
-    List(Uri),
-    /// `sticker find song URI NAME [=|<|> VALUE]`: the songs under a folder that have a sticker with a
-    /// name, of any value or of one that compares so.
-    Find(Uri, Text, Option<Comparison>),
+    Set(Target, Text, Text),
+    /// `sticker delete song|playlist URI [NAME]`: takes the sticker with a name away, or all of them.
+    Delete(Target, Option<Text>),
+    /// `sticker list song|playlist URI`: the stickers of a song or a stored playlist.
+    List(Target),
+    /// `sticker find song|playlist URI NAME [=|<|> VALUE]`: the songs under a folder, or the stored
+    /// playlists, that have a sticker with a name, of any value or of one that compares so.
+    Find(Target, Text, Option<Comparison>),
 }
 
 /// What the value of a sticker has to be: equal to this one, less or greater.
@@ -103,9 +111,9 @@ fn get(alloc: Global, words: &[String]) -> Result<StickerCommand, Misread>
     let [kind, uri, name] = words else {
         return Err(Misread::WrongNumber);
     };
-    let song = song(alloc, kind.as_str(), uri.as_str())?;
+    let target = read_target(alloc, kind.as_str(), uri.as_str())?;
     let name = Text::new(alloc, name.as_str())?;
-    Ok(StickerCommand::Get(song, name))
+    Ok(StickerCommand::Get(target, name))
 }
 
 fn set(alloc: Global, words: &[String]) -> Result<StickerCommand, Misread>
@@ -114,10 +122,10 @@ fn set(alloc: Global, words: &[String]) -> Result<StickerCommand, Misread>
     let [kind, uri, name, value] = words else {
         return Err(Misread::WrongNumber);
     };
-    let song = song(alloc, kind.as_str(), uri.as_str())?;
+    let target = read_target(alloc, kind.as_str(), uri.as_str())?;
     let name = Text::new(alloc, name.as_str())?;
     let value = Text::new(alloc, value.as_str())?;
-    Ok(StickerCommand::Set(song, name, value))
+    Ok(StickerCommand::Set(target, name, value))
 }
 
 fn delete(alloc: Global, words: &[String]) -> Result<StickerCommand, Misread>
@@ -125,13 +133,13 @@ fn delete(alloc: Global, words: &[String]) -> Result<StickerCommand, Misread>
 {
     match words {
         [kind, uri] => {
-            let song = song(alloc, kind.as_str(), uri.as_str())?;
-            Ok(StickerCommand::Delete(song, None))
+            let target = read_target(alloc, kind.as_str(), uri.as_str())?;
+            Ok(StickerCommand::Delete(target, None))
         }
         [kind, uri, name] => {
-            let song = song(alloc, kind.as_str(), uri.as_str())?;
+            let target = read_target(alloc, kind.as_str(), uri.as_str())?;
             let name = Text::new(alloc, name.as_str())?;
-            Ok(StickerCommand::Delete(song, Some(name)))
+            Ok(StickerCommand::Delete(target, Some(name)))
         }
         _ => Err(Misread::WrongNumber),
     }
@@ -143,8 +151,8 @@ fn list(alloc: Global, words: &[String]) -> Result<StickerCommand, Misread>
     let [kind, uri] = words else {
         return Err(Misread::WrongNumber);
     };
-    let song = song(alloc, kind.as_str(), uri.as_str())?;
-    Ok(StickerCommand::List(song))
+    let target = read_target(alloc, kind.as_str(), uri.as_str())?;
+    Ok(StickerCommand::List(target))
 }
 
 fn find(alloc: Global, words: &[String]) -> Result<StickerCommand, Misread>
@@ -152,28 +160,29 @@ fn find(alloc: Global, words: &[String]) -> Result<StickerCommand, Misread>
 {
     match words {
         [kind, uri, name] => {
-            let song = song(alloc, kind.as_str(), uri.as_str())?;
+            let target = read_target(alloc, kind.as_str(), uri.as_str())?;
             let name = Text::new(alloc, name.as_str())?;
-            Ok(StickerCommand::Find(song, name, None))
+            Ok(StickerCommand::Find(target, name, None))
         }
         [kind, uri, name, operator, value] => {
-            let song = song(alloc, kind.as_str(), uri.as_str())?;
+            let target = read_target(alloc, kind.as_str(), uri.as_str())?;
             let name = Text::new(alloc, name.as_str())?;
             let comparison = compared(alloc, operator.as_str(), value.as_str())?;
-            Ok(StickerCommand::Find(song, name, Some(comparison)))
+            Ok(StickerCommand::Find(target, name, Some(comparison)))
         }
         _ => Err(Misread::WrongNumber),
     }
 }
 
-/// The song, or the folder, of a type and a URI. The type has to be `song`.
-fn song(alloc: Global, kind: &str, uri: &str) -> Result<Uri, Misread>
-    ensures { Gives result (song_of kind.now uri.now) }
+/// The target of a type and a URI.
+fn read_target(alloc: Global, kind: &str, uri: &str) -> Result<Target, Misread>
+    ensures { Gives result (target_of kind.now uri.now) }
 {
-    if kind != "song" {
-        return Err(Misread::Bad(Text::new(alloc, kind)?));
+    match kind {
+        "song" => Ok(Target::Song(read_word(alloc, uri)?)),
+        "playlist" => Ok(Target::Playlist(Text::new(alloc, uri)?)),
+        other => Err(Misread::Bad(Text::new(alloc, other)?)),
     }
-    read_word(alloc, uri)
 }
 
 /// An operator and a value.

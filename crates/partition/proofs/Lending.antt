@@ -13,7 +13,7 @@ use Rattle.player_events.specs.Events.{with_store_reply}
 use Rattle.partition.specs.Step.{limit_of}
 
 pub same_maps : (m : Maps) → Same m m
-same_maps m = record { lists = λ name. refl; stickers = λ uri name. refl }
+same_maps m = record { lists = λ name. refl; stickers = λ kind target name. refl }
 
 at_most : (n : ℕ) → n ≤ n
 at_most n = omega arith

@@ -93,11 +93,11 @@ pub unwritten : (w : ShelfWrite) → is_written w ≡ false → w ≡ Unwritten
 unwritten Unwritten e = refl
 unwritten (Put name uris changes) e = cc
 unwritten (Create name uris) e = cc
-unwritten (Rename name new) e = cc
-unwritten (Remove name) e = cc
-unwritten (SetSticker uri name value changes) e = cc
-unwritten (DeleteSticker uri name) e = cc
-unwritten (DeleteStickers uri) e = cc
+unwritten (Rename name new has_stickers) e = cc
+unwritten (Remove name has_stickers) e = cc
+unwritten (SetSticker kind target name value changes) e = cc
+unwritten (DeleteSticker kind target name) e = cc
+unwritten (DeleteStickers kind target) e = cc
 
 -- what leaves the part and the scans as they are raises nothing
 pub same_raises : (part : Part) (library : Library) (t : TransitionData) → t.scan ≡ StayScan → t.effect ≡ (ByCommand Rests) → is_written t.written ≡ false → raised_by part library t ≡ nothing

@@ -13,12 +13,14 @@ pub(crate) fn write<S: Shelf>(shelf: &mut S, written: &ShelfWrite) -> Result<(),
         ShelfWrite::Nothing => Ok(()),
         ShelfWrite::Put(name, uris, _) => shelf.put(name.as_str(), uris),
         ShelfWrite::Create(name, uris) => shelf.create(name.as_str(), uris),
-        ShelfWrite::Rename(name, new) => shelf.rename(name.as_str(), new.as_str()),
-        ShelfWrite::Remove(name) => shelf.remove(name.as_str()),
-        ShelfWrite::SetSticker(uri, name, value, _) => {
-            shelf.set_sticker(uri.as_str(), name.as_str(), value.as_str())
+        ShelfWrite::Rename(name, new, _) => shelf.rename(name.as_str(), new.as_str()),
+        ShelfWrite::Remove(name, _) => shelf.remove(name.as_str()),
+        ShelfWrite::SetSticker(kind, target, name, value, _) => {
+            shelf.set_sticker(*kind, target.as_str(), name.as_str(), value.as_str())
         }
-        ShelfWrite::DeleteSticker(uri, name) => shelf.delete_sticker(uri.as_str(), name.as_str()),
-        ShelfWrite::DeleteStickers(uri) => shelf.delete_stickers(uri.as_str()),
+        ShelfWrite::DeleteSticker(kind, target, name) => {
+            shelf.delete_sticker(*kind, target.as_str(), name.as_str())
+        }
+        ShelfWrite::DeleteStickers(kind, target) => shelf.delete_stickers(*kind, target.as_str()),
     }
 }

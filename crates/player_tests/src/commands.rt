@@ -25,7 +25,7 @@ fn bare(command: &Command) -> &'static str {
 /// A command of the options, or one that has no argument.
 fn option(alloc: Global, command: &Command) -> Result<String, AllocError> {
     match command {
-        Command::Options(OptionCommand::Consume(on)) => format!(in alloc; "Consume({on})"),
+        Command::Options(OptionCommand::Consume(mode)) => format!(in alloc; "Consume({mode:?})"),
         Command::Options(OptionCommand::Random(on)) => format!(in alloc; "Random({on})"),
         Command::Options(OptionCommand::Single(mode)) => format!(in alloc; "Single({mode:?})"),
         Command::Queue(QueueCommand::Shuffle(range)) => format!(in alloc; "Shuffle({range:?})"),
@@ -87,6 +87,7 @@ fn read_each(alloc: Global, lines: &str) -> Result<String, AllocError> {
 
 const COMMANDS: &str = "clearerror
 consume 1
+consume oneshot
 currentsong
 disableoutput 0
 enableoutput 1
@@ -116,7 +117,8 @@ toggleoutput 4294967295
 ";
 
 const COMMANDS_READ: &str = "ClearError
-Consume(true)
+Consume(On)
+Consume(Oneshot)
 CurrentSong
 DisableOutput(0)
 EnableOutput(1)
@@ -152,7 +154,7 @@ fn playback_commands_are_read(rt: HostRuntime) {
 
 const REFUSED: &str = "next 1
 consume
-consume oneshot
+consume 2
 pause 2
 pause 1 1
 play -1
@@ -179,7 +181,7 @@ toggleoutput -1
 
 const REFUSED_READ: &str = "wrong number of arguments for \"next\"
 wrong number of arguments for \"consume\"
-bad argument \"oneshot\"
+bad argument \"2\"
 bad argument \"2\"
 wrong number of arguments for \"pause\"
 bad argument \"-1\"

@@ -130,7 +130,7 @@ IsBaseQueue (queue.SwapId first second) = Unit {0}
 
 -- the volume is set alone, and loudness is no option
 abbrev pub IsBaseOption : OptionCommand → Type 0
-IsBaseOption (options.Consume on) = Unit {0}
+IsBaseOption (options.Consume mode) = Unit {0}
 IsBaseOption (options.Crossfade seconds) = Unit {0}
 IsBaseOption options.GetVol = Unit {0}
 IsBaseOption (options.ChangeVolume change) = ⊥

@@ -1,2 +1,3 @@
 pub mod LineLemmas
 pub mod MemoryLemmas
+pub mod StickerLemmas

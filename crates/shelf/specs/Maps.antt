@@ -1,27 +1,30 @@
 -- Stored playlists and stickers as two maps, and what each call answers and leaves of them (MPD protocol
 -- reference, Stored playlists, Stickers).
-use Rattle.std.specs.Prelude.{◌≡◌, ◌⊎◌, ℕ, ◌+◌, ◌-◌, ◌^◌, ◌≤◌, min, nat_lt, nat_le, Bool, false, not, ◌&&◌, ◌||◌, ◌==◌, if◌then◌else◌, List, length, map, Option, Some, None, is_some, IsSome, IsTrue, Result, Ok, Err, bytes_eq}
+use Rattle.std.specs.Prelude.{◌≡◌, ◌⊎◌, ℕ, ◌+◌, ◌-◌, ◌^◌, ◌≤◌, min, nat_lt, nat_le, Bool, true, false, not, ◌&&◌, ◌||◌, ◌==◌, if◌then◌else◌, List, length, map, Option, Some, None, is_some, IsSome, IsTrue, Result, Ok, Err, bytes_eq}
 use Rattle.std.specs.Map.{update, lookup}
 use Rattle.std.specs.List.{list_any}
 use Rattle.std.specs.List.Sorted.{IsStrictlySortedBy}
 use Rattle.std.specs.Cmp.Lexicographic.{slice_cmp}
 use Rattle.std.specs.Ordering.{nat_cmp}
 use Rattle.shelf.specs.declared.faults.ShelfFault.{ShelfFault}
+use Rattle.shelf.specs.declared.kinds.StickerKind.{StickerKind}
+use Rattle.shelf.specs.declared.kinds.StickerKind.TheVariants.{Song, Playlist}
 use Rattle.shelf.specs.declared.faults.ShelfFault.TheVariants.{NoSuchList, Exists, BadName, NoSticker, StoreFault, NoMemory}
 
--- the URIs of each stored playlist by its name, and the text of each sticker by its URI and its name
+-- the URIs of each stored playlist by its name, and the text of each sticker by its kind, its target (a
+-- song's URI or a playlist's name) and its name
 pub record Maps : Type 0 where
   pub lists : List ℕ → Option (List (List ℕ))
-  pub stickers : List ℕ → List ℕ → Option (List ℕ)
+  pub stickers : StickerKind → List ℕ → List ℕ → Option (List ℕ)
 
 -- the same answer at every name
 pub record Same (a b : Maps) : Type 0 where
   pub lists : (name : List ℕ) → b.lists name ≡ a.lists name
-  pub stickers : (uri name : List ℕ) → b.stickers uri name ≡ a.stickers uri name
+  pub stickers : (kind : StickerKind) (target name : List ℕ) → b.stickers kind target name ≡ a.stickers kind target name
 
 -- a shelf with nothing on it
 abbrev pub no_maps : Maps
-no_maps = record { lists = λ name. None; stickers = λ uri name. None }
+no_maps = record { lists = λ name. None; stickers = λ kind target name. None }
 
 abbrev pub no_stickers : List ℕ → Option (List ℕ)
 no_stickers name = None
@@ -30,17 +33,29 @@ no_stickers name = None
 abbrev pub with_list : Maps → List ℕ → Option (List (List ℕ)) → Maps
 with_list m name uris = record m { lists = update bytes_eq m.lists name uris }
 
--- the maps where the list moved to another name
+-- whether a sticker is of the one kind or of the other
+abbrev pub same_kind : StickerKind → StickerKind → Bool
+same_kind Song Song = true
+same_kind Playlist Playlist = true
+same_kind _ _ = false
+
+-- the maps with these stickers at the target
+abbrev pub with_stickers : Maps → StickerKind → List ℕ → (List ℕ → Option (List ℕ)) → Maps
+with_stickers m kind target named =
+    record m { stickers = λ other_kind other. if same_kind kind other_kind && bytes_eq target other then named else m.stickers other_kind other }
+
+-- the maps with this text, or none, at the target and the name
+abbrev pub with_sticker : Maps → StickerKind → List ℕ → List ℕ → Option (List ℕ) → Maps
+with_sticker m kind target name value = with_stickers m kind target (update bytes_eq (m.stickers kind target) name value)
+
+-- the maps where the list moved to another name, with its stickers
 abbrev pub with_renamed : Maps → List ℕ → List ℕ → Maps
-with_renamed m name new = with_list (with_list m name None) new (m.lists name)
+with_renamed m name new =
+    with_stickers (with_stickers (with_list (with_list m name None) new (m.lists name)) Playlist name no_stickers) Playlist new (m.stickers Playlist name)
 
--- the maps with these stickers at the URI
-abbrev pub with_stickers : Maps → List ℕ → (List ℕ → Option (List ℕ)) → Maps
-with_stickers m uri named = record m { stickers = λ other. if bytes_eq uri other then named else m.stickers other }
-
--- the maps with this text, or none, at the URI and the name
-abbrev pub with_sticker : Maps → List ℕ → List ℕ → Option (List ℕ) → Maps
-with_sticker m uri name value = with_stickers m uri (update bytes_eq (m.stickers uri) name value)
+-- the maps without the list and its stickers
+abbrev pub with_removed : Maps → List ℕ → Maps
+with_removed m name = with_stickers (with_list m name None) Playlist name no_stickers
 
 -- 1 to 255 bytes, without `/` and bytes below 0x20
 abbrev pub is_list_name : List ℕ → Bool
@@ -54,6 +69,11 @@ is_sticker_name name = nat_lt 0 (length name) && not (list_any (λ b. b == 61) n
 abbrev pub no_refusal : Option ShelfFault
 no_refusal = None
 
+-- the first of two causes
+abbrev pub first_of : Option ShelfFault → Option ShelfFault → Option ShelfFault
+first_of None later = later
+first_of (Some fault) later = Some fault
+
 abbrev pub refusal_of_list : Maps → List ℕ → Option ShelfFault
 refusal_of_list m name = if is_some (m.lists name) then None else Some NoSuchList
 
@@ -66,11 +86,17 @@ refusal_of_create m name = if is_some (m.lists name) then Some Exists else refus
 abbrev pub refusal_of_rename : Maps → List ℕ → List ℕ → Option ShelfFault
 refusal_of_rename m name new = if is_some (m.lists name) then refusal_of_create m new else Some NoSuchList
 
-abbrev pub refusal_of_set : List ℕ → Option ShelfFault
-refusal_of_set name = if is_sticker_name name then None else Some BadName
+-- a song may be any; a stored playlist has to be there
+abbrev pub refusal_of_target : Maps → StickerKind → List ℕ → Option ShelfFault
+refusal_of_target m Song target = None
+refusal_of_target m Playlist target = refusal_of_list m target
 
-abbrev pub refusal_of_sticker : Maps → List ℕ → List ℕ → Option ShelfFault
-refusal_of_sticker m uri name = if is_some (m.stickers uri name) then None else Some NoSticker
+abbrev pub refusal_of_set : Maps → StickerKind → List ℕ → List ℕ → Option ShelfFault
+refusal_of_set m kind target name = first_of (refusal_of_target m kind target) (if is_sticker_name name then None else Some BadName)
+
+abbrev pub refusal_of_sticker : Maps → StickerKind → List ℕ → List ℕ → Option ShelfFault
+refusal_of_sticker m kind target name =
+    first_of (refusal_of_target m kind target) (if is_some (m.stickers kind target name) then None else Some NoSticker)
 
 -- Success means that nothing refuses, and a named refusal is the one that does; want of memory, and the store
 -- where it answered an error, may take its place.
@@ -80,13 +106,14 @@ Answers failed refusal (Err NoMemory) = Unit {0}
 Answers failed refusal (Err StoreFault) = failed
 Answers failed refusal (Err e) = refusal ≡ Some e
 
--- the same for the call that takes all stickers of a URI: one must be there
-abbrev pub AnswersAll : {X : Type 0} → Type 0 → (List ℕ → Option (List ℕ)) → Result X ShelfFault → Type 0
-AnswersAll failed named (Ok x) = (name : List ℕ) × IsSome (named name)
-AnswersAll failed named (Err NoMemory) = Unit {0}
-AnswersAll failed named (Err StoreFault) = failed
-AnswersAll failed named (Err NoSticker) = (name : List ℕ) → named name ≡ None
-AnswersAll failed named (Err e) = ⊥
+-- the same for the call that takes all stickers of a target: first the target may refuse, and then one
+-- sticker must be there
+abbrev pub AnswersAll : {X : Type 0} → Type 0 → Option ShelfFault → (List ℕ → Option (List ℕ)) → Result X ShelfFault → Type 0
+AnswersAll failed refusal named (Ok x) = (refusal ≡ None) × ((name : List ℕ) × IsSome (named name))
+AnswersAll failed refusal named (Err NoMemory) = Unit {0}
+AnswersAll failed refusal named (Err StoreFault) = failed
+AnswersAll failed refusal named (Err NoSticker) = (refusal ≡ None) × ((name : List ℕ) → named name ≡ None)
+AnswersAll failed refusal named (Err e) = refusal ≡ Some e
 
 -- the keys of a map, each once, by rising bytes
 pub record AreKeys {X : Type 0} (f : List ℕ → Option X) (keys : List (List ℕ)) : Type 0 where

@@ -2,12 +2,15 @@
 #![tactic(auto)]
 
 mod faults;
+mod kinds;
 mod memory;
 mod names;
+mod stickers;
 mod traits;
 mod uri_list;
 
 pub use faults::{Entry, ShelfFault};
+pub use kinds::StickerKind;
 pub use memory::MemShelf;
 pub use names::{is_list_name, is_sticker_name};
 pub use traits::Shelf;

@@ -1,12 +1,14 @@
 //! A shelf in memory.
 
-ghost use Rattle.std.specs.Prelude.{◌≡◌, List, ℕ, Some, None, IfOk, IsTrue, is_ok, map, string_bytes};
-ghost use Rattle.shelf.specs.Memory.{memory_standing, text_in};
-ghost use Rattle.shelf.specs.Entries.{entry_texts};
-ghost use Rattle.shelf.specs.Maps.{Same, no_maps, Answers, AreEntries, no_refusal};
+ghost use Rattle.std.specs.Prelude.{◌≡◌, Some, None, if◌then◌else◌};
+ghost use Rattle.shelf.specs.declared.faults.ShelfFault.TheVariants.{NoSuchList};
+ghost use Rattle.shelf.specs.Maps.{Same, no_maps, refusal_of_target};
+ghost use Rattle.shelf.specs.Memory.{maps_of, memory_of, of_kind};
 
 use crate::faults::{Entry, ShelfFault};
+use crate::kinds::StickerKind;
 use crate::names::{is_list_name, is_sticker_name};
+use crate::stickers::Stickers;
 use crate::traits::Shelf;
 use crate::uri_list::UriList;
 use std::alloc::Global;
@@ -18,25 +20,48 @@ pub struct MemShelf {
     alloc: Global,
     // by name
     lists: BTreeMap<String, UriList>,
-    // by URI, then by name
-    stickers: BTreeMap<String, BTreeMap<String, String>>,
+    // by URI
+    songs: Stickers,
+    // by name
+    playlists: Stickers,
 }
 
 impl MemShelf {
     /// An empty shelf.
     pub fn new(alloc: Global) -> MemShelf
-        ensures { Same no_maps (memory_standing result.lists result.stickers).maps }
+        ensures { Same no_maps (maps_of result) }
     {
         MemShelf {
             alloc,
             lists: BTreeMap::new(alloc),
-            stickers: BTreeMap::new(alloc),
+            songs: Stickers::new(alloc),
+            playlists: Stickers::new(alloc),
+        }
+    }
+
+    /// The stickers of a kind.
+    fn stickers(&self, kind: StickerKind) -> &Stickers
+        ensures { result.now ≡ of_kind self.now.songs self.now.playlists kind }
+    {
+        match kind {
+            StickerKind::Song => &self.songs,
+            StickerKind::Playlist => &self.playlists,
+        }
+    }
+
+    /// Whether the target may have stickers: any song may, and a stored playlist that is there.
+    fn is_target(&self, kind: StickerKind, target: &str) -> bool
+        ensures { refusal_of_target (maps_of self.now) kind target.now ≡ (if result then None else Some NoSuchList) }
+    {
+        match kind {
+            StickerKind::Song => true,
+            StickerKind::Playlist => self.lists.contains_key(target),
         }
     }
 }
 
 impl Shelf for MemShelf {
-    ghost standing = { λ s. memory_standing s.lists s.stickers };
+    ghost standing = { λ s. memory_of (maps_of s) };
 
     ghost failed = { λ old new call. ⊥ };
 
@@ -88,8 +113,12 @@ impl Shelf for MemShelf {
             Some(uris) => uris.clone()?,
             None => return Err(ShelfFault::NoSuchList),
         };
-        let new_name = String::from_str(self.alloc, new_name)?;
-        self.lists.insert(new_name, uris)?;
+        let key = String::from_str(self.alloc, new_name)?;
+        self.lists.insert(key, uris)?;
+        if let Err(fault) = self.playlists.move_to(name, new_name) {
+            self.lists.remove(new_name);
+            return Err(fault);
+        }
         self.lists.remove(name);
         Ok(())
     }
@@ -98,85 +127,75 @@ impl Shelf for MemShelf {
         if self.lists.remove(name).is_none() {
             return Err(ShelfFault::NoSuchList);
         }
+        // a list without stickers is removed as well
+        let _ = self.playlists.delete_all(name);
         Ok(())
     }
 
-    fn sticker(&mut self, uri: &str, name: &str) -> Result<String, ShelfFault> {
-        let Some(names) = self.stickers.get(uri) else {
-            return Err(ShelfFault::NoSticker);
-        };
-        match names.get(name) {
-            Some(value) => Ok(value.clone()?),
-            None => Err(ShelfFault::NoSticker),
+    fn sticker(
+        &mut self,
+        kind: StickerKind,
+        target: &str,
+        name: &str,
+    ) -> Result<String, ShelfFault> {
+        if !self.is_target(kind, target) {
+            return Err(ShelfFault::NoSuchList);
         }
+        self.stickers(kind).text(target, name)
     }
 
-    fn set_sticker(&mut self, uri: &str, name: &str, value: &str) -> Result<(), ShelfFault> {
+    fn set_sticker(
+        &mut self,
+        kind: StickerKind,
+        target: &str,
+        name: &str,
+        value: &str,
+    ) -> Result<(), ShelfFault> {
+        if !self.is_target(kind, target) {
+            return Err(ShelfFault::NoSuchList);
+        }
         if !is_sticker_name(name) {
             return Err(ShelfFault::BadName);
         }
-        let name = String::from_str(self.alloc, name)?;
-        let value = String::from_str(self.alloc, value)?;
-        if let Some(names) = self.stickers.get_mut(uri) {
-            names.insert(name, value)?;
-            return Ok(());
-        }
-        let mut names = BTreeMap::new(self.alloc);
-        names.insert(name, value)?;
-        let uri = String::from_str(self.alloc, uri)?;
-        self.stickers.insert(uri, names)?;
-        Ok(())
-    }
-
-    fn delete_sticker(&mut self, uri: &str, name: &str) -> Result<(), ShelfFault> {
-        let Some(names) = self.stickers.get_mut(uri) else {
-            return Err(ShelfFault::NoSticker);
-        };
-        if names.remove(name).is_none() {
-            return Err(ShelfFault::NoSticker);
-        }
-        Ok(())
-    }
-
-    fn delete_stickers(&mut self, uri: &str) -> Result<(), ShelfFault> {
-        let Some(names) = self.stickers.remove(uri) else {
-            return Err(ShelfFault::NoSticker);
-        };
-        if names.is_empty() {
-            return Err(ShelfFault::NoSticker);
-        }
-        Ok(())
-    }
-
-    fn stickers_of(&mut self, uri: &str) -> Result<Vec<Entry>, ShelfFault> {
-        match self.stickers.get(uri) {
-            Some(names) => all_entries(self.alloc, names),
-            None => Ok(Vec::new(self.alloc)),
+        match kind {
+            StickerKind::Song => self.songs.set(target, name, value),
+            StickerKind::Playlist => self.playlists.set(target, name, value),
         }
     }
 
-    fn find_stickers(&mut self, name: &str) -> Result<Vec<Entry>, ShelfFault> {
-        let mut found = Vec::new(self.alloc);
-        for (uri, names) in self.stickers.iter() {
-            if let Some(value) = names.get(name) {
-                let key = uri.clone()?;
-                let value = value.clone()?;
-                found.push(Entry { key, value })?;
-            }
+    fn delete_sticker(
+        &mut self,
+        kind: StickerKind,
+        target: &str,
+        name: &str,
+    ) -> Result<(), ShelfFault> {
+        if !self.is_target(kind, target) {
+            return Err(ShelfFault::NoSuchList);
         }
-        Ok(found)
+        match kind {
+            StickerKind::Song => self.songs.delete(target, name),
+            StickerKind::Playlist => self.playlists.delete(target, name),
+        }
     }
-}
 
-fn all_entries(alloc: Global, names: &BTreeMap<String, String>) -> Result<Vec<Entry>, ShelfFault>
-    ensures answers { Answers ⊥ no_refusal result }
-    ensures entries { IfOk result (λ entries. AreEntries (text_in (Some names.now)) (map entry_texts entries.items)) }
-{
-    let mut entries = Vec::new(alloc);
-    for (name, value) in names.iter() {
-        let key = name.clone()?;
-        let value = value.clone()?;
-        entries.push(Entry { key, value })?;
+    fn delete_stickers(&mut self, kind: StickerKind, target: &str) -> Result<(), ShelfFault> {
+        if !self.is_target(kind, target) {
+            return Err(ShelfFault::NoSuchList);
+        }
+        match kind {
+            StickerKind::Song => self.songs.delete_all(target),
+            StickerKind::Playlist => self.playlists.delete_all(target),
+        }
     }
-    Ok(entries)
+
+    fn stickers_of(&mut self, kind: StickerKind, target: &str) -> Result<Vec<Entry>, ShelfFault> {
+        if !self.is_target(kind, target) {
+            return Err(ShelfFault::NoSuchList);
+        }
+        self.stickers(kind).of_target(target)
+    }
+
+    fn find_stickers(&mut self, kind: StickerKind, name: &str) -> Result<Vec<Entry>, ShelfFault> {
+        self.stickers(kind).find(name)
+    }
 }

@@ -2,12 +2,14 @@
 
 ghost use Rattle.shelf.specs.Maps.{Standing};
 ghost use Rattle.shelf.specs.Calls.{Call, Lists, ListOf, Put, Create, Rename, Remove, StickerOf, SetSticker, DeleteSticker, DeleteStickers, StickersOf, FindStickers};
-ghost use Rattle.shelf.specs.Shelf.{IsAnswerTo, LeavesWhatItShows, TellsEntries, TellsNames, TellsText, TellsUris, TurnsBy, texts_by_uri};
+ghost use Rattle.shelf.specs.Shelf.{IsAnswerTo, LeavesWhatItShows, TellsEntries, TellsNames, TellsText, TellsUris, TurnsBy, texts_by_name, texts_by_target};
 
 use crate::faults::{Entry, ShelfFault};
+use crate::kinds::StickerKind;
 use crate::uri_list::UriList;
 
-/// Stored playlists and stickers, as two maps: a name has a list of URIs, and a URI and a name have a text.
+/// Stored playlists and stickers, as two maps: a name has a list of URIs, and a kind, a target (a song's URI
+/// or a stored playlist's name) and a name have a text.
 ///
 /// Names are told apart, and listed, by their bytes. Each call is whole or changes nothing. A name that
 /// cannot be a list's, or a sticker's, is looked at by the calls that would put it on the shelf, and is
@@ -41,49 +43,65 @@ pub trait Shelf {
         ensures answers { IsAnswerTo standing failed self.old self.new (Create name.now uris.now) result }
         ensures turns { TurnsBy standing self.old self.new (Create name.now uris.now) result };
 
-    /// Gives a stored playlist another name. Refused, in this order: `NoSuchList`, `Exists` (also for its own
-    /// name), `BadName`.
+    /// Gives a stored playlist another name, and its stickers with it. Refused, in this order: `NoSuchList`,
+    /// `Exists` (also for its own name), `BadName`.
     fn rename(&mut self, name: &str, new_name: &str) -> Result<(), ShelfFault>
         ensures answers { IsAnswerTo standing failed self.old self.new (Rename name.now new_name.now) result }
         ensures turns { TurnsBy standing self.old self.new (Rename name.now new_name.now) result };
 
-    /// Takes a stored playlist away. Refused: `NoSuchList`.
+    /// Takes a stored playlist away, and its stickers with it. Refused: `NoSuchList`.
     fn remove(&mut self, name: &str) -> Result<(), ShelfFault>
         ensures answers { IsAnswerTo standing failed self.old self.new (Remove name.now) result }
         ensures turns { TurnsBy standing self.old self.new (Remove name.now) result };
 
-    /// The text of a sticker. Refused: `NoSticker`.
-    fn sticker(&mut self, uri: &str, name: &str) -> Result<String, ShelfFault>
-        ensures answers { IsAnswerTo standing failed self.old self.new (StickerOf uri.now name.now) result }
-        ensures value { TellsText (standing self.old) (standing self.new) uri.now name.now result }
-        ensures turns { TurnsBy standing self.old self.new (StickerOf uri.now name.now) result };
+    /// The text of a sticker. Refused, in this order: `NoSuchList` where it is a stored playlist's that is
+    /// not there, `NoSticker`.
+    fn sticker(&mut self, kind: StickerKind, target: &str, name: &str) -> Result<String, ShelfFault>
+        ensures answers { IsAnswerTo standing failed self.old self.new (StickerOf kind target.now name.now) result }
+        ensures value { TellsText (standing self.old) (standing self.new) kind target.now name.now result }
+        ensures turns { TurnsBy standing self.old self.new (StickerOf kind target.now name.now) result };
 
-    /// Keeps a text under the URI and the name, in place of the one it had. Refused: `BadName`.
-    fn set_sticker(&mut self, uri: &str, name: &str, value: &str) -> Result<(), ShelfFault>
-        ensures answers { IsAnswerTo standing failed self.old self.new (SetSticker uri.now name.now value.now) result }
-        ensures turns { TurnsBy standing self.old self.new (SetSticker uri.now name.now value.now) result };
+    /// Keeps a text under the target and the name, in place of the one it had. Refused, in this order:
+    /// `NoSuchList` where the target is a stored playlist that is not there, `BadName`.
+    fn set_sticker(
+        &mut self,
+        kind: StickerKind,
+        target: &str,
+        name: &str,
+        text: &str,
+    ) -> Result<(), ShelfFault>
+        ensures answers { IsAnswerTo standing failed self.old self.new (SetSticker kind target.now name.now text.now) result }
+        ensures turns { TurnsBy standing self.old self.new (SetSticker kind target.now name.now text.now) result };
 
-    /// Takes a sticker away. Refused: `NoSticker`.
-    fn delete_sticker(&mut self, uri: &str, name: &str) -> Result<(), ShelfFault>
-        ensures answers { IsAnswerTo standing failed self.old self.new (DeleteSticker uri.now name.now) result }
-        ensures turns { TurnsBy standing self.old self.new (DeleteSticker uri.now name.now) result };
+    /// Takes a sticker away. Refused, in this order: `NoSuchList` where it is a stored playlist's that is
+    /// not there, `NoSticker`.
+    fn delete_sticker(
+        &mut self,
+        kind: StickerKind,
+        target: &str,
+        name: &str,
+    ) -> Result<(), ShelfFault>
+        ensures answers { IsAnswerTo standing failed self.old self.new (DeleteSticker kind target.now name.now) result }
+        ensures turns { TurnsBy standing self.old self.new (DeleteSticker kind target.now name.now) result };
 
-    /// Takes all stickers of a URI away. Refused: `NoSticker`, where it has none.
-    fn delete_stickers(&mut self, uri: &str) -> Result<(), ShelfFault>
-        ensures answers { IsAnswerTo standing failed self.old self.new (DeleteStickers uri.now) result }
-        ensures turns { TurnsBy standing self.old self.new (DeleteStickers uri.now) result };
+    /// Takes all stickers of a target away. Refused, in this order: `NoSuchList` where the target is a stored
+    /// playlist that is not there, `NoSticker` where it has none.
+    fn delete_stickers(&mut self, kind: StickerKind, target: &str) -> Result<(), ShelfFault>
+        ensures answers { IsAnswerTo standing failed self.old self.new (DeleteStickers kind target.now) result }
+        ensures turns { TurnsBy standing self.old self.new (DeleteStickers kind target.now) result };
 
-    /// The names and texts of a URI's stickers, by rising bytes of the names.
-    fn stickers_of(&mut self, uri: &str) -> Result<Vec<Entry>, ShelfFault>
-        ensures answers { IsAnswerTo standing failed self.old self.new (StickersOf uri.now) result }
-        ensures entries { TellsEntries (standing self.old) (standing self.new) (λ m. m.stickers uri.now) result }
-        ensures turns { TurnsBy standing self.old self.new (StickersOf uri.now) result };
+    /// The names and texts of a target's stickers, by rising bytes of the names. Refused: `NoSuchList` where
+    /// the target is a stored playlist that is not there.
+    fn stickers_of(&mut self, kind: StickerKind, target: &str) -> Result<Vec<Entry>, ShelfFault>
+        ensures answers { IsAnswerTo standing failed self.old self.new (StickersOf kind target.now) result }
+        ensures entries { TellsEntries (standing self.old) (standing self.new) (texts_by_name kind target.now) result }
+        ensures turns { TurnsBy standing self.old self.new (StickersOf kind target.now) result };
 
-    /// The URIs that have a sticker of the name, with its text, by rising bytes of the URIs.
-    fn find_stickers(&mut self, name: &str) -> Result<Vec<Entry>, ShelfFault>
-        ensures answers { IsAnswerTo standing failed self.old self.new (FindStickers name.now) result }
-        ensures entries { TellsEntries (standing self.old) (standing self.new) (texts_by_uri name.now) result }
-        ensures turns { TurnsBy standing self.old self.new (FindStickers name.now) result };
+    /// The targets of a kind that have a sticker of the name, with its text, by rising bytes of the targets.
+    fn find_stickers(&mut self, kind: StickerKind, name: &str) -> Result<Vec<Entry>, ShelfFault>
+        ensures answers { IsAnswerTo standing failed self.old self.new (FindStickers kind name.now) result }
+        ensures entries { TellsEntries (standing self.old) (standing self.new) (texts_by_target kind name.now) result }
+        ensures turns { TurnsBy standing self.old self.new (FindStickers kind name.now) result };
 
     /// While the store is open, a stop leaves the maps that it shows.
     ghost settled: { (s : Self) → LeavesWhatItShows (standing s) };

@@ -1,6 +1,6 @@
--- The songs that have a sticker (MPD protocol reference, Stickers: `sticker find`; that values are compared
--- by their bytes is this profile's).
-use Rattle.std.specs.Prelude.{◌≡◌, ℕ, Bool, true, ◌&&◌, List, ◌++◌, flat_map, filter, map, Option, Some, None, is_some, bytes_eq, if◌then◌else◌}
+-- The songs and the stored playlists that have a sticker (MPD protocol reference, Stickers: `sticker find`;
+-- that values are compared by their bytes, and that playlists have stickers, is this profile's).
+use Rattle.std.specs.Prelude.{◌≡◌, ℕ, Bool, true, ◌&&◌, List, [], ◌∷◌, ◌++◌, flat_map, filter, map, Option, Some, None, is_some, bytes_eq, if◌then◌else◌}
 use Rattle.std.specs.Cmp.Lexicographic.{slice_cmp}
 use Rattle.std.specs.Ordering.{nat_cmp, is_eq, is_lt, is_gt}
 use Rattle.shelf.specs.declared.faults.Entry.{Entry}
@@ -11,7 +11,7 @@ use Rattle.mpd_command.specs.declared.sticker.Operator.{Operator}
 use Rattle.mpd_command.specs.declared.sticker.Operator.TheVariants.{Equals, Less, Greater}
 use Rattle.song_db.specs.Library.{song_of}
 use Rattle.song_search.specs.Truth.{is_under}
-use Rattle.shelf_contents.specs.Shown.{uri_line, sticker_of}
+use Rattle.shelf_contents.specs.Shown.{uri_line, playlist_line, sticker_of}
 
 -- whether a value is equal to another, less or greater
 abbrev pub compares : Operator → List ℕ → List ℕ → Bool
@@ -43,3 +43,19 @@ found_lines songs asked name test entries = flat_map (found_line name) (filter (
 -- the answer shows those of these entries that are found
 abbrev pub ShowsFound : List SongData → List ℕ → List ℕ → Option Comparison → List Entry → List ℕ → Type 0
 ShowsFound songs asked name test entries answer = answer ≡ found_lines songs asked name test (map entry_texts entries)
+
+-- a stored playlist and its sticker
+abbrev pub found_list_line : List ℕ → List ℕ × List ℕ → List ℕ
+found_list_line name e = playlist_line e.0 ++ sticker_of name e.1
+
+-- the stored playlists whose stickers have values that meet a test
+abbrev pub found_list_lines : List ℕ → Option Comparison → List (List ℕ × List ℕ) → List ℕ
+found_list_lines name test entries = flat_map (found_list_line name) (filter (λ e. meets test e.1) entries)
+
+-- the same of the sticker of one stored playlist
+abbrev pub found_in_list : List ℕ → List ℕ → Option Comparison → List ℕ → List ℕ
+found_in_list list name test value = found_list_lines name test ((list, value) ∷ [])
+
+-- the answer shows those of these entries whose values meet the test
+abbrev pub ShowsFoundLists : List ℕ → Option Comparison → List Entry → List ℕ → Type 0
+ShowsFoundLists name test entries answer = answer ≡ found_list_lines name test (map entry_texts entries)

@@ -24,14 +24,17 @@ info tags rate uri None = uri_line uri
 abbrev pub info_lines : List TagName → ℕ → List SongData → List (List ℕ) → List ℕ
 info_lines tags rate songs uris = flat_map (λ uri. info tags rate uri (song_of songs uri)) uris
 
+abbrev pub playlist_line : List ℕ → List ℕ
+playlist_line name = pair_line (codes "playlist") name
+
 -- the names of lists
 abbrev pub playlist_lines : List (List ℕ) → List ℕ
-playlist_lines names = flat_map (λ name. pair_line (codes "playlist") name) names
+playlist_lines names = flat_map playlist_line names
 
 -- a sticker's name and its text
 abbrev pub sticker_of : List ℕ → List ℕ → List ℕ
 sticker_of name value = pair_line (codes "sticker") (name ++ codes "=" ++ value)
 
--- the stickers of a URI
+-- the stickers of a target
 abbrev pub stickers_of : List (List ℕ × List ℕ) → List ℕ
 stickers_of entries = flat_map (λ e. sticker_of e.0 e.1) entries

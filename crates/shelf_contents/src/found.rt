@@ -1,10 +1,10 @@
-//! The songs that have a sticker (MPD protocol reference, Stickers: `sticker find`).
+//! The songs and the stored playlists that have a sticker (MPD protocol reference, Stickers: `sticker find`).
 
 ghost use Rattle.std.specs.Prelude.{◌≡◌, ◌++◌, IfOk, OnOk, string_bytes};
 ghost use Rattle.std.specs.Option.{option_copied};
 ghost use Rattle.shelf.specs.Entries.{entry_texts};
 ghost use Rattle.song_search.specs.Truth.{front_of};
-ghost use Rattle.shelf_contents.specs.Found.{compares as compares_lem, meets as meets_lem, is_asked as is_asked_lem, found_line, ShowsFound};
+ghost use Rattle.shelf_contents.specs.Found.{compares as compares_lem, meets as meets_lem, is_asked as is_asked_lem, found_in_list as in_list, found_line, ShowsFound, ShowsFoundLists};
 
 use crate::shown::push_sticker;
 use mpd_command::{Comparison, Operator};
@@ -93,4 +93,55 @@ fn push_found(
 {
     answer.pair("file", entry.key.as_str())?;
     push_sticker(alloc, answer, name, entry.value.as_str())
+}
+
+/// Of these stickers with a name, each under its stored playlist: those whose values meet the test. Each is
+/// shown by the playlist and the sticker, in the given order.
+pub fn found_list_lines(
+    alloc: Global,
+    name: &str,
+    entries: &[Entry],
+    test: Option<&Comparison>,
+) -> Result<Answer, AllocError>
+    ensures { IfOk result (ShowsFoundLists name.now (option_copied test.entry) entries.now) }
+{
+    let mut answer = Answer::new(alloc);
+    for entry in entries {
+        let list = entry.key.as_str();
+        push_found_list(alloc, &mut answer, list, name, entry.value.as_str(), test)?;
+    }
+    Ok(answer)
+}
+
+/// The same of the sticker of one stored playlist.
+pub fn found_list_line(
+    alloc: Global,
+    list: &str,
+    name: &str,
+    value: &str,
+    test: Option<&Comparison>,
+) -> Result<Answer, AllocError>
+    ensures { IfOk result (λ answer. answer ≡ in_list list.now name.now (option_copied test.entry) value.now) }
+{
+    let mut answer = Answer::new(alloc);
+    push_found_list(alloc, &mut answer, list, name, value, test)?;
+    Ok(answer)
+}
+
+/// Appends a stored playlist and its sticker, if the value meets the test.
+fn push_found_list(
+    alloc: Global,
+    answer: &mut Answer,
+    list: &str,
+    name: &str,
+    value: &str,
+    test: Option<&Comparison>,
+) -> Result<(), AllocError>
+    ensures { OnOk result (answer.new ≡ answer.old ++ in_list list.now name.now (option_copied test.entry) value.now) }
+{
+    if meets(test, value) {
+        answer.pair("playlist", list)?;
+        push_sticker(alloc, answer, name, value)?;
+    }
+    Ok(())
 }

@@ -89,7 +89,7 @@ pub fn sticker_line(alloc: Global, name: &str, value: &str) -> Result<Answer, Al
     Ok(answer)
 }
 
-/// The stickers of a URI, by their names (`sticker list`).
+/// The stickers of a song or a stored playlist, by their names (`sticker list`).
 pub fn sticker_lines(alloc: Global, entries: &[Entry]) -> Result<Answer, AllocError>
     ensures { IfOk result (λ answer. answer ≡ stickers_of (map entry_texts entries.now)) }
 {

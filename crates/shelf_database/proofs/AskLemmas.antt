@@ -42,9 +42,9 @@ pub answers_fault : (X : Type 0) (failed : Type 0) (refusal : Option ShelfFault)
 answers_fault X failed refusal fault (inl memory) = subst (λ f. Answers {X = X} failed refusal (Err f)) (sym memory) tt
 answers_fault X failed refusal fault (inr store) = subst (λ f. Answers {X = X} failed refusal (Err f)) (sym store.0) store.1
 
-pub answers_all_fault : (X : Type 0) (failed : Type 0) (named : List ℕ → Option (List ℕ)) (fault : ShelfFault) → IsFor failed fault → AnswersAll {X = X} failed named (Err fault)
-answers_all_fault X failed named fault (inl memory) = subst (λ f. AnswersAll {X = X} failed named (Err f)) (sym memory) tt
-answers_all_fault X failed named fault (inr store) = subst (λ f. AnswersAll {X = X} failed named (Err f)) (sym store.0) store.1
+pub answers_all_fault : (X : Type 0) (failed : Type 0) (refusal : Option ShelfFault) (named : List ℕ → Option (List ℕ)) (fault : ShelfFault) → IsFor failed fault → AnswersAll {X = X} failed refusal named (Err fault)
+answers_all_fault X failed refusal named fault (inl memory) = subst (λ f. AnswersAll {X = X} failed refusal named (Err f)) (sym memory) tt
+answers_all_fault X failed refusal named fault (inr store) = subst (λ f. AnswersAll {X = X} failed refusal named (Err f)) (sym store.0) store.1
 
 -- what `?` hands on
 pub handed_on : {X : Type 0} (r : Result X ShelfFault) (fault : ShelfFault) → IsErrAnd r (λ e. e ≡ fault) → r ≡ Err fault
@@ -105,9 +105,10 @@ pub answers_done : {X : Type 0} (failed : Type 0) (refusal : Option ShelfFault) 
 answers_done {X} failed refusal (Ok x) none h = none
 answers_done {X} failed refusal (Err fault) none h = answers_fault X failed refusal fault h
 
-pub answers_all_done : {X : Type 0} (failed : Type 0) (named : List ℕ → Option (List ℕ)) (r : Result X ShelfFault) → (name : List ℕ) × IsSome (named name) → IfErr r (IsFor failed) → AnswersAll failed named r
-answers_all_done {X} failed named (Ok x) there h = there
-answers_all_done {X} failed named (Err fault) there h = answers_all_fault X failed named fault h
+pub answers_all_done : {X : Type 0} (failed : Type 0) (refusal : Option ShelfFault) (named : List ℕ → Option (List ℕ)) (r : Result X ShelfFault) → refusal ≡ None → (name : List ℕ) × IsSome (named name) → IfErr r (IsFor failed)
+    → AnswersAll failed refusal named r
+answers_all_done {X} failed refusal named (Ok x) none there h = (none, there)
+answers_all_done {X} failed refusal named (Err fault) none there h = answers_all_fault X failed refusal named fault h
 
 pub ran_blames : (text : List ℕ) (params : Row) (old new : State) (r : Result (Unit {0}) ShelfFault) (failed : Type 0) → ((e : Error) → e ≢ SqliteFailure code.OutOfMemory → Executes text params old new (Err e) → failed)
     → Ran text params old new r → IfErr r (IsFor failed)

@@ -1,5 +1,5 @@
 -- Why a query of the tables may be answered with an error.
-use Rattle.std.proofs.Common.{◌≡◌, ◌≢◌, ◌⊎◌, inl, inr, ℕ, List, [], ◌∷◌, length, true, Ok, Err, Result, refl, sym, ap, subst, subst₂, ◌∙◌, arith, append-nil}
+use Rattle.std.proofs.Common.{codes, ◌≡◌, ◌≢◌, ◌⊎◌, inl, inr, ℕ, List, [], ◌∷◌, length, true, Ok, Err, Result, refl, sym, ap, subst, subst₂, ◌∙◌, arith, append-nil}
 use Rattle.std.proofs.lemmas.Bool.{true≢false}
 use Rattle.sqlite.specs.declared.error.Error.{Error}
 use Rattle.sqlite.specs.declared.error.Error.TheVariants.{SqliteFailure}
@@ -22,10 +22,12 @@ use Rattle.sqlite_tied.specs.Compute.{everything}
 use Rattle.sqlite_resolve.specs.declared.compiled.Compiled.{Compiled}
 use Rattle.sqlite_resolve.specs.declared.error.CompileError.{CompileError}
 use Rattle.sqlite_typing.specs.Types.{accepts_program}
-use Rattle.shelf_database.specs.Tables.{shelf_schema, IsReady}
+use Rattle.shelf.specs.declared.kinds.StickerKind.{StickerKind}
+use Rattle.shelf_database.specs.Tables.{kind_text, former_schema, shelf_schema, IsReady}
 use Rattle.shelf_database.specs.Faults.{HasFailed}
-use Rattle.shelf_database.proofs.Statements.{Reading, over, equals, rising, uris_text, uris_is, named_text, named_is, names_of_uri_text, names_of_uri_are, names_text, names_are, value_text, value_is, of_uri_text, of_uri_is, of_name_text, of_name_is}
-use Rattle.shelf_database.proofs.TablesLemmas.{asked_text, asked_is}
+use Rattle.shelf_database.proofs.Statements.{Reading, ReadingIn, over, equals, rising, key_terms, target_terms, name_terms, uris_text, uris_is, named_text, named_is, names_text, names_are, value_text, value_is, names_of_target_text, names_of_target_are, of_target_text, of_target_is, of_name_text, of_name_is}
+use Rattle.shelf_database.proofs.TablesLemmas.{asked_former, asked_text, asked_is}
+use Rattle.shelf_database.specs.Opens.{IsFormer}
 
 abbrev pub tail_of : Result Compiled CompileError → ℕ
 tail_of (Ok c) = c.tail
@@ -88,21 +90,26 @@ module _ (schema : Schema) (text : List ℕ) (params : Row) (plain : IsPlain (un
   not_run_failed other (inr h) = failed_alone old new (cause_blamed old new ⊥ h.0 e h.1 other h.2)
 
 -- such a query that sums nothing
-module _ (text : List ℕ) (query : Query) (names : List (List ℕ)) (reading : Reading text query names) (params : Row) (whole : IsWhole text params)
-    (typed : accepts_program shelf_schema [] query params ≡ true) (sums : (db : Trees) → ProgramOverflows db params [] [] query → ⊥) where
-  pub read_blamed : BlamesStore text params
+module _ (schema : Schema) (text : List ℕ) (query : Query) (names : List (List ℕ)) (reading : ReadingIn schema text query names) (params : Row) (whole : IsWholeIn schema text params)
+    (typed : accepts_program schema [] query params ≡ true) (sums : (db : Trees) → ProgramOverflows db params [] [] query → ⊥) where
+  pub read_blamed_in : (old new : State) (e : Error) → old.now.schema ≡ schema → e ≢ SqliteFailure code.OutOfMemory → FailsToQuery text params old new e → HasFailed old new
   unfolding FailsToQuery
-  read_blamed old new e ready other (inl h) = not_run_failed shelf_schema text params reading.2 whole old new e ready.shelf.schema other h
-  read_blamed old new e ready other (inr h) =
-      let it : Ok h.0 ≡ understood shelf_schema text = sym h.1.is ∙ known_now shelf_schema text params reading.2 whole old new e ready.shelf.schema in
+  read_blamed_in old new e has other (inl h) = not_run_failed schema text params reading.2 whole old new e has other h
+  read_blamed_in old new e has other (inr h) =
+      let it : Ok h.0 ≡ understood schema text = sym h.1.is ∙ known_now schema text params reading.2 whole old new e has in
       let plain = subst IsPlain (sym it) reading.2 in
       let shows = rw (plain.0, plain.1, append-nil params) at h.2 in
-      let db : shows.0 ≡ old.now = subst (λ b. IsSourceOf b old.now shows.0) (ap (λ s. reads_listing s text) ready.shelf.schema ∙ reading.1) shows.1 in
+      let db : shows.0 ≡ old.now = subst (λ b. IsSourceOf b old.now shows.0) (ap (λ s. reads_listing s text) has ∙ reading.1) shows.1 in
       elim (subst₂ (λ k (d : Database). RefusesToRead old.step_limit k d params e) (ap command_of it ∙ reading.0) db shows.2) [
-        | inl mistyped ↦ absurd (true≢false (sym (ap (λ s. accepts_program s [] query params) ready.shelf.schema ∙ typed) ∙ mistyped.1))
+        | inl mistyped ↦ absurd (true≢false (sym (ap (λ s. accepts_program s [] query params) has ∙ typed) ∙ mistyped.1))
         | inr (inl sum) ↦ absurd (sums old.now.trees sum.1)
         | inr (inr limited) ↦ inr (inr limited.1)
       ]
+
+module _ (text : List ℕ) (query : Query) (names : List (List ℕ)) (reading : Reading text query names) (params : Row) (whole : IsWhole text params)
+    (typed : accepts_program shelf_schema [] query params ≡ true) (sums : (db : Trees) → ProgramOverflows db params [] [] query → ⊥) where
+  pub read_blamed : BlamesStore text params
+  read_blamed old new e ready other = read_blamed_in shelf_schema text query names reading params whole typed sums old new e ready.shelf.schema other
 
 -- a query of the tables, which only a failure of the store refuses
 pub record Question (text : List ℕ) (params : Row) : Type 1 where
@@ -126,6 +133,16 @@ number_whole = (refl, refl)
 abbrev pub number_asked : Question asked_text []
 number_asked = asks asked_text [] 0 [] (col 1 2 ∷ []) [] _ asked_is number_whole refl
 
+pub former_whole : IsWholeIn former_schema asked_text []
+unfolding understood everything
+former_whole = (refl, refl)
+
+-- the query for the number, over the tables of either profile
+pub number_blamed : (old new : State) (e : Error) → IsReady old ⊎ IsFormer old → e ≢ SqliteFailure code.OutOfMemory → FailsToQuery asked_text [] old new e → HasFailed old new
+number_blamed old new e (inl ready) other = number_asked.blamed old new e ready other
+number_blamed old new e (inr former) other =
+    read_blamed_in former_schema asked_text (over 0 [] (col 1 2 ∷ []) []) (codes "number" ∷ []) asked_former [] former_whole refl (no_sum [] 0 [] (col 1 2 ∷ []) []) old new e former.shelf.schema other
+
 pub uris_whole : (name : List ℕ) → IsWhole uris_text (Text name ∷ [])
 unfolding understood everything
 uris_whole name = (refl, refl)
@@ -147,30 +164,30 @@ names_whole = (refl, refl)
 abbrev pub names_asked : Question names_text []
 names_asked = asks names_text [] 1 [] (col 1 1 ∷ []) (rising 1) _ names_are names_whole refl
 
-pub value_whole : (uri name : List ℕ) → IsWhole value_text (Text uri ∷ Text name ∷ [])
+pub value_whole : (kind : StickerKind) (target name : List ℕ) → IsWhole value_text (Text (kind_text kind) ∷ Text target ∷ Text name ∷ [])
 unfolding understood everything
-value_whole uri name = (refl, refl)
+value_whole kind target name = (refl, refl)
 
-abbrev pub value_asked : (uri name : List ℕ) → Question value_text (Text uri ∷ Text name ∷ [])
-value_asked uri name = asks value_text (Text uri ∷ Text name ∷ []) 3 (equals 1 0 ∷ equals 2 1 ∷ []) (col 1 3 ∷ []) [] _ value_is (value_whole uri name) refl
+abbrev pub value_asked : (kind : StickerKind) (target name : List ℕ) → Question value_text (Text (kind_text kind) ∷ Text target ∷ Text name ∷ [])
+value_asked kind target name = asks value_text (Text (kind_text kind) ∷ Text target ∷ Text name ∷ []) 5 key_terms (col 1 4 ∷ []) [] _ value_is (value_whole kind target name) refl
 
-pub names_of_uri_whole : (uri : List ℕ) → IsWhole names_of_uri_text (Text uri ∷ [])
+pub names_of_target_whole : (kind : StickerKind) (target : List ℕ) → IsWhole names_of_target_text (Text (kind_text kind) ∷ Text target ∷ [])
 unfolding understood everything
-names_of_uri_whole uri = (refl, refl)
+names_of_target_whole kind target = (refl, refl)
 
-abbrev pub names_of_uri_asked : (uri : List ℕ) → Question names_of_uri_text (Text uri ∷ [])
-names_of_uri_asked uri = asks names_of_uri_text (Text uri ∷ []) 3 (equals 1 0 ∷ []) (col 1 2 ∷ []) (rising 2) _ names_of_uri_are (names_of_uri_whole uri) refl
+abbrev pub names_of_target_asked : (kind : StickerKind) (target : List ℕ) → Question names_of_target_text (Text (kind_text kind) ∷ Text target ∷ [])
+names_of_target_asked kind target = asks names_of_target_text (Text (kind_text kind) ∷ Text target ∷ []) 5 target_terms (col 1 3 ∷ []) (rising 3) _ names_of_target_are (names_of_target_whole kind target) refl
 
-pub of_uri_whole : (uri : List ℕ) → IsWhole of_uri_text (Text uri ∷ [])
+pub of_target_whole : (kind : StickerKind) (target : List ℕ) → IsWhole of_target_text (Text (kind_text kind) ∷ Text target ∷ [])
 unfolding understood everything
-of_uri_whole uri = (refl, refl)
+of_target_whole kind target = (refl, refl)
 
-abbrev pub of_uri_asked : (uri : List ℕ) → Question of_uri_text (Text uri ∷ [])
-of_uri_asked uri = asks of_uri_text (Text uri ∷ []) 3 (equals 1 0 ∷ []) (col 1 2 ∷ col 1 3 ∷ []) (rising 2) _ of_uri_is (of_uri_whole uri) refl
+abbrev pub of_target_asked : (kind : StickerKind) (target : List ℕ) → Question of_target_text (Text (kind_text kind) ∷ Text target ∷ [])
+of_target_asked kind target = asks of_target_text (Text (kind_text kind) ∷ Text target ∷ []) 5 target_terms (col 1 3 ∷ col 1 4 ∷ []) (rising 3) _ of_target_is (of_target_whole kind target) refl
 
-pub of_name_whole : (name : List ℕ) → IsWhole of_name_text (Text name ∷ [])
+pub of_name_whole : (kind : StickerKind) (name : List ℕ) → IsWhole of_name_text (Text (kind_text kind) ∷ Text name ∷ [])
 unfolding understood everything
-of_name_whole name = (refl, refl)
+of_name_whole kind name = (refl, refl)
 
-abbrev pub of_name_asked : (name : List ℕ) → Question of_name_text (Text name ∷ [])
-of_name_asked name = asks of_name_text (Text name ∷ []) 3 (equals 2 0 ∷ []) (col 1 1 ∷ col 1 3 ∷ []) (rising 1) _ of_name_is (of_name_whole name) refl
+abbrev pub of_name_asked : (kind : StickerKind) (name : List ℕ) → Question of_name_text (Text (kind_text kind) ∷ Text name ∷ [])
+of_name_asked kind name = asks of_name_text (Text (kind_text kind) ∷ Text name ∷ []) 5 name_terms (col 1 2 ∷ col 1 4 ∷ []) (rising 2) _ of_name_is (of_name_whole kind name) refl

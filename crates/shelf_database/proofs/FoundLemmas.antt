@@ -1,5 +1,5 @@
 -- What a query by a whole key shows: the one row with the key, if there is one.
-use Rattle.std.proofs.Common.{◌≡◌, ℕ, List, [], ◌∷◌, map, find, length, slice_get, Bool, false, ◌&&◌, Some, None, Option, option_map, is_some, refl, ap, subst, ◌∙◌, arith}
+use Rattle.std.proofs.Common.{◌≡◌, ℕ, List, [], ◌∷◌, map, find, length, slice_get, Bool, false, Some, None, Option, option_map, is_some, refl, ap, subst, ◌∙◌, arith}
 use Rattle.std.specs.Option.{option_to_list}
 use Rattle.std.specs.List.{list_all}
 use Rattle.std.proofs.lemmas.List.Sorted.{length_permutation}
@@ -11,11 +11,12 @@ use Rattle.sqlite.specs.Program.{overlay}
 use Rattle.sqlite.specs.Effect.{Database}
 use Rattle.sqlite.proofs.Callers.{one_permutation}
 use Rattle.shelf_database.specs.Asks.{IsFirst}
-use Rattle.shelf_database.specs.Tables.{has_text, IsShelf}
-use Rattle.shelf_database.proofs.Statements.{over, equals}
+use Rattle.shelf.specs.declared.kinds.StickerKind.{StickerKind}
+use Rattle.shelf_database.specs.Tables.{has_text, has_key, kind_text, IsShelf}
+use Rattle.shelf_database.proofs.Statements.{over, equals, key_terms}
 use Rattle.shelf_database.proofs.ReadLemmas.{IsRead, answer_is, shows}
-use Rattle.shelf_database.proofs.TextLemmas.{one_test, two_tests}
-use Rattle.shelf_database.proofs.OnceLemmas.{found_once, once_list, once_sticker}
+use Rattle.shelf_database.proofs.TextLemmas.{one_test, key_test}
+use Rattle.shelf_database.proofs.OnceLemmas.{found_once, once_list, once_note}
 
 abbrev pub shown_of : ℕ → Option Row → List Row
 shown_of at o = option_to_list (option_map (λ r. column r at ∷ []) o)
@@ -37,14 +38,15 @@ list_shown at name db rows is answer =
     one_shown (Text name ∷ []) 1 at (equals 1 0 ∷ []) (has_text 1 name) (one_test 1 name) (find (has_text 1 name) (db.trees 1)) rows
     (subst (λ found. IsRead (Text name ∷ []) 1 (equals 1 0 ∷ []) (col 1 at ∷ []) [] (has_text 1 name) (one_test 1 name) found rows) once read)
 
-pub sticker_shown : (uri name : List ℕ) (db : Database) (rows : List Row) → IsShelf db → IsAnswer (over 3 (equals 1 0 ∷ equals 2 1 ∷ []) (col 1 3 ∷ []) []) (overlay db.trees []) (Text uri ∷ Text name ∷ []) rows
-    → rows ≡ shown_of 3 (find (λ row. has_text 1 uri row && has_text 2 name row) (db.trees 3))
-sticker_shown uri name db rows is answer =
-    let test : Row → Bool = λ row. has_text 1 uri row && has_text 2 name row in
-    let read = answer_is (Text uri ∷ Text name ∷ []) 3 (equals 1 0 ∷ equals 2 1 ∷ []) (col 1 3 ∷ []) [] test (two_tests uri name) (overlay db.trees []) rows answer in
-    let once = found_once test (db.trees 3) is.stickers.rise (once_sticker uri name db is) in
-    one_shown (Text uri ∷ Text name ∷ []) 3 3 (equals 1 0 ∷ equals 2 1 ∷ []) test (two_tests uri name) (find test (db.trees 3)) rows
-    (subst (λ found. IsRead (Text uri ∷ Text name ∷ []) 3 (equals 1 0 ∷ equals 2 1 ∷ []) (col 1 3 ∷ []) [] test (two_tests uri name) found rows) once read)
+pub note_shown : (kind : StickerKind) (target name : List ℕ) (db : Database) (rows : List Row) → IsShelf db → IsAnswer (over 5 key_terms (col 1 4 ∷ []) []) (overlay db.trees []) (Text (kind_text kind) ∷ Text target ∷ Text name ∷ []) rows
+    → rows ≡ shown_of 4 (find (has_key kind target name) (db.trees 5))
+note_shown kind target name db rows is answer =
+    let params : Row = Text (kind_text kind) ∷ Text target ∷ Text name ∷ [] in
+    let test : Row → Bool = has_key kind target name in
+    let read = answer_is params 5 key_terms (col 1 4 ∷ []) [] test (key_test kind target name) (overlay db.trees []) rows answer in
+    let once = found_once test (db.trees 5) is.notes.rise (once_note kind target name db is) in
+    one_shown params 5 4 key_terms test (key_test kind target name) (find test (db.trees 5)) rows
+    (subst (λ found. IsRead params 5 key_terms (col 1 4 ∷ []) [] test (key_test kind target name) found rows) once read)
 
 -- the text of the first row is what was found
 first_text : (at : ℕ) (o : Option Row) (rows : List Row) (row : Row) (text : List ℕ) → rows ≡ shown_of at o → slice_get rows 0 ≡ Some row → column row 0 ≡ Text text → option_map (λ r. bytes (column r at)) o ≡ Some text

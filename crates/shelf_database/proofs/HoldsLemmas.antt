@@ -30,17 +30,18 @@ two_texts id a b first second at (inl is) = subst (λ n. IsText (column (id ∷ 
 two_texts id a b first second at (inr (inl is)) = subst (λ n. IsText (column (id ∷ a ∷ b ∷ []) n)) (sym is) second
 two_texts id a b first second at (inr (inr never)) = absurd never
 
-pub three_texts : (id a b c : Value) → IsText a → IsText b → IsText c → (at : ℕ) → Has (1 ∷ 2 ∷ 3 ∷ []) at → IsText (column (id ∷ a ∷ b ∷ c ∷ []) at)
-three_texts id a b c first second third at (inl is) = subst (λ n. IsText (column (id ∷ a ∷ b ∷ c ∷ []) n)) (sym is) first
-three_texts id a b c first second third at (inr (inl is)) = subst (λ n. IsText (column (id ∷ a ∷ b ∷ c ∷ []) n)) (sym is) second
-three_texts id a b c first second third at (inr (inr (inl is))) = subst (λ n. IsText (column (id ∷ a ∷ b ∷ c ∷ []) n)) (sym is) third
-three_texts id a b c first second third at (inr (inr (inr never))) = absurd never
+pub four_texts : (id a b c d : Value) → IsText a → IsText b → IsText c → IsText d → (at : ℕ) → Has (1 ∷ 2 ∷ 3 ∷ 4 ∷ []) at → IsText (column (id ∷ a ∷ b ∷ c ∷ d ∷ []) at)
+four_texts id a b c d first second third fourth at (inl is) = subst (λ n. IsText (column (id ∷ a ∷ b ∷ c ∷ d ∷ []) n)) (sym is) first
+four_texts id a b c d first second third fourth at (inr (inl is)) = subst (λ n. IsText (column (id ∷ a ∷ b ∷ c ∷ d ∷ []) n)) (sym is) second
+four_texts id a b c d first second third fourth at (inr (inr (inl is))) = subst (λ n. IsText (column (id ∷ a ∷ b ∷ c ∷ d ∷ []) n)) (sym is) third
+four_texts id a b c d first second third fourth at (inr (inr (inr (inl is)))) = subst (λ n. IsText (column (id ∷ a ∷ b ∷ c ∷ d ∷ []) n)) (sym is) fourth
+four_texts id a b c d first second third fourth at (inr (inr (inr (inr never)))) = absurd never
 
 -- tables without rows
-pub empty_texts : (trees : Trees) → trees 1 ≡ [] → trees 3 ≡ [] → HoldsTexts trees
-empty_texts trees lists stickers = record {
+pub empty_texts : (trees : Trees) → trees 1 ≡ [] → trees 5 ≡ [] → HoldsTexts trees
+empty_texts trees lists notes = record {
   lists = λ row has. absurd (subst (λ rows. Has rows row) lists has);
-  stickers = λ row has. absurd (subst (λ rows. Has rows row) stickers has);
+  notes = λ row has. absurd (subst (λ rows. Has rows row) notes has);
 }
 
 -- no row lacks a text in some of the columns that hold texts

@@ -10,12 +10,13 @@ use Rattle.sqlite.specs.Program.{overlay}
 use Rattle.sqlite_value.specs.declared.keys.Key.{Key}
 use Rattle.sqlite_rules.specs.Lists.{Has}
 use Rattle.sqlite_rules.proofs.ListLemmas.{has_filtered, has_got}
-use Rattle.shelf_database.specs.Tables.{has_text}
+use Rattle.shelf.specs.declared.kinds.StickerKind.{StickerKind}
+use Rattle.shelf_database.specs.Tables.{has_text, has_key, of_target, kind_text}
 use Rattle.shelf_database.specs.Faults.{IsNoText, LacksText}
-use Rattle.shelf_database.proofs.Statements.{over, equals, rising}
+use Rattle.shelf_database.proofs.Statements.{over, equals, rising, key_terms, target_terms, name_terms}
 use Rattle.shelf_database.proofs.ReadLemmas.{answer_is}
 use Rattle.shelf_database.proofs.AnyRowLemmas.{shown_from}
-use Rattle.shelf_database.proofs.TextLemmas.{one_test, two_tests}
+use Rattle.shelf_database.proofs.TextLemmas.{one_test, two_tests, target_test, key_test}
 
 -- the first row is one of them
 pub first_lacks : (rows : List Row) (row : Row) → slice_get rows 0 ≡ Some row → IsNoText (column row 0) → LacksText (0 ∷ []) (λ _. true) rows
@@ -54,26 +55,26 @@ module _ (db : Trees) (rows : List Row) where
   pub names_lack : IsAnswer (over 1 [] (col 1 1 ∷ []) (rising 1)) (overlay db []) [] rows → LacksText (0 ∷ []) (λ _. true) rows → LacksText (1 ∷ []) (λ _. true) (db 1)
   names_lack = lacks_below [] 1 [] (col 1 1 ∷ []) (rising 1) (λ _. true) (λ _. refl) (0 ∷ []) (1 ∷ []) (first_moves [] 1) (overlay db []) rows
 
-  pub value_lacks : (uri name : List ℕ) → IsAnswer (over 3 (equals 1 0 ∷ equals 2 1 ∷ []) (col 1 3 ∷ []) []) (overlay db []) (Text uri ∷ Text name ∷ []) rows
-      → LacksText (0 ∷ []) (λ _. true) rows → LacksText (3 ∷ []) (λ row. has_text 1 uri row && has_text 2 name row) (db 3)
-  value_lacks uri name =
-      lacks_below (Text uri ∷ Text name ∷ []) 3 (equals 1 0 ∷ equals 2 1 ∷ []) (col 1 3 ∷ []) [] (λ row. has_text 1 uri row && has_text 2 name row) (two_tests uri name)
-      (0 ∷ []) (3 ∷ []) (first_moves (Text uri ∷ Text name ∷ []) 3) (overlay db []) rows
+  pub value_lacks : (kind : StickerKind) (target name : List ℕ) → IsAnswer (over 5 key_terms (col 1 4 ∷ []) []) (overlay db []) (Text (kind_text kind) ∷ Text target ∷ Text name ∷ []) rows
+      → LacksText (0 ∷ []) (λ _. true) rows → LacksText (4 ∷ []) (has_key kind target name) (db 5)
+  value_lacks kind target name =
+      lacks_below (Text (kind_text kind) ∷ Text target ∷ Text name ∷ []) 5 key_terms (col 1 4 ∷ []) [] (has_key kind target name) (key_test kind target name)
+      (0 ∷ []) (4 ∷ []) (first_moves (Text (kind_text kind) ∷ Text target ∷ Text name ∷ []) 4) (overlay db []) rows
 
-  pub of_uri_lack : (uri : List ℕ) → IsAnswer (over 3 (equals 1 0 ∷ []) (col 1 2 ∷ col 1 3 ∷ []) (rising 2)) (overlay db []) (Text uri ∷ []) rows
-      → LacksText (0 ∷ 1 ∷ []) (λ _. true) rows → LacksText (2 ∷ 3 ∷ []) (has_text 1 uri) (db 3)
-  of_uri_lack uri =
-      lacks_below (Text uri ∷ []) 3 (equals 1 0 ∷ []) (col 1 2 ∷ col 1 3 ∷ []) (rising 2) (has_text 1 uri) (one_test 1 uri)
-      (0 ∷ 1 ∷ []) (2 ∷ 3 ∷ []) (both_move (Text uri ∷ []) 2 3) (overlay db []) rows
+  pub of_target_lack : (kind : StickerKind) (target : List ℕ) → IsAnswer (over 5 target_terms (col 1 3 ∷ col 1 4 ∷ []) (rising 3)) (overlay db []) (Text (kind_text kind) ∷ Text target ∷ []) rows
+      → LacksText (0 ∷ 1 ∷ []) (λ _. true) rows → LacksText (3 ∷ 4 ∷ []) (of_target kind target) (db 5)
+  of_target_lack kind target =
+      lacks_below (Text (kind_text kind) ∷ Text target ∷ []) 5 target_terms (col 1 3 ∷ col 1 4 ∷ []) (rising 3) (of_target kind target) (target_test kind target)
+      (0 ∷ 1 ∷ []) (3 ∷ 4 ∷ []) (both_move (Text (kind_text kind) ∷ Text target ∷ []) 3 4) (overlay db []) rows
 
-  pub names_of_uri_lack : (uri : List ℕ) → IsAnswer (over 3 (equals 1 0 ∷ []) (col 1 2 ∷ []) (rising 2)) (overlay db []) (Text uri ∷ []) rows
-      → LacksText (0 ∷ []) (λ _. true) rows → LacksText (2 ∷ []) (has_text 1 uri) (db 3)
-  names_of_uri_lack uri =
-      lacks_below (Text uri ∷ []) 3 (equals 1 0 ∷ []) (col 1 2 ∷ []) (rising 2) (has_text 1 uri) (one_test 1 uri)
-      (0 ∷ []) (2 ∷ []) (first_moves (Text uri ∷ []) 2) (overlay db []) rows
+  pub names_of_target_lack : (kind : StickerKind) (target : List ℕ) → IsAnswer (over 5 target_terms (col 1 3 ∷ []) (rising 3)) (overlay db []) (Text (kind_text kind) ∷ Text target ∷ []) rows
+      → LacksText (0 ∷ []) (λ _. true) rows → LacksText (3 ∷ []) (of_target kind target) (db 5)
+  names_of_target_lack kind target =
+      lacks_below (Text (kind_text kind) ∷ Text target ∷ []) 5 target_terms (col 1 3 ∷ []) (rising 3) (of_target kind target) (target_test kind target)
+      (0 ∷ []) (3 ∷ []) (first_moves (Text (kind_text kind) ∷ Text target ∷ []) 3) (overlay db []) rows
 
-  pub of_name_lack : (name : List ℕ) → IsAnswer (over 3 (equals 2 0 ∷ []) (col 1 1 ∷ col 1 3 ∷ []) (rising 1)) (overlay db []) (Text name ∷ []) rows
-      → LacksText (0 ∷ 1 ∷ []) (λ _. true) rows → LacksText (1 ∷ 3 ∷ []) (has_text 2 name) (db 3)
-  of_name_lack name =
-      lacks_below (Text name ∷ []) 3 (equals 2 0 ∷ []) (col 1 1 ∷ col 1 3 ∷ []) (rising 1) (has_text 2 name) (one_test 2 name)
-      (0 ∷ 1 ∷ []) (1 ∷ 3 ∷ []) (both_move (Text name ∷ []) 1 3) (overlay db []) rows
+  pub of_name_lack : (kind : StickerKind) (name : List ℕ) → IsAnswer (over 5 name_terms (col 1 2 ∷ col 1 4 ∷ []) (rising 2)) (overlay db []) (Text (kind_text kind) ∷ Text name ∷ []) rows
+      → LacksText (0 ∷ 1 ∷ []) (λ _. true) rows → LacksText (2 ∷ 4 ∷ []) (λ row. has_text 1 (kind_text kind) row && has_text 3 name row) (db 5)
+  of_name_lack kind name =
+      lacks_below (Text (kind_text kind) ∷ Text name ∷ []) 5 name_terms (col 1 2 ∷ col 1 4 ∷ []) (rising 2) (λ row. has_text 1 (kind_text kind) row && has_text 3 name row) (two_tests 1 3 (kind_text kind) name)
+      (0 ∷ 1 ∷ []) (2 ∷ 4 ∷ []) (both_move (Text (kind_text kind) ∷ Text name ∷ []) 2 4) (overlay db []) rows

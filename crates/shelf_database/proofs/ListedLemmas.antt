@@ -10,7 +10,6 @@ use Rattle.std.proofs.lemmas.Cmp.{eq_by_cmp_equiv, nat_list_cmp_total, tied_itse
 use Rattle.std.proofs.lemmas.List.{get_or-map}
 use Rattle.std.proofs.lemmas.List.Sorted.{Contains-permutation}
 use Rattle.std.proofs.lemmas.Map.Keys.{IsDistinct-IsPermutation}
-use Rattle.std.proofs.lemmas.Map.Text.{is_eq-slice_cmp}
 use Rattle.std.proofs.lemmas.Simd.{map-map}
 use Rattle.std.proofs.Math.ListN.{length-map}
 use Rattle.sqlite.specs.declared.types.Value.{Value}
@@ -23,13 +22,10 @@ use Rattle.sqlite_rules.proofs.ListLemmas.{all_has, all_from, has_filtered, has_
 use Rattle.shelf_database.specs.Tables.{has_text}
 use Rattle.shelf_database.proofs.MovedLemmas.{strictly, any_found, find_moved, find_both}
 use Rattle.shelf_database.proofs.OnceLemmas.{Once}
-use Rattle.shelf_database.proofs.TextLemmas.{same_bytes}
+use Rattle.shelf_database.proofs.TextLemmas.{same_bytes, bytes_flip}
 
 tie_flips : (a b : Value) → eq_by_cmp value_cmp a b ≡ eq_by_cmp value_cmp b a
 tie_flips a b = (eq_by_cmp_equiv value_cmp_total).symm a b
-
-bytes_flip : (a b : List ℕ) → bytes_eq a b ≡ bytes_eq b a
-bytes_flip a b = sym (is_eq-slice_cmp a b) ∙ (eq_by_cmp_equiv nat_list_cmp_total).symm a b ∙ is_eq-slice_cmp b a
 
 text_cmp : (λ (a b : List ℕ). value_cmp (Text a) (Text b)) ≡ slice_cmp nat_cmp
 text_cmp = λ i. λ a b. value_cmp-Text a b i

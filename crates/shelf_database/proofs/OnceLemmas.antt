@@ -20,7 +20,8 @@ use Rattle.sqlite_rules.specs.Lists.{Has}
 use Rattle.sqlite_rules.proofs.ListLemmas.{all_has, some_from}
 use Rattle.sqlite_rules.proofs.PlaceLemmas.{tied_same}
 use Rattle.sqlite_rules.proofs.TableLemmas.{int_is}
-use Rattle.shelf_database.specs.Tables.{shelf_schema, has_text, AreRows, IsShelf}
+use Rattle.shelf.specs.declared.kinds.StickerKind.{StickerKind}
+use Rattle.shelf_database.specs.Tables.{shelf_schema, has_text, has_key, kind_text, AreRows, IsShelf}
 use Rattle.shelf_database.proofs.TextLemmas.{equal_text, text_is}
 
 abbrev pub Once : (Row → Bool) → List Row → Type 0
@@ -56,7 +57,7 @@ unfolding binary
 same_id v w p q h = let e = rw (int_is v p, int_is w q) at h in rw (int_is v p, int_is w q) (alike _ e)
 
 -- rows that agree with one that clashes with no other are that row
-one_row : (rows : List Row) (are : AreRows rows) (agrees : Row → Bool) (a b : Row) → Has rows a → Has rows b → agrees b ≡ true
+pub one_row : (rows : List Row) (are : AreRows rows) (agrees : Row → Bool) (a b : Row) → Has rows a → Has rows b → agrees b ≡ true
     → list_any (λ r. agrees r && differ (rowid r) (rowid a)) rows ≡ false → a ≡ b
 one_row rows are agrees a b h k agreed free =
     let apart : differ (rowid b) (rowid a) ≡ false = elim (cases_Bool (differ (rowid b) (rowid a))) [
@@ -65,7 +66,7 @@ one_row rows are agrees a b h k agreed free =
     ] in
     tied_same rows a b are.rise h k (tied_back value_cmp_total (rowid b) (rowid a) (same_id (rowid b) (rowid a) (all_has _ rows b are.keyed k) (all_has _ rows a are.keyed h) apart))
 
-itself_equal : (text : List ℕ) → is_eq (value_cmp (Text text) (Text text)) ≡ true
+pub itself_equal : (text : List ℕ) → is_eq (value_cmp (Text text) (Text text)) ≡ true
 itself_equal text = rw (tied_itself value_cmp_total (Text text)) refl
 
 pub once_list : (name : List ℕ) (db : Database) → IsShelf db → Once (has_text 1 name) (db.trees 1)
@@ -77,14 +78,30 @@ once_list name db is a b h k p q =
     let agreed : agree (record { digits = 0 }) (1 ∷ []) b (1 ∷ []) a ≡ true = rw (text_is (column a 1) name p, text_is (column b 1) name q, equal_text (Text name) name, itself_equal name) refl in
     one_row (db.trees 1) is.lists (λ r. agree (record { digits = 0 }) (1 ∷ []) r (1 ∷ []) a) a b h k agreed free
 
-pub once_sticker : (uri name : List ℕ) (db : Database) → IsShelf db → Once (λ row. has_text 1 uri row && has_text 2 name row) (db.trees 3)
+pub once_note : (kind : StickerKind) (target name : List ℕ) (db : Database) → IsShelf db → Once (has_key kind target name) (db.trees 5)
 unfolding first_key
-once_sticker uri name db is a b h k p q =
+once_note kind target name db is a b h k p q =
     let rules : Keeps Unique shelf_schema db.trees = subst (λ s. Keeps Unique s db.trees) is.schema (is.sound.obeys.rules Unique) in
-    let passed : (not (clashes (record { digits = 0 }) (1 ∷ 2 ∷ []) (db.trees 3) a) && true) ≡ true = all_has _ (db.trees 3) a rules.1.1.0 h in
+    let passed : (not (clashes (record { digits = 0 }) (1 ∷ 2 ∷ 3 ∷ []) (db.trees 5) a) && true) ≡ true = all_has _ (db.trees 5) a rules.1.1.1.0 h in
     let free = not-true _ (and_parts _ _ passed).0 in
     let ps = and_parts _ _ p in
     let qs = and_parts _ _ q in
-    let agreed : agree (record { digits = 0 }) (1 ∷ 2 ∷ []) b (1 ∷ 2 ∷ []) a ≡ true =
-    rw (text_is (column a 1) uri ps.0, text_is (column b 1) uri qs.0, text_is (column a 2) name ps.1, text_is (column b 2) name qs.1, equal_text (Text uri) uri, equal_text (Text name) name, itself_equal uri, itself_equal name) refl in
-    one_row (db.trees 3) is.stickers (λ r. agree (record { digits = 0 }) (1 ∷ 2 ∷ []) r (1 ∷ 2 ∷ []) a) a b h k agreed free
+    let pt = and_parts _ _ ps.1 in
+    let qt = and_parts _ _ qs.1 in
+    let word : List ℕ = kind_text kind in
+    let agreed : agree (record { digits = 0 }) (1 ∷ 2 ∷ 3 ∷ []) b (1 ∷ 2 ∷ 3 ∷ []) a ≡ true =
+    rw (
+      text_is (column a 1) word ps.0,
+      text_is (column b 1) word qs.0,
+      text_is (column a 2) target pt.0,
+      text_is (column b 2) target qt.0,
+      text_is (column a 3) name pt.1,
+      text_is (column b 3) name qt.1,
+      equal_text (Text word) word,
+      equal_text (Text target) target,
+      equal_text (Text name) name,
+      itself_equal word,
+      itself_equal target,
+      itself_equal name,
+    ) refl in
+    one_row (db.trees 5) is.notes (λ r. agree (record { digits = 0 }) (1 ∷ 2 ∷ 3 ∷ []) r (1 ∷ 2 ∷ 3 ∷ []) a) a b h k agreed free

@@ -22,12 +22,13 @@ use Rattle.sqlite_schema.specs.declared.schema.Index.{Index}
 use Rattle.sqlite_rules.specs.Edit.{IsOversized}
 use Rattle.sqlite_rules.proofs.PlaceLemmas.{next_is_free}
 use Rattle.sqlite.proofs.Callers.{statement_of}
-use Rattle.shelf_database.specs.Tables.{shelf_schema, placed_list, placed_sticker, IsReady}
+use Rattle.shelf.specs.declared.kinds.StickerKind.{StickerKind}
+use Rattle.shelf_database.specs.Tables.{shelf_schema, placed_list, placed_note, kind_text, IsReady}
 use Rattle.shelf_database.specs.Faults.{IsUnstorable}
 use Rattle.shelf_database.proofs.Statements.{put_text, set_text}
 use Rattle.shelf_database.proofs.PutLemmas.{task}
 use Rattle.shelf_database.proofs.PutListLemmas.{cast_int, cast_null, list_values}
-use Rattle.shelf_database.proofs.PutStickerLemmas.{sticker_values}
+use Rattle.shelf_database.proofs.Statements.{note_values}
 use Rattle.shelf_database.proofs.EditBlame.{stored, whole_number, by_length}
 use Rattle.shelf_database.proofs.RefusalLemmas.{unique_now, concludes_done}
 use Rattle.shelf_database.proofs.ReplaceBlame.{inserts_stopped}
@@ -45,7 +46,8 @@ list_long id name text big = by_length (list_row id name text) (λ short. elim b
   | inr (i, inl is, of, entry) ↦ subst (λ (x : Index). IsStorable (index_reals (table_reals placed_list) x.columns) (entry_of x.columns (list_row id name text)) → ⊥) is entry
       (stored (Text name ∷ Int id ∷ []) (tt, (whole_number id, tt)) (omega arith) (omega arith) (omega (arith, short)))
   | inr (i, inr (inl is), of, entry) ↦ let other : 3 ≡ 1 = subst (λ (x : Index). x.table ≡ 1) is of in omega (arith, other)
-  | inr (i, inr (inr none), of, entry) ↦ none
+  | inr (i, inr (inr (inl is)), of, entry) ↦ let other : 5 ≡ 1 = subst (λ (x : Index). x.table ≡ 1) is of in omega (arith, other)
+  | inr (i, inr (inr (inr none)), of, entry) ↦ none
 ])
 
 module _ (s : State) (name text : List ℕ) (ready : IsReady s) where
@@ -80,45 +82,46 @@ put_refused s name text ready stop h =
 
 -- ---- the stickers
 
-abbrev sticker_row : ℤ → List ℕ → List ℕ → List ℕ → Row
-sticker_row id uri name value = Int id ∷ Text uri ∷ Text name ∷ Text value ∷ []
+abbrev note_row : ℤ → StickerKind → List ℕ → List ℕ → List ℕ → Row
+note_row id kind target name value = Int id ∷ Text (kind_text kind) ∷ Text target ∷ Text name ∷ Text value ∷ []
 
-sticker_long : (id : ℤ) (uri name value : List ℕ) → IsOversized shelf_schema placed_sticker (sticker_row id uri name value) → 10 ^ 9 < sum_by (λ v. 18 + length (bytes v)) (sticker_row id uri name value)
+note_long : (id : ℤ) (kind : StickerKind) (target name value : List ℕ) → IsOversized shelf_schema placed_note (note_row id kind target name value) → 10 ^ 9 < sum_by (λ v. 18 + length (bytes v)) (note_row id kind target name value)
 unfolding is_nan
-sticker_long id uri name value big = by_length (sticker_row id uri name value) (λ short. elim big [
-  | inl row ↦ row (stored (sticker_row id uri name value) (whole_number id, (tt, (tt, (tt, tt)))) (omega arith) (omega arith) short, omega arith)
-  | inr (i, inl is, of, entry) ↦ let other : 1 ≡ 3 = subst (λ (x : Index). x.table ≡ 3) is of in omega (arith, other)
-  | inr (i, inr (inl is), of, entry) ↦ subst (λ (x : Index). IsStorable (index_reals (table_reals placed_sticker) x.columns) (entry_of x.columns (sticker_row id uri name value)) → ⊥) is entry
-      (stored (Text uri ∷ Text name ∷ Int id ∷ []) (tt, (tt, (whole_number id, tt))) (omega arith) (omega arith) (omega (arith, short)))
-  | inr (i, inr (inr none), of, entry) ↦ none
+note_long id kind target name value big = by_length (note_row id kind target name value) (λ short. elim big [
+  | inl row ↦ row (stored (note_row id kind target name value) (whole_number id, (tt, (tt, (tt, (tt, tt))))) (omega arith) (omega arith) short, omega arith)
+  | inr (i, inl is, of, entry) ↦ let other : 1 ≡ 5 = subst (λ (x : Index). x.table ≡ 5) is of in omega (arith, other)
+  | inr (i, inr (inl is), of, entry) ↦ let other : 3 ≡ 5 = subst (λ (x : Index). x.table ≡ 5) is of in omega (arith, other)
+  | inr (i, inr (inr (inl is)), of, entry) ↦ subst (λ (x : Index). IsStorable (index_reals (table_reals placed_note) x.columns) (entry_of x.columns (note_row id kind target name value)) → ⊥) is entry
+      (stored (Text (kind_text kind) ∷ Text target ∷ Text name ∷ Int id ∷ []) (tt, (tt, (tt, (whole_number id, tt)))) (omega arith) (omega arith) (omega (arith, short)))
+  | inr (i, inr (inr (inr none)), of, entry) ↦ none
 ])
 
-module _ (s : State) (uri name value : List ℕ) (ready : IsReady s) where
-  abbrev sticker_id : ℤ
-  sticker_id = next_rowid (s.now.trees 3)
+module _ (s : State) (kind : StickerKind) (target name value : List ℕ) (ready : IsReady s) where
+  abbrev note_id : ℤ
+  note_id = next_rowid (s.now.trees 5)
 
-  abbrev sticker_params : Row
-  sticker_params = Text uri ∷ Text name ∷ Text value ∷ []
+  abbrev note_params : Row
+  note_params = Text (kind_text kind) ∷ Text target ∷ Text name ∷ Text value ∷ []
 
-  sticker_cast : cast_row placed_sticker (sticker_row sticker_id uri name value) ≡ sticker_row sticker_id uri name value
-  sticker_cast = rw (cast_int sticker_id) refl
+  note_cast : cast_row placed_note (note_row note_id kind target name value) ≡ note_row note_id kind target name value
+  note_cast = rw (cast_int note_id) refl
 
-  abbrev sticker_task : Task
-  sticker_task = task placed_sticker (λ olds news. refl) s.step_limit sticker_params (sticker_row sticker_id uri name value) sticker_cast refl
+  abbrev note_task : Task
+  note_task = task placed_note (λ olds news. refl) s.step_limit note_params (note_row note_id kind target name value) note_cast refl
 
-  sticker_stopped : (stop : Option Error) → InsertsOr sticker_task Replace [] (Values sticker_values 4) s.now.trees (Err stop) → IsSome s.step_limit ⊎ IsUnstorable (sticker_row sticker_id uri name value)
-  sticker_stopped stop h =
-      let free = next_is_free Chosen (s.now.trees 3) sticker_params ready.shelf.stickers.rise ready.shelf.stickers.keyed in
-      inserts_stopped placed_sticker (inr (inr (inl refl))) (λ olds news. refl) s.step_limit sticker_params (sticker_row sticker_id uri name value) sticker_cast (refl, refl, refl, refl) (sticker_long sticker_id uri name value) s.now.trees sticker_values 4
-      (Null ∷ sticker_params) ready.shelf.stickers (unique_now s ready) free refl refl refl (λ top. ap (λ v. with_rowid Chosen (s.now.trees 3) (v ∷ sticker_params)) cast_null) stop h
+  note_stopped : (stop : Option Error) → InsertsOr note_task Replace [] (Values note_values 5) s.now.trees (Err stop) → IsSome s.step_limit ⊎ IsUnstorable (note_row note_id kind target name value)
+  note_stopped stop h =
+      let free = next_is_free Chosen (s.now.trees 5) note_params ready.shelf.notes.rise ready.shelf.notes.keyed in
+      inserts_stopped placed_note (inr (inr (inr (inl refl)))) (λ olds news. refl) s.step_limit note_params (note_row note_id kind target name value) note_cast (refl, refl, refl, refl) (note_long note_id kind target name value) s.now.trees note_values 5
+      (Null ∷ note_params) ready.shelf.notes (unique_now s ready) free refl refl refl (λ top. ap (λ v. with_rowid Chosen (s.now.trees 5) (v ∷ note_params)) cast_null) stop h
 
-pub set_refused : (s : State) (uri name value : List ℕ) → IsReady s
-    → RefusedFor s set_text (Text uri ∷ Text name ∷ Text value ∷ []) (InsertOr 2 Replace (Values sticker_values 4) []) (IsUnstorable (Int (next_rowid (s.now.trees 3)) ∷ Text uri ∷ Text name ∷ Text value ∷ []))
-set_refused s uri name value ready stop h =
-    let params : Row = Text uri ∷ Text name ∷ Text value ∷ [] in
-    let command : Command = InsertOr 2 Replace (Values sticker_values 4) [] in
+pub set_refused : (s : State) (kind : StickerKind) (target name value : List ℕ) → IsReady s
+    → RefusedFor s set_text (Text (kind_text kind) ∷ Text target ∷ Text name ∷ Text value ∷ []) (InsertOr 3 Replace (Values note_values 5) []) (IsUnstorable (Int (next_rowid (s.now.trees 5)) ∷ Text (kind_text kind) ∷ Text target ∷ Text name ∷ Text value ∷ []))
+set_refused s kind target name value ready stop h =
+    let params : Row = Text (kind_text kind) ∷ Text target ∷ Text name ∷ Text value ∷ [] in
+    let command : Command = InsertOr 3 Replace (Values note_values 5) [] in
     let text_run : List ℕ = statement_of set_text (understood shelf_schema set_text) in
     elim (subst (λ schema. Does s.step_limit (mode_of s) params (record s.now { schema = schema }) text_run None command (Err stop)) ready.shelf.schema h) [
-      | inl wrote ↦ sticker_stopped s uri name value ready wrote.0 wrote.1
-      | inr (w, wrote, ends) ↦ absurd (concludes_done s.step_limit placed_sticker params (mode_of s) w stop ends)
+      | inl wrote ↦ note_stopped s kind target name value ready wrote.0 wrote.1
+      | inr (w, wrote, ends) ↦ absurd (concludes_done s.step_limit placed_note params (mode_of s) w stop ends)
     ]

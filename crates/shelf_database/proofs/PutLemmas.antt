@@ -17,9 +17,10 @@ use Rattle.sqlite.specs.Edit.{edit_of, is_taken, without_all, id_in, taken_by}
 use Rattle.sqlite.specs.Rowids.TheVariants.{Given}
 use Rattle.sqlite_schema.specs.declared.command.Conflict.TheVariants.{Replace}
 use Rattle.sqlite_schema.specs.declared.schema.Keys.TheVariants.{Enforced}
-use Rattle.sqlite_schema.specs.Rules.{equal}
+use Rattle.sqlite_schema.specs.Rules.{Keeps, equal}
 use Rattle.sqlite_trees.proofs.TreeLemmas.{IsShaped-put_row, IsShaped-filter}
 use Rattle.sqlite_trees.specs.declared.store.Shape.TheVariants as shape
+use Rattle.sqlite_schema.specs.declared.schema.Constraint.TheVariants.{Unique}
 use Rattle.sqlite_rules.specs.Action.{works}
 use Rattle.sqlite_rules.specs.Calls.{ids_of}
 use Rattle.sqlite_rules.specs.Keys.{AreConflicts, conflicts}
@@ -46,7 +47,7 @@ equal_id (Real x) id h = absurd (true≢false (sym h))
 equal_id (Text t) id h = absurd (true≢false (sym h))
 equal_id (Blob b) id h = absurd (true≢false (sym h))
 
-others_then : (n : ℕ) (ts : List Table) (old mid now : Trees) → AllByRecursion (λ t. t.tree ≢ n → mid t.tree ≡ old t.tree) ts → AllByRecursion (λ t. t.tree ≢ n → now t.tree ≡ mid t.tree) ts → AllByRecursion (λ t. t.tree ≢ n → now t.tree ≡ old t.tree) ts
+pub others_then : (n : ℕ) (ts : List Table) (old mid now : Trees) → AllByRecursion (λ t. t.tree ≢ n → mid t.tree ≡ old t.tree) ts → AllByRecursion (λ t. t.tree ≢ n → now t.tree ≡ mid t.tree) ts → AllByRecursion (λ t. t.tree ≢ n → now t.tree ≡ old t.tree) ts
 others_then n [] old mid now a b = tt
 others_then n (t ∷ ts) old mid now a b = (λ apart. b.0 apart ∙ a.0 apart, others_then n ts old mid now a.1 b.1)
 
@@ -62,6 +63,7 @@ module _ (table : Table) (quiet : (olds news : List Row) → works shelf_schema 
     pub rows : now table.tree ≡ put_row new left
     pub fresh : is_taken left new ≡ false
     pub others : Others old now
+    pub unique : Keeps Unique shelf_schema now
 
   put_there : (db : Trees) (one : Written) → AreRows (db table.tree) → PutsRow task new db (Ok one) → IsPut db one.trees (db table.tree)
   put_there db one are h =
@@ -79,6 +81,7 @@ module _ (table : Table) (quiet : (olds news : List Row) → works shelf_schema 
         rows = is;
         fresh = free;
         others = subst (λ (trees : Trees). AllByRecursion (λ t. t.tree ≢ table.tree → trees t.tree ≡ db t.tree) shelf_schema.tables) (sym trees) applies.tables;
+        unique = subst (Keeps Unique shelf_schema) (sym trees) (applies.fits.rules Unique (λ e. cc));
       }
 
   clears : (db : Trees) (one : Written) (found : List Row) → AreRows (db table.tree) → Clears task Replace new db found (Ok one) → IsPut db one.trees (without_all (db table.tree) (ids_of found))
@@ -94,6 +97,7 @@ module _ (table : Table) (quiet : (olds news : List Row) → works shelf_schema 
         rows = put.rows ∙ ap (put_row new) left;
         fresh = subst (λ rows. is_taken rows new ≡ false) left put.fresh;
         others = others_then table.tree shelf_schema.tables db out.0 one.trees applies.tables put.others;
+        unique = put.unique;
       }
 
   module _ (key : Row → Bool) (conflict_is : (row : Row) → IsTrue (is_int (rowid row)) → conflicts None shelf_schema.indexes table new row ≡ (is_eq (value_cmp (rowid row) (rowid new)) || key row))

@@ -28,7 +28,7 @@ use Rattle.sqlite_rules.specs.Keys.{conflicts}
 use Rattle.sqlite_rules.proofs.PlaceLemmas.{next_is_free}
 use Rattle.shelf.specs.Lines.{lines_of}
 use Rattle.shelf.specs.Maps.{with_list}
-use Rattle.shelf_database.specs.Tables.{shelf_schema, placed_list, maps_in, has_text, AreRows, IsText, HaveTexts, HoldsTexts, IsReady}
+use Rattle.shelf_database.specs.Tables.{shelf_schema, placed_list, note_maps, has_text, AreRows, IsText, HaveTexts, HoldsTexts, IsShelf}
 use Rattle.shelf_database.proofs.Statements.{put_text}
 use Rattle.shelf_database.proofs.DeleteLemmas.{went, same_value}
 use Rattle.shelf_database.proofs.HoldsLemmas.{text_there, two_texts, put_texts, filtered_texts}
@@ -68,21 +68,21 @@ abbrev pub list_values : List Term
 list_values = lit Null ∷ col 0 0 ∷ col 0 1 ∷ []
 
 -- the row with the key is replaced by one with these values
-pub more_lists : (id a b : Value) (p : Row → Bool) (old now : Trees) → now 1 ≡ put_row (id ∷ a ∷ b ∷ []) (filter p (old 1)) → now 3 ≡ old 3 → (HoldsTexts old → IsText a) → (HoldsTexts old → IsText b)
+pub more_lists : (id a b : Value) (p : Row → Bool) (old now : Trees) → now 1 ≡ put_row (id ∷ a ∷ b ∷ []) (filter p (old 1)) → now 5 ≡ old 5 → (HoldsTexts old → IsText a) → (HoldsTexts old → IsText b)
     → HoldsTexts old → HoldsTexts now
 more_lists id a b p old now put others first second texts = record {
   lists = subst (λ rows. HaveTexts (1 ∷ 2 ∷ []) rows) (sym put) (put_texts (1 ∷ 2 ∷ []) (id ∷ a ∷ b ∷ []) (filter p (old 1)) (two_texts id a b (first texts) (second texts)) (filtered_texts (1 ∷ 2 ∷ []) p (old 1) texts.lists));
-  stickers = subst (λ rows. HaveTexts (1 ∷ 2 ∷ 3 ∷ []) rows) (sym others) texts.stickers;
+  notes = subst (λ rows. HaveTexts (1 ∷ 2 ∷ 3 ∷ 4 ∷ []) rows) (sym others) texts.notes;
 }
 
-pub puts_list : (s : State) (name text : List ℕ) → IsUtf8 name → IsUtf8 text → IsReady s → DoesSo s put_text (Text name ∷ Text text ∷ []) (InsertOr 1 Replace (Values list_values 3) []) (with_list (maps_in s.now.trees) name (Some (lines_of text)))
-puts_list s name text name_utf8 text_utf8 ready tally after h sound =
+pub puts_list : (s : State) (name text : List ℕ) → IsUtf8 name → IsUtf8 text → IsShelf s.now → DoesSo s put_text (Text name ∷ Text text ∷ []) (InsertOr 1 Replace (Values list_values 3) []) (with_list (note_maps s.now.trees) name (Some (lines_of text)))
+puts_list s name text name_utf8 text_utf8 shelf tally after h sound =
     let params : Row = Text name ∷ Text text ∷ [] in
     let command : Command = InsertOr 1 Replace (Values list_values 3) [] in
     let text_run : List ℕ = statement_of put_text (understood shelf_schema put_text) in
     let db = s.now.trees in
     let id = next_rowid (db 1) in
-    let done = went (subst (λ schema. Does s.step_limit (mode_of s) params (record s.now { schema = schema }) text_run None command (Ok (tally, after))) ready.shelf.schema h) in
+    let done = went (subst (λ schema. Does s.step_limit (mode_of s) params (record s.now { schema = schema }) text_run None command (Ok (tally, after))) shelf.schema h) in
     let now = ap (λ (p : Tally × Database). p.1) (same_value (went (went done.2).2).2) in
     let given = went done.1 in
     let counter = went given.2 in
@@ -91,13 +91,13 @@ puts_list s name text name_utf8 text_utf8 ready tally after h sound =
     let each = subst (λ rows. TriesEach (task placed_list (λ olds news. refl) s.step_limit params (new_row id name text) (cast_new id name text) refl) Replace [] rows (count_of counter.0) (nothing db) (Ok tries.0)) given.1.1 tries.1 in
     let one = went each in
     let try = subst (λ v. Tries (task placed_list (λ olds news. refl) s.step_limit params (new_row id name text) (cast_new id name text) refl) Replace [] (with_rowid Chosen (db 1) (v ∷ Text name ∷ Text text ∷ [])) db (Ok one.0)) cast_null one.1 in
-    let free = next_is_free Chosen (db 1) (Text name ∷ Text text ∷ []) ready.shelf.lists.rise ready.shelf.lists.keyed in
-    let put = tried placed_list (λ olds news. refl) s.step_limit params (new_row id name text) (cast_new id name text) refl (has_text 1 name) (conflict_is id name text) db one.0 ready.shelf.lists free try in
+    let free = next_is_free Chosen (db 1) (Text name ∷ Text text ∷ []) shelf.lists.rise shelf.lists.keyed in
+    let put = tried placed_list (λ olds news. refl) s.step_limit params (new_row id name text) (cast_new id name text) refl (has_text 1 name) (conflict_is id name text) db one.0 shelf.lists free try in
     let last : done.0.trees ≡ one.0.trees = ap (λ (it : Written). it.trees) (same_value counted.2) ∙ same_value counted.1 ∙ ap (λ (p : Written × ℤ). p.0.trees) (same_value one.2) in
     let trees : after.trees ≡ one.0.trees = ap (λ (d : Database). d.trees) now ∙ last in
-    let others : after.trees 3 ≡ db 3 = ap (λ (t : Trees). t 3) trees ∙ put.others.1.1.0 (λ e. omega (arith, e)) in
+    let others : after.trees 5 ≡ db 5 = ap (λ (t : Trees). t 5) trees ∙ put.others.1.1.1.0 (λ e. omega (arith, e)) in
     let lists : after.trees 1 ≡ one.0.trees 1 = ap (λ (t : Trees). t 1) trees in (
-      record { schema = ap (λ (d : Database). d.schema) now; sound = sound; lists = subst AreRows (sym lists) put.are; stickers = subst AreRows (sym others) ready.shelf.stickers },
+      record { schema = ap (λ (d : Database). d.schema) now; sound = sound; lists = subst AreRows (sym lists) put.are; notes = subst AreRows (sym others) shelf.notes },
       list_put name text (Int id) db after.trees put.fresh (lists ∙ put.rows) others,
       ap (λ (t : Trees). t 0) trees ∙ put.others.0 (λ e. omega (arith, e)),
       more_lists (Int id) (Text name) (Text text) (λ r. not (has_text 1 name r)) db after.trees (lists ∙ put.rows) others (λ _. text_there name name_utf8) (λ _. text_there text text_utf8),

@@ -9,7 +9,8 @@ use Rattle.sqlite.specs.Tree.{Trees}
 use Rattle.sqlite.specs.Term.{Term, Env, holds}
 use Rattle.sqlite_value.specs.declared.keys.Key.{Key}
 use Rattle.sqlite.specs.Query.{IsAnswer, output, output_cmp, Output}
-use Rattle.shelf_database.proofs.Statements.{over}
+use Rattle.shelf_database.proofs.Statements.{over, over_by}
+use Rattle.sqlite.specs.Collation.{Collation}
 
 module _ (params : Row) (tree : ℕ) (terms project : List Term) (order : List (Term × Key)) (test : Row → Bool)
     (tests : (row : Row) → list_all (holds (params ∷ row ∷ [])) terms ≡ test row) where
@@ -41,3 +42,9 @@ module _ (params : Row) (tree : ℕ) (terms project : List Term) (order : List (
       let staged : a.staged ≡ map env (filter test (db tree)) = a.grouped ∙ staged_are (db tree) in
       let kept : a.kept ≡ map shows (filter test (db tree)) = a.distinct ∙ ap (map (output (over tree terms project order))) staged ∙ shown_all (filter test (db tree)) in
       record { sorted = a.ordered; same = subst (λ k. IsPermutation k a.ordered) kept a.same; rises = a.sorted; shown = a.shown }
+
+-- the collations of the columns decide nothing where all rows are shown
+pub plain_answer : (collations : List Collation) (tree : ℕ) (terms project : List Term) (order : List (Term × Key)) (db : Trees) (params : Row) (rows : List Row) → IsAnswer (over_by collations tree terms project order) db params rows
+    → IsAnswer (over tree terms project order) db params rows
+plain_answer collations tree terms project order db params rows a =
+    record { staged = a.staged; grouped = a.grouped; kept = a.kept; distinct = a.distinct; ordered = a.ordered; same = a.same; sorted = a.sorted; shown = a.shown }

@@ -24,7 +24,7 @@ use Rattle.sqlite_rules.specs.Action.{End, Leads, Settles}
 use Rattle.sqlite_rules.specs.Lists.{Has}
 use Rattle.sqlite_rules.proofs.ListLemmas.{all_has}
 use Rattle.sqlite_rules.proofs.RuleLemmas.{refers_from}
-use Rattle.shelf_database.specs.Tables.{shelf_schema, IsReady}
+use Rattle.shelf_database.specs.Tables.{shelf_schema, IsShelf, IsReady}
 use Rattle.shelf_database.proofs.Statements.{over}
 
 -- a query of one table, whose types are allowed, is stopped by the limit alone
@@ -37,15 +37,19 @@ query_limited tree filter project order limit db params (Some e) typed h = elim 
   | inr (inr stopped) ↦ stopped.1
 ]
 
+pub unique_in : (db : Database) → IsShelf db → Keeps Unique shelf_schema db.trees
+unique_in db shelf = subst (λ schema. Keeps Unique schema db.trees) shelf.schema (shelf.sound.obeys.rules Unique)
+
 pub unique_now : (s : State) → IsReady s → Keeps Unique shelf_schema s.now.trees
-unique_now s ready = subst (λ schema. Keeps Unique schema s.now.trees) ready.shelf.schema (ready.shelf.sound.obeys.rules Unique)
+unique_now s ready = unique_in s.now ready.shelf
 
 -- each table has a tree of its own
 pub trees_apart : IsAscending (λ a b. a.tree ≡ b.tree → ⊥) shelf_schema.tables
-trees_apart = ((λ e. omega (arith, e), (λ e. omega (arith, e), tt)), ((λ e. omega (arith, e), tt), (tt, tt)))
+trees_apart =
+    ((λ e. omega (arith, e), (λ e. omega (arith, e), (λ e. omega (arith, e), tt))), ((λ e. omega (arith, e), (λ e. omega (arith, e), tt)), ((λ e. omega (arith, e), tt), (tt, tt))))
 
 pub no_reference : (table : Table) → Has shelf_schema.tables table → table.references ≡ []
-no_reference table listed = all_has (λ t. t.references ≡ []) shelf_schema.tables table (refl, (refl, (refl, tt))) listed
+no_reference table listed = all_has (λ t. t.references ≡ []) shelf_schema.tables table (refl, (refl, (refl, (refl, tt)))) listed
 
 -- what refers to a table, and what it refers to, is a key
 pub always_referred : (edit : Edit) → Has shelf_schema.tables edit.table → is_referred shelf_schema Enforced edit ≡ true

@@ -1,72 +1,92 @@
 -- What each deletion makes of the maps.
-use Rattle.std.proofs.Common.{◌≡◌, ℕ, List, [], ◌∷◌, filter, Bool, not, ◌&&◌, None, refl, sym, subst, arith}
+use Rattle.std.proofs.Common.{◌≡◌, ℕ, List, [], ◌∷◌, filter, Bool, not, None, Ok, refl, sym, subst, arith}
 use Rattle.sqlite.specs.declared.types.Value.TheVariants.{Text}
 use Rattle.sqlite.specs.Order.{Row}
 use Rattle.sqlite.specs.Tree.{Trees}
+use Rattle.sqlite.specs.Effect.{Database, IsDatabase}
+use Rattle.sqlite.specs.Does.{Tally, Does}
 use Rattle.sqlite.specs.Listing.{understood}
-use Rattle.sqlite.specs.State.{State}
+use Rattle.sqlite.specs.State.{State, mode_of}
 use Rattle.sqlite.proofs.Callers.{statement_of}
 use Rattle.sqlite_trees.proofs.TreeLemmas.{IsShaped-filter}
 use Rattle.sqlite_trees.specs.declared.store.Shape.TheVariants as shape
-use Rattle.shelf.specs.Maps.{with_list, with_sticker, with_stickers, no_stickers}
-use Rattle.shelf_database.specs.Tables.{shelf_schema, placed_list, placed_sticker, maps_in, has_text, AreRows, HaveTexts, HoldsTexts, IsReady}
-use Rattle.shelf_database.proofs.Statements.{equals, remove_text, delete_text, delete_all_text}
+use Rattle.shelf.specs.Maps.{Same, with_list, with_sticker, with_stickers, no_stickers}
+use Rattle.shelf.specs.declared.kinds.StickerKind.{StickerKind}
+use Rattle.shelf_database.specs.Tables.{shelf_schema, placed_list, placed_note, kind_text, note_maps, has_text, has_key, of_target, AreRows, HaveTexts, HoldsTexts, IsShelf}
+use Rattle.shelf_database.proofs.Statements.{equals, key_terms, target_terms, remove_text, delete_text, delete_all_text}
 use Rattle.shelf_database.proofs.DeleteLemmas.{deletion, deletes}
 use Rattle.shelf_database.proofs.HoldsLemmas.{filtered_texts}
-use Rattle.shelf_database.proofs.TextLemmas.{one_test, two_tests, list_removed, sticker_deleted, all_deleted}
+use Rattle.shelf_database.proofs.TextLemmas.{one_test, target_test, key_test, list_removed, note_deleted, all_deleted}
 use Rattle.shelf_database.proofs.WriteLemmas.{DoesSo}
 
 pub filtered_rows : (p : Row → Bool) (rows : List Row) → AreRows rows → AreRows (filter p rows)
 filtered_rows p rows are = let shaped = IsShaped-filter shape.Table p rows (are.rise, are.keyed) in record { rise = shaped.0; keyed = shaped.1 }
 
 -- the rows that are left of one table, and the other table as it was
-fewer_lists : (p : Row → Bool) (old now : Trees) → now 1 ≡ filter p (old 1) → now 3 ≡ old 3 → HoldsTexts old → HoldsTexts now
+fewer_lists : (p : Row → Bool) (old now : Trees) → now 1 ≡ filter p (old 1) → now 5 ≡ old 5 → HoldsTexts old → HoldsTexts now
 fewer_lists p old now left others texts = record {
   lists = subst (λ rows. HaveTexts (1 ∷ 2 ∷ []) rows) (sym left) (filtered_texts (1 ∷ 2 ∷ []) p (old 1) texts.lists);
-  stickers = subst (λ rows. HaveTexts (1 ∷ 2 ∷ 3 ∷ []) rows) (sym others) texts.stickers;
+  notes = subst (λ rows. HaveTexts (1 ∷ 2 ∷ 3 ∷ 4 ∷ []) rows) (sym others) texts.notes;
 }
 
-fewer_stickers : (p : Row → Bool) (old now : Trees) → now 3 ≡ filter p (old 3) → now 1 ≡ old 1 → HoldsTexts old → HoldsTexts now
-fewer_stickers p old now left others texts = record {
+fewer_notes : (p : Row → Bool) (old now : Trees) → now 5 ≡ filter p (old 5) → now 1 ≡ old 1 → HoldsTexts old → HoldsTexts now
+fewer_notes p old now left others texts = record {
   lists = subst (λ rows. HaveTexts (1 ∷ 2 ∷ []) rows) (sym others) texts.lists;
-  stickers = subst (λ rows. HaveTexts (1 ∷ 2 ∷ 3 ∷ []) rows) (sym left) (filtered_texts (1 ∷ 2 ∷ 3 ∷ []) p (old 3) texts.stickers);
+  notes = subst (λ rows. HaveTexts (1 ∷ 2 ∷ 3 ∷ 4 ∷ []) rows) (sym left) (filtered_texts (1 ∷ 2 ∷ 3 ∷ 4 ∷ []) p (old 5) texts.notes);
 }
 
-pub removes_list : (s : State) (name : List ℕ) → IsReady s
-    → DoesSo s remove_text (Text name ∷ []) (deletion (Text name ∷ []) 1 (equals 1 0 ∷ []) (has_text 1 name) (one_test 1 name) 1) (with_list (maps_in s.now.trees) name None)
-removes_list s name ready tally after h sound =
+pub removes_list : (s : State) (name : List ℕ) → IsShelf s.now
+    → DoesSo s remove_text (Text name ∷ []) (deletion (Text name ∷ []) 1 (equals 1 0 ∷ []) (has_text 1 name) (one_test 1 name) 1) (with_list (note_maps s.now.trees) name None)
+removes_list s name shelf tally after h sound =
     let run : List ℕ = statement_of remove_text (understood shelf_schema remove_text) in
-    let out = deletes (Text name ∷ []) 1 (equals 1 0 ∷ []) (has_text 1 name) (one_test 1 name) 1 placed_list refl refl (λ olds. refl) (λ db. refl) s s.step_limit s.now after run tally ready.shelf.schema ready.shelf.lists h in
-    let others : after.trees 3 ≡ s.now.trees 3 = out.others.1.1.0 (λ e. omega (arith, e)) in (
-      record { schema = out.schema; sound = sound; lists = subst AreRows (sym out.rows) (filtered_rows _ _ ready.shelf.lists); stickers = subst AreRows (sym others) ready.shelf.stickers },
+    let out = deletes (Text name ∷ []) 1 (equals 1 0 ∷ []) (has_text 1 name) (one_test 1 name) 1 placed_list refl refl (λ olds. refl) (λ db. refl) s s.step_limit s.now after run tally shelf.schema shelf.lists h in
+    let others : after.trees 5 ≡ s.now.trees 5 = out.others.1.1.1.0 (λ e. omega (arith, e)) in (
+      record { schema = out.schema; sound = sound; lists = subst AreRows (sym out.rows) (filtered_rows _ _ shelf.lists); notes = subst AreRows (sym others) shelf.notes },
       list_removed name s.now.trees after.trees out.rows others,
       out.others.0 (λ e. omega (arith, e)),
       fewer_lists (λ r. not (has_text 1 name r)) s.now.trees after.trees out.rows others,
     )
 
-module _ (s : State) (uri name : List ℕ) (ready : IsReady s) where
-  abbrev both : Row → Bool
-  both row = has_text 1 uri row && has_text 2 name row
+module _ (s : State) (kind : StickerKind) (target : List ℕ) (is : IsShelf s.now) where
+  abbrev params_of : Row
+  params_of = Text (kind_text kind) ∷ Text target ∷ []
 
-  pub deletes_sticker : DoesSo s delete_text (Text uri ∷ Text name ∷ []) (deletion (Text uri ∷ Text name ∷ []) 3 (equals 1 0 ∷ equals 2 1 ∷ []) both (two_tests uri name) 2) (with_sticker (maps_in s.now.trees) uri name None)
-  deletes_sticker tally after h sound =
+  pub deletes_note : (name : List ℕ)
+      → DoesSo s delete_text (Text (kind_text kind) ∷ Text target ∷ Text name ∷ []) (deletion (Text (kind_text kind) ∷ Text target ∷ Text name ∷ []) 5 key_terms (has_key kind target name) (key_test kind target name) 3) (with_sticker (note_maps s.now.trees) kind target name None)
+  deletes_note name tally after h sound =
       let run : List ℕ = statement_of delete_text (understood shelf_schema delete_text) in
-      let out = deletes (Text uri ∷ Text name ∷ []) 3 (equals 1 0 ∷ equals 2 1 ∷ []) both (two_tests uri name) 2 placed_sticker refl refl (λ olds. refl) (λ db. refl) s s.step_limit s.now after run tally ready.shelf.schema ready.shelf.stickers h in
+      let out = deletes (Text (kind_text kind) ∷ Text target ∷ Text name ∷ []) 5 key_terms (has_key kind target name) (key_test kind target name) 3 placed_note refl refl (λ olds. refl) (λ db. refl) s s.step_limit s.now after run tally is.schema is.notes h in
       let others : after.trees 1 ≡ s.now.trees 1 = out.others.1.0 (λ e. omega (arith, e)) in (
-        record { schema = out.schema; sound = sound; lists = subst AreRows (sym others) ready.shelf.lists; stickers = subst AreRows (sym out.rows) (filtered_rows _ _ ready.shelf.stickers) },
-        sticker_deleted uri name s.now.trees after.trees out.rows others,
+        record { schema = out.schema; sound = sound; lists = subst AreRows (sym others) is.lists; notes = subst AreRows (sym out.rows) (filtered_rows _ _ is.notes) },
+        note_deleted kind target name s.now.trees after.trees out.rows others,
         out.others.0 (λ e. omega (arith, e)),
-        fewer_stickers (λ r. not (both r)) s.now.trees after.trees out.rows others,
+        fewer_notes (λ r. not (has_key kind target name r)) s.now.trees after.trees out.rows others,
       )
 
-pub deletes_all : (s : State) (uri : List ℕ) → IsReady s
-    → DoesSo s delete_all_text (Text uri ∷ []) (deletion (Text uri ∷ []) 3 (equals 1 0 ∷ []) (has_text 1 uri) (one_test 1 uri) 2) (with_stickers (maps_in s.now.trees) uri no_stickers)
-deletes_all s uri ready tally after h sound =
-    let run : List ℕ = statement_of delete_all_text (understood shelf_schema delete_all_text) in
-    let out = deletes (Text uri ∷ []) 3 (equals 1 0 ∷ []) (has_text 1 uri) (one_test 1 uri) 2 placed_sticker refl refl (λ olds. refl) (λ db. refl) s s.step_limit s.now after run tally ready.shelf.schema ready.shelf.stickers h in
-    let others : after.trees 1 ≡ s.now.trees 1 = out.others.1.0 (λ e. omega (arith, e)) in (
-      record { schema = out.schema; sound = sound; lists = subst AreRows (sym others) ready.shelf.lists; stickers = subst AreRows (sym out.rows) (filtered_rows _ _ ready.shelf.stickers) },
-      all_deleted uri s.now.trees after.trees out.rows others,
-      out.others.0 (λ e. omega (arith, e)),
-      fewer_stickers (λ r. not (has_text 1 uri r)) s.now.trees after.trees out.rows others,
-    )
+  -- the rows of the target go, and the others stay
+  pub record ClearsTarget (after : Database) : Type 0 where
+    pub shelf : IsShelf after
+    pub rows : after.trees 5 ≡ filter (λ r. not (of_target kind target r)) (s.now.trees 5)
+    pub lists : after.trees 1 ≡ s.now.trees 1
+    pub profile : after.trees 0 ≡ s.now.trees 0
+    pub maps : Same (with_stickers (note_maps s.now.trees) kind target no_stickers) (note_maps after.trees)
+    pub texts : HoldsTexts s.now.trees → HoldsTexts after.trees
+
+  pub clears_target : (tally : Tally) (after : Database)
+      → Does s.step_limit (mode_of s) params_of s.now (statement_of delete_all_text (understood shelf_schema delete_all_text)) None (deletion params_of 5 target_terms (of_target kind target) (target_test kind target) 3) (Ok (tally, after))
+      → IsDatabase after → ClearsTarget after
+  clears_target tally after h sound =
+      let run : List ℕ = statement_of delete_all_text (understood shelf_schema delete_all_text) in
+      let out = deletes params_of 5 target_terms (of_target kind target) (target_test kind target) 3 placed_note refl refl (λ olds. refl) (λ db. refl) s s.step_limit s.now after run tally is.schema is.notes h in
+      let others : after.trees 1 ≡ s.now.trees 1 = out.others.1.0 (λ e. omega (arith, e)) in
+      record {
+        shelf = record { schema = out.schema; sound = sound; lists = subst AreRows (sym others) is.lists; notes = subst AreRows (sym out.rows) (filtered_rows _ _ is.notes) };
+        rows = out.rows;
+        lists = others;
+        profile = out.others.0 (λ e. omega (arith, e));
+        maps = all_deleted kind target s.now.trees after.trees out.rows others;
+        texts = fewer_notes (λ r. not (of_target kind target r)) s.now.trees after.trees out.rows others;
+      }
+
+  pub deletes_all : DoesSo s delete_all_text params_of (deletion params_of 5 target_terms (of_target kind target) (target_test kind target) 3) (with_stickers (note_maps s.now.trees) kind target no_stickers)
+  deletes_all tally after h sound = let out = clears_target tally after h sound in (out.shelf, out.maps, out.profile, out.texts)

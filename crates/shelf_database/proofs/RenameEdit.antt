@@ -34,11 +34,11 @@ use Rattle.sqlite_rules.proofs.ListLemmas.{all_has, some_has, has_filtered, has_
 use Rattle.sqlite_rules.proofs.PlaceLemmas.{tied_same}
 use Rattle.sqlite_rules.proofs.RuleLemmas.{unique_kept}
 use Rattle.sqlite_rules.proofs.TableLemmas.{put_has, without_all_has}
-use Rattle.shelf_database.specs.Tables.{shelf_schema, placed_list, has_text, IsShelf, IsReady}
+use Rattle.shelf_database.specs.Tables.{shelf_schema, placed_list, has_text, IsShelf}
 use Rattle.shelf_database.specs.Faults.{IsUnstorable}
 use Rattle.shelf_database.proofs.DeleteLemmas.{tie_of}
 use Rattle.shelf_database.proofs.EditBlame.{differs_never, stored, by_length}
-use Rattle.shelf_database.proofs.RefusalLemmas.{trees_apart, edit_stops, unique_now}
+use Rattle.shelf_database.proofs.RefusalLemmas.{trees_apart, edit_stops, unique_in}
 use Rattle.shelf_database.proofs.RenameLemmas.{renamed, left_by_name}
 use Rattle.shelf_database.proofs.TextLemmas.{equal_text}
 
@@ -63,7 +63,7 @@ uris_present db row is h =
     (and_parts _ _ (and_parts _ _ passed).1).0
 
 -- the number of a value is one, but where a REAL has another
-never_nan : (v : Value) → ((x : Float) → v ≡ Real x → ⊥) → NotNan (number v)
+pub never_nan : (v : Value) → ((x : Float) → v ≡ Real x → ⊥) → NotNan (number v)
 unfolding Ieee.is_nan
 never_nan Null h = tt
 never_nan (Int (pos n)) h = tt
@@ -72,7 +72,7 @@ never_nan (Real x) h = absurd (h x refl)
 never_nan (Text t) h = tt
 never_nan (Blob b) h = tt
 
-none_found : (p : Row → Bool) (rows : List Row) (r : Row) → find p rows ≡ None → Has rows r → p r ≡ true → ⊥
+pub none_found : (p : Row → Bool) (rows : List Row) (r : Row) → find p rows ≡ None → Has rows r → p r ≡ true → ⊥
 none_found p [] r none h is = h
 none_found p (x ∷ rows) r none h is = elim (cases_Bool (p x)) [
   | inl here ↦ let e = rw here at none in cc
@@ -87,7 +87,7 @@ none_found p (x ∷ rows) r none h is = elim (cases_Bool (p x)) [
 abbrev pub edit_for : Row → Row → Edit
 edit_for row put = record { table = placed_list; gone = id_in (rowid row) ∷ []; news = put ∷ [] }
 
-module _ (s : State) (name new : List ℕ) (ready : IsReady s) (row : Row) (found : find (has_text 1 name) (s.now.trees 1) ≡ Some row) (free : find (has_text 1 new) (s.now.trees 1) ≡ None) where
+module _ (s : State) (name new : List ℕ) (is : IsShelf s.now) (row : Row) (found : find (has_text 1 name) (s.now.trees 1) ≡ Some row) (free : find (has_text 1 new) (s.now.trees 1) ≡ None) where
   abbrev db : Trees
   db = s.now.trees
 
@@ -107,13 +107,13 @@ module _ (s : State) (name new : List ℕ) (ready : IsReady s) (row : Row) (foun
   here = has_found (has_text 1 name) (db 1) row found
 
   keyed : is_int (rowid row) ≡ true
-  keyed = all_has _ (db 1) row ready.shelf.lists.keyed here.0
+  keyed = all_has _ (db 1) row is.lists.keyed here.0
 
   left_free : is_taken left put ≡ false
   left_free = false_from_ne_true _ (λ taken.
       let x = some_has (λ r. is_eq (value_cmp (rowid r) (rowid row))) left taken in
-      let was = has_filtered (λ r. not (has_text 1 name r)) (db 1) x.0 (subst (λ rows. Has rows x.0) (left_by_name s name new row ready found) x.1) in
-      let same = tied_same (db 1) x.0 row ready.shelf.lists.rise was.0 here.0 (tie_of _ x.2) in
+      let was = has_filtered (λ r. not (has_text 1 name r)) (db 1) x.0 (subst (λ rows. Has rows x.0) (left_by_name s name new row is found) x.1) in
+      let same = tied_same (db 1) x.0 row is.lists.rise was.0 here.0 (tie_of _ x.2) in
       both_ways _ (not-true _ was.1) (ap (has_text 1 name) same ∙ here.1))
 
   fresh : are_fresh (left_by db edit) edit.news ≡ true
@@ -134,12 +134,12 @@ module _ (s : State) (name new : List ℕ) (ready : IsReady s) (row : Row) (foun
 
   unique : Keeps Unique shelf_schema next
   unique =
-      let turn = turns shelf_schema db next edit trees_apart (inr (inl refl)) ready.shelf.lists.rise fresh refl (λ e. refl, (λ e. absurd (e refl), (λ e. refl, tt))) in
-      unique_kept shelf_schema db next placed_list left (taken_by db edit) (put ∷ []) turn (rw one_name refl) (unique_now s ready)
+      let turn = turns shelf_schema db next edit trees_apart (inr (inl refl)) is.lists.rise fresh refl (λ e. refl, (λ e. absurd (e refl), (λ e. refl, (λ e. refl, tt)))) in
+      unique_kept shelf_schema db next placed_list left (taken_by db edit) (put ∷ []) turn (rw one_name refl) (unique_in s.now is)
 
   edit_refused : (why : Refusal) → IsRefused shelf_schema Enforced db edit why → reason
-  edit_refused (Violates Datatype) h = absurd (let typed = uris_typed s.now row ready.shelf here.0 in let e = rw typed at h in cc)
-  edit_refused (Violates NotNull) h = absurd (let there = uris_present s.now row ready.shelf here.0 in let e = rw there at h in cc)
+  edit_refused (Violates Datatype) h = absurd (let typed = uris_typed s.now row is here.0 in let e = rw typed at h in cc)
+  edit_refused (Violates NotNull) h = absurd (let there = uris_present s.now row is here.0 in let e = rw there at h in cc)
   edit_refused (Violates Check) h = absurd (true≢false h)
   edit_refused (Violates PrimaryKey) h = absurd (both_ways _ h fresh)
   edit_refused (Violates Unique) h = absurd (h unique)
@@ -153,14 +153,15 @@ module _ (s : State) (name new : List ℕ) (ready : IsReady s) (row : Row) (foun
   id_number = never_nan (rowid row) (λ x is. true≢false (sym (subst (λ v. is_int v ≡ true) is keyed)))
 
   uris_number : NotNan (number (column row 2))
-  uris_number = never_nan (column row 2) (λ x is. true≢false (sym (subst (λ v. has_affinity kind.Text v ≡ true) is (uris_typed s.now row ready.shelf here.0))))
+  uris_number = never_nan (column row 2) (λ x real. true≢false (sym (subst (λ v. has_affinity kind.Text v ≡ true) real (uris_typed s.now row is here.0))))
 
   never_big : sum_by (λ v. 18 + length (bytes v)) put ≤ 10 ^ 9 → IsOversized shelf_schema placed_list put → ⊥
   unfolding Ieee.is_nan
   never_big short (inl big) = big (stored put (id_number, (tt, (uris_number, tt))) (omega arith) (omega arith) short, omega arith)
   never_big short (inr (i, inl same, of, big)) = big (subst (λ (i : Index). IsStorable (index_reals (table_reals placed_list) i.columns) (entry_of i.columns put)) (sym same) (stored (entry_of (1 ∷ []) put) (tt, (id_number, tt)) (omega arith) (omega arith) (omega (arith, short))))
   never_big short (inr (i, inr (inl same), of, big)) = let e = rw same at of in omega (arith, e)
-  never_big short (inr (i, inr (inr none), of, big)) = none
+  never_big short (inr (i, inr (inr (inl same)), of, big)) = let e = rw same at of in omega (arith, e)
+  never_big short (inr (i, inr (inr (inr none)), of, big)) = none
 
   too_big : (r : Row) → Has (put ∷ []) r → IsOversized shelf_schema placed_list r → reason
   too_big r (inl same) big = inr (by_length put (λ short. never_big short (subst (IsOversized shelf_schema placed_list) same big)))

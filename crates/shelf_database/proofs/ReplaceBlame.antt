@@ -40,7 +40,7 @@ use Rattle.shelf_database.proofs.PutLemmas.{task, left_rows}
 use Rattle.shelf_database.proofs.EditBlame.{AreWelcome, stopped_long, taking_done, none_meets}
 
 -- a part that gives a value stops nothing
-given_on : {A : Type 0} (a : A) (stop : Option Error) → Gives a (Err stop) → ⊥
+pub given_on : {A : Type 0} (a : A) (stop : Option Error) → Gives a (Err stop) → ⊥
 given_on a stop e = cc
 
 -- a row that is left has none of the numbers that were taken out

@@ -1,5 +1,5 @@
 -- The statements that make the tables of a shelf are refused by no rule.
-use Rattle.std.proofs.Common.{◌≡◌, inl, inr, ℕ, zero, suc, ◌+◌, ◌*◌, ◌^◌, ◌<◌, List, [], ◌∷◌, length, codes, true, false, Ok, Err, Option, None, Some, refl, sym, ap, ap₂, subst, ◌∙◌, IsSome, IsUtf8, arith, length-append}
+use Rattle.std.proofs.Common.{◌≡◌, inl, inr, ℕ, ◌+◌, ◌*◌, ◌^◌, ◌<◌, List, [], ◌∷◌, length, codes, true, false, Ok, Err, Option, None, Some, refl, sym, ap, ap₂, subst, ◌∙◌, IsSome, IsUtf8, arith}
 use Rattle.std.specs.Float.{NotNan}
 use Rattle.std.specs.Float.Ieee
 use Rattle.std.proofs.lemmas.Bool.{true≢false}
@@ -9,7 +9,7 @@ use Rattle.sqlite.specs.declared.error.Error.{Error}
 use Rattle.sqlite.specs.declared.types.Value.TheVariants.{Text}
 use Rattle.sqlite.specs.Order.{Row, number, value_cmp}
 use Rattle.sqlite.specs.Ops.{binary}
-use Rattle.sqlite.specs.Tree.{Trees}
+use Rattle.sqlite.specs.Tree.{Trees, IsTable}
 use Rattle.sqlite.specs.View.{IsStorableRow}
 use Rattle.sqlite.specs.Table.{Table}
 use Rattle.sqlite.specs.Schema.{Schema}
@@ -17,9 +17,9 @@ use Rattle.sqlite.specs.Source.TheVariants.{Values}
 use Rattle.sqlite.specs.Command.TheVariants.{CreateTable, Insert}
 use Rattle.sqlite.specs.Compile.{table_defined_by}
 use Rattle.sqlite.specs.Cast.{cast_row}
-use Rattle.sqlite.specs.Edit.{Edit, edit_of, numbered, IsRefused}
+use Rattle.sqlite.specs.Edit.{Edit, edit_of, numbered, IsOversized}
 use Rattle.sqlite.specs.Rowids.TheVariants.{Chosen}
-use Rattle.sqlite.specs.Rows.{Task, Sourced, Inserts}
+use Rattle.sqlite.specs.Rows.{Task, Sourced, Inserts, Edited}
 use Rattle.sqlite.specs.Does.{Does, MakesTable, lacks_sequence}
 use Rattle.sqlite.specs.Effect.{Database}
 use Rattle.sqlite.specs.Listing.{understood}
@@ -27,28 +27,26 @@ use Rattle.sqlite.specs.State.{mode_of}
 use Rattle.sqlite.specs.Change.{created, next_tree, is_used, is_reserved, automatics}
 use Rattle.sqlite.proofs.Callers.{statement_of}
 use Rattle.sqlite_tied.specs.Compute.{everything}
-use Rattle.sqlite_rules.specs.declared.error.Refusal as rule
-use Rattle.sqlite_rules.specs.declared.error.Refusal.TheVariants as rule_why
 use Rattle.sqlite_rules.specs.Lists.{Has}
-use Rattle.sqlite_rules.specs.Action.{Writes, Leads}
-use Rattle.sqlite_rules.proofs.ListLemmas.{all_from}
-use Rattle.sqlite_schema.specs.declared.schema.Constraint.TheVariants.{Datatype, NotNull, Check, PrimaryKey, Unique, ForeignKey}
+use Rattle.sqlite_schema.specs.declared.schema.Constraint.TheVariants.{Unique}
 use Rattle.sqlite_schema.specs.declared.schema.Keys.TheVariants.{Enforced}
 use Rattle.sqlite_schema.specs.declared.schema.Index.{Index}
-use Rattle.sqlite_schema.specs.Rules.{table_reals, index_reals}
+use Rattle.sqlite_schema.specs.Rules.{table_reals, index_reals, Keeps}
 use Rattle.sqlite_schema.specs.Names as names
 use Rattle.sqlite_trees.specs.Sound as sound
 use Rattle.sqlite_catalog.specs.declared.error.Refusal.{Refusal}
 use Rattle.sqlite_catalog.specs.declared.error.Refusal.TheVariants.{Invalid, NameTaken, BadName, TooBig, BadKey, BadText, Violates}
 use Rattle.sqlite_catalog.specs.Listing.{is_fit, is_formed}
 use Rattle.sqlite_catalog.specs.Calls.{RefusesTable}
-use Rattle.shelf_database.specs.Tables.{no_schema, profile_table, list_table, sticker_table}
-use Rattle.shelf_database.specs.Opens.{profile_schema, list_schema, HasNothing, HasProfile, HasNumber, HasLists}
+use Rattle.shelf_database.specs.Tables.{no_schema, profile_table, list_table, sticker_table, note_table, former_schema, shelf_schema}
+use Rattle.shelf_database.specs.Opens.{profile_schema, list_schema, HasNothing, HasProfile, HasLists, HasFormer, HasNoNumber}
+use Rattle.shelf_database.proofs.EditBlame.{AreWelcome, stopped_long}
+use Rattle.shelf_database.proofs.RefusalLemmas.{concludes_done}
 use Rattle.shelf_database.proofs.DeleteLemmas.{same_value}
 use Rattle.shelf_database.proofs.MakingBlame.{IsSure}
 use Rattle.shelf_database.proofs.BlameLemmas.{IsWholeIn}
-use Rattle.shelf_database.proofs.Statements.{profile_is, list_is, sticker_is}
-use Rattle.shelf_database.proofs.TablesLemmas.{profile_text, number_text, list_text, sticker_text, profile_said, list_said, sticker_said, one_row, first_row, cast_first, placed_profile}
+use Rattle.shelf_database.proofs.Statements.{profile_is, list_is, sticker_is, note_is}
+use Rattle.shelf_database.proofs.TablesLemmas.{profile_text, number_text, list_text, sticker_text, note_text, note_said, profile_said, list_said, sticker_said, one_row, first_row, cast_first, placed_profile}
 
 pub profile_bare : IsWholeIn no_schema profile_text []
 unfolding understood everything
@@ -57,6 +55,10 @@ profile_bare = (refl, refl)
 pub list_bare : IsWholeIn profile_schema list_text []
 unfolding understood everything
 list_bare = (refl, refl)
+
+pub note_bare : IsWholeIn former_schema note_text []
+unfolding understood everything
+note_bare = (refl, refl)
 
 pub sticker_bare : IsWholeIn list_schema sticker_text []
 unfolding understood everything
@@ -132,6 +134,24 @@ sticker_suits = record {
   fit = refl;
 }
 
+note_suits : Suits former_schema note_table note_text
+unfolding sound.same_name sound.begins sound.is_free_name sound.fits_kind names.same_name value_cmp lib.Utf8.encode lib.Ieee.is_nan lib.Ieee.lt
+note_suits = record {
+  defined = note_is;
+  plain = refl;
+  readable = (note_text, (refl, refl));
+  short = omega arith;
+  free = refl;
+  unindexed = λ index h. elim h [ inl is ↦ rw is refl | inr none ↦ absurd none ];
+  named = (note_table.name, (refl, refl));
+  own = refl;
+  few = omega arith;
+  reals = refl;
+  keys = λ key h. elim h [ inl is ↦ rw is refl | inr none ↦ absurd none ];
+  formed = refl;
+  fit = refl;
+}
+
 module _ (schema : Schema) (table : Table) (text : List ℕ) (suits : Suits schema table text) where
   is_it : (other : Table) → table_defined_by text ≡ Ok other → other ≡ table
   is_it other h = same_value (sym h ∙ suits.defined)
@@ -183,11 +203,14 @@ module _ (schema : Schema) (table : Table) (text : List ℕ) (suits : Suits sche
 pub profile_sure : IsSure HasNothing (statement_of profile_text (understood no_schema profile_text)) CreateTable
 profile_sure = subst (λ text. IsSure HasNothing text CreateTable) (sym profile_said) (creates_sure no_schema profile_table profile_text profile_suits HasNothing (λ db has. has))
 
-pub lists_sure : IsSure HasNumber (statement_of list_text (understood profile_schema list_text)) CreateTable
-lists_sure = subst (λ text. IsSure HasNumber text CreateTable) (sym list_said) (creates_sure profile_schema list_table list_text list_suits HasNumber (λ db has. has.0))
+pub lists_sure : IsSure HasProfile (statement_of list_text (understood profile_schema list_text)) CreateTable
+lists_sure = subst (λ text. IsSure HasProfile text CreateTable) (sym list_said) (creates_sure profile_schema list_table list_text list_suits HasProfile (λ db has. has.0))
 
 pub stickers_sure : IsSure HasLists (statement_of sticker_text (understood list_schema sticker_text)) CreateTable
 stickers_sure = subst (λ text. IsSure HasLists text CreateTable) (sym sticker_said) (creates_sure list_schema sticker_table sticker_text sticker_suits HasLists (λ db has. has.0))
+
+pub notes_sure : IsSure HasFormer (statement_of note_text (understood former_schema note_text)) CreateTable
+notes_sure = subst (λ text. IsSure HasFormer text CreateTable) (sym note_said) (creates_sure former_schema note_table note_text note_suits HasFormer (λ db has. has))
 
 -- ---- the number of the profile
 
@@ -212,62 +235,54 @@ row_storable = (
   omega arith,
 )
 
-module _ (db : Trees) (empty : db 0 ≡ []) where
-  refused_none : (why : rule.Refusal) → IsRefused profile_schema Enforced db first_edit why → ⊥
-  unfolding binary value_cmp Ieee.is_nan Ieee.lt
-  refused_none (rule_why.Violates Datatype) h = true≢false h
-  refused_none (rule_why.Violates NotNull) h = true≢false h
-  refused_none (rule_why.Violates Check) h = true≢false h
-  refused_none (rule_why.Violates PrimaryKey) h = true≢false (rw empty at h)
-  refused_none (rule_why.Violates Unique) h = h (all_from _ _ (λ row has. refl), tt)
-  refused_none (rule_why.Violates ForeignKey) h = h
-  refused_none rule_why.Mismatch h = true≢false h
-  refused_none rule_why.NoRowid h = true≢false h
-  refused_none rule_why.BadReference h = true≢false h
-  refused_none rule_why.TooDeep h = h
+-- no rule is against the one row, and it is stored
+module _ (db : Trees) (empty : db 0 ≡ []) (unique : Keeps Unique shelf_schema db) where
+  no_rows : IsTable (db 0)
+  no_rows = subst IsTable (sym empty) tt
 
-  writes_none : (why : Option rule.Refusal) → Writes profile_schema Enforced db first_edit (Err why) → ⊥
-  writes_none why (inl refused) = refused_none refused.0 refused.1
-  writes_none why (inr (inl big)) = elim big.1 [
-    | inl is ↦ elim (rw is at big.2) [ inl never ↦ never row_storable | inr index ↦ index.1 ]
-    | inr none ↦ none
-  ]
-  writes_none why (inr (inr went)) = settled went.2.0 went.2.1
-    where
-      settled : (n : ℕ) → Leads profile_schema Enforced n went.0 [] (Err why) → ⊥
-      settled zero h = let e = h.1 in cc
-      settled (suc n) h = omega (arith, ap length h.2, length-append h.0 (h.1 ∷ []))
+  welcome : AreWelcome db first_edit
+  unfolding binary value_cmp Ieee.is_nan Ieee.lt
+  welcome = record { pass = record { typed = refl; present = refl; checked = refl }; keyed = refl; fit = refl; fresh = rw empty refl; unique = refl }
+
+  never_long : IsOversized shelf_schema placed_profile first_row → ⊥
+  never_long (inl never) = never row_storable
+  never_long (inr (i, inl is, of, big)) = let e = rw is at of in omega (arith, e)
+  never_long (inr (i, inr (inl is), of, big)) = let e = rw is at of in omega (arith, e)
+  never_long (inr (i, inr (inr (inl is)), of, big)) = let e = rw is at of in omega (arith, e)
+  never_long (inr (i, inr (inr (inr none)), of, big)) = none
+
+  edited_never : (stop : Option Error) → Edited shelf_schema Enforced db first_edit (Err stop) → ⊥
+  edited_never stop h =
+      let it = stopped_long db first_edit stop (inl refl) no_rows unique welcome h in
+      elim it.1 [ inl is ↦ never_long (subst (IsOversized shelf_schema placed_profile) is it.2) | inr none ↦ none ]
 
 abbrev task : Option ℕ → Task
-task limit = record { limit = limit; keys = Enforced; schema = profile_schema; table = placed_profile; params = [] }
+task limit = record { limit = limit; keys = Enforced; schema = shelf_schema; table = placed_profile; params = [] }
 
-source_limited : (limit : Option ℕ) (db : Trees) (stop : Option Error) → Sourced limit (record { schema = profile_schema; trees = db }) [] (Values one_row 3) (Err stop) → IsSome limit
+source_limited : (limit : Option ℕ) (db : Trees) (stop : Option Error) → Sourced limit (record { schema = shelf_schema; trees = db }) [] (Values one_row 3) (Err stop) → IsSome limit
 source_limited limit db None h = absurd h
 source_limited limit db (Some e) (inl mistyped) = absurd (true≢false mistyped.1)
 source_limited limit db (Some e) (inr limited) = limited.1
 
-inserts_limited : (limit : Option ℕ) (db : Trees) → db 0 ≡ [] → (stop : Option Error) → Inserts (task limit) (Values one_row 3) db (Err stop) → IsSome limit
-inserts_limited limit db empty stop (inl sourced) = source_limited limit db sourced.0 sourced.1
-inserts_limited limit db empty stop (inr h) = elim h.2 [
+inserts_limited : (limit : Option ℕ) (db : Trees) → db 0 ≡ [] → Keeps Unique shelf_schema db → (stop : Option Error) → Inserts (task limit) (Values one_row 3) db (Err stop) → IsSome limit
+inserts_limited limit db empty unique stop (inl sourced) = source_limited limit db sourced.0 sourced.1
+inserts_limited limit db empty unique stop (inr h) = elim h.2 [
   | inl counter ↦ absurd (let e = counter.1 in cc)
   | inr counted ↦ elim counted.2 [
-    | inl edited ↦ absurd (writes_none db empty edited.1.0 (subst (λ edit. Writes profile_schema Enforced db edit (Err edited.1.0)) (edit_is db h.0 h.1.1) edited.1.1))
+    | inl edited ↦ absurd (edited_never db empty unique edited.0 (subst (λ edit. Edited shelf_schema Enforced db edit (Err edited.0)) (edit_is db h.0 h.1.1) edited.1))
     | inr next ↦ elim next.2 [ inl counts ↦ absurd (let e = counts.1 in cc) | inr last ↦ absurd (let e = last.2 in cc) ]
   ]
 ]
 
-pub number_sure : IsSure HasProfile (statement_of number_text (understood profile_schema number_text)) (Insert 0 (Values one_row 3))
+pub number_sure : IsSure HasNoNumber (statement_of number_text (understood shelf_schema number_text)) (Insert 0 (Values one_row 3))
 number_sure s stop has h =
-    let text = statement_of number_text (understood profile_schema number_text) in
-    let here = subst (λ schema. Does s.step_limit (mode_of s) [] (record s.now { schema = schema }) text None (Insert 0 (Values one_row 3)) (Err stop)) has.0 h in
+    let text = statement_of number_text (understood shelf_schema number_text) in
+    let here = subst (λ schema. Does s.step_limit (mode_of s) [] (record s.now { schema = schema }) text None (Insert 0 (Values one_row 3)) (Err stop)) has.schema h in
     elim here [
-      | inl stopped ↦ inserts_limited s.step_limit s.now.trees has.1 stopped.0 stopped.1
-      | inr wrote ↦ elim wrote.2 [
-        | inl tested ↦ absurd (tested.1.0 (all_from _ _ (λ row in_it. refl), tt))
-        | inr on ↦ elim on.2 [ inl shows ↦ absurd (let e = shows.1 in cc) | inr last ↦ absurd (let e = last.2 in cc) ]
-      ]
+      | inl stopped ↦ inserts_limited s.step_limit s.now.trees has.profile (subst (λ schema. Keeps Unique schema s.now.trees) has.schema (has.sound.obeys.rules Unique)) stopped.0 stopped.1
+      | inr wrote ↦ absurd (concludes_done s.step_limit placed_profile [] (mode_of s) wrote.0 stop wrote.2)
     ]
 
-pub number_bare : IsWholeIn profile_schema number_text []
+pub number_bare : IsWholeIn shelf_schema number_text []
 unfolding understood everything
 number_bare = (refl, refl)

@@ -1,9 +1,10 @@
 -- Rows told apart by the texts of their columns, and the two maps after rows were put in or taken out.
-use Rattle.std.proofs.Common.{◌≡◌, inl, inr, ℕ, List, [], ◌∷◌, filter, Bool, true, false, not, ◌&&◌, Some, None, bytes_eq, refl, sym, ap, ◌∙◌}
+use Rattle.std.proofs.Common.{◌≡◌, inl, inr, ℕ, List, [], ◌∷◌, filter, Bool, true, false, not, ◌&&◌, Option, Some, None, bytes_eq, refl, sym, ap, ◌∙◌}
 use Rattle.std.specs.List.{list_all}
 use Rattle.std.specs.Ordering.{is_eq}
 use Rattle.std.proofs.Math.Bool.{and-true}
-use Rattle.std.proofs.lemmas.Bool.{cases_Bool, true≢false, and_parts, and_left, and_right, and_from, not_from_true, not_from_false}
+use Rattle.std.proofs.lemmas.Bool.{cases_Bool, true≢false, and_parts, not_from_true, not_from_false}
+use Rattle.std.proofs.lemmas.Cmp.{eq_by_cmp_equiv, nat_list_cmp_total}
 use Rattle.std.proofs.lemmas.Map.Text.{is_eq-slice_cmp}
 use Rattle.std.proofs.lemmas.Slice.Eq.{bytes_eq-Decides}
 use Rattle.sqlite.specs.declared.types.Value.{Value}
@@ -18,9 +19,11 @@ use Rattle.sqlite_value.proofs.KeyLemmas.{class_tied}
 use Rattle.sqlite_schema.specs.Rules.{equal}
 use Rattle.sqlite_rules.specs.Edit.{is_taken}
 use Rattle.shelf.specs.Lines.{lines_of}
-use Rattle.shelf.specs.Maps.{Same, with_list, with_sticker, with_stickers, no_stickers}
-use Rattle.shelf_database.specs.Tables.{has_text, maps_in}
-use Rattle.shelf_database.proofs.Statements.{equals}
+use Rattle.shelf.specs.declared.kinds.StickerKind.{StickerKind}
+use Rattle.shelf.specs.declared.kinds.StickerKind.TheVariants.{Song, Playlist}
+use Rattle.shelf.specs.Maps.{Maps, Same, same_kind, with_list, with_sticker, with_stickers, no_stickers}
+use Rattle.shelf_database.specs.Tables.{has_text, has_key, of_target, kind_text, note_maps}
+use Rattle.shelf_database.proofs.Statements.{equals, target_terms, key_terms}
 use Rattle.shelf_database.proofs.DeleteLemmas.{tie_of}
 use Rattle.shelf_database.proofs.FindLemmas.{find_past_put, find_put, find_kept, find_out}
 
@@ -61,56 +64,121 @@ apart_back a b apart = elim (cases_Bool (bytes_eq b a)) [
 pub one_test : (at : ℕ) (text : List ℕ) (row : Row) → list_all (holds ((Text text ∷ []) ∷ row ∷ [])) (equals at 0 ∷ []) ≡ has_text at text row
 one_test at text row = rw (equal_text (column row at) text) (and-true (has_text at text row))
 
-pub two_tests : (uri name : List ℕ) (row : Row) → list_all (holds ((Text uri ∷ Text name ∷ []) ∷ row ∷ [])) (equals 1 0 ∷ equals 2 1 ∷ []) ≡ (has_text 1 uri row && has_text 2 name row)
-two_tests uri name row = rw (equal_text (column row 1) uri, equal_text (column row 2) name) (ap (λ b. has_text 1 uri row && b) (and-true (has_text 2 name row)))
+-- two columns, and three
+pub two_tests : (x y : ℕ) (a b : List ℕ) (row : Row) → list_all (holds ((Text a ∷ Text b ∷ []) ∷ row ∷ [])) (equals x 0 ∷ equals y 1 ∷ []) ≡ (has_text x a row && has_text y b row)
+two_tests x y a b row = rw (equal_text (column row x) a, equal_text (column row y) b) (ap (λ other. has_text x a row && other) (and-true (has_text y b row)))
+
+pub target_test : (kind : StickerKind) (target : List ℕ) (row : Row) → list_all (holds ((Text (kind_text kind) ∷ Text target ∷ []) ∷ row ∷ [])) target_terms ≡ of_target kind target row
+target_test kind target row = two_tests 1 2 (kind_text kind) target row
+
+pub target_test_more : (kind : StickerKind) (target more : List ℕ) (row : Row) → list_all (holds ((Text (kind_text kind) ∷ Text target ∷ Text more ∷ []) ∷ row ∷ [])) target_terms ≡ of_target kind target row
+target_test_more kind target more row = rw (equal_text (column row 1) (kind_text kind), equal_text (column row 2) target) (ap (λ other. has_text 1 (kind_text kind) row && other) (and-true (has_text 2 target row)))
+
+pub key_test : (kind : StickerKind) (target name : List ℕ) (row : Row) → list_all (holds ((Text (kind_text kind) ∷ Text target ∷ Text name ∷ []) ∷ row ∷ [])) key_terms ≡ has_key kind target name row
+key_test kind target name row =
+    rw (equal_text (column row 1) (kind_text kind), equal_text (column row 2) target, equal_text (column row 3) name)
+    (ap (λ other. has_text 1 (kind_text kind) row && (has_text 2 target row && other)) (and-true (has_text 3 name row)))
+
+-- ---- kinds, targets and keys
+
+pub kinds_told : (a b : StickerKind) → bytes_eq (kind_text a) (kind_text b) ≡ same_kind b a
+kinds_told Song Song = refl
+kinds_told Song Playlist = refl
+kinds_told Playlist Song = refl
+kinds_told Playlist Playlist = refl
+
+pub same_kinds : (a b : StickerKind) → same_kind a b ≡ same_kind b a
+same_kinds Song Song = refl
+same_kinds Song Playlist = refl
+same_kinds Playlist Song = refl
+same_kinds Playlist Playlist = refl
+
+pub kind_is : (a b : StickerKind) → same_kind a b ≡ true → a ≡ b
+kind_is Song Song is = refl
+kind_is Song Playlist is = absurd (true≢false (sym is))
+kind_is Playlist Song is = absurd (true≢false (sym is))
+kind_is Playlist Playlist is = refl
+
+pub bytes_flip : (a b : List ℕ) → bytes_eq a b ≡ bytes_eq b a
+bytes_flip a b = sym (is_eq-slice_cmp a b) ∙ (eq_by_cmp_equiv nat_list_cmp_total).symm a b ∙ is_eq-slice_cmp b a
+
+-- a row of one key among those of a target, and among those of another key
+pub key_of_target : (k : StickerKind) (t n : List ℕ) (kind : StickerKind) (target : List ℕ) (row : Row) → has_key k t n row ≡ true → of_target kind target row ≡ (same_kind kind k && bytes_eq target t)
+key_of_target k t n kind target row h =
+    let first = and_parts _ _ h in
+    let second = and_parts _ _ first.1 in
+    rw (other_text 1 (kind_text k) (kind_text kind) row first.0, other_text 2 t target row second.0, kinds_told k kind, bytes_flip t target) refl
+
+pub key_of_key : (k : StickerKind) (t n : List ℕ) (kind : StickerKind) (target name : List ℕ) (row : Row) → has_key k t n row ≡ true
+    → has_key kind target name row ≡ (same_kind kind k && (bytes_eq target t && bytes_eq name n))
+key_of_key k t n kind target name row h =
+    let first = and_parts _ _ h in
+    let second = and_parts _ _ first.1 in
+    rw (other_text 1 (kind_text k) (kind_text kind) row first.0, other_text 2 t target row second.0, other_text 3 n name row second.1, kinds_told k kind, bytes_flip t target, bytes_flip n name) refl
+
+and_both : (a b c : Bool) → (a && b) ≡ true → c ≡ true → (a && (b && c)) ≡ true
+and_both true true true is also = refl
+and_both true true false is also = also
+and_both true false c is also = absurd (true≢false (sym is))
+and_both false b c is also = absurd (true≢false (sym is))
+
+pub and_neither : (a b c : Bool) → (a && b) ≡ false → (a && (b && c)) ≡ false
+and_neither true true c is = absurd (true≢false is)
+and_neither true false c is = refl
+and_neither false b c is = refl
+
+and_last : (a b c : Bool) → c ≡ false → (a && (b && c)) ≡ false
+and_last true true c is = is
+and_last true false c is = refl
+and_last false b c is = refl
 
 -- ---- the maps after a deletion
 
-pub list_removed : (name : List ℕ) (old new : Trees) → new 1 ≡ filter (λ r. not (has_text 1 name r)) (old 1) → new 3 ≡ old 3 → Same (with_list (maps_in old) name None) (maps_in new)
+pub list_removed : (name : List ℕ) (old new : Trees) → new 1 ≡ filter (λ r. not (has_text 1 name r)) (old 1) → new 5 ≡ old 5 → Same (with_list (note_maps old) name None) (note_maps new)
 list_removed name old new left same = record {
   lists = λ other. elim (cases_Bool (bytes_eq name other)) [
     | inl is ↦ rw (left, is) (rw (find_out (has_text 1 other) (λ r. not (has_text 1 name r)) (old 1) (λ r h. not_from_true _ (other_text 1 other name r h ∙ ap (λ n. bytes_eq other n) ((bytes_eq-Decides name other).0 is) ∙ (bytes_eq-Decides other other).1 refl))) refl)
     | inr apart ↦ rw (left, apart) (rw (find_kept (has_text 1 other) (λ r. not (has_text 1 name r)) (old 1) (λ r h is. not_from_false _ (other_text 1 other name r is ∙ apart_back name other apart))) refl)
   ];
-  stickers = λ uri n. rw same refl;
+  stickers = λ kind target n. rw same refl;
 }
-
-has_both : List ℕ → List ℕ → Row → Bool
-has_both uri name row = has_text 1 uri row && has_text 2 name row
 
 pub same_true : (a b : List ℕ) → bytes_eq a b ≡ true → bytes_eq b a ≡ true
 same_true a b is = (bytes_eq-Decides b a).1 (sym ((bytes_eq-Decides a b).0 is))
 
--- rows of one key among those of another
-both_others : (u n uri name : List ℕ) (row : Row) → (has_text 1 u row && has_text 2 n row) ≡ true → (has_text 1 uri row && has_text 2 name row) ≡ (bytes_eq u uri && bytes_eq n name)
-both_others u n uri name row h =
-    let parts = and_parts _ _ h in
-    rw (other_text 1 u uri row parts.0, other_text 2 n name row parts.1) refl
-
-pub all_deleted : (uri : List ℕ) (old new : Trees) → new 3 ≡ filter (λ r. not (has_text 1 uri r)) (old 3) → new 1 ≡ old 1 → Same (with_stickers (maps_in old) uri no_stickers) (maps_in new)
-all_deleted uri old new left same = record {
+pub all_deleted : (kind : StickerKind) (target : List ℕ) (old new : Trees) → new 5 ≡ filter (λ r. not (of_target kind target r)) (old 5) → new 1 ≡ old 1 → Same (with_stickers (note_maps old) kind target no_stickers) (note_maps new)
+all_deleted kind target old new left same = record {
   lists = λ name. rw same refl;
-  stickers = λ u n. elim (cases_Bool (bytes_eq uri u)) [
-    | inl is ↦ rw (left, is) (rw (find_out (λ r. has_text 1 u r && has_text 2 n r) (λ r. not (has_text 1 uri r)) (old 3) (λ r h. not_from_true _ (other_text 1 u uri r (and_parts _ _ h).0 ∙ same_true uri u is))) refl)
-    | inr apart ↦ rw (left, apart) (rw (find_kept (λ r. has_text 1 u r && has_text 2 n r) (λ r. not (has_text 1 uri r)) (old 3) (λ r h k. not_from_false _ (other_text 1 u uri r (and_parts _ _ k).0 ∙ apart_back uri u apart))) refl)
+  stickers = λ k t n. elim (cases_Bool (same_kind kind k && bytes_eq target t)) [
+    | inl is ↦ rw (left, is) (rw (find_out (has_key k t n) (λ r. not (of_target kind target r)) (old 5) (λ r h. not_from_true _ (key_of_target k t n kind target r h ∙ is))) refl)
+    | inr apart ↦ rw (left, apart) (rw (find_kept (has_key k t n) (λ r. not (of_target kind target r)) (old 5) (λ r h is. not_from_false _ (key_of_target k t n kind target r is ∙ apart))) refl)
   ];
 }
 
-module _ (uri name : List ℕ) (old new : Trees) (left : new 3 ≡ filter (λ r. not (has_text 1 uri r && has_text 2 name r)) (old 3)) (same : new 1 ≡ old 1) where
-  sticker_kept : (u n : List ℕ) → (bytes_eq u uri && bytes_eq n name) ≡ false → (maps_in new).stickers u n ≡ (maps_in old).stickers u n
-  sticker_kept u n apart = rw left (rw (find_kept (λ r. has_text 1 u r && has_text 2 n r) (λ r. not (has_text 1 uri r && has_text 2 name r)) (old 3) (λ r h k. not_from_false _ (both_others u n uri name r k ∙ apart))) refl)
+-- the stickers of a target at one name, or at another
+stickers_at : (m : Maps) (kind k : StickerKind) (target t name n : List ℕ) (value : Option (List ℕ)) → (same_kind kind k && bytes_eq target t) ≡ true → bytes_eq name n ≡ false
+    → (with_sticker m kind target name value).stickers k t n ≡ m.stickers k t n
+stickers_at m kind k target t name n value is apart =
+    let both = and_parts _ _ is in
+    let same_key : m.stickers kind target n ≡ m.stickers k t n =
+    ap (λ x. m.stickers x target n) (kind_is kind k both.0) ∙ ap (λ x. m.stickers k x n) ((bytes_eq-Decides target t).0 both.1) in
+    rw (is, apart) same_key
 
-  sticker_gone : (u n : List ℕ) → (bytes_eq u uri && bytes_eq n name) ≡ true → (maps_in new).stickers u n ≡ None
-  sticker_gone u n is = rw left (rw (find_out (λ r. has_text 1 u r && has_text 2 n r) (λ r. not (has_text 1 uri r && has_text 2 name r)) (old 3) (λ r k. not_from_true _ (both_others u n uri name r k ∙ is))) refl)
+module _ (kind : StickerKind) (target name : List ℕ) (old new : Trees) (left : new 5 ≡ filter (λ r. not (has_key kind target name r)) (old 5)) (same : new 1 ≡ old 1) where
+  note_kept : (k : StickerKind) (t n : List ℕ) → (same_kind kind k && (bytes_eq target t && bytes_eq name n)) ≡ false → (note_maps new).stickers k t n ≡ (note_maps old).stickers k t n
+  note_kept k t n apart = rw left (rw (find_kept (has_key k t n) (λ r. not (has_key kind target name r)) (old 5) (λ r h is. not_from_false _ (key_of_key k t n kind target name r is ∙ apart))) refl)
 
-  pub sticker_deleted : Same (with_sticker (maps_in old) uri name None) (maps_in new)
-  sticker_deleted = record {
+  note_gone : (k : StickerKind) (t n : List ℕ) → (same_kind kind k && (bytes_eq target t && bytes_eq name n)) ≡ true → (note_maps new).stickers k t n ≡ None
+  note_gone k t n is = rw left (rw (find_out (has_key k t n) (λ r. not (has_key kind target name r)) (old 5) (λ r h. not_from_true _ (key_of_key k t n kind target name r h ∙ is))) refl)
+
+  pub note_deleted : Same (with_sticker (note_maps old) kind target name None) (note_maps new)
+  note_deleted = record {
     lists = λ n. rw same refl;
-    stickers = λ u n. elim (cases_Bool (bytes_eq uri u)) [
-      | inr apart ↦ rw apart (sticker_kept u n (and_left _ _ (apart_back uri u apart)))
+    stickers = λ k t n. elim (cases_Bool (same_kind kind k && bytes_eq target t)) [
+      | inr apart ↦ rw apart (note_kept k t n (and_neither (same_kind kind k) (bytes_eq target t) (bytes_eq name n) apart))
       | inl is ↦ elim (cases_Bool (bytes_eq name n)) [
-        | inl also ↦ rw (is, also) (sticker_gone u n (and_from _ _ (same_true uri u is) (same_true name n also)))
-        | inr apart ↦ rw (is, apart) (sticker_kept u n (and_right _ _ (apart_back name n apart)) ∙ ap (λ x. (maps_in old).stickers x n) (sym ((bytes_eq-Decides uri u).0 is)))
+        | inl also ↦ rw (is, also) (note_gone k t n (and_both (same_kind kind k) (bytes_eq target t) (bytes_eq name n) is also))
+        | inr apart ↦ note_kept k t n (and_last (same_kind kind k) (bytes_eq target t) (bytes_eq name n) apart) ∙ sym (stickers_at (note_maps old) kind k target t name n None is apart)
       ]
     ];
   }
@@ -118,14 +186,14 @@ module _ (uri name : List ℕ) (old new : Trees) (left : new 3 ≡ filter (λ r.
 -- ---- the maps after a row was put in place of the one with its key
 
 module _ (name text : List ℕ) (id : Value) (old new : Trees) (fresh : is_taken (filter (λ r. not (has_text 1 name r)) (old 1)) (id ∷ Text name ∷ Text text ∷ []) ≡ false)
-    (put : new 1 ≡ put_row (id ∷ Text name ∷ Text text ∷ []) (filter (λ r. not (has_text 1 name r)) (old 1))) (same : new 3 ≡ old 3) where
+    (put : new 1 ≡ put_row (id ∷ Text name ∷ Text text ∷ []) (filter (λ r. not (has_text 1 name r)) (old 1))) (same : new 5 ≡ old 5) where
   abbrev row : Row
   row = id ∷ Text name ∷ Text text ∷ []
 
   abbrev left : List Row
   left = filter (λ r. not (has_text 1 name r)) (old 1)
 
-  pub list_put : Same (with_list (maps_in old) name (Some (lines_of text))) (maps_in new)
+  pub list_put : Same (with_list (note_maps old) name (Some (lines_of text))) (note_maps new)
   list_put = record {
     lists = λ other. elim (cases_Bool (bytes_eq name other)) [
       | inl is ↦
@@ -137,44 +205,41 @@ module _ (name text : List ℕ) (id : Value) (old new : Trees) (fresh : is_taken
           let kept = find_kept (has_text 1 other) (λ r. not (has_text 1 name r)) (old 1) (λ r h is. not_from_false _ (other_text 1 other name r is ∙ apart_back name other apart)) in
           rw (put, apart) (rw (past, kept) refl)
     ];
-    stickers = λ uri n. rw same refl;
+    stickers = λ kind target n. rw same refl;
   }
 
-module _ (uri name value : List ℕ) (id : Value) (old new : Trees)
-    (fresh : is_taken (filter (λ r. not (has_text 1 uri r && has_text 2 name r)) (old 3)) (id ∷ Text uri ∷ Text name ∷ Text value ∷ []) ≡ false)
-    (put : new 3 ≡ put_row (id ∷ Text uri ∷ Text name ∷ Text value ∷ []) (filter (λ r. not (has_text 1 uri r && has_text 2 name r)) (old 3))) (same : new 1 ≡ old 1) where
-  abbrev sticker_row : Row
-  sticker_row = id ∷ Text uri ∷ Text name ∷ Text value ∷ []
-
-  abbrev gone : Row → Bool
-  gone r = has_text 1 uri r && has_text 2 name r
+module _ (kind : StickerKind) (target name value : List ℕ) (id : Value) (old new : Trees)
+    (fresh : is_taken (filter (λ r. not (has_key kind target name r)) (old 5)) (id ∷ Text (kind_text kind) ∷ Text target ∷ Text name ∷ Text value ∷ []) ≡ false)
+    (put : new 5 ≡ put_row (id ∷ Text (kind_text kind) ∷ Text target ∷ Text name ∷ Text value ∷ []) (filter (λ r. not (has_key kind target name r)) (old 5))) (same : new 1 ≡ old 1) where
+  abbrev note_row : Row
+  note_row = id ∷ Text (kind_text kind) ∷ Text target ∷ Text name ∷ Text value ∷ []
 
   abbrev others_left : List Row
-  others_left = filter (λ r. not (gone r)) (old 3)
+  others_left = filter (λ r. not (has_key kind target name r)) (old 5)
 
-  row_is : (u n : List ℕ) → (has_text 1 u sticker_row && has_text 2 n sticker_row) ≡ (bytes_eq uri u && bytes_eq name n)
-  row_is u n = rw (same_bytes uri u, same_bytes name n) refl
+  row_is : (k : StickerKind) (t n : List ℕ) → has_key k t n note_row ≡ (same_kind kind k && (bytes_eq target t && bytes_eq name n))
+  row_is k t n = rw (same_bytes (kind_text kind) (kind_text k), same_bytes target t, same_bytes name n, kinds_told kind k, same_kinds k kind) refl
 
-  put_past : (u n : List ℕ) → (bytes_eq uri u && bytes_eq name n) ≡ false → (bytes_eq u uri && bytes_eq n name) ≡ false → (maps_in new).stickers u n ≡ (maps_in old).stickers u n
-  put_past u n apart back =
-      let past = find_past_put (λ r. has_text 1 u r && has_text 2 n r) sticker_row others_left (row_is u n ∙ apart) fresh in
-      let kept = find_kept (λ r. has_text 1 u r && has_text 2 n r) (λ r. not (gone r)) (old 3) (λ r h k. not_from_false _ (both_others u n uri name r k ∙ back)) in
+  put_past : (k : StickerKind) (t n : List ℕ) → (same_kind kind k && (bytes_eq target t && bytes_eq name n)) ≡ false → (note_maps new).stickers k t n ≡ (note_maps old).stickers k t n
+  put_past k t n apart =
+      let past = find_past_put (has_key k t n) note_row others_left (row_is k t n ∙ apart) fresh in
+      let kept = find_kept (has_key k t n) (λ r. not (has_key kind target name r)) (old 5) (λ r h is. not_from_false _ (key_of_key k t n kind target name r is ∙ apart)) in
       rw put (rw (past, kept) refl)
 
-  put_here : (u n : List ℕ) → bytes_eq uri u ≡ true → bytes_eq name n ≡ true → (maps_in new).stickers u n ≡ Some value
-  put_here u n is also =
-      let none = find_out (λ r. has_text 1 u r && has_text 2 n r) (λ r. not (gone r)) (old 3) (λ r k. not_from_true _ (both_others u n uri name r k ∙ and_from _ _ (same_true uri u is) (same_true name n also))) in
-      let found = find_put (λ r. has_text 1 u r && has_text 2 n r) sticker_row others_left (row_is u n ∙ and_from _ _ is also) none in
+  put_here : (k : StickerKind) (t n : List ℕ) → (same_kind kind k && (bytes_eq target t && bytes_eq name n)) ≡ true → (note_maps new).stickers k t n ≡ Some value
+  put_here k t n is =
+      let none = find_out (has_key k t n) (λ r. not (has_key kind target name r)) (old 5) (λ r h. not_from_true _ (key_of_key k t n kind target name r h ∙ is)) in
+      let found = find_put (has_key k t n) note_row others_left (row_is k t n ∙ is) none in
       rw put (rw found refl)
 
-  pub sticker_put : Same (with_sticker (maps_in old) uri name (Some value)) (maps_in new)
-  sticker_put = record {
+  pub note_put : Same (with_sticker (note_maps old) kind target name (Some value)) (note_maps new)
+  note_put = record {
     lists = λ n. rw same refl;
-    stickers = λ u n. elim (cases_Bool (bytes_eq uri u)) [
-      | inr apart ↦ rw apart (put_past u n (and_left _ _ apart) (and_left _ _ (apart_back uri u apart)))
+    stickers = λ k t n. elim (cases_Bool (same_kind kind k && bytes_eq target t)) [
+      | inr apart ↦ rw apart (put_past k t n (and_neither (same_kind kind k) (bytes_eq target t) (bytes_eq name n) apart))
       | inl is ↦ elim (cases_Bool (bytes_eq name n)) [
-        | inl also ↦ rw (is, also) (put_here u n is also)
-        | inr apart ↦ rw (is, apart) (put_past u n (and_right _ _ apart) (and_right _ _ (apart_back name n apart)) ∙ ap (λ x. (maps_in old).stickers x n) (sym ((bytes_eq-Decides uri u).0 is)))
+        | inl also ↦ rw (is, also) (put_here k t n (and_both (same_kind kind k) (bytes_eq target t) (bytes_eq name n) is also))
+        | inr apart ↦ put_past k t n (and_last (same_kind kind k) (bytes_eq target t) (bytes_eq name n) apart) ∙ sym (stickers_at (note_maps old) kind k target t name n (Some value) is apart)
       ]
     ];
   }

@@ -13,8 +13,8 @@ use Rattle.sqlite.specs.State.{State, HasCleanDisk, Survives, Executes, Executes
 use Rattle.sqlite.specs.Does.{Tally, Does}
 use Rattle.sqlite.proofs.Callers.{IsPlain, command_of, statement_of, runs_as}
 use Rattle.shelf.specs.Maps.{Maps, Same, Turns}
-use Rattle.shelf_database.specs.Tables.{shelf_schema, maps_in, number_of, profile_number, IsShelf, IsReady, HoldsTexts, database_standing}
-use Rattle.shelf_database.specs.Settled.{same_maps}
+use Rattle.shelf_database.specs.Tables.{shelf_schema, note_maps, number_of, profile_number, IsShelf, IsReady, HoldsTexts, database_standing}
+use Rattle.shelf_database.specs.Settled.{same_maps, noted}
 use Rattle.shelf_database.proofs.Statements.{Writing}
 
 -- nothing was changed: the call was refused, or what it began was rolled back
@@ -47,7 +47,7 @@ refused_is old new sql params e (inr h) = elim (cases_Bool (shows_rows false h.0
 -- rows that hold texts still do
 abbrev pub DoesSo : State → List ℕ → Row → Command → Maps → Type 0
 DoesSo s text params command after = (tally : Tally) (db : Database)
-    → Does s.step_limit (mode_of s) params s.now (statement_of text (understood shelf_schema text)) None command (Ok (tally, db)) → IsDatabase db → IsShelf db × Same after (maps_in db.trees) × (db.trees 0 ≡ s.now.trees 0)
+    → Does s.step_limit (mode_of s) params s.now (statement_of text (understood shelf_schema text)) None command (Ok (tally, db)) → IsDatabase db → IsShelf db × Same after (note_maps db.trees) × (db.trees 0 ≡ s.now.trees 0)
     × (HoldsTexts s.now.trees → HoldsTexts db.trees)
 
 -- a statement that changes rows
@@ -76,7 +76,7 @@ module _ (old new : State) (text : List ℕ) (params : Row) (command : Command) 
   wrote : (count : ℕ) → IsReady old → Executes text params old new (Ok count) → Writes old new None command (statement_of text (understood shelf_schema text)) params count
   wrote count ready h = is_write old new command (statement_of text (understood shelf_schema text)) params count change (runs_as text params old new shelf_schema ready.shelf.schema command writing.0 writing.1 count h)
 
-  ready_after : (count : ℕ) → IsReady old → Executes text params old new (Ok count) → IsReady new × IsTrue new.is_open × Same after (maps_in new.now.trees) × (new.now.trees 0 ≡ old.now.trees 0) × (HoldsTexts old.now.trees → HoldsTexts new.now.trees)
+  ready_after : (count : ℕ) → IsReady old → Executes text params old new (Ok count) → IsReady new × IsTrue new.is_open × Same after (note_maps new.now.trees) × (new.now.trees 0 ≡ old.now.trees 0) × (HoldsTexts old.now.trees → HoldsTexts new.now.trees)
   ready_after count ready h =
       let w = wrote count ready h in
       let done = does ready w.tally new.now w.changed w.sound in
@@ -90,7 +90,7 @@ module _ (old new : State) (text : List ℕ) (params : Row) (command : Command) 
       let mode : new.in_transaction ≡ false = elim before.mode [ inl same ↦ same ∙ ready.autocommit | inr ended ↦ ended ] in
       (record { shelf = subst IsShelf (sym now) ready.shelf; settled = now ∙ ready.settled ∙ sym (before.committed opened); autocommit = mode }, now)
 
-  left_after : (db : Trees) → IsReady old → CommitsBy text params old db → Same after (maps_in db)
+  left_after : (db : Trees) → IsReady old → CommitsBy text params old db → Same after (note_maps db) × (db 0 ≡ old.now.trees 0)
   unfolding CommitsBy
   left_after db ready h =
       let known = sym h.1.is ∙ ap (λ schema. understood schema text) ready.shelf.schema in
@@ -100,20 +100,20 @@ module _ (old new : State) (text : List ℕ) (params : Row) (command : Command) 
       let may = rw (bare.0, bare.1, append-nil params, command_is, text_is) at h.2 in
       let write = may_write old command (statement_of text (understood shelf_schema text)) params db change may in
       let done = does ready write.1 write.2 write.3 write.4 in
-      subst (λ trees. Same after (maps_in trees)) (sym write.5) done.1
+      (subst (λ trees. Same after (note_maps trees)) (sym write.5) done.1, ap (λ (t : Trees). t 0) write.5 ∙ done.2)
 
   -- done or refused
   ready_since : (r : Result ℕ Error) → IsReady old → Executes text params old new r → IsTrue new.is_open → IsReady new × (profile_number new.now.trees ≡ profile_number old.now.trees) × (HoldsTexts old.now.trees → HoldsTexts new.now.trees)
   ready_since (Ok count) ready h opened = let it = ready_after count ready h in (it.0, ap (number_of 2) it.3, it.4)
   ready_since (Err e) ready h opened = let it = ready_before e ready h opened in (it.0, ap (λ (d : Database). profile_number d.trees) it.1, subst (λ (d : Database). HoldsTexts d.trees) (sym it.1))
 
-  when_done : (r : Result ℕ Error) → IsTrue (is_ok r) → IsReady old → Executes text params old new r → IsTrue new.is_open × Same after (maps_in new.now.trees)
+  when_done : (r : Result ℕ Error) → IsTrue (is_ok r) → IsReady old → Executes text params old new r → IsTrue new.is_open × Same after (note_maps new.now.trees)
   when_done (Ok count) is ready h = let it = ready_after count ready h in (it.1, it.2)
   when_done (Err e) is ready h = absurd (cc)
 
-  when_refused : (r : Result ℕ Error) → is_ok r ≡ false → IsReady old → Executes text params old new r → IsTrue new.is_open → Same (maps_in old.now.trees) (maps_in new.now.trees)
+  when_refused : (r : Result ℕ Error) → is_ok r ≡ false → IsReady old → Executes text params old new r → IsTrue new.is_open → Same (note_maps old.now.trees) (note_maps new.now.trees)
   when_refused (Ok count) is ready h opened = absurd (cc)
-  when_refused (Err e) is ready h opened = same_maps _ _ (ap (λ (d : Database). maps_in d.trees) (sym (ready_before e ready h opened).1))
+  when_refused (Err e) is ready h opened = same_maps _ _ (ap (λ (d : Database). note_maps d.trees) (sym (ready_before e ready h opened).1))
 
   pub write_turns : (is_done : Bool) → (HasCleanDisk new → (r : Result ℕ Error) × (is_ok r ≡ is_done) × Executes text params old new r) → Survives old new (CommitsBy text params old)
       → Turns (database_standing old) (database_standing new) is_done after
@@ -126,6 +126,8 @@ module _ (old new : State) (text : List ℕ) (params : Row) (command : Command) 
     kept = λ trusted is opened. let h = ran trusted.0 in when_refused h.0 (h.1 ∙ is) trusted.1.ready h.2 opened;
     stop = λ trusted m left. elim (survives.crash trusted.0 left.0 left.1) [
       | inl before ↦ inl (left.0, before, left.2)
-      | inr commits ↦ inr (subst (Same after) (sym left.2) (left_after left.0 trusted.1.ready commits))
+      | inr commits ↦
+          let made = left_after left.0 trusted.1.ready commits in
+          inr (subst (Same after) (sym (left.2 ∙ noted left.0 (ap (number_of 2) made.1 ∙ trusted.1.number))) made.0)
     ];
   }

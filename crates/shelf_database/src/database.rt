@@ -3,16 +3,18 @@
 ghost use Rattle.std.specs.Prelude.{◌≡◌, ◌⊎◌, OnOk, IfOk, IfErr, true, false};
 ghost use Rattle.sqlite.specs.Held.{state};
 ghost use Rattle.shelf.specs.declared.faults.ShelfFault.{ShelfFault};
-ghost use Rattle.shelf_database.specs.Tables.{database_standing, MayHoldShelf, Reads};
+ghost use Rattle.shelf_database.specs.Tables.{database_standing, MayHoldShelf};
 ghost use Rattle.shelf_database.specs.Opens.{Opens, IsBlamed};
 ghost use Rattle.shelf_database.specs.Settled.{leaves_what_it_shows};
 ghost use Rattle.shelf_database.specs.Faults.{StoreFailed};
-ghost use Rattle.shelf_database.specs.Finds.{FailsToName, FindsList, FindsSticker, FindsStickers, MissesStickers, RefusesAsFailed};
 
 use crate::asks::{ask, change, first_text};
+use crate::lists::has_list;
+use crate::moves::{remove_list, rename_list};
+use crate::notes::{delete_note, delete_notes, has_target, kind_text, note, notes_of, set_note};
 use crate::profile::make_ready;
 use crate::rows::{entries_of, texts_of};
-use shelf::{Entry, Shelf, ShelfFault, UriList, is_list_name, is_sticker_name};
+use shelf::{Entry, Shelf, ShelfFault, StickerKind, UriList, is_list_name};
 use sqlite::{Alter, Connection, Error, ErrorCode, params};
 use std::alloc::Global;
 
@@ -45,10 +47,13 @@ pub(crate) fn fault(error: Error) -> ShelfFault
 
 impl<S: Alter + Drop> SqlShelf<S> {
     /// A shelf over the database of a connection outside a transaction. A database without tables gets those
-    /// of the profile. One with some is taken where it has those of the profile, with the number 1; it may
-    /// have more, in any order. Its lists and stickers are not read: where others wrote one that is no text,
-    /// a call that asks for it answers `StoreFault`. The connection comes back with `StoreFault` where it
-    /// lacks one of them, where making them or reading the number is refused, or where it is another number.
+    /// of profile 2, in one transaction. One with the tables of profile 1 and the number 1 is moved to
+    /// profile 2, in one transaction too: each sticker becomes one of a song, and the table sticker is left
+    /// empty. One that has those of profile 2 is taken where its number is 2; it may have more, in any order.
+    /// Its lists and stickers are not read: where others wrote one that is no text, a call that asks for it
+    /// answers `StoreFault`. The connection comes back with `StoreFault` where it lacks one of them, where
+    /// making or moving them or reading the number is refused, or where it is another number. While it is
+    /// open its database is then as it was.
     pub fn over(
         alloc: Global,
         mut connection: Connection<S>,
@@ -56,7 +61,7 @@ impl<S: Alter + Drop> SqlShelf<S> {
         ensures opened { IfOk result (λ shelf. Opens (state S.Store connection) (state S.Store shelf.connection) true) }
         ensures refused { IfErr result (λ left. Opens (state S.Store connection) (state S.Store left.1) false) }
         ensures named { IfErr result (λ left. (left.0 ≡ ShelfFault.NoMemory) ⊎ (left.0 ≡ ShelfFault.StoreFault)) }
-        ensures blamed { IfErr result (λ left. IsBlamed (state S.Store connection) (state S.Store left.1) left.0) }
+        ensures blamed { IfErr result (λ left. IsBlamed S.Store connection left.1 left.0) }
         ensures outside { OnOk result ((state S.Store connection).in_transaction ≡ false) }
         ensures taken { OnOk result (MayHoldShelf (state S.Store connection)) }
     {
@@ -76,46 +81,6 @@ impl<S: Alter + Drop> SqlShelf<S> {
         } = self;
         connection
     }
-}
-
-/// Whether a list has the name. A query that fails leaves the maps, whatever the call was to do.
-fn has_list<S: Alter>(connection: &mut Connection<S>, name: &str) -> Result<bool, ShelfFault>
-    ensures reads { OnOk result (Reads (state S.Store connection.old) (state S.Store connection.new)) }
-    ensures found { FindsList (state S.Store connection.old) (state S.Store connection.new) name.now result }
-    ensures refused { IfErr result (RefusesAsFailed (state S.Store connection.old) (state S.Store connection.new)) }
-{
-    let find = "SELECT name FROM list WHERE name = ?1";
-    let rows = ask(connection, find, params![name])?;
-    Ok(rows.first().is_some())
-}
-
-/// Whether the URI has a sticker of the name. A query that fails leaves the maps, whatever the call was to
-/// do.
-fn has_sticker<S: Alter>(
-    connection: &mut Connection<S>,
-    uri: &str,
-    name: &str,
-) -> Result<bool, ShelfFault>
-    ensures reads { OnOk result (Reads (state S.Store connection.old) (state S.Store connection.new)) }
-    ensures found { FindsSticker (state S.Store connection.old) (state S.Store connection.new) uri.now name.now result }
-    ensures refused { IfErr result (RefusesAsFailed (state S.Store connection.old) (state S.Store connection.new)) }
-{
-    let find = "SELECT value FROM sticker WHERE uri = ?1 AND name = ?2";
-    let rows = ask(connection, find, params![uri, name])?;
-    Ok(rows.first().is_some())
-}
-
-/// Whether the URI has a sticker. A query that fails, or a name that is no text, leaves the maps, whatever
-/// the call was to do.
-fn has_stickers<S: Alter>(connection: &mut Connection<S>, uri: &str) -> Result<bool, ShelfFault>
-    ensures reads { OnOk result (Reads (state S.Store connection.old) (state S.Store connection.new)) }
-    ensures found { FindsStickers (state S.Store connection.old) (state S.Store connection.new) uri.now result }
-    ensures missing { MissesStickers (state S.Store connection.old) (state S.Store connection.new) uri.now result }
-    ensures refused { IfErr result (FailsToName (state S.Store connection.old) (state S.Store connection.new) uri.now) }
-{
-    let find = "SELECT name FROM sticker WHERE uri = ?1 ORDER BY name";
-    let name = first_text(connection, find, params![uri])?;
-    Ok(name.is_some())
 }
 
 impl<S: Alter + Drop> Shelf for SqlShelf<S> {
@@ -167,59 +132,71 @@ impl<S: Alter + Drop> Shelf for SqlShelf<S> {
         if !is_list_name(new_name) {
             return Err(ShelfFault::BadName);
         }
-        let rename = "UPDATE list SET name = ?2 WHERE name = ?1";
-        change(&mut self.connection, rename, params![name, new_name])
+        rename_list(&mut self.connection, name, new_name)
     }
 
     fn remove(&mut self, name: &str) -> Result<(), ShelfFault> {
         if !has_list(&mut self.connection, name)? {
             return Err(ShelfFault::NoSuchList);
         }
-        let remove = "DELETE FROM list WHERE name = ?1";
-        change(&mut self.connection, remove, params![name])
+        remove_list(&mut self.connection, name)
     }
 
-    fn sticker(&mut self, uri: &str, name: &str) -> Result<String, ShelfFault> {
-        let find = "SELECT value FROM sticker WHERE uri = ?1 AND name = ?2";
-        match first_text(&mut self.connection, find, params![uri, name])? {
-            Some(value) => Ok(value),
-            None => Err(ShelfFault::NoSticker),
+    fn sticker(
+        &mut self,
+        kind: StickerKind,
+        target: &str,
+        name: &str,
+    ) -> Result<String, ShelfFault> {
+        if !has_target(&mut self.connection, kind, target)? {
+            return Err(ShelfFault::NoSuchList);
         }
+        note(&mut self.connection, kind, target, name)
     }
 
-    fn set_sticker(&mut self, uri: &str, name: &str, value: &str) -> Result<(), ShelfFault> {
-        if !is_sticker_name(name) {
-            return Err(ShelfFault::BadName);
+    fn set_sticker(
+        &mut self,
+        kind: StickerKind,
+        target: &str,
+        name: &str,
+        value: &str,
+    ) -> Result<(), ShelfFault> {
+        if !has_target(&mut self.connection, kind, target)? {
+            return Err(ShelfFault::NoSuchList);
         }
-        let set = "INSERT OR REPLACE INTO sticker (uri, name, value) VALUES (?1, ?2, ?3)";
-        change(&mut self.connection, set, params![uri, name, value])
+        set_note(&mut self.connection, kind, target, name, value)
     }
 
-    fn delete_sticker(&mut self, uri: &str, name: &str) -> Result<(), ShelfFault> {
-        if !has_sticker(&mut self.connection, uri, name)? {
-            return Err(ShelfFault::NoSticker);
+    fn delete_sticker(
+        &mut self,
+        kind: StickerKind,
+        target: &str,
+        name: &str,
+    ) -> Result<(), ShelfFault> {
+        if !has_target(&mut self.connection, kind, target)? {
+            return Err(ShelfFault::NoSuchList);
         }
-        let delete = "DELETE FROM sticker WHERE uri = ?1 AND name = ?2";
-        change(&mut self.connection, delete, params![uri, name])
+        delete_note(&mut self.connection, kind, target, name)
     }
 
-    fn delete_stickers(&mut self, uri: &str) -> Result<(), ShelfFault> {
-        if !has_stickers(&mut self.connection, uri)? {
-            return Err(ShelfFault::NoSticker);
+    fn delete_stickers(&mut self, kind: StickerKind, target: &str) -> Result<(), ShelfFault> {
+        if !has_target(&mut self.connection, kind, target)? {
+            return Err(ShelfFault::NoSuchList);
         }
-        let delete = "DELETE FROM sticker WHERE uri = ?1";
-        change(&mut self.connection, delete, params![uri])
+        delete_notes(&mut self.connection, kind, target)
     }
 
-    fn stickers_of(&mut self, uri: &str) -> Result<Vec<Entry>, ShelfFault> {
-        let find = "SELECT name, value FROM sticker WHERE uri = ?1 ORDER BY name";
-        let rows = ask(&mut self.connection, find, params![uri])?;
-        entries_of(self.alloc, &rows)
+    fn stickers_of(&mut self, kind: StickerKind, target: &str) -> Result<Vec<Entry>, ShelfFault> {
+        if !has_target(&mut self.connection, kind, target)? {
+            return Err(ShelfFault::NoSuchList);
+        }
+        notes_of(self.alloc, &mut self.connection, kind, target)
     }
 
-    fn find_stickers(&mut self, name: &str) -> Result<Vec<Entry>, ShelfFault> {
-        let find = "SELECT uri, value FROM sticker WHERE name = ?1 ORDER BY uri";
-        let rows = ask(&mut self.connection, find, params![name])?;
+    fn find_stickers(&mut self, kind: StickerKind, name: &str) -> Result<Vec<Entry>, ShelfFault> {
+        let find = "SELECT target, value FROM note WHERE kind = ?1 AND name = ?2 ORDER BY target";
+        let word = kind_text(kind);
+        let rows = ask(&mut self.connection, find, params![word, name])?;
         entries_of(self.alloc, &rows)
     }
 }

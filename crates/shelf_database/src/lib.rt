@@ -3,6 +3,9 @@
 
 mod asks;
 mod database;
+mod lists;
+mod moves;
+mod notes;
 mod profile;
 mod rows;
 mod tables;

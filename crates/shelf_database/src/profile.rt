@@ -1,14 +1,15 @@
-//! The tables of a shelf in a database: read where they are, made where there are none.
+//! The tables of a shelf in a database: read where they are, made where there are none, and moved where they
+//! are those of profile 1.
 
-ghost use Rattle.std.specs.Prelude.{◌≡◌, ◌⊎◌, ◌↔◌, [], pos, Some, IsTrue, IfErr, OnOk, OnErr, is_ok, false};
+ghost use Rattle.std.specs.Prelude.{◌≡◌, ◌⊎◌, ◌↔◌, [], ◌∷◌, pos, Some, IsTrue, IfErr, OnOk, OnErr, is_ok, false};
 ghost use Rattle.sqlite.specs.Held.{state};
 ghost use Rattle.shelf.specs.declared.faults.ShelfFault.{ShelfFault};
 ghost use Rattle.shelf_database.specs.Asks.{TellsRows};
 ghost use Rattle.shelf_database.specs.Tables.{no_schema, number_of, has_tables, MayHoldShelf, Reads};
-ghost use Rattle.shelf_database.specs.Opens.{BlamesNumber, BlamesTables, HasLists, HasNothing, HasNumber, HasProfile, HasTables, IsBlamed, IsStoppedOn, IsUnmade, IsUnread, LeadsFrom, Opens, OpensEmpty, OpensFilled, TellsNumber, number_query};
+ghost use Rattle.shelf_database.specs.Opens.{BlamesMove, BlamesNumber, BlamesQuery, BlamesTables, Clears, CopiesStickers, HasBoth, HasFormer, HasLists, HasMoved, HasNoNotes, HasNoNumber, HasNothing, HasProfile, HasRows, HasStickers, HasTables, IsBlamed, IsFormerShelf, IsStoppedOn, IsStuck, IsStuckOn, IsUnasked, IsUnmade, IsUnmoved, IsUnread, LeadsBy, LeadsFrom, MakesNotes, Moves, NotesNumber, Opens, OpensEmpty, OpensFilled, OpensFormer, OpensNoted, ReadsFormer, Renumbers, RunInside, StopsMove, TellsNumber, clear_query, copy_query, forget_query, insert_query, move_texts, note_query, number_query, renumber_texts};
 
 use crate::database::fault;
-use crate::tables::are_tables;
+use crate::tables::{are_tables, has_notes};
 use shelf::ShelfFault;
 use sqlite::{Alter, Connection, Error, ErrorCode, Row, Transaction};
 
@@ -16,7 +17,7 @@ use sqlite::{Alter, Connection, Error, ErrorCode, Row, Transaction};
 pub(crate) fn make_ready<S: Alter>(connection: &mut Connection<S>) -> Result<(), ShelfFault>
     ensures opens { Opens (state S.Store connection.old) (state S.Store connection.new) (is_ok result) }
     ensures named { IfErr result (λ fault. (fault ≡ ShelfFault.NoMemory) ⊎ (fault ≡ ShelfFault.StoreFault)) }
-    ensures blamed { IfErr result (IsBlamed (state S.Store connection.old) (state S.Store connection.new)) }
+    ensures blamed { IfErr result (IsBlamed S.Store connection.old connection.new) }
     ensures outside { OnOk result ((state S.Store connection.old).in_transaction ≡ false) }
     ensures taken { OnOk result (MayHoldShelf (state S.Store connection.old)) }
 {
@@ -40,40 +41,45 @@ fn is_blank<S: Alter>(connection: &Connection<S>) -> bool
     schema.tables.is_empty() && schema.indexes.is_empty() && schema.views.is_empty()
 }
 
-/// Looks for the tables, and reads the number of the profile.
+/// Looks for the tables, and reads the number of the profile; tables of profile 1 are moved.
 fn read_profile<S: Alter>(connection: &mut Connection<S>) -> Result<(), ShelfFault>
     ensures opens { OpensFilled (state S.Store connection.old) (state S.Store connection.new) (is_ok result) }
     ensures named { IfErr result (λ fault. (fault ≡ ShelfFault.NoMemory) ⊎ (fault ≡ ShelfFault.StoreFault)) }
     ensures blamed { IfErr result (IsUnread (state S.Store connection.old) (state S.Store connection.new)) }
-    ensures other { BlamesTables (state S.Store connection.old) (state S.Store connection.new) result }
+    ensures unmoved { IfErr result (IsUnmoved (state S.Store connection.old) (state S.Store connection.new)) }
+    ensures other { BlamesTables S.Store connection.old connection.new result }
     ensures taken { OnOk result (IsTrue (has_tables (state S.Store connection.old).now.schema)) }
 {
     if !are_tables(connection.schema()) {
         return Err(ShelfFault::StoreFault);
     }
-    read_number(connection)
+    if has_notes(connection.schema()) {
+        return read_number(connection);
+    }
+    move_profile(connection)
 }
 
-/// Reads the number of the profile, which has to be 1.
+/// Reads the number of the profile, which has to be 2.
 fn read_number<S: Alter>(connection: &mut Connection<S>) -> Result<(), ShelfFault>
-    ensures opens { OpensFilled (state S.Store connection.old) (state S.Store connection.new) (is_ok result) }
+    ensures opens { OpensNoted (state S.Store connection.old) (state S.Store connection.new) (is_ok result) }
     ensures named { IfErr result (λ fault. (fault ≡ ShelfFault.NoMemory) ⊎ (fault ≡ ShelfFault.StoreFault)) }
     ensures blamed { IfErr result (IsUnread (state S.Store connection.old) (state S.Store connection.new)) }
-    ensures other { BlamesNumber (state S.Store connection.old) (state S.Store connection.new) result }
+    ensures other { BlamesNumber (state S.Store connection.old) (state S.Store connection.new) (pos 2) result }
 {
     let rows = numbers(connection)?;
-    is_one(&rows)
+    is_number(&rows, 2)
 }
 
 /// What the rows of the profile show.
 fn numbers<S: Alter>(connection: &mut Connection<S>) -> Result<Vec<Row>, ShelfFault>
     ensures reads { OnOk result (Reads (state S.Store connection.old) (state S.Store connection.new)) }
+    ensures spares { OnOk result (ReadsFormer (state S.Store connection.old) (state S.Store connection.new)) }
     ensures shown { TellsNumber (state S.Store connection.old) (state S.Store connection.new) result }
     ensures failed { OnErr result (OpensFilled (state S.Store connection.old) (state S.Store connection.new) false) }
     ensures named { IfErr result (λ fault. (fault ≡ ShelfFault.NoMemory) ⊎ (fault ≡ ShelfFault.StoreFault)) }
-    ensures blamed { IfErr result (IsUnread (state S.Store connection.old) (state S.Store connection.new)) }
+    ensures blamed { IfErr result (IsUnasked (state S.Store connection.old) (state S.Store connection.new)) }
     ensures told { TellsRows S.Store connection.old connection.new number_query [] result }
-    ensures other { BlamesNumber (state S.Store connection.old) (state S.Store connection.new) result }
+    ensures other { BlamesQuery (state S.Store connection.old) (state S.Store connection.new) result }
 {
     match connection.query_all("SELECT number FROM profile", &[]) {
         Ok(rows) => Ok(rows),
@@ -81,10 +87,10 @@ fn numbers<S: Alter>(connection: &mut Connection<S>) -> Result<Vec<Row>, ShelfFa
     }
 }
 
-/// Whether the one row shows the number 1.
-fn is_one(rows: &[Row]) -> Result<(), ShelfFault>
-    ensures refused { number_of 0 rows.now ≡ Some (pos 1) → IfErr result (λ fault. fault ≡ ShelfFault.NoMemory) }
-    ensures accepted { OnOk result (number_of 0 rows.now ≡ Some (pos 1)) }
+/// Whether the one row shows the number.
+fn is_number(rows: &[Row], number: i64) -> Result<(), ShelfFault>
+    ensures refused { number_of 0 rows.now ≡ Some number → IfErr result (λ fault. fault ≡ ShelfFault.NoMemory) }
+    ensures accepted { OnOk result (number_of 0 rows.now ≡ Some number) }
     ensures named { IfErr result (λ fault. (fault ≡ ShelfFault.NoMemory) ⊎ (fault ≡ ShelfFault.StoreFault)) }
 {
     if rows.len() != 1 {
@@ -94,10 +100,20 @@ fn is_one(rows: &[Row]) -> Result<(), ShelfFault>
         return Err(ShelfFault::StoreFault);
     };
     match row.get::<i64>(0) {
-        Ok(1) => Ok(()),
-        Ok(_) => Err(ShelfFault::StoreFault),
+        Ok(found) => same_number(found, number),
         Err(error) => Err(fault(error)),
     }
+}
+
+fn same_number(found: i64, number: i64) -> Result<(), ShelfFault>
+    ensures refused { found ≡ number → IfErr result (λ fault. fault ≡ ShelfFault.NoMemory) }
+    ensures accepted { OnOk result (found ≡ number) }
+    ensures named { IfErr result (λ fault. (fault ≡ ShelfFault.NoMemory) ⊎ (fault ≡ ShelfFault.StoreFault)) }
+{
+    if found == number {
+        return Ok(());
+    }
+    Err(ShelfFault::StoreFault)
 }
 
 /// Makes the tables, in one transaction.
@@ -113,14 +129,24 @@ fn make_tables<S: Alter>(connection: &mut Connection<S>) -> Result<(), Error>
     transaction.commit()
 }
 
-/// The number is noted before the other tables are made, which leave it as it is.
+/// The number is noted last.
 fn fill<S: Alter>(transaction: &mut Transaction<'_, S>) -> Result<(), Error>
     ensures same_reference { transaction.new.conn.ghost_name ≡ transaction.old.conn.ghost_name }
     ensures leads { LeadsFrom S.Store HasNothing HasTables transaction.old.conn.now transaction.new.conn.now result }
     ensures blamed { IfErr result (IsStoppedOn S.Store HasNothing transaction.old.conn.now transaction.new.conn.now) }
 {
+    make_former(transaction)?;
+    make_notes(transaction)?;
+    note_number(transaction)
+}
+
+/// The tables that profile 1 has too.
+fn make_former<S: Alter>(transaction: &mut Transaction<'_, S>) -> Result<(), Error>
+    ensures same_reference { transaction.new.conn.ghost_name ≡ transaction.old.conn.ghost_name }
+    ensures leads { LeadsFrom S.Store HasNothing HasStickers transaction.old.conn.now transaction.new.conn.now result }
+    ensures blamed { IfErr result (IsStoppedOn S.Store HasNothing transaction.old.conn.now transaction.new.conn.now) }
+{
     make_profile(transaction)?;
-    note_number(transaction)?;
     make_lists(transaction)?;
     make_stickers(transaction)
 }
@@ -137,19 +163,10 @@ fn make_profile<S: Alter>(transaction: &mut Transaction<'_, S>) -> Result<(), Er
     Ok(())
 }
 
-fn note_number<S: Alter>(transaction: &mut Transaction<'_, S>) -> Result<(), Error>
-    ensures same_reference { transaction.new.conn.ghost_name ≡ transaction.old.conn.ghost_name }
-    ensures leads { LeadsFrom S.Store HasProfile HasNumber transaction.old.conn.now transaction.new.conn.now result }
-    ensures blamed { IfErr result (IsStoppedOn S.Store HasProfile transaction.old.conn.now transaction.new.conn.now) }
-{
-    transaction.execute("INSERT INTO profile (one, number) VALUES (1, 1)", &[])?;
-    Ok(())
-}
-
 fn make_lists<S: Alter>(transaction: &mut Transaction<'_, S>) -> Result<(), Error>
     ensures same_reference { transaction.new.conn.ghost_name ≡ transaction.old.conn.ghost_name }
-    ensures leads { LeadsFrom S.Store HasNumber HasLists transaction.old.conn.now transaction.new.conn.now result }
-    ensures blamed { IfErr result (IsStoppedOn S.Store HasNumber transaction.old.conn.now transaction.new.conn.now) }
+    ensures leads { LeadsFrom S.Store HasProfile HasLists transaction.old.conn.now transaction.new.conn.now result }
+    ensures blamed { IfErr result (IsStoppedOn S.Store HasProfile transaction.old.conn.now transaction.new.conn.now) }
 {
     transaction.execute(
         "CREATE TABLE list (name TEXT NOT NULL PRIMARY KEY, uris TEXT NOT NULL)",
@@ -160,12 +177,121 @@ fn make_lists<S: Alter>(transaction: &mut Transaction<'_, S>) -> Result<(), Erro
 
 fn make_stickers<S: Alter>(transaction: &mut Transaction<'_, S>) -> Result<(), Error>
     ensures same_reference { transaction.new.conn.ghost_name ≡ transaction.old.conn.ghost_name }
-    ensures leads { LeadsFrom S.Store HasLists HasTables transaction.old.conn.now transaction.new.conn.now result }
+    ensures leads { LeadsFrom S.Store HasLists HasStickers transaction.old.conn.now transaction.new.conn.now result }
     ensures blamed { IfErr result (IsStoppedOn S.Store HasLists transaction.old.conn.now transaction.new.conn.now) }
 {
     transaction.execute(
         "CREATE TABLE sticker (uri TEXT NOT NULL, name TEXT NOT NULL, value TEXT NOT NULL, PRIMARY KEY (uri, name))",
         &[],
     )?;
+    Ok(())
+}
+
+fn make_notes<S: Alter>(transaction: &mut Transaction<'_, S>) -> Result<(), Error>
+    ensures same_reference { transaction.new.conn.ghost_name ≡ transaction.old.conn.ghost_name }
+    ensures leads { LeadsBy S.Store HasFormer MakesNotes transaction.old.conn.now transaction.new.conn.now result }
+    ensures blamed { IfErr result (IsStoppedOn S.Store HasFormer transaction.old.conn.now transaction.new.conn.now) }
+    ensures ran { RunInside S.Store transaction.old.conn.now transaction.new.conn.now (note_query ∷ []) result }
+{
+    transaction.execute(
+        "CREATE TABLE note (kind TEXT NOT NULL, target TEXT NOT NULL, name TEXT NOT NULL, value TEXT NOT NULL, PRIMARY KEY (kind, target, name))",
+        &[],
+    )?;
+    Ok(())
+}
+
+fn note_number<S: Alter>(transaction: &mut Transaction<'_, S>) -> Result<(), Error>
+    ensures same_reference { transaction.new.conn.ghost_name ≡ transaction.old.conn.ghost_name }
+    ensures leads { LeadsBy S.Store HasNoNumber NotesNumber transaction.old.conn.now transaction.new.conn.now result }
+    ensures blamed { IfErr result (IsStoppedOn S.Store HasNoNumber transaction.old.conn.now transaction.new.conn.now) }
+    ensures ran { RunInside S.Store transaction.old.conn.now transaction.new.conn.now (insert_query ∷ []) result }
+{
+    transaction.execute("INSERT INTO profile (one, number) VALUES (1, 2)", &[])?;
+    Ok(())
+}
+
+/// Moves tables of profile 1, whose number has to be 1, to profile 2.
+fn move_profile<S: Alter>(connection: &mut Connection<S>) -> Result<(), ShelfFault>
+    ensures opens { OpensFormer (state S.Store connection.old) (state S.Store connection.new) (is_ok result) }
+    ensures named { IfErr result (λ fault. (fault ≡ ShelfFault.NoMemory) ⊎ (fault ≡ ShelfFault.StoreFault)) }
+    ensures unmoved { IfErr result (IsUnmoved (state S.Store connection.old) (state S.Store connection.new)) }
+    ensures other { BlamesMove S.Store connection.old connection.new result }
+{
+    let rows = numbers(connection)?;
+    is_number(&rows, 1)?;
+    match move_in_one(connection) {
+        Ok(()) => Ok(()),
+        Err(error) => Err(fault(error)),
+    }
+}
+
+/// Makes the table note, and each row of sticker one of a song there, in one transaction.
+fn move_in_one<S: Alter>(connection: &mut Connection<S>) -> Result<(), Error>
+    ensures moves { Moves S.Store connection.old connection.new result }
+    ensures blamed { IfErr result (IsStuck (state S.Store connection.old) (state S.Store connection.new)) }
+    ensures other { IfErr result (StopsMove S.Store connection.old connection.new) }
+{
+    if !connection.is_autocommit() {
+        return Err(Error::InvalidQuery);
+    }
+    let mut transaction = connection.transaction();
+    move_rows(&mut transaction)?;
+    transaction.commit()
+}
+
+fn move_rows<S: Alter>(transaction: &mut Transaction<'_, S>) -> Result<(), Error>
+    ensures same_reference { transaction.new.conn.ghost_name ≡ transaction.old.conn.ghost_name }
+    ensures leads { LeadsBy S.Store IsFormerShelf HasMoved transaction.old.conn.now transaction.new.conn.now result }
+    ensures blamed { IfErr result (IsStuckOn S.Store transaction.old.conn.now transaction.new.conn.now IsFormerShelf) }
+    ensures ran { RunInside S.Store transaction.old.conn.now transaction.new.conn.now move_texts result }
+{
+    make_notes(transaction)?;
+    copy_stickers(transaction)?;
+    renumber(transaction)
+}
+
+/// Each sticker is one of a song.
+fn copy_stickers<S: Alter>(transaction: &mut Transaction<'_, S>) -> Result<(), Error>
+    ensures same_reference { transaction.new.conn.ghost_name ≡ transaction.old.conn.ghost_name }
+    ensures leads { LeadsBy S.Store HasNoNotes CopiesStickers transaction.old.conn.now transaction.new.conn.now result }
+    ensures blamed { IfErr result (IsStuckOn S.Store transaction.old.conn.now transaction.new.conn.now HasNoNotes) }
+    ensures ran { RunInside S.Store transaction.old.conn.now transaction.new.conn.now (copy_query ∷ []) result }
+{
+    transaction.execute(
+        "INSERT OR REPLACE INTO note (kind, target, name, value) SELECT 'song', uri, name, value FROM sticker",
+        &[],
+    )?;
+    Ok(())
+}
+
+/// Empties the table sticker, and notes the number 2 in place of the one that is there.
+fn renumber<S: Alter>(transaction: &mut Transaction<'_, S>) -> Result<(), Error>
+    ensures same_reference { transaction.new.conn.ghost_name ≡ transaction.old.conn.ghost_name }
+    ensures leads { LeadsBy S.Store HasBoth Renumbers transaction.old.conn.now transaction.new.conn.now result }
+    ensures blamed { IfErr result (IsStoppedOn S.Store HasBoth transaction.old.conn.now transaction.new.conn.now) }
+    ensures ran { RunInside S.Store transaction.old.conn.now transaction.new.conn.now renumber_texts result }
+{
+    clear_stickers(transaction)?;
+    clear_number(transaction)?;
+    note_number(transaction)
+}
+
+fn clear_stickers<S: Alter>(transaction: &mut Transaction<'_, S>) -> Result<(), Error>
+    ensures same_reference { transaction.new.conn.ghost_name ≡ transaction.old.conn.ghost_name }
+    ensures leads { LeadsBy S.Store (HasRows 3) (Clears 3) transaction.old.conn.now transaction.new.conn.now result }
+    ensures blamed { IfErr result (IsStoppedOn S.Store (HasRows 3) transaction.old.conn.now transaction.new.conn.now) }
+    ensures ran { RunInside S.Store transaction.old.conn.now transaction.new.conn.now (clear_query ∷ []) result }
+{
+    transaction.execute("DELETE FROM sticker", &[])?;
+    Ok(())
+}
+
+fn clear_number<S: Alter>(transaction: &mut Transaction<'_, S>) -> Result<(), Error>
+    ensures same_reference { transaction.new.conn.ghost_name ≡ transaction.old.conn.ghost_name }
+    ensures leads { LeadsBy S.Store (HasRows 0) (Clears 0) transaction.old.conn.now transaction.new.conn.now result }
+    ensures blamed { IfErr result (IsStoppedOn S.Store (HasRows 0) transaction.old.conn.now transaction.new.conn.now) }
+    ensures ran { RunInside S.Store transaction.old.conn.now transaction.new.conn.now (forget_query ∷ []) result }
+{
+    transaction.execute("DELETE FROM profile", &[])?;
     Ok(())
 }

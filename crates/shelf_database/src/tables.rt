@@ -2,16 +2,23 @@
 
 ghost use Rattle.std.specs.Prelude.{◌≡◌};
 ghost use Rattle.std.specs.List.{list_any};
-ghost use Rattle.shelf_database.specs.Tables.{has_tables, is_keyed as keyed, has_column as column_named, is_profile as is_profile_table, is_list as is_list_table, is_sticker as is_sticker_table};
+ghost use Rattle.shelf_database.specs.Tables.{has_tables, is_keyed as keyed, has_column as column_named, is_profile as is_profile_table, is_list as is_list_table, is_sticker as is_sticker_table, is_note as is_note_table, has_notes as has_note_tables};
 
 use sqlite_schema::schema::{Schema, Table};
 
-/// Whether the tables of a shelf are there. Others, indexes and views may be there too.
+/// Whether the tables of profile 1 are there. Others, indexes and views may be there too.
 pub(crate) fn are_tables(schema: &Schema) -> bool
     ensures { result ≡ has_tables schema.now }
 {
     let tables = schema.tables.as_slice();
     has_profile(tables) && has_list(tables) && has_sticker(tables)
+}
+
+/// Whether the table is there that profile 2 has more.
+pub(crate) fn has_notes(schema: &Schema) -> bool
+    ensures { result ≡ has_note_tables schema.now }
+{
+    schema.tables.as_slice().iter().any(is_note)
 }
 
 fn has_profile(tables: &[Table]) -> bool
@@ -53,6 +60,16 @@ fn is_sticker(table: &Table) -> bool
         && has_column(table, 0, "uri")
         && has_column(table, 1, "name")
         && has_column(table, 2, "value")
+}
+
+fn is_note(table: &Table) -> bool
+    ensures { result ≡ is_note_table table.now }
+{
+    is_keyed(table, "note", &[1, 2, 3])
+        && has_column(table, 0, "kind")
+        && has_column(table, 1, "target")
+        && has_column(table, 2, "name")
+        && has_column(table, 3, "value")
 }
 
 /// Whether the table has the name, and a primary key of these columns, which are counted from 1.

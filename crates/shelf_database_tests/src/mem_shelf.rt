@@ -66,6 +66,31 @@ fn long_stickers_come_back(rt: HostRuntime) -> Result<(), Fail> {
     look(rt.alloc(), Case::LongStickers)
 }
 
+#[test]
+fn a_playlist_has_stickers(rt: HostRuntime) -> Result<(), Fail> {
+    look(rt.alloc(), Case::PlaylistStickers)
+}
+
+#[test]
+fn a_missing_list_comes_first(rt: HostRuntime) -> Result<(), Fail> {
+    look(rt.alloc(), Case::MissingListFirst)
+}
+
+#[test]
+fn kinds_are_apart(rt: HostRuntime) -> Result<(), Fail> {
+    look(rt.alloc(), Case::KindsApart)
+}
+
+#[test]
+fn a_rename_takes_stickers(rt: HostRuntime) -> Result<(), Fail> {
+    look(rt.alloc(), Case::StickersRenamed)
+}
+
+#[test]
+fn a_removed_list_has_none(rt: HostRuntime) -> Result<(), Fail> {
+    look(rt.alloc(), Case::StickersRemoved)
+}
+
 fn can_name_list(name: &str) -> bool {
     is_list_name(name)
 }

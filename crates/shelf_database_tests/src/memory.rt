@@ -4,7 +4,7 @@ use shelf::ShelfFault;
 use shelf_database::SqlShelf;
 use shelf_tests::calls::wants;
 use shelf_tests::cases::{Case, look_at};
-use sqlite::{Connection, MemStore};
+use sqlite::{Connection, MemStore, params};
 use std::alloc::Global;
 use std::test::Fail;
 
@@ -87,6 +87,31 @@ fn long_stickers_come_back(rt: HostRuntime) -> Result<(), Fail> {
     look(rt.alloc(), Case::LongStickers)
 }
 
+#[test]
+fn a_playlist_has_stickers(rt: HostRuntime) -> Result<(), Fail> {
+    look(rt.alloc(), Case::PlaylistStickers)
+}
+
+#[test]
+fn a_missing_list_comes_first(rt: HostRuntime) -> Result<(), Fail> {
+    look(rt.alloc(), Case::MissingListFirst)
+}
+
+#[test]
+fn kinds_are_apart(rt: HostRuntime) -> Result<(), Fail> {
+    look(rt.alloc(), Case::KindsApart)
+}
+
+#[test]
+fn a_rename_takes_stickers(rt: HostRuntime) -> Result<(), Fail> {
+    look(rt.alloc(), Case::StickersRenamed)
+}
+
+#[test]
+fn a_removed_list_has_none(rt: HostRuntime) -> Result<(), Fail> {
+    look(rt.alloc(), Case::StickersRemoved)
+}
+
 /// A database in memory that these statements were run on.
 pub(crate) fn after(
     alloc: Global,
@@ -103,10 +128,13 @@ pub(crate) fn after(
 }
 
 /// What is run on the tables of a shelf, each line on its own, so that they are refused.
-const REFUSED_CHANGES: &str = "UPDATE profile SET number = 2
+const REFUSED_CHANGES: &str = "UPDATE profile SET number = 1
+UPDATE profile SET number = 3
 DELETE FROM profile
 DROP TABLE list
 DROP TABLE sticker
+DROP TABLE note
+DROP TABLE note; CREATE TABLE note (kind TEXT NOT NULL, target TEXT NOT NULL, name TEXT NOT NULL, value TEXT NOT NULL, PRIMARY KEY (kind, target))
 DROP TABLE list; CREATE TABLE lists (name TEXT NOT NULL PRIMARY KEY, uris TEXT NOT NULL)
 DROP TABLE list; CREATE TABLE list (name TEXT NOT NULL PRIMARY KEY, text TEXT NOT NULL)
 DROP TABLE sticker; CREATE TABLE sticker (uri TEXT NOT NULL PRIMARY KEY, name TEXT NOT NULL, value TEXT NOT NULL)";
@@ -138,16 +166,17 @@ fn other_tables_are_refused(rt: HostRuntime) -> Result<(), Fail> {
 
 #[test]
 fn the_number_of_the_profile_is_taken(rt: HostRuntime) -> Result<(), Fail> {
-    let again = after(rt.alloc(), true, "UPDATE profile SET number = 1")?;
+    let again = after(rt.alloc(), true, "UPDATE profile SET number = 2")?;
     wants(over(rt.alloc(), again).is_ok(), "the profile's own number")
 }
 
 /// The profile's tables, made in another order.
 const OTHER_ORDER: &str =
-    "CREATE TABLE sticker (uri TEXT NOT NULL, name TEXT NOT NULL, value TEXT NOT NULL, PRIMARY KEY (uri, name));
+    "CREATE TABLE note (kind TEXT NOT NULL, target TEXT NOT NULL, name TEXT NOT NULL, value TEXT NOT NULL, PRIMARY KEY (kind, target, name));
+    CREATE TABLE sticker (uri TEXT NOT NULL, name TEXT NOT NULL, value TEXT NOT NULL, PRIMARY KEY (uri, name));
     CREATE TABLE list (name TEXT NOT NULL PRIMARY KEY, uris TEXT NOT NULL);
     CREATE TABLE profile (one INTEGER PRIMARY KEY CHECK (one = 1), number INTEGER NOT NULL);
-    INSERT INTO profile (one, number) VALUES (1, 1)";
+    INSERT INTO profile (one, number) VALUES (1, 2)";
 
 fn is_taken(alloc: Global, is_shelf: bool, statements: &str) -> Result<(), Fail> {
     let Ok(mut shelf) = over(alloc, after(alloc, is_shelf, statements)?) else {
@@ -163,3 +192,77 @@ fn tables_in_another_order_are_taken(rt: HostRuntime) -> Result<(), Fail> {
     is_taken(rt.alloc(), true, "CREATE INDEX by_value ON sticker (value)")?;
     is_taken(rt.alloc(), true, "CREATE TABLE other (a INTEGER)")
 }
+
+/// The tables of profile 1 as the release before made them, with one list and one sticker.
+pub(crate) const FIRST_PROFILE: &str =
+    "CREATE TABLE profile (one INTEGER PRIMARY KEY CHECK (one = 1), number INTEGER NOT NULL);
+    INSERT INTO profile (one, number) VALUES (1, 1);
+    CREATE TABLE list (name TEXT NOT NULL PRIMARY KEY, uris TEXT NOT NULL);
+    CREATE TABLE sticker (uri TEXT NOT NULL, name TEXT NOT NULL, value TEXT NOT NULL, PRIMARY KEY (uri, name));
+    INSERT INTO list (name, uris) VALUES ('x', 's.wav
+');
+    INSERT INTO sticker (uri, name, value) VALUES ('a.wav', 'r', '5')";
+
+/// The number that the first row of a query shows.
+fn number_of(connection: &mut Connection<MemStore>, query: &str) -> Result<i64, Fail> {
+    let rows = connection.query_all(query, &[])?;
+    match rows.first() {
+        Some(row) => Ok(row.get::<i64>(0)?),
+        None => Err(Fail::new(query)),
+    }
+}
+
+/// A store of profile 1 that was moved, with more stickers of one name.
+fn moved(alloc: Global, more: u32) -> Result<Connection<MemStore>, Fail> {
+    let mut connection = after(alloc, false, FIRST_PROFILE)?;
+    connection.execute_batch("BEGIN")?;
+    for number in 0..more {
+        let uri = format!(in alloc; "{number:05}.wav")?;
+        let insert = "INSERT INTO sticker (uri, name, value) VALUES (?1, 'r', ?1)";
+        connection.execute(insert, params![uri.as_str()])?;
+    }
+    connection.execute_batch("COMMIT")?;
+    Ok(over(alloc, connection)?.into_connection())
+}
+
+fn wants_number(
+    connection: &mut Connection<MemStore>,
+    query: &str,
+    number: i64,
+) -> Result<(), Fail> {
+    wants(number_of(connection, query)? == number, query)
+}
+
+#[test]
+fn a_store_of_profile_1_is_moved(rt: HostRuntime) -> Result<(), Fail> {
+    let mut store = moved(rt.alloc(), 0)?;
+    wants_number(&mut store, "SELECT number FROM profile", 2)?;
+    wants_number(&mut store, "SELECT count(*) FROM sticker", 0)?;
+    let note =
+        "SELECT count(*) FROM note WHERE kind = 'song' AND target = 'a.wav' AND name = 'r' AND value = '5'";
+    wants_number(&mut store, note, 1)?;
+    let list = "SELECT count(*) FROM list WHERE name = 'x'";
+    wants_number(&mut store, list, 1)
+}
+
+#[test]
+fn ten_thousand_stickers_are_moved(rt: HostRuntime) -> Result<(), Fail> {
+    let mut store = moved(rt.alloc(), 10_000)?;
+    wants_number(&mut store, "SELECT count(*) FROM sticker", 0)?;
+    let same = "SELECT count(*) FROM note WHERE kind = 'song' AND name = 'r' AND value = target";
+    wants_number(&mut store, same, 10_000)?;
+    wants_number(&mut store, "SELECT count(*) FROM note", 10_001)
+}
+
+/// A store of profile 1 that is moved is the same shelf after.
+#[test]
+fn a_moved_store_is_a_shelf(rt: HostRuntime) -> Result<(), Fail> {
+    is_taken(rt.alloc(), false, EMPTY_FIRST_PROFILE)
+}
+
+/// The tables of profile 1, made in another order and with nothing in them.
+const EMPTY_FIRST_PROFILE: &str =
+    "CREATE TABLE sticker (uri TEXT NOT NULL, name TEXT NOT NULL, value TEXT NOT NULL, PRIMARY KEY (uri, name));
+    CREATE TABLE list (name TEXT NOT NULL PRIMARY KEY, uris TEXT NOT NULL);
+    CREATE TABLE profile (one INTEGER PRIMARY KEY CHECK (one = 1), number INTEGER NOT NULL);
+    INSERT INTO profile (one, number) VALUES (1, 1)";

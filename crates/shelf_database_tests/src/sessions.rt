@@ -233,9 +233,9 @@ Id: 2
 OK
 ";
 
-const BEFORE: &str = "x=s.wav,;a.wav:5;";
+const BEFORE: &str = "x=s.wav,;a.wav:5;x:7;";
 
-const AFTER: &str = "x=s.wav,;y=a.wav,;a.wav:5;";
+const AFTER: &str = "x=s.wav,;y=a.wav,;a.wav:5;x:7;";
 
 /// What a run told whose log failed from some call on.
 #[derive(Clone, Copy, PartialEq, Eq)]

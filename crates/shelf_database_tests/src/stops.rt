@@ -6,8 +6,9 @@
 //! lost supply does, with what was synced alone. A stop before the call leaves the maps from before it, a
 //! stop in the call those from before it or after it, and a stop after it those from after it.
 
+use crate::memory::FIRST_PROFILE;
 use crate::player::session;
-use shelf::{Entry, Shelf, ShelfFault, UriList};
+use shelf::{Entry, Shelf, ShelfFault, StickerKind, UriList};
 use shelf_database::SqlShelf;
 use shelf_tests::calls::{add_uris, keep, uri_list, wants};
 use sqlite::{Alter, Connection, FileStore, Files, Options};
@@ -36,8 +37,11 @@ impl Drop for Disks {
 pub(crate) enum Call {
     /// None: the files are empty, and making the shelf writes.
     Over,
+    /// None: the files have the tables of profile 1, which making the shelf moves.
+    Move,
     Put,
     Rename,
+    Remove,
     SetSticker,
 }
 
@@ -70,7 +74,7 @@ struct Stops {
 pub(crate) enum Visit<'a> {
     /// The call of a run.
     Make(Call, &'a UriList),
-    /// One list and one sticker are put on the shelf.
+    /// One list is put on the shelf, with a sticker of it and one of a song.
     Fill(&'a UriList),
     /// All that the shelf shows is told.
     Show,
@@ -81,32 +85,37 @@ pub(crate) enum Visit<'a> {
 fn before(call: Call) -> &'static str {
     match call {
         Call::Over => "",
-        _ => "x=s.wav,;a.wav:5;",
+        Call::Move => "x=s.wav,;a.wav:5;",
+        _ => "x=s.wav,;a.wav:5;x:7;",
     }
 }
 
 fn after(call: Call) -> &'static str {
     match call {
         Call::Over => "",
-        Call::Put => "x=a.wav,b.wav,;a.wav:5;",
-        Call::Rename => "y=s.wav,;a.wav:5;",
-        Call::SetSticker => "x=s.wav,;a.wav:6;",
+        Call::Move => "x=s.wav,;a.wav:5;",
+        Call::Put => "x=a.wav,b.wav,;a.wav:5;x:7;",
+        Call::Rename => "y=s.wav,;a.wav:5;y:7;",
+        Call::Remove => "a.wav:5;",
+        Call::SetSticker => "x=s.wav,;a.wav:6;x:7;",
     }
 }
 
 fn make<S: Shelf>(shelf: &mut S, call: Call, uris: &UriList) -> Result<(), ShelfFault> {
     match call {
-        Call::Over => Ok(()),
+        Call::Over | Call::Move => Ok(()),
         Call::Put => keep(shelf, "x", uris, false),
         Call::Rename => shelf.rename("x", "y"),
-        Call::SetSticker => shelf.set_sticker("a.wav", "r", "6"),
+        Call::Remove => shelf.remove("x"),
+        Call::SetSticker => shelf.set_sticker(StickerKind::Song, "a.wav", "r", "6"),
     }
 }
 
-/// Puts one list and one sticker on the shelf.
+/// Puts one list on the shelf, and a sticker of a song and of the list.
 fn fill<S: Shelf>(shelf: &mut S, uris: &UriList) -> Result<(), ShelfFault> {
     keep(shelf, "x", uris, true)?;
-    shelf.set_sticker("a.wav", "r", "5")
+    shelf.set_sticker(StickerKind::Song, "a.wav", "r", "5")?;
+    shelf.set_sticker(StickerKind::Playlist, "x", "r", "7")
 }
 
 /// Appends a list: its name, and each URI with a comma after it.
@@ -144,9 +153,11 @@ fn add_stickers(shown: &mut String, entries: &[Entry]) -> Result<(), AllocError>
     Ok(())
 }
 
-/// Appends the stickers of one name.
+/// Appends the stickers of one name, of songs and then of playlists.
 fn show_stickers<S: Shelf>(shelf: &mut S, shown: &mut String) -> Result<(), ShelfFault> {
-    let entries = shelf.find_stickers("r")?;
+    let entries = shelf.find_stickers(StickerKind::Song, "r")?;
+    add_stickers(shown, entries.as_slice())?;
+    let entries = shelf.find_stickers(StickerKind::Playlist, "r")?;
     Ok(add_stickers(shown, entries.as_slice())?)
 }
 
@@ -254,6 +265,18 @@ fn run<D: Disk + Drop>(
     }
 }
 
+/// Whether statements were run and nothing was stopped, and the files.
+fn executed<D: Disk + Drop>(alloc: Global, files: Files<D>, statements: &str) -> (bool, Files<D>) {
+    match opened(alloc, files) {
+        Ok(mut connection) => {
+            let is_run = connection.execute_batch(statements).is_ok();
+            let (step, files) = closed(connection);
+            (is_run && step.is_none(), files)
+        }
+        Err(files) => (false, files),
+    }
+}
+
 /// A file with these bytes, all of them synced, that fails after so many calls.
 fn fused(alloc: Global, bytes: &[u8], calls: u64) -> Result<Fuse<Memory>, Fail> {
     let mut file = Memory::new(alloc);
@@ -303,13 +326,21 @@ impl Disks {
         step
     }
 
+    /// Opens the files, runs statements and closes the files: whether nothing was stopped.
+    fn execute(&mut self, alloc: Global, statements: &str) -> bool {
+        let files = mem::replace(&mut self.files, no_files(alloc));
+        let (is_done, left) = executed(alloc, files, statements);
+        self.files = left;
+        is_done
+    }
+
     fn crash(&mut self) {
         self.files.log.crash();
         self.files.db.crash();
     }
 }
 
-/// Files with one list and one sticker, closed.
+/// Files with one list, and a sticker of it and one of a song, closed.
 pub(crate) fn filled(alloc: Global) -> Result<Disks, Fail> {
     let mut disks = Disks::empty(alloc);
     fill_disks(alloc, &mut disks)?;
@@ -321,6 +352,16 @@ fn fill_disks(alloc: Global, disks: &mut Disks) -> Result<(), Fail> {
     let mut told = String::new(alloc);
     let step = disks.run(alloc, Visit::Fill(&uris), &mut told);
     wants(step.is_none(), "the files are not filled")
+}
+
+/// Files with the tables of profile 1, one list and one sticker, closed.
+fn of_first_profile(alloc: Global) -> Result<Disks, Fail> {
+    let mut disks = Disks::empty(alloc);
+    wants(
+        disks.execute(alloc, FIRST_PROFILE),
+        "the tables are not made",
+    )?;
+    Ok(disks)
 }
 
 /// What a shelf over files that do not stop shows.
@@ -403,6 +444,7 @@ fn stopped(
 fn disks_before(alloc: Global, call: Call) -> Result<Disks, Fail> {
     match call {
         Call::Over => Ok(Disks::empty(alloc)),
+        Call::Move => of_first_profile(alloc),
         _ => filled(alloc),
     }
 }
@@ -433,11 +475,15 @@ fn stops_in(alloc: Global, call: Call, side: Side) -> Result<Stops, Fail> {
 /// the length of the database and syncs it; of the log it tests each frame and reads it, shuts the header's
 /// gate and syncs, and then writes the header before and after the gate, syncs, writes the gate, syncs and
 /// cuts the file: eight calls beside those of the frames. The log has the pages of one commit: the schema,
-/// three tables and the indexes of two of them, or else a table and its index.
+/// four tables and the indexes of three of them; where tables are moved the schema, the profile, and the
+/// stickers' old table and their new one with an index each; or else of one table or of two, for a list and
+/// its stickers, the table and its index.
 fn wanted(call: Call, side: Side) -> Stops {
     let (over, inside, pages) = match call {
-        Call::Over => (6, 0, 6),
-        _ => (0, 6, 2),
+        Call::Over => (6, 0, 8),
+        Call::Move => (6, 0, 6),
+        Call::Rename | Call::Remove => (0, 6, 4),
+        Call::Put | Call::SetSticker => (0, 6, 2),
     };
     match side {
         Side::Log => Stops {
@@ -497,4 +543,24 @@ fn a_sticker_stops_in_the_log(rt: HostRuntime) -> Result<(), Fail> {
 #[test]
 fn a_sticker_stops_in_the_database(rt: HostRuntime) -> Result<(), Fail> {
     stops_at_each_call(&rt, rt.alloc(), Call::SetSticker, Side::Database)
+}
+
+#[test]
+fn a_move_stops_in_the_log(rt: HostRuntime) -> Result<(), Fail> {
+    stops_at_each_call(&rt, rt.alloc(), Call::Move, Side::Log)
+}
+
+#[test]
+fn a_move_stops_in_the_database(rt: HostRuntime) -> Result<(), Fail> {
+    stops_at_each_call(&rt, rt.alloc(), Call::Move, Side::Database)
+}
+
+#[test]
+fn a_remove_stops_in_the_log(rt: HostRuntime) -> Result<(), Fail> {
+    stops_at_each_call(&rt, rt.alloc(), Call::Remove, Side::Log)
+}
+
+#[test]
+fn a_remove_stops_in_the_database(rt: HostRuntime) -> Result<(), Fail> {
+    stops_at_each_call(&rt, rt.alloc(), Call::Remove, Side::Database)
 }

@@ -1,6 +1,6 @@
 //! The calls of a shelf, of which each tells one text.
 
-use shelf::{Entry, Shelf, ShelfFault, UriList};
+use shelf::{Entry, Shelf, ShelfFault, StickerKind, UriList};
 use std::alloc::{AllocError, Global};
 use std::test::Fail;
 
@@ -13,12 +13,12 @@ pub enum Call<'a> {
     Remove(&'a str),
     List(&'a str),
     Lists,
-    SetSticker(&'a str, &'a str, &'a str),
-    Sticker(&'a str, &'a str),
-    FindStickers(&'a str),
-    StickersOf(&'a str),
-    DeleteSticker(&'a str, &'a str),
-    DeleteStickers(&'a str),
+    SetSticker(StickerKind, &'a str, &'a str, &'a str),
+    Sticker(StickerKind, &'a str, &'a str),
+    FindStickers(StickerKind, &'a str),
+    StickersOf(StickerKind, &'a str),
+    DeleteSticker(StickerKind, &'a str, &'a str),
+    DeleteStickers(StickerKind, &'a str),
 }
 
 /// A call and what it tells: `ok`, the fault, or each text of the answer with a bar after it, and `=` between
@@ -75,16 +75,27 @@ fn removed<S: Shelf>(shelf: &mut S, name: &str) -> &'static str {
     done(shelf.remove(name))
 }
 
-fn sticker_set<S: Shelf>(shelf: &mut S, uri: &str, name: &str, value: &str) -> &'static str {
-    done(shelf.set_sticker(uri, name, value))
+fn sticker_set<S: Shelf>(
+    shelf: &mut S,
+    kind: StickerKind,
+    target: &str,
+    name: &str,
+    value: &str,
+) -> &'static str {
+    done(shelf.set_sticker(kind, target, name, value))
 }
 
-fn sticker_deleted<S: Shelf>(shelf: &mut S, uri: &str, name: &str) -> &'static str {
-    done(shelf.delete_sticker(uri, name))
+fn sticker_deleted<S: Shelf>(
+    shelf: &mut S,
+    kind: StickerKind,
+    target: &str,
+    name: &str,
+) -> &'static str {
+    done(shelf.delete_sticker(kind, target, name))
 }
 
-fn stickers_deleted<S: Shelf>(shelf: &mut S, uri: &str) -> &'static str {
-    done(shelf.delete_stickers(uri))
+fn stickers_deleted<S: Shelf>(shelf: &mut S, kind: StickerKind, target: &str) -> &'static str {
+    done(shelf.delete_stickers(kind, target))
 }
 
 /// The list of these URIs.
@@ -169,21 +180,32 @@ fn lists<S: Shelf>(alloc: Global, shelf: &mut S) -> Result<String, AllocError> {
 fn sticker<S: Shelf>(
     alloc: Global,
     shelf: &mut S,
-    uri: &str,
+    kind: StickerKind,
+    target: &str,
     name: &str,
 ) -> Result<String, AllocError> {
-    match shelf.sticker(uri, name) {
+    match shelf.sticker(kind, target, name) {
         Ok(value) => format!(in alloc; "{value}|"),
         Err(fault) => String::from_str(alloc, fault_name(fault)),
     }
 }
 
-fn found<S: Shelf>(alloc: Global, shelf: &mut S, name: &str) -> Result<String, AllocError> {
-    entries_told(alloc, shelf.find_stickers(name))
+fn found<S: Shelf>(
+    alloc: Global,
+    shelf: &mut S,
+    kind: StickerKind,
+    name: &str,
+) -> Result<String, AllocError> {
+    entries_told(alloc, shelf.find_stickers(kind, name))
 }
 
-fn stickers<S: Shelf>(alloc: Global, shelf: &mut S, uri: &str) -> Result<String, AllocError> {
-    entries_told(alloc, shelf.stickers_of(uri))
+fn stickers<S: Shelf>(
+    alloc: Global,
+    shelf: &mut S,
+    kind: StickerKind,
+    target: &str,
+) -> Result<String, AllocError> {
+    entries_told(alloc, shelf.stickers_of(kind, target))
 }
 
 /// What a call tells.
@@ -191,16 +213,18 @@ fn told<S: Shelf>(alloc: Global, shelf: &mut S, call: Call<'_>) -> Result<String
     let answer = match call {
         Call::List(name) => return list(alloc, shelf, name),
         Call::Lists => return lists(alloc, shelf),
-        Call::Sticker(uri, name) => return sticker(alloc, shelf, uri, name),
-        Call::FindStickers(name) => return found(alloc, shelf, name),
-        Call::StickersOf(uri) => return stickers(alloc, shelf, uri),
+        Call::Sticker(kind, target, name) => return sticker(alloc, shelf, kind, target, name),
+        Call::FindStickers(kind, name) => return found(alloc, shelf, kind, name),
+        Call::StickersOf(kind, target) => return stickers(alloc, shelf, kind, target),
         Call::Create(name, uris) => created(shelf, name, &uri_list(alloc, uris)?),
         Call::Put(name, uris) => put(shelf, name, &uri_list(alloc, uris)?),
         Call::Rename(name, new_name) => renamed(shelf, name, new_name),
         Call::Remove(name) => removed(shelf, name),
-        Call::SetSticker(uri, name, value) => sticker_set(shelf, uri, name, value),
-        Call::DeleteSticker(uri, name) => sticker_deleted(shelf, uri, name),
-        Call::DeleteStickers(uri) => stickers_deleted(shelf, uri),
+        Call::SetSticker(kind, target, name, value) => {
+            sticker_set(shelf, kind, target, name, value)
+        }
+        Call::DeleteSticker(kind, target, name) => sticker_deleted(shelf, kind, target, name),
+        Call::DeleteStickers(kind, target) => stickers_deleted(shelf, kind, target),
     };
     String::from_str(alloc, answer)
 }

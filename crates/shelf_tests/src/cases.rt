@@ -1,6 +1,6 @@
 //! All that is looked at on a shelf of any kind.
 
-use crate::{playlists, stickers};
+use crate::{playlist_stickers, playlists, stickers};
 use shelf::Shelf;
 use std::alloc::Global;
 use std::test::Fail;
@@ -19,6 +19,11 @@ pub enum Case {
     StickersRise,
     AnyText,
     LongStickers,
+    PlaylistStickers,
+    MissingListFirst,
+    KindsApart,
+    StickersRenamed,
+    StickersRemoved,
 }
 
 /// Looks at an empty shelf, and fails where it answers otherwise.
@@ -35,5 +40,10 @@ pub fn look_at<S: Shelf>(alloc: Global, shelf: &mut S, case: Case) -> Result<(),
         Case::StickersRise => stickers::stickers_rise_by_bytes(alloc, shelf),
         Case::AnyText => stickers::any_text_comes_back(alloc, shelf),
         Case::LongStickers => stickers::long_stickers_come_back(alloc, shelf),
+        Case::PlaylistStickers => playlist_stickers::a_playlist_has_stickers(alloc, shelf),
+        Case::MissingListFirst => playlist_stickers::a_missing_list_comes_first(alloc, shelf),
+        Case::KindsApart => playlist_stickers::kinds_are_apart(alloc, shelf),
+        Case::StickersRenamed => playlist_stickers::a_rename_takes_stickers(alloc, shelf),
+        Case::StickersRemoved => playlist_stickers::a_removed_list_has_none(alloc, shelf),
     }
 }

@@ -5,5 +5,6 @@
 
 pub mod calls;
 pub mod cases;
+pub mod playlist_stickers;
 pub mod playlists;
 pub mod stickers;

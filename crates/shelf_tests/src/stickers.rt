@@ -1,20 +1,21 @@
-//! What a shelf of any kind answers about stickers.
+//! What a shelf of any kind answers about stickers of songs.
 
 use crate::calls::{Call, Step, follow};
 use crate::playlists::repeated;
 use shelf::Shelf;
+use shelf::StickerKind::Song;
 use std::alloc::Global;
 use std::test::Fail;
 
 const KEPT: &[Step<'_>] = &[
-    (Call::SetSticker("a.wav", "r", "5"), "ok"),
-    (Call::Sticker("a.wav", "r"), "5|"),
-    (Call::FindStickers("r"), "a.wav=5|"),
-    (Call::DeleteSticker("a.wav", "q"), "no sticker"),
-    (Call::DeleteSticker("b.wav", "r"), "no sticker"),
-    (Call::DeleteSticker("a.wav", "r"), "ok"),
-    (Call::Sticker("a.wav", "r"), "no sticker"),
-    (Call::DeleteStickers("a.wav"), "no sticker"),
+    (Call::SetSticker(Song, "a.wav", "r", "5"), "ok"),
+    (Call::Sticker(Song, "a.wav", "r"), "5|"),
+    (Call::FindStickers(Song, "r"), "a.wav=5|"),
+    (Call::DeleteSticker(Song, "a.wav", "q"), "no sticker"),
+    (Call::DeleteSticker(Song, "b.wav", "r"), "no sticker"),
+    (Call::DeleteSticker(Song, "a.wav", "r"), "ok"),
+    (Call::Sticker(Song, "a.wav", "r"), "no sticker"),
+    (Call::DeleteStickers(Song, "a.wav"), "no sticker"),
 ];
 
 /// A sticker is set, read, found, and missed where it is not there.
@@ -23,16 +24,16 @@ pub fn a_sticker_is_kept<S: Shelf>(alloc: Global, shelf: &mut S) -> Result<(), F
 }
 
 const RISING: &[Step<'_>] = &[
-    (Call::SetSticker("b.wav", "r", "1"), "ok"),
-    (Call::SetSticker("é.wav", "r", "2"), "ok"),
-    (Call::SetSticker("B.wav", "r", "3"), "ok"),
-    (Call::SetSticker("b.wav", "Z", "4"), "ok"),
-    (Call::SetSticker("b.wav", "r", "5"), "ok"),
-    (Call::FindStickers("r"), "B.wav=3|b.wav=5|é.wav=2|"),
-    (Call::StickersOf("b.wav"), "Z=4|r=5|"),
-    (Call::DeleteStickers("b.wav"), "ok"),
-    (Call::StickersOf("b.wav"), ""),
-    (Call::FindStickers("r"), "B.wav=3|é.wav=2|"),
+    (Call::SetSticker(Song, "b.wav", "r", "1"), "ok"),
+    (Call::SetSticker(Song, "é.wav", "r", "2"), "ok"),
+    (Call::SetSticker(Song, "B.wav", "r", "3"), "ok"),
+    (Call::SetSticker(Song, "b.wav", "Z", "4"), "ok"),
+    (Call::SetSticker(Song, "b.wav", "r", "5"), "ok"),
+    (Call::FindStickers(Song, "r"), "B.wav=3|b.wav=5|é.wav=2|"),
+    (Call::StickersOf(Song, "b.wav"), "Z=4|r=5|"),
+    (Call::DeleteStickers(Song, "b.wav"), "ok"),
+    (Call::StickersOf(Song, "b.wav"), ""),
+    (Call::FindStickers(Song, "r"), "B.wav=3|é.wav=2|"),
 ];
 
 /// Stickers are listed by bytes, of one URI or of one name, and all of a URI go together.
@@ -42,35 +43,38 @@ pub fn stickers_rise_by_bytes<S: Shelf>(alloc: Global, shelf: &mut S) -> Result<
 
 const ANY_TEXT: &[Step<'_>] = &[
     (
-        Call::SetSticker("a\u{0}\n'\".wav", "\u{0}n\u{1}", "v\u{0}\u{1f}\n'\"%"),
+        Call::SetSticker(Song, "a\u{0}\n'\".wav", "\u{0}n\u{1}", "v\u{0}\u{1f}\n'\"%"),
         "ok",
     ),
-    (Call::SetSticker("a", "n", "\u{0}"), "ok"),
-    (Call::SetSticker("a", "n\u{0}", "\u{0}\u{0}v"), "ok"),
+    (Call::SetSticker(Song, "a", "n", "\u{0}"), "ok"),
+    (Call::SetSticker(Song, "a", "n\u{0}", "\u{0}\u{0}v"), "ok"),
     (
-        Call::SetSticker("'; DROP TABLE sticker; --", "\"name\"", "it''s"),
+        Call::SetSticker(Song, "'; DROP TABLE sticker; --", "\"name\"", "it''s"),
         "ok",
     ),
-    (Call::SetSticker("?1", ":name", ""), "ok"),
-    (Call::SetSticker("", "音楽", "Ωμέγα \u{301}\u{feff} 🎵"), "ok"),
+    (Call::SetSticker(Song, "?1", ":name", ""), "ok"),
     (
-        Call::Sticker("a\u{0}\n'\".wav", "\u{0}n\u{1}"),
+        Call::SetSticker(Song, "", "音楽", "Ωμέγα \u{301}\u{feff} 🎵"),
+        "ok",
+    ),
+    (
+        Call::Sticker(Song, "a\u{0}\n'\".wav", "\u{0}n\u{1}"),
         "v\u{0}\u{1f}\n'\"%|",
     ),
-    (Call::Sticker("a", "n"), "\u{0}|"),
-    (Call::Sticker("a", "n\u{0}"), "\u{0}\u{0}v|"),
+    (Call::Sticker(Song, "a", "n"), "\u{0}|"),
+    (Call::Sticker(Song, "a", "n\u{0}"), "\u{0}\u{0}v|"),
     (
-        Call::Sticker("'; DROP TABLE sticker; --", "\"name\""),
+        Call::Sticker(Song, "'; DROP TABLE sticker; --", "\"name\""),
         "it''s|",
     ),
-    (Call::Sticker("?1", ":name"), "|"),
-    (Call::Sticker("", "音楽"), "Ωμέγα \u{301}\u{feff} 🎵|"),
-    (Call::StickersOf("a"), "n=\u{0}|n\u{0}=\u{0}\u{0}v|"),
-    (Call::FindStickers("音楽"), "=Ωμέγα \u{301}\u{feff} 🎵|"),
-    (Call::Sticker("a", "\u{0}n\u{1}"), "no sticker"),
-    (Call::SetSticker("a.wav", "", "5"), "bad name"),
-    (Call::SetSticker("a.wav", "r=", "5"), "bad name"),
-    (Call::SetSticker("a.wav", "=", "5"), "bad name"),
+    (Call::Sticker(Song, "?1", ":name"), "|"),
+    (Call::Sticker(Song, "", "音楽"), "Ωμέγα \u{301}\u{feff} 🎵|"),
+    (Call::StickersOf(Song, "a"), "n=\u{0}|n\u{0}=\u{0}\u{0}v|"),
+    (Call::FindStickers(Song, "音楽"), "=Ωμέγα \u{301}\u{feff} 🎵|"),
+    (Call::Sticker(Song, "a", "\u{0}n\u{1}"), "no sticker"),
+    (Call::SetSticker(Song, "a.wav", "", "5"), "bad name"),
+    (Call::SetSticker(Song, "a.wav", "r=", "5"), "bad name"),
+    (Call::SetSticker(Song, "a.wav", "=", "5"), "bad name"),
 ];
 
 /// Control bytes, a zero byte among them, quotes and letters of other scripts come back as they were put; a
@@ -94,10 +98,10 @@ fn comes_back<'x, S: Shelf>(
         alloc,
         shelf,
         &[
-            (Call::SetSticker(uri, name, value), "ok"),
-            (Call::Sticker(uri, name), shown.as_str()),
-            (Call::FindStickers(name), of_name.as_str()),
-            (Call::StickersOf(uri), of_uri.as_str()),
+            (Call::SetSticker(Song, uri, name, value), "ok"),
+            (Call::Sticker(Song, uri, name), shown.as_str()),
+            (Call::FindStickers(Song, name), of_name.as_str()),
+            (Call::StickersOf(Song, uri), of_uri.as_str()),
         ],
     )
 }
@@ -113,8 +117,8 @@ fn goes<'x, S: Shelf>(
         alloc,
         shelf,
         &[
-            (Call::DeleteSticker(uri, name), "ok"),
-            (Call::StickersOf(uri), ""),
+            (Call::DeleteSticker(Song, uri, name), "ok"),
+            (Call::StickersOf(Song, uri), ""),
         ],
     )
 }

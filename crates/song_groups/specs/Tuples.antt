@@ -51,6 +51,14 @@ stands_in tuple tuples = list_any (eq_by_cmp by_texts tuple) tuples
 abbrev pub HaveTheSame : List (List (List ℕ)) → List (List (List ℕ)) → Type 0
 HaveTheSame tuples others = (tuple : List (List ℕ)) → stands_in tuple tuples ≡ stands_in tuple others
 
+-- what tuples are in memory
+abbrev pub tuples_now : List (Vec (Bor (List ℕ))) → List (List (List ℕ))
+tuples_now tuples = map (λ tuple. values_now tuple.items) tuples
+
+-- what is in memory has the tuples of some songs whose last text is not empty
+abbrev pub AreTuplesOf : List (Vec (Bor (List ℕ))) → List (Option TagName) → List SongData → Type 0
+AreTuplesOf tuples columns songs = HaveTheSame (tuples_now tuples) (listed_tuples columns songs)
+
 -- the distinct tuples of some songs whose last text is not empty, in their order
 abbrev pub tuples : List (Option TagName) → List SongData → List (List (List ℕ))
 tuples columns songs = ascending_tuples (listed_tuples columns songs)
@@ -63,10 +71,6 @@ TuplesRise columns songs = IsStrictlySortedBy by_texts (tuples columns songs)
 abbrev pub StandsIfASongs : List (Option TagName) → List SongData → Type 0
 StandsIfASongs columns songs = (tuple : List (List ℕ))
     → Contains (tuples columns songs) tuple ↔ (Contains (map (tuple_of columns) songs) tuple × IsTrue (has_last tuple))
-
--- what tuples are in memory
-abbrev pub tuples_now : List (Vec (Bor (List ℕ))) → List (List (List ℕ))
-tuples_now tuples = map (λ tuple. values_now tuple.items) tuples
 
 -- in how many columns from the left a tuple has no line: it is the tuple before it there. The last has its
 -- line always

@@ -5,7 +5,7 @@ ghost use Rattle.std.specs.List.{common_prefix_len};
 ghost use Rattle.mpd_text.specs.Songs.Song.{SongData};
 ghost use Rattle.mpd_text.specs.declared.songs.song.TagName.{TagName};
 ghost use Rattle.song_search.specs.Texts.{values_now};
-ghost use Rattle.song_groups.specs.Tuples.{tuple_of as tuple_of_lem, has_last, listed_tuples as listed_tuples_lem, ascending_tuples, tuples as tuples_lem, tuples_now, unchanged as unchanged_lem, labelled, tuple_lines_now, lines_after_now, lines_of_tuples, TuplesRise, StandsIfASongs, HasLineIfChanged, HaveTheSame};
+ghost use Rattle.song_groups.specs.Tuples.{tuple_of as tuple_of_lem, has_last, ascending_tuples, tuples as tuples_lem, tuples_now, unchanged as unchanged_lem, labelled, tuple_lines_now, lines_after_now, lines_of_tuples, TuplesRise, StandsIfASongs, HasLineIfChanged, AreTuplesOf};
 
 use crate::columns::text_in;
 use mpd_text::{Answer, Song, TagName};
@@ -58,7 +58,7 @@ fn listed_tuples<'a>(
     songs: &[&'a SharedSong],
     columns: &[Option<TagName>],
 ) -> Result<HashSet<Vec<&'a str>>, AllocError>
-    ensures { IfOk result (λ found. HaveTheSame (tuples_now found.keys) (listed_tuples_lem columns.now (values_now songs.now))) }
+    ensures { IfOk result (λ found. AreTuplesOf found.keys columns.now (values_now songs.now)) }
 {
     let mut found = HashSet::new(alloc);
     for song in songs {

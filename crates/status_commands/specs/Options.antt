@@ -1,8 +1,8 @@
 -- The commands that set the player (MPD protocol reference, Playback options; that loudness is not made alike
 -- is this profile's).
 use Rattle.std.specs.Prelude.{ℕ, ◌+◌, ◌-◌, min, Bool, true, false, codes, decimal}
-use Rattle.command_arguments.specs.declared.forms.SingleMode.{SingleMode}
-use Rattle.command_arguments.specs.declared.forms.SingleMode.TheVariants as asked_mode
+use Rattle.command_arguments.specs.declared.forms.SongMode.{SongMode}
+use Rattle.command_arguments.specs.declared.forms.SongMode.TheVariants as asked_mode
 use Rattle.command_arguments.specs.declared.forms.VolumeChange.{VolumeChange}
 use Rattle.command_arguments.specs.declared.forms.VolumeChange.TheVariants.{Up, Down}
 use Rattle.command_arguments.specs.declared.forms.ReplayGain.{ReplayGain}
@@ -26,20 +26,21 @@ repeat asked on = does asked (SetsRepeat on)
 abbrev pub random : Asked → Bool → CommandResult
 random asked on = does asked (SetsRandom on)
 
-abbrev pub mode_of : SingleMode → Single
-mode_of asked_mode.Off = single_mode.Off
-mode_of asked_mode.On = single_mode.On
-mode_of asked_mode.Oneshot = single_mode.Oneshot
+abbrev pub single_of : SongMode → Single
+single_of asked_mode.Off = single_mode.Off
+single_of asked_mode.On = single_mode.On
+single_of asked_mode.Oneshot = single_mode.Oneshot
 
-abbrev pub single : Asked → SingleMode → CommandResult
-single asked mode = does asked (SetsSingle (mode_of mode))
+abbrev pub single : Asked → SongMode → CommandResult
+single asked mode = does asked (SetsSingle (single_of mode))
 
-abbrev pub consume_of : Bool → Consume
-consume_of true = consume_mode.On
-consume_of false = consume_mode.Off
+abbrev pub consume_of : SongMode → Consume
+consume_of asked_mode.Off = consume_mode.Off
+consume_of asked_mode.On = consume_mode.On
+consume_of asked_mode.Oneshot = consume_mode.Oneshot
 
-abbrev pub consume : Asked → Bool → CommandResult
-consume asked on = does asked (SetsConsume (consume_of on))
+abbrev pub consume : Asked → SongMode → CommandResult
+consume asked mode = does asked (SetsConsume (consume_of mode))
 
 abbrev pub crossfade : Asked → ℕ → CommandResult
 crossfade asked seconds = does asked (SetsCrossfade seconds)
@@ -68,7 +69,7 @@ replay_gain asked = shows asked (pair_line (codes "replay_gain_mode") (codes "of
 -- what each command makes of the player
 unfoldable pub result_of : Asked → Part → OptionCommand → CommandResult
 result_of asked part (options.ChangeVolume change) = change_volume asked part change
-result_of asked part (options.Consume on) = consume asked on
+result_of asked part (options.Consume mode) = consume asked mode
 result_of asked part (options.Crossfade seconds) = crossfade asked seconds
 result_of asked part options.GetVol = get_volume asked part
 result_of asked part (options.Random on) = random asked on

@@ -1,10 +1,10 @@
 //! The commands that set the player (MPD protocol reference, Playback options).
 ghost use Rattle.std.specs.Prelude.{◌≡◌, IfOk, min};
-ghost use Rattle.status_commands.specs.Options.{change_volume as change_volume_lem, changed as changed_lem, consume as consume_lem, consume_of as consume_of_lem, crossfade as crossfade_lem, get_volume as get_volume_lem, mode_of as mode_of_lem, random as random_lem, repeat as repeat_lem, replay_gain as replay_gain_lem, result_of, set_replay_gain as set_replay_gain_lem, set_volume as set_volume_lem, single as single_lem};
+ghost use Rattle.status_commands.specs.Options.{change_volume as change_volume_lem, changed as changed_lem, consume as consume_lem, consume_of as consume_of_lem, crossfade as crossfade_lem, get_volume as get_volume_lem, random as random_lem, repeat as repeat_lem, replay_gain as replay_gain_lem, result_of, set_replay_gain as set_replay_gain_lem, set_volume as set_volume_lem, single as single_lem, single_of as single_of_lem};
 ghost use Rattle.player_state.specs.Fits.{Fits};
 ghost use Rattle.transitions.specs.Transitions.{IsDecidedBy};
 
-use command_arguments::{FadeSeconds, ReplayGain, SingleMode, Volume, VolumeChange};
+use command_arguments::{FadeSeconds, ReplayGain, SongMode, Volume, VolumeChange};
 use mpd_command::OptionCommand;
 use mpd_text::Answer;
 use play_order::{Consume, Single};
@@ -21,7 +21,7 @@ pub fn run(alloc: Global, asked: Asked, part: &Part, command: &OptionCommand) ->
 {
     match command {
         OptionCommand::ChangeVolume(change) => change_volume(alloc, asked, part, change),
-        OptionCommand::Consume(on) => consume(alloc, asked, *on),
+        OptionCommand::Consume(mode) => consume(alloc, asked, *mode),
         OptionCommand::Crossfade(seconds) => crossfade(alloc, asked, seconds),
         OptionCommand::GetVol => get_volume(alloc, asked, part),
         OptionCommand::Random(on) => random(alloc, asked, *on),
@@ -45,32 +45,36 @@ fn random(alloc: Global, asked: Asked, on: bool) -> Result<Transition, AllocErro
     Transition::does(alloc, asked, CommandEffect::SetsRandom(on))
 }
 
-fn single(alloc: Global, asked: Asked, mode: SingleMode) -> Result<Transition, AllocError>
+fn single(alloc: Global, asked: Asked, mode: SongMode) -> Result<Transition, AllocError>
     ensures { IsDecidedBy result (single_lem asked mode) }
 {
-    Transition::does(alloc, asked, CommandEffect::SetsSingle(mode_of(mode)))
+    Transition::does(alloc, asked, CommandEffect::SetsSingle(single_of(mode)))
 }
 
-fn mode_of(mode: SingleMode) -> Single
-    ensures { result ≡ mode_of_lem mode }
+fn single_of(mode: SongMode) -> Single
+    ensures { result ≡ single_of_lem mode }
 {
     match mode {
-        SingleMode::Off => Single::Off,
-        SingleMode::On => Single::On,
-        SingleMode::Oneshot => Single::Oneshot,
+        SongMode::Off => Single::Off,
+        SongMode::On => Single::On,
+        SongMode::Oneshot => Single::Oneshot,
     }
 }
 
-fn consume(alloc: Global, asked: Asked, on: bool) -> Result<Transition, AllocError>
-    ensures { IsDecidedBy result (consume_lem asked on) }
+fn consume(alloc: Global, asked: Asked, mode: SongMode) -> Result<Transition, AllocError>
+    ensures { IsDecidedBy result (consume_lem asked mode) }
 {
-    Transition::does(alloc, asked, CommandEffect::SetsConsume(consume_of(on)))
+    Transition::does(alloc, asked, CommandEffect::SetsConsume(consume_of(mode)))
 }
 
-fn consume_of(on: bool) -> Consume
-    ensures { result ≡ consume_of_lem on }
+fn consume_of(mode: SongMode) -> Consume
+    ensures { result ≡ consume_of_lem mode }
 {
-    if on { Consume::On } else { Consume::Off }
+    match mode {
+        SongMode::Off => Consume::Off,
+        SongMode::On => Consume::On,
+        SongMode::Oneshot => Consume::Oneshot,
+    }
 }
 
 fn crossfade(alloc: Global, asked: Asked, seconds: &FadeSeconds) -> Result<Transition, AllocError>

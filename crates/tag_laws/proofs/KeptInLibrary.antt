@@ -1,5 +1,5 @@
 -- The commands of the library, of stored playlists and of stickers leave the tags of clients.
-use Rattle.std.proofs.Common.{ℕ, true, false, List, [], ◌∷◌, length, ◌==◌, Option, Some, None, refl}
+use Rattle.std.proofs.Common.{ℕ, Bool, true, false, List, [], ◌∷◌, length, ◌==◌, Option, Some, None, refl}
 use Rattle.std.specs.declared.ops.Range.{Range as Places}
 use Rattle.mpd_text.specs.Songs.Song.{SongData}
 use Rattle.mpd_text.specs.declared.answers.ranges.Range.{Range}
@@ -14,6 +14,8 @@ use Rattle.command_arguments.specs.declared.wanted.Wanted.TheVariants.{Meeting, 
 use Rattle.selections.specs.declared.asked.Selection.{Selection}
 use Rattle.shelf.specs.Maps.{is_list_name}
 use Rattle.shelf.specs.declared.faults.ShelfFault.TheVariants.{NoSuchList, NoSticker}
+use Rattle.shelf.specs.declared.kinds.StickerKind.{StickerKind}
+use Rattle.shelf.specs.declared.kinds.StickerKind.TheVariants.{Song as OfSong, Playlist as OfPlaylist}
 use Rattle.shelf_contents.specs.Edits.{loaded}
 use Rattle.player_state.specs.Scans.{running}
 use Rattle.player_state.specs.declared.state.Library.{Library}
@@ -29,9 +31,12 @@ use Rattle.mpd_command.specs.declared.playlists.PlaylistCommand.TheVariants as p
 use Rattle.mpd_command.specs.declared.sticker.Comparison.{Comparison}
 use Rattle.mpd_command.specs.declared.sticker.StickerCommand.{StickerCommand}
 use Rattle.mpd_command.specs.declared.sticker.StickerCommand.TheVariants.{Get, Set, Delete, List as ListStickers, Find}
+use Rattle.mpd_command.specs.declared.sticker.Target.TheVariants.{Song, Playlist}
 use Rattle.library_commands.specs.Database.{add_met, append_found, append_met, begin_scan, count_met, find_met, list_met, list_root, list_song_or_folder, list_texts, list_song_or_folder_info, selected, show_song_or_folder, shows_playlists, uri_or_all, result_of as database_result}
-use Rattle.library_commands.specs.Playlists.{append, append_song_or_folder, list_playlists, load_places, load_range, named, on_list, result_of as playlists_result}
-use Rattle.library_commands.specs.Stickers.{delete_stickers, is_place, named_sticker, of_song, set_value, show_found, show_stickers, show_value, result_of as stickers_result}
+use Rattle.library_commands.specs.Playlists.{append, append_song_or_folder, list_playlists, load_places, load_range, named, on_list, with_stickers, result_of as playlists_result}
+use Rattle.library_commands.specs.Stickers.{delete_of_list, delete_stickers, find_lists, first_refusal, is_place, named_sticker, of_list, of_song, set_value, show_found, show_list, show_lists, show_stickers, show_value, unless_refused, result_of as stickers_result}
+use Rattle.library_commands.specs.declared.playlist_stickers.Refusal.{Refusal}
+use Rattle.library_commands.specs.declared.playlist_stickers.Refusal.TheVariants.{ListName, NoList, StickerName}
 use Rattle.tag_laws.proofs.KeptInQueue.{Kept, Stays, add-kept, keep-if}
 
 found-kept : (asked : Asked) (part : Part) (library : Library) (case : Case) (selection : Selection) (wanted : Wanted) → Stays (find_met asked part library case selection wanted)
@@ -135,6 +140,11 @@ appended-kept : (asked : Asked) (library : Library) (read : Read) (name uri : Li
 appended-kept asked library read name uri (Some song) = append-kept asked read name (song ∷ [])
 appended-kept asked library read name uri None = keep-if (is_folder uri library.songs) _ _ (append-kept asked read name (under uri library.songs)) (Kept (λ tags. refl))
 
+with-stickers-kept : (asked : Asked) (read : Read) (f : Bool → CommandResult) → ((has_stickers : Bool) → Stays (f has_stickers)) → Stays (with_stickers asked read f)
+with-stickers-kept asked (read_variant.Entries entries) f h = h _
+with-stickers-kept asked (read_variant.Refused fault) f h = Kept (λ tags. refl)
+with-stickers-kept asked _ f h = Kept (λ tags. refl)
+
 pub playlists-kept : (asked : Asked) (part : Part) (library : Library) (read : Read) (it : PlaylistCommand) → Stays (playlists_result asked part library read it)
 unfolding playlists_result
 playlists-kept asked part library read (playlists.ListPlaylist name) = named-kept asked name _ (list-kept asked read _ (λ uris. Kept (λ tags. refl)))
@@ -146,8 +156,9 @@ playlists-kept asked part library read (playlists.PlaylistAdd name uri) = named-
 playlists-kept asked part library read (playlists.PlaylistClear name) = named-kept asked name _ (list-kept asked read _ (λ uris. Kept (λ tags. refl)))
 playlists-kept asked part library read (playlists.PlaylistDelete name place) = named-kept asked name _ (list-kept asked read _ (λ uris. search (keep-if, Kept)))
 playlists-kept asked part library read (playlists.PlaylistMove name from to) = named-kept asked name _ (list-kept asked read _ (λ uris. search (keep-if, Kept)))
-playlists-kept asked part library read (playlists.Rename name new) = named-kept asked name _ (named-kept asked new _ (Kept (λ tags. refl)))
-playlists-kept asked part library read (playlists.Rm name) = named-kept asked name _ (Kept (λ tags. refl))
+playlists-kept asked part library read (playlists.Rename name new) =
+    named-kept asked name _ (named-kept asked new _ (with-stickers-kept asked read _ (λ has_stickers. Kept (λ tags. refl))))
+playlists-kept asked part library read (playlists.Rm name) = named-kept asked name _ (with-stickers-kept asked read _ (λ has_stickers. Kept (λ tags. refl)))
 playlists-kept asked part library read (playlists.Save name) = named-kept asked name _ (Kept (λ tags. refl))
 
 song-kept : (asked : Asked) (library : Library) (uri : List ℕ) (r : CommandResult) → Stays r → Stays (of_song asked library uri r)
@@ -161,11 +172,11 @@ value-kept asked (read_variant.Value value) name = Kept (λ tags. refl)
 value-kept asked (read_variant.Refused fault) name = Kept (λ tags. refl)
 value-kept asked _ name = Kept (λ tags. refl)
 
-set-kept : (asked : Asked) (read : Read) (uri name value : List ℕ) → Stays (set_value asked read uri name value)
-set-kept asked (read_variant.Value before) uri name value = Kept (λ tags. refl)
-set-kept asked (read_variant.Refused NoSticker) uri name value = Kept (λ tags. refl)
-set-kept asked (read_variant.Refused fault) uri name value = Kept (λ tags. refl)
-set-kept asked _ uri name value = Kept (λ tags. refl)
+set-kept : (asked : Asked) (read : Read) (kind : StickerKind) (target name value : List ℕ) → Stays (set_value asked read kind target name value)
+set-kept asked (read_variant.Value before) kind target name value = Kept (λ tags. refl)
+set-kept asked (read_variant.Refused NoSticker) kind target name value = Kept (λ tags. refl)
+set-kept asked (read_variant.Refused fault) kind target name value = Kept (λ tags. refl)
+set-kept asked _ kind target name value = Kept (λ tags. refl)
 
 delete-kept : (asked : Asked) (uri : List ℕ) (o : Option (List ℕ)) → Stays (delete_stickers asked uri o)
 delete-kept asked uri None = Kept (λ tags. refl)
@@ -181,10 +192,43 @@ stickers-found-kept asked library (read_variant.Entries entries) uri name test =
 stickers-found-kept asked library (read_variant.Refused fault) uri name test = Kept (λ tags. refl)
 stickers-found-kept asked library _ uri name test = Kept (λ tags. refl)
 
+refused-kept : (asked : Asked) (list name : List ℕ) (o : Option Refusal) (r : CommandResult) → Stays r → Stays (unless_refused asked list name o r)
+refused-kept asked list name None r h = h
+refused-kept asked list name (Some ListName) r h = Kept (λ tags. refl)
+refused-kept asked list name (Some NoList) r h = Kept (λ tags. refl)
+refused-kept asked list name (Some StickerName) r h = Kept (λ tags. refl)
+
+of-list-kept : (asked : Asked) (read : Read) (list name : List ℕ) (r : CommandResult) → Stays r → Stays (of_list asked read list name r)
+of-list-kept asked read list name r h = refused-kept asked list name (first_refusal read list name) r h
+
+delete-of-list-kept : (asked : Asked) (read : Read) (list : List ℕ) (o : Option (List ℕ)) → Stays (delete_of_list asked read list o)
+delete-of-list-kept asked read list None = named-kept asked list _ (Kept (λ tags. refl))
+delete-of-list-kept asked read list (Some name) = of-list-kept asked read list name _ (Kept (λ tags. refl))
+
+lists-shown-kept : (asked : Asked) (read : Read) (name : List ℕ) (test : Option Comparison) → Stays (show_lists asked read name test)
+lists-shown-kept asked (read_variant.Entries entries) name test = Kept (λ tags. refl)
+lists-shown-kept asked (read_variant.Refused fault) name test = Kept (λ tags. refl)
+lists-shown-kept asked _ name test = Kept (λ tags. refl)
+
+list-shown-kept : (asked : Asked) (read : Read) (list name : List ℕ) (test : Option Comparison) → Stays (show_list asked read list name test)
+list-shown-kept asked (read_variant.Value value) list name test = Kept (λ tags. refl)
+list-shown-kept asked (read_variant.Refused NoSticker) list name test = Kept (λ tags. refl)
+list-shown-kept asked (read_variant.Refused fault) list name test = Kept (λ tags. refl)
+list-shown-kept asked _ list name test = Kept (λ tags. refl)
+
+lists-found-kept : (asked : Asked) (read : Read) (list name : List ℕ) (test : Option Comparison) → Stays (find_lists asked read list name test)
+lists-found-kept asked read [] name test = sticker-kept asked name _ (lists-shown-kept asked read name test)
+lists-found-kept asked read (c ∷ cs) name test = of-list-kept asked read (c ∷ cs) name _ (list-shown-kept asked read (c ∷ cs) name test)
+
 pub stickers-kept : (asked : Asked) (library : Library) (read : Read) (it : StickerCommand) → Stays (stickers_result asked library read it)
-stickers-kept asked library read (Get uri name) = song-kept asked library uri.0 _ (sticker-kept asked name _ (value-kept asked read name))
-stickers-kept asked library read (Set uri name value) = song-kept asked library uri.0 _ (sticker-kept asked name _ (set-kept asked read uri.0 name value))
-stickers-kept asked library read (Delete uri name) = song-kept asked library uri.0 _ (delete-kept asked uri.0 name)
-stickers-kept asked library read (ListStickers uri) = song-kept asked library uri.0 _ (stickers-shown-kept asked read)
-stickers-kept asked library read (Find uri name test) =
+stickers-kept asked library read (Get (Song uri) name) = song-kept asked library uri.0 _ (sticker-kept asked name _ (value-kept asked read name))
+stickers-kept asked library read (Get (Playlist list) name) = of-list-kept asked read list name _ (value-kept asked read name)
+stickers-kept asked library read (Set (Song uri) name value) = song-kept asked library uri.0 _ (sticker-kept asked name _ (set-kept asked read OfSong uri.0 name value))
+stickers-kept asked library read (Set (Playlist list) name value) = of-list-kept asked read list name _ (set-kept asked read OfPlaylist list name value)
+stickers-kept asked library read (Delete (Song uri) name) = song-kept asked library uri.0 _ (delete-kept asked uri.0 name)
+stickers-kept asked library read (Delete (Playlist list) name) = delete-of-list-kept asked read list name
+stickers-kept asked library read (ListStickers (Song uri)) = song-kept asked library uri.0 _ (stickers-shown-kept asked read)
+stickers-kept asked library read (ListStickers (Playlist list)) = named-kept asked list _ (stickers-shown-kept asked read)
+stickers-kept asked library read (Find (Song uri) name test) =
     keep-if (is_place library uri.0) _ _ (sticker-kept asked name _ (stickers-found-kept asked library read uri.0 name test)) (Kept (λ tags. refl))
+stickers-kept asked library read (Find (Playlist list) name test) = lists-found-kept asked read list name test

@@ -2,11 +2,12 @@
 -- Stored playlists, Stickers).
 use Rattle.std.specs.Prelude.{◌≡◌, ⊤, ℕ, Bool, true, false, List, Option, Some, None, is_some, Result, Ok, Err, IfOk}
 use Rattle.shelf.specs.declared.faults.ShelfFault.{ShelfFault}
+use Rattle.shelf.specs.declared.kinds.StickerKind.{StickerKind}
 use Rattle.shelf.specs.declared.faults.ShelfFault.TheVariants.{NoMemory, StoreFault}
 use Rattle.shelf.specs.Calls as calls
 use Rattle.shelf.specs.Calls.{Call}
 use Rattle.shelf.specs.Shelf.{AnswersCall, maps_once_done}
-use Rattle.shelf.specs.Maps.{Maps, Standing, Trusted, Turns, AreKeys, AreEntries, no_refusal, refusal_of_list, refusal_of_sticker}
+use Rattle.shelf.specs.Maps.{Maps, Standing, Trusted, Turns, AreKeys, AreEntries, no_refusal, refusal_of_list, refusal_of_target, refusal_of_sticker}
 use Rattle.transitions.specs.declared.shelf_calls.StoreReply.{StoreReply}
 use Rattle.transitions.specs.declared.shelf_calls.Read.{Read}
 use Rattle.transitions.specs.declared.shelf_calls.Read.TheVariants as read_variant
@@ -14,14 +15,14 @@ use Rattle.transitions.specs.declared.shelf_calls.ShelfWrite.{ShelfWrite}
 use Rattle.transitions.specs.declared.shelf_calls.ShelfWrite.TheVariants.{Nothing, Put, Create, Rename, Remove, SetSticker, DeleteSticker, DeleteStickers}
 
 -- what the shelf is asked before an event is decided: nothing; the names of all lists; a list; the sticker of
--- a URI with a name; all stickers of a URI; all stickers with a name
+-- a target with a name; all stickers of a target; all stickers of a kind with a name
 pub data Question : Type 0 where
   NoQuestion : Question
   AskNames : Question
   AskList : List ℕ → Question
-  AskSticker : List ℕ → List ℕ → Question
-  AskStickers : List ℕ → Question
-  AskFound : List ℕ → Question
+  AskSticker : StickerKind → List ℕ → List ℕ → Question
+  AskStickers : StickerKind → List ℕ → Question
+  AskFound : StickerKind → List ℕ → Question
 
 abbrev pub no_store_reply : StoreReply
 no_store_reply = record { read = read_variant.Nothing; refused = None }
@@ -31,11 +32,11 @@ abbrev pub call_of : ShelfWrite → Option Call
 call_of Nothing = None
 call_of (Put name uris changes) = Some (calls.Put name uris)
 call_of (Create name uris) = Some (calls.Create name uris)
-call_of (Rename name new) = Some (calls.Rename name new)
-call_of (Remove name) = Some (calls.Remove name)
-call_of (SetSticker uri name value changes) = Some (calls.SetSticker uri name value)
-call_of (DeleteSticker uri name) = Some (calls.DeleteSticker uri name)
-call_of (DeleteStickers uri) = Some (calls.DeleteStickers uri)
+call_of (Rename name new has_stickers) = Some (calls.Rename name new)
+call_of (Remove name has_stickers) = Some (calls.Remove name)
+call_of (SetSticker kind target name value changes) = Some (calls.SetSticker kind target name value)
+call_of (DeleteSticker kind target name) = Some (calls.DeleteSticker kind target name)
+call_of (DeleteStickers kind target) = Some (calls.DeleteStickers kind target)
 
 abbrev pub is_written : ShelfWrite → Bool
 is_written write = is_some (call_of write)
@@ -45,22 +46,22 @@ abbrev pub changes_lists : ShelfWrite → Bool
 changes_lists Nothing = false
 changes_lists (Put name uris changes) = changes
 changes_lists (Create name uris) = true
-changes_lists (Rename name new) = true
-changes_lists (Remove name) = true
-changes_lists (SetSticker uri name value changes) = false
-changes_lists (DeleteSticker uri name) = false
-changes_lists (DeleteStickers uri) = false
+changes_lists (Rename name new has_stickers) = true
+changes_lists (Remove name has_stickers) = true
+changes_lists (SetSticker kind target name value changes) = false
+changes_lists (DeleteSticker kind target name) = false
+changes_lists (DeleteStickers kind target) = false
 
--- whether it makes the stickers others
+-- whether it makes the stickers others: those of a list go with it
 abbrev pub changes_stickers : ShelfWrite → Bool
 changes_stickers Nothing = false
 changes_stickers (Put name uris changes) = false
 changes_stickers (Create name uris) = false
-changes_stickers (Rename name new) = false
-changes_stickers (Remove name) = false
-changes_stickers (SetSticker uri name value changes) = changes
-changes_stickers (DeleteSticker uri name) = true
-changes_stickers (DeleteStickers uri) = true
+changes_stickers (Rename name new has_stickers) = has_stickers
+changes_stickers (Remove name has_stickers) = has_stickers
+changes_stickers (SetSticker kind target name value changes) = changes
+changes_stickers (DeleteSticker kind target name) = true
+changes_stickers (DeleteStickers kind target) = true
 
 -- the maps once a call is done, if one is made
 abbrev pub maps_by : Option Call → Maps → Maps
@@ -87,15 +88,19 @@ IsRead failed m AskNames _ = ⊥
 IsRead failed m (AskList name) (read_variant.List uris) = m.lists name ≡ Some uris
 IsRead failed m (AskList name) (read_variant.Refused fault) = IsCause (failed (calls.ListOf name)) (refusal_of_list m name) fault
 IsRead failed m (AskList name) _ = ⊥
-IsRead failed m (AskSticker uri name) (read_variant.Value value) = m.stickers uri name ≡ Some value
-IsRead failed m (AskSticker uri name) (read_variant.Refused fault) = IsCause (failed (calls.StickerOf uri name)) (refusal_of_sticker m uri name) fault
-IsRead failed m (AskSticker uri name) _ = ⊥
-IsRead failed m (AskStickers uri) (read_variant.Entries entries) = AreEntries (m.stickers uri) entries
-IsRead failed m (AskStickers uri) (read_variant.Refused fault) = IsCause (failed (calls.StickersOf uri)) no_refusal fault
-IsRead failed m (AskStickers uri) _ = ⊥
-IsRead failed m (AskFound name) (read_variant.Entries entries) = AreEntries (λ uri. m.stickers uri name) entries
-IsRead failed m (AskFound name) (read_variant.Refused fault) = IsCause (failed (calls.FindStickers name)) no_refusal fault
-IsRead failed m (AskFound name) _ = ⊥
+IsRead failed m (AskSticker kind target name) (read_variant.Value value) =
+    (refusal_of_sticker m kind target name ≡ None) × (m.stickers kind target name ≡ Some value)
+IsRead failed m (AskSticker kind target name) (read_variant.Refused fault) =
+    IsCause (failed (calls.StickerOf kind target name)) (refusal_of_sticker m kind target name) fault
+IsRead failed m (AskSticker kind target name) _ = ⊥
+IsRead failed m (AskStickers kind target) (read_variant.Entries entries) =
+    (refusal_of_target m kind target ≡ None) × AreEntries (m.stickers kind target) entries
+IsRead failed m (AskStickers kind target) (read_variant.Refused fault) =
+    IsCause (failed (calls.StickersOf kind target)) (refusal_of_target m kind target) fault
+IsRead failed m (AskStickers kind target) _ = ⊥
+IsRead failed m (AskFound kind name) (read_variant.Entries entries) = AreEntries (λ target. m.stickers kind target name) entries
+IsRead failed m (AskFound kind name) (read_variant.Refused fault) = IsCause (failed (calls.FindStickers kind name)) no_refusal fault
+IsRead failed m (AskFound kind name) _ = ⊥
 
 abbrev pub is_read : Read → Bool
 is_read read_variant.Nothing = false

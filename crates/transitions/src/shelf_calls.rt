@@ -1,12 +1,12 @@
 //! What a lent shelf is asked and answers, and what is written to it.
-ghost use Rattle.std.specs.Prelude.{◌≡◌, Some, None, map, string_bytes};
+ghost use Rattle.std.specs.Prelude.{◌≡◌, Some, None, length, map, nat_eq, string_bytes};
 ghost use Rattle.shelf.specs.Entries.{entry_texts};
 ghost use Rattle.transitions.specs.declared.shelf_calls.Read.{Read};
 ghost use Rattle.transitions.specs.declared.shelf_calls.ShelfWrite.{ShelfWrite};
 ghost use Rattle.transitions.specs.Shelves.{changes_lists as changes_lists_lem, changes_stickers as changes_stickers_lem, is_written as is_written_lem};
 
 use mpd_text::Text;
-use shelf::{Entry, ShelfFault, UriList};
+use shelf::{Entry, ShelfFault, StickerKind, UriList};
 use std::marker::Model;
 
 /// The names of stored playlists, as a shelf gave them.
@@ -37,8 +37,8 @@ impl Names {
     }
 }
 
-/// Stickers, as a shelf gave them: the names of a song's with their values, or the songs that have one of a
-/// name with its value.
+/// Stickers, as a shelf gave them: the names of a target's with their values, or the targets that have one of
+/// a name with its value.
 #[derive(Drop)]
 pub struct Entries {
     entries: Vec<Entry>,
@@ -64,6 +64,12 @@ impl Entries {
         ensures { map entry_texts result.now ≡ self.now }
     {
         &self.entries
+    }
+
+    pub fn is_empty(&self) -> bool
+        ensures { result ≡ nat_eq (length self.now) 0 }
+    {
+        self.entries.is_empty()
     }
 }
 
@@ -123,17 +129,17 @@ pub enum ShelfWrite {
     Put(Text, UriList, bool),
     /// A new stored playlist has these URIs.
     Create(Text, UriList),
-    /// A stored playlist gets another name, the second.
-    Rename(Text, Text),
-    /// A stored playlist goes.
-    Remove(Text),
-    /// The sticker of a URI, with the name that comes second, has the value that comes third, and whether it
-    /// had another or none.
-    SetSticker(Text, Text, Text, bool),
-    /// The sticker of a URI with a name goes.
-    DeleteSticker(Text, Text),
-    /// All stickers of a URI go.
-    DeleteStickers(Text),
+    /// A stored playlist gets another name, the second, and whether it has stickers, which go along.
+    Rename(Text, Text, bool),
+    /// A stored playlist goes, and whether it has stickers, which go too.
+    Remove(Text, bool),
+    /// The sticker of a target, with the name that comes second, has the value that comes third, and whether
+    /// it had another or none.
+    SetSticker(StickerKind, Text, Text, Text, bool),
+    /// The sticker of a target with a name goes.
+    DeleteSticker(StickerKind, Text, Text),
+    /// All stickers of a target go.
+    DeleteStickers(StickerKind, Text),
 }
 
 // Written out, so that a proof goes through one call where it lets one go (docs/DECISIONS.md).
@@ -143,11 +149,11 @@ impl Drop for ShelfWrite {
             ShelfWrite::Nothing
             | ShelfWrite::Put(_, _, _)
             | ShelfWrite::Create(_, _)
-            | ShelfWrite::Rename(_, _)
-            | ShelfWrite::Remove(_)
-            | ShelfWrite::SetSticker(_, _, _, _)
-            | ShelfWrite::DeleteSticker(_, _)
-            | ShelfWrite::DeleteStickers(_) => {}
+            | ShelfWrite::Rename(_, _, _)
+            | ShelfWrite::Remove(_, _)
+            | ShelfWrite::SetSticker(_, _, _, _, _)
+            | ShelfWrite::DeleteSticker(_, _, _)
+            | ShelfWrite::DeleteStickers(_, _) => {}
         }
     }
 }
@@ -165,7 +171,8 @@ impl ShelfWrite {
     {
         match self {
             ShelfWrite::Put(_, _, changes) => *changes,
-            ShelfWrite::Create(_, _) | ShelfWrite::Rename(_, _) | ShelfWrite::Remove(_) => true,
+            ShelfWrite::Create(_, _) | ShelfWrite::Rename(_, _, _) | ShelfWrite::Remove(_, _) =>
+                true,
             _ => false,
         }
     }
@@ -175,8 +182,11 @@ impl ShelfWrite {
         ensures { result ≡ changes_stickers_lem self.now }
     {
         match self {
-            ShelfWrite::SetSticker(_, _, _, changes) => *changes,
-            ShelfWrite::DeleteSticker(_, _) | ShelfWrite::DeleteStickers(_) => true,
+            ShelfWrite::SetSticker(_, _, _, _, changes) => *changes,
+            ShelfWrite::Rename(_, _, has_stickers) | ShelfWrite::Remove(_, has_stickers) => {
+                *has_stickers
+            }
+            ShelfWrite::DeleteSticker(_, _, _) | ShelfWrite::DeleteStickers(_, _) => true,
             _ => false,
         }
     }

@@ -2,7 +2,7 @@ use Rattle.std.proofs.Common.{Ok}
 use Rattle.std.proofs.lemmas.Result.{err_from_is_err_and}
 use Rattle.sqlite.specs.Command.TheVariants.{CreateTable}
 use Rattle.sqlite.specs.Held.{state}
-use Rattle.shelf_database.specs.Opens.{list_schema, HasLists, HasTables}
+use Rattle.shelf_database.specs.Opens.{list_schema, HasLists, HasStickers}
 use Rattle.shelf_database.proofs.MakingLemmas.{leads, kept_at}
 use Rattle.shelf_database.proofs.MakingBlame.{stopped}
 use Rattle.shelf_database.proofs.TablesBlame.{sticker_bare, stickers_sure}
@@ -13,7 +13,7 @@ pub returns-clause-leads : goal.returns-clause-leads
 returns-clause-leads g c =
     let old = c.args.transaction.now.conn.now in
     let new = c.execute.new.self.conn.now in
-    leads HasLists HasTables list_schema (λ db has. has.0) sticker_text CreateTable sticker_means (λ old new text count ran. ran) makes_stickers (state g.S.Store old) (state g.S.Store new)
+    leads HasLists HasStickers list_schema (λ db has. has.0) sticker_text CreateTable sticker_means (λ old new text params count ran. ran) makes_stickers (state g.S.Store old) (state g.S.Store new)
     (Ok c.in_ok-execute.field-0) c.in_ok-execute.ensures.runs (λ outside. kept_at g.S.Store old new (c.in_ok-execute.ensures.ended outside).1) c.execute.ensures.survives
 
 pub returns-in_err-execute-clause-blamed : goal.returns-in_err-execute-clause-blamed

@@ -1,10 +1,13 @@
-use Rattle.std.proofs.Common.{Ok}
+use Rattle.std.proofs.Common.{inl, [], Ok}
 use Rattle.std.proofs.lemmas.Result.{err_from_is_err_and}
 use Rattle.sqlite.specs.Source.TheVariants.{Values}
 use Rattle.sqlite.specs.Command.TheVariants.{Insert}
 use Rattle.sqlite.specs.Held.{state}
-use Rattle.shelf_database.specs.Opens.{profile_schema, HasProfile, HasNumber}
-use Rattle.shelf_database.proofs.MakingLemmas.{leads, kept_at}
+use Rattle.sqlite.specs.State.{mode_of}
+use Rattle.shelf_database.specs.Tables.{shelf_schema}
+use Rattle.shelf_database.specs.Opens.{HasNoNumber, NotesNumber, insert_query}
+use Rattle.shelf_database.proofs.RunLemmas.{each_one}
+use Rattle.shelf_database.proofs.MakingLemmas.{leads_by, kept_at}
 use Rattle.shelf_database.proofs.MakingBlame.{stopped}
 use Rattle.shelf_database.proofs.TablesBlame.{number_bare, number_sure}
 use Rattle.shelf_database.proofs.TablesLemmas.{number_text, one_row, number_means, notes_number}
@@ -12,14 +15,23 @@ use Rattle.shelf_database.proofs.profile.note_number.Goals as goal
 
 pub returns-clause-leads : goal.returns-clause-leads
 returns-clause-leads g c =
-    let old = c.args.transaction.now.conn.now in
-    let new = c.execute.new.self.conn.now in
-    leads HasProfile HasNumber profile_schema (λ db has. has.0) number_text (Insert 0 (Values one_row 3)) number_means (λ old new text count ran. ran) notes_number (state g.S.Store old) (state g.S.Store new)
-    (Ok c.in_ok-execute.field-0) c.in_ok-execute.ensures.runs (λ outside. kept_at g.S.Store old new (c.in_ok-execute.ensures.ended outside).1) c.execute.ensures.survives
+    let old = state g.S.Store c.args.transaction.now.conn.now in
+    let new = state g.S.Store c.execute.new.self.conn.now in
+    leads_by HasNoNumber NotesNumber shelf_schema (λ db has. has.schema) number_text [] (Insert 0 (Values one_row 3)) number_means (λ old new text params count ran. ran) old new (λ tally before does sound. notes_number old.step_limit (mode_of old) tally old.now new.now before does sound)
+    (Ok c.in_ok-execute.field-0) c.in_ok-execute.ensures.runs (λ outside. kept_at g.S.Store c.args.transaction.now.conn.now c.execute.new.self.conn.now (c.in_ok-execute.ensures.ended outside).1) c.execute.ensures.survives
 
 pub returns-in_err-execute-clause-blamed : goal.returns-in_err-execute-clause-blamed
 returns-in_err-execute-clause-blamed g c =
     let old = state g.S.Store c.args.transaction.now.conn.now in
     let new = state g.S.Store c.execute.new.self.conn.now in
     let how = err_from_is_err_and c.from_residual.result c.from_residual.ensures.1 in
-    rw (how.1, how.2) (stopped HasProfile profile_schema (λ db has. has.0) number_text (Insert 0 (Values one_row 3)) tt number_means number_bare number_sure old new c.in_err-execute.field-0.0 c.in_err-execute.ensures.runs)
+    rw (how.1, how.2) (stopped HasNoNumber shelf_schema (λ db has. has.schema) number_text (Insert 0 (Values one_row 3)) tt number_means number_bare number_sure old new c.in_err-execute.field-0.0 c.in_err-execute.ensures.runs)
+
+pub returns-clause-ran : goal.returns-clause-ran
+returns-clause-ran g c = λ clean inside.
+    each_one g.S.Store insert_query c.args.transaction.now.conn.now c.execute.new.self.conn.now c.in_ok-execute.field-0 (c.in_ok-execute.ensures.runs clean inside)
+
+pub returns-in_err-execute-clause-ran : goal.returns-in_err-execute-clause-ran
+returns-in_err-execute-clause-ran g c =
+    let how = err_from_is_err_and c.from_residual.result c.from_residual.ensures.1 in
+    rw (how.1, how.2) (λ clean inside. inl (c.in_err-execute.ensures.runs clean inside))

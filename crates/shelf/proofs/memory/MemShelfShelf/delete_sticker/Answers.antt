@@ -1,19 +1,15 @@
-use Rattle.std.proofs.Common.{◌≡◌, Some, None, rules}
-use Rattle.std.specs.BTreeMap.{get_by_text, IsUnchanged}
-use Rattle.shelf.proofs.MemoryLemmas.{set_within, kept_entries}
+use Rattle.std.proofs.Common.{None, is_ok, bytes_eq}
+use Rattle.std.specs.Map.{update}
+use Rattle.shelf.specs.Memory.{texts_of}
+use Rattle.shelf.proofs.MemoryLemmas.{song_turns, playlist_turns}
 use Rattle.shelf.proofs.memory.MemShelfShelf.delete_sticker.Goals as goal
 
-pub returns-clause-turns : goal.returns-clause-turns
-returns-clause-turns c =
-    let old = c.args.self.now.stickers in
-    let known : get_by_text old c.args.uri.now ≡ Some c.in-Some.names.now = search rules in
-    set_within c.args.uri.now c.args.self.now.lists old (c.get_mut.follows.lender c.remove.new.self) c.args.name.now c.in-Some.names.now c.remove.new.self None known
-    ((c.get_mut.follows.holds c.remove.new.self).3 (search rules)) c.remove.ensures.updates
+pub returns-in-Song-clause-turns : goal.returns-in-Song-clause-turns
+returns-in-Song-clause-turns c =
+    let old = c.args.self.now in
+    rw c.in-Song.is (song_turns old.lists old.songs old.playlists (is_ok c.delete.result) c.args.target.now (update bytes_eq (texts_of old.songs c.args.target.now) c.args.name.now None) c.delete.new.self c.delete.ensures.turns)
 
-pub returns-then-is_none-clause-turns : goal.returns-then-is_none-clause-turns
-returns-then-is_none-clause-turns c =
-    let old = c.args.self.now.stickers in
-    let known : get_by_text old c.args.uri.now ≡ Some c.in-Some.names.now = search rules in
-    let same : IsUnchanged c.in-Some.names.now c.remove.new.self = search rules in
-    kept_entries c.args.uri.now c.args.self.now.lists old (c.get_mut.follows.lender c.remove.new.self) _ c.in-Some.names.now c.remove.new.self known
-    ((c.get_mut.follows.holds c.remove.new.self).3 (search rules)) same
+pub returns-in-Playlist-clause-turns : goal.returns-in-Playlist-clause-turns
+returns-in-Playlist-clause-turns c =
+    let old = c.args.self.now in
+    rw c.in-Playlist.is (playlist_turns old.lists old.songs old.playlists (is_ok c.delete-in-Playlist.result) c.args.target.now (update bytes_eq (texts_of old.playlists c.args.target.now) c.args.name.now None) c.delete-in-Playlist.new.self c.delete-in-Playlist.ensures.turns)

@@ -1,27 +1,15 @@
-use Rattle.std.proofs.Common.{◌≡◌, Some, None, rules, false, is_ok}
-use Rattle.std.specs.BTreeMap.{get_by_text}
-use Rattle.shelf.proofs.MemoryLemmas.{set_under, kept_entries, set_first}
+use Rattle.std.proofs.Common.{Some, is_ok, bytes_eq}
+use Rattle.std.specs.Map.{update}
+use Rattle.shelf.specs.Memory.{texts_of}
+use Rattle.shelf.proofs.MemoryLemmas.{song_turns, playlist_turns}
 use Rattle.shelf.proofs.memory.MemShelfShelf.set_sticker.Goals as goal
 
-pub returns-in-Some-clause-turns : goal.returns-in-Some-clause-turns
-returns-in-Some-clause-turns c =
-    let old = c.args.self.now.stickers in
-    let known : get_by_text old c.args.uri.now ≡ Some c.in-Some.names.now = search rules in
-    set_under c.args.uri.now c.args.self.now.lists old (c.get_mut.follows.lender c.insert.new.self) c.in_ok-name.name c.in_ok-value.value c.args.name.now c.args.value.now c.in-Some.names.now c.insert.new.self known
-    ((c.get_mut.follows.holds c.insert.new.self).3 (search rules)) c.in_ok-insert.ensures.updates c.in_ok-name.ensures.ok c.in_ok-value.ensures.ok
+pub returns-in-Song-clause-turns : goal.returns-in-Song-clause-turns
+returns-in-Song-clause-turns c =
+    let old = c.args.self.now in
+    rw c.in-Song.is (song_turns old.lists old.songs old.playlists (is_ok c.set.result) c.args.target.now (update bytes_eq (texts_of old.songs c.args.target.now) c.args.name.now (Some c.args.value.now)) c.set.new.self c.set.ensures.turns)
 
-pub returns-in_err-insert-clause-turns : goal.returns-in_err-insert-clause-turns
-returns-in_err-insert-clause-turns c =
-    let old = c.args.self.now.stickers in
-    let known : get_by_text old c.args.uri.now ≡ Some c.in-Some.names.now = search rules in
-    let refused : is_ok c.from_residual-in_err-insert.result ≡ false = search rules in
-    rw refused (kept_entries c.args.uri.now c.args.self.now.lists old (c.get_mut.follows.lender c.insert.new.self) _ c.in-Some.names.now c.insert.new.self known
-    ((c.get_mut.follows.holds c.insert.new.self).3 (search rules)) c.in_err-insert.ensures.err)
-
-pub returns-clause-turns : goal.returns-clause-turns
-returns-clause-turns c =
-    let old = c.args.self.now.stickers in
-    let known : get_by_text old c.args.uri.now ≡ None = search rules in
-    let put = rw c.get_mut.follows.holds-at-none at c.in_ok-insert-3.ensures.updates in
-    set_first c.args.uri.now c.args.self.now.lists old c.insert-3.new.self c.in_ok-uri.uri c.in_ok-name.name c.in_ok-value.value c.args.name.now c.args.value.now c.new-names.result c.insert-2.new.self known
-    c.new-names.ensures.empty put c.in_ok-uri.ensures.ok c.in_ok-insert-2.ensures.updates c.in_ok-name.ensures.ok c.in_ok-value.ensures.ok
+pub returns-in-Playlist-clause-turns : goal.returns-in-Playlist-clause-turns
+returns-in-Playlist-clause-turns c =
+    let old = c.args.self.now in
+    rw c.in-Playlist.is (playlist_turns old.lists old.songs old.playlists (is_ok c.set-in-Playlist.result) c.args.target.now (update bytes_eq (texts_of old.playlists c.args.target.now) c.args.name.now (Some c.args.value.now)) c.set-in-Playlist.new.self c.set-in-Playlist.ensures.turns)

@@ -1,11 +1,11 @@
-use Rattle.std.proofs.Common.{[], ◌∷◌, map, sym, ◌∙◌, is_ok, inl, inr, refl, true}
+use Rattle.std.proofs.Common.{[], ◌∷◌, ◌&&◌, map, sym, ◌∙◌, is_ok, inl, inr, refl, true}
 use Rattle.std.proofs.lemmas.Simd.{map-map}
 use Rattle.sqlite.specs.declared.types.Value.TheVariants.{Text}
 use Rattle.sqlite.specs.Held.{state}
 use Rattle.shelf.specs.Entries.{entry_texts}
 use Rattle.shelf.specs.Calls.{FindStickers}
 use Rattle.shelf.specs.Maps.{no_refusal}
-use Rattle.shelf_database.specs.Tables.{has_text}
+use Rattle.shelf_database.specs.Tables.{has_text, kind_text}
 use Rattle.shelf_database.specs.Faults.{HasFailed, LacksText, StoreFailed}
 use Rattle.shelf_database.proofs.AskLemmas.{asked_reads, asked_answer, asked_refuses, refused_answers, handed_on}
 use Rattle.shelf_database.proofs.BlameLemmas.{of_name_asked}
@@ -18,28 +18,28 @@ use Rattle.shelf_database.proofs.database.SqlShelfShelf.find_stickers.Goals as g
 
 pub returns-in_err-rows-clause-turns : goal.returns-in_err-rows-clause-turns
 returns-in_err-rows-clause-turns g c =
-    let refuses = asked_refuses _ _ (of_name_asked c.args.name.now) (state g.S.Store c.args.self.now.connection) (state g.S.Store c.ask.new.connection) (rw c.params-to_sql.ensures at c.ask.ensures.survives) c.in_err-rows.field-0.0 (rw c.params-to_sql.ensures at c.in_err-rows.ensures.refused) in
+    let refuses = asked_refuses _ _ (of_name_asked c.args.kind c.args.name.now) (state g.S.Store c.args.self.now.connection) (state g.S.Store c.ask.new.connection) (rw (c.params-to_sql.ensures, c.params-to_sql-2.ensures, c.kind_text-word.ensures) at c.ask.ensures.survives) c.in_err-rows.field-0.0 (rw (c.params-to_sql.ensures, c.params-to_sql-2.ensures, c.kind_text-word.ensures) at c.in_err-rows.ensures.refused) in
     rw (handed_on c.from_residual.result _ c.from_residual.ensures.1) (refuses.turns _)
 
 pub returns-in_err-rows-clause-answers : goal.returns-in_err-rows-clause-answers
 returns-in_err-rows-clause-answers g c = λ trusted.
     let old = state g.S.Store c.args.self.now.connection in
     let new = state g.S.Store c.ask.new.connection in
-    let refuses = asked_refuses _ _ (of_name_asked c.args.name.now) old new (rw c.params-to_sql.ensures at c.ask.ensures.survives) c.in_err-rows.field-0.0 (rw c.params-to_sql.ensures at c.in_err-rows.ensures.refused) in
-    rw (handed_on c.from_residual.result _ c.from_residual.ensures.1) (refused_answers (Unit {0}) old new (HasFailed old new) (StoreFailed old new (FindStickers c.args.name.now)) no_refusal c.in_err-rows.field-0.0 (λ failed. inl failed) refuses trusted)
+    let refuses = asked_refuses _ _ (of_name_asked c.args.kind c.args.name.now) old new (rw (c.params-to_sql.ensures, c.params-to_sql-2.ensures, c.kind_text-word.ensures) at c.ask.ensures.survives) c.in_err-rows.field-0.0 (rw (c.params-to_sql.ensures, c.params-to_sql-2.ensures, c.kind_text-word.ensures) at c.in_err-rows.ensures.refused) in
+    rw (handed_on c.from_residual.result _ c.from_residual.ensures.1) (refused_answers (Unit {0}) old new (HasFailed old new) (StoreFailed old new (FindStickers c.args.kind c.args.name.now)) no_refusal c.in_err-rows.field-0.0 (λ failed. inl failed) refuses trusted)
 
 pub returns-clause-turns : goal.returns-clause-turns
 returns-clause-turns g c =
     let old = state g.S.Store c.args.self.now.connection in
     let new = state g.S.Store c.ask.new.connection in
-    read_turns old new (is_ok c.entries_of.result) (asked_reads _ _ (of_name_asked c.args.name.now) old new (rw c.params-to_sql.ensures at c.ask.ensures.survives) c.in_ok-rows.rows.items (rw c.params-to_sql.ensures at c.in_ok-rows.ensures.shown))
+    read_turns old new (is_ok c.entries_of.result) (asked_reads _ _ (of_name_asked c.args.kind c.args.name.now) old new (rw (c.params-to_sql.ensures, c.params-to_sql-2.ensures, c.kind_text-word.ensures) at c.ask.ensures.survives) c.in_ok-rows.rows.items (rw (c.params-to_sql.ensures, c.params-to_sql-2.ensures, c.kind_text-word.ensures) at c.in_ok-rows.ensures.shown))
 
 pub returns-clause-entries : goal.returns-clause-entries
 returns-clause-entries g c = λ trusted.
     let old = state g.S.Store c.args.self.now.connection in
     let rows = c.in_ok-rows.rows.items in
-    let answer = asked_answer _ _ (of_name_asked c.args.name.now) old (state g.S.Store c.ask.new.connection) (rw c.params-to_sql.ensures at c.ask.ensures.survives) rows trusted.1.ready (rw c.params-to_sql.ensures at (c.in_ok-rows.ensures.shown trusted.0)) in
-    IfOk-both c.entries_of.result _ _ _ (λ entries keys values. of_name_shown c.args.name.now old.now trusted.1.ready.shelf rows (map entry_texts entries.items)
+    let answer = asked_answer _ _ (of_name_asked c.args.kind c.args.name.now) old (state g.S.Store c.ask.new.connection) (rw (c.params-to_sql.ensures, c.params-to_sql-2.ensures, c.kind_text-word.ensures) at c.ask.ensures.survives) rows trusted.1.ready (rw (c.params-to_sql.ensures, c.params-to_sql-2.ensures, c.kind_text-word.ensures) at (c.in_ok-rows.ensures.shown trusted.0)) in
+    IfOk-both c.entries_of.result _ _ _ (λ entries keys values. of_name_shown c.args.kind c.args.name.now old.now trusted.1.ready.shelf rows (map entry_texts entries.items)
     (keys ∙ sym (map-map (λ e. Text e.0) entry_texts entries.items)) (values ∙ sym (map-map (λ e. Text e.1) entry_texts entries.items)) answer) (rw c.deref.ensures.value at c.entries_of.ensures.keys) (rw c.deref.ensures.value at c.entries_of.ensures.values)
 
 pub returns-clause-answers : goal.returns-clause-answers
@@ -47,5 +47,5 @@ returns-clause-answers g c = λ trusted.
     let old = state g.S.Store c.args.self.now.connection in
     let new = state g.S.Store c.ask.new.connection in
     let rows = c.in_ok-rows.rows.items in
-    let answer = asked_answer _ _ (of_name_asked c.args.name.now) old new (rw c.params-to_sql.ensures at c.ask.ensures.survives) rows trusted.1.ready (rw c.params-to_sql.ensures at (c.in_ok-rows.ensures.shown trusted.0)) in
-    answers_for (LacksText (0 ∷ 1 ∷ []) (λ _. true) rows) (StoreFailed old new (FindStickers c.args.name.now)) _ c.entries_of.result (λ lacks. absurd (both_never_lack (1 ∷ 2 ∷ 3 ∷ []) 1 3 (has_text 2 c.args.name.now) (old.now.trees 3) trusted.1.texts.stickers (inl refl) (inr (inr (inl refl))) (of_name_lack old.now.trees rows c.args.name.now answer lacks))) (rw c.deref.ensures.value at c.entries_of.ensures.answers)
+    let answer = asked_answer _ _ (of_name_asked c.args.kind c.args.name.now) old new (rw (c.params-to_sql.ensures, c.params-to_sql-2.ensures, c.kind_text-word.ensures) at c.ask.ensures.survives) rows trusted.1.ready (rw (c.params-to_sql.ensures, c.params-to_sql-2.ensures, c.kind_text-word.ensures) at (c.in_ok-rows.ensures.shown trusted.0)) in
+    answers_for (LacksText (0 ∷ 1 ∷ []) (λ _. true) rows) (StoreFailed old new (FindStickers c.args.kind c.args.name.now)) _ c.entries_of.result (λ lacks. absurd (both_never_lack (1 ∷ 2 ∷ 3 ∷ 4 ∷ []) 2 4 (λ row. has_text 1 (kind_text c.args.kind) row && has_text 3 c.args.name.now row) (old.now.trees 5) trusted.1.texts.notes (inr (inl refl)) (inr (inr (inr (inl refl)))) (of_name_lack old.now.trees rows c.args.kind c.args.name.now answer lacks))) (rw c.deref.ensures.value at c.entries_of.ensures.answers)

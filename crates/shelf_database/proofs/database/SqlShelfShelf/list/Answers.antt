@@ -5,7 +5,7 @@ use Rattle.shelf.specs.Calls.{ListOf}
 use Rattle.shelf.specs.Maps.{refusal_of_list}
 use Rattle.shelf.specs.Lines.{lines_of}
 use Rattle.shelf_database.specs.Faults.{HasFailed, LacksText, CannotDo, StoreFailed}
-use Rattle.shelf_database.specs.Tables.{maps_in, has_text}
+use Rattle.shelf_database.specs.Tables.{note_maps, has_text}
 use Rattle.shelf_database.proofs.AskLemmas.{handed_on, text_reads, text_refuses, asked_answer, refused_answers}
 use Rattle.shelf_database.proofs.BlameLemmas.{uris_asked}
 use Rattle.shelf_database.proofs.FoundLemmas.{list_shown, first_is}
@@ -28,7 +28,7 @@ returns-in_err-text-clause-answers g c = λ trusted.
     let lacking : Type 0 = LacksText (2 ∷ []) (has_text 1 c.args.name.now) (old.now.trees 1) in
     let never : lacking → ⊥ = one_never_lacks (1 ∷ 2 ∷ []) 2 (has_text 1 c.args.name.now) (old.now.trees 1) trusted.1.texts.lists (inr (inl refl)) in
     let refuses = text_refuses _ _ (uris_asked c.args.name.now) old new (rw c.params-to_sql.ensures at c.first_text.ensures.survives) (LacksText (2 ∷ []) (has_text 1 c.args.name.now) (old.now.trees 1)) c.in_err-text.field-0.0 (λ rows answer lacks. uris_lack old.now.trees rows c.args.name.now answer lacks) (rw c.params-to_sql.ensures at c.in_err-text.ensures.refused) in
-    rw (handed_on c.from_residual.result _ c.from_residual.ensures.1) (refused_answers (Unit {0}) old new (HasFailed old new ⊎ lacking) (StoreFailed old new (ListOf c.args.name.now)) (refusal_of_list (maps_in old.now.trees) c.args.name.now) c.in_err-text.field-0.0 (failed_only (HasFailed old new) lacking (CannotDo old.now.trees (ListOf c.args.name.now)) never) refuses trusted)
+    rw (handed_on c.from_residual.result _ c.from_residual.ensures.1) (refused_answers (Unit {0}) old new (HasFailed old new ⊎ lacking) (StoreFailed old new (ListOf c.args.name.now)) (refusal_of_list (note_maps old.now.trees) c.args.name.now) c.in_err-text.field-0.0 (failed_only (HasFailed old new) lacking (CannotDo old.now.trees (ListOf c.args.name.now)) never) refuses trusted)
 
 pub returns-in-Some-clause-turns : goal.returns-in-Some-clause-turns
 returns-in-Some-clause-turns g c =

@@ -11,7 +11,7 @@ use Rattle.sqlite_schema.specs.declared.command.Conflict.TheVariants.{Replace}
 use Rattle.sqlite_tied.specs.Compute.{everything}
 use Rattle.shelf.specs.Maps.{with_list, refusal_of_put}
 use Rattle.shelf.specs.Calls.{Put}
-use Rattle.shelf_database.specs.Tables.{maps_in, IsReady}
+use Rattle.shelf_database.specs.Tables.{note_maps, IsReady}
 use Rattle.shelf_database.specs.Faults.{HasFailed, IsUnstorable, StoreFailed}
 use Rattle.shelf_database.proofs.AskLemmas.{change_turns, change_blames, answers_done}
 use Rattle.shelf_database.proofs.BlameLemmas.{IsWhole}
@@ -29,8 +29,8 @@ returns-clause-turns g c =
     let old = state g.S.Store c.args.self.now.connection in
     let text = c.text.result.now in
     let params : List Value = Text c.args.name.now ∷ Text text ∷ [] in
-    let does : IsReady old → DoesSo old put_text params command (with_list (maps_in old.now.trees) c.args.name.now (Some c.args.uris.now)) =
-    λ ready. subst (λ lines. DoesSo old put_text params command (with_list (maps_in old.now.trees) c.args.name.now (Some lines))) c.text.ensures.uris (puts_list old c.args.name.now text c.utf8.name c.text.utf8 ready) in
+    let does : IsReady old → DoesSo old put_text params command (with_list (note_maps old.now.trees) c.args.name.now (Some c.args.uris.now)) =
+    λ ready. subst (λ lines. DoesSo old put_text params command (with_list (note_maps old.now.trees) c.args.name.now (Some lines))) c.text.ensures.uris (puts_list old c.args.name.now text c.utf8.name c.text.utf8 ready.shelf) in
     change_turns put_text params command put_is tt old (state g.S.Store c.change.new.connection) c.change.result (rw (c.params-to_sql.ensures, c.params-to_sql-2.ensures) at c.change.ensures.ran) _ does
     (rw (c.params-to_sql.ensures, c.params-to_sql-2.ensures) at c.change.ensures.survives)
 

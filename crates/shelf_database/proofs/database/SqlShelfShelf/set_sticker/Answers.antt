@@ -1,47 +1,32 @@
-use Rattle.std.proofs.Common.{ℕ, List, [], ◌∷◌, Some, refl, rules}
-use Rattle.sqlite.specs.declared.types.Value.{Value}
-use Rattle.sqlite.specs.declared.types.Value.TheVariants.{Text}
-use Rattle.sqlite.specs.Source.TheVariants.{Values}
-use Rattle.sqlite.specs.Command.{Command}
-use Rattle.sqlite.specs.Command.TheVariants.{InsertOr}
+use Rattle.std.proofs.Common.{◌≡◌, Option, true, inl, rules}
 use Rattle.sqlite.specs.Held.{state}
-use Rattle.sqlite.specs.Listing.{understood}
-use Rattle.sqlite_schema.specs.declared.command.Conflict.TheVariants.{Replace}
-use Rattle.sqlite_tied.specs.Compute.{everything}
-use Rattle.shelf.specs.Maps.{with_sticker, refusal_of_set}
+use Rattle.shelf.specs.declared.faults.ShelfFault.{ShelfFault}
 use Rattle.shelf.specs.Calls.{SetSticker}
-use Rattle.shelf_database.specs.Tables.{maps_in}
-use Rattle.shelf_database.specs.Faults.{StoreFailed}
-use Rattle.shelf_database.proofs.AskLemmas.{change_turns, change_blames, answers_done}
-use Rattle.shelf_database.proofs.BlameLemmas.{IsWhole}
-use Rattle.shelf_database.proofs.PutBlame.{set_refused}
-use Rattle.shelf_database.proofs.PutStickerLemmas.{puts_sticker, sticker_values}
-use Rattle.shelf_database.proofs.Statements.{set_text, set_is}
+use Rattle.shelf.specs.Maps.{refusal_of_set, refusal_of_target}
+use Rattle.shelf_database.specs.Tables.{note_maps}
+use Rattle.shelf_database.specs.Faults.{HasFailed, StoreFailed}
+use Rattle.shelf_database.specs.Notes.{refusal_of_note_name}
+use Rattle.shelf_database.proofs.AskLemmas.{handed_on, refused_answers}
+use Rattle.shelf_database.proofs.ThereLemmas.{turns_there, answers_there}
 use Rattle.shelf_database.proofs.database.SqlShelfShelf.set_sticker.Goals as goal
 
-abbrev command : Command
-command = InsertOr 2 Replace (Values sticker_values 4) []
+pub returns-in_err-has_target-clause-turns : goal.returns-in_err-has_target-clause-turns
+returns-in_err-has_target-clause-turns g c = rw (handed_on c.from_residual.result _ c.from_residual.ensures.1) (c.in_err-has_target.ensures.refused.turns _)
+
+pub returns-in_err-has_target-clause-answers : goal.returns-in_err-has_target-clause-answers
+returns-in_err-has_target-clause-answers g c = λ trusted.
+    let old = state g.S.Store c.args.self.now.connection in
+    let new = state g.S.Store c.has_target.new.connection in
+    rw (handed_on c.from_residual.result _ c.from_residual.ensures.1) (refused_answers (Unit {0}) old new (HasFailed old new) (StoreFailed old new (SetSticker c.args.kind c.args.target.now c.args.name.now c.args.value.now)) (refusal_of_set (note_maps old.now.trees) c.args.kind c.args.target.now c.args.name.now) c.in_err-has_target.field-0.0 (λ failed. inl failed) c.in_err-has_target.ensures.refused trusted)
 
 pub returns-clause-turns : goal.returns-clause-turns
 returns-clause-turns g c =
-    let old = state g.S.Store c.args.self.now.connection in
-    let params : List Value = Text c.args.uri.now ∷ Text c.args.name.now ∷ Text c.args.value.now ∷ [] in
-    change_turns set_text params command set_is tt old (state g.S.Store c.change.new.connection) c.change.result (rw (c.params-to_sql.ensures, c.params-to_sql-2.ensures, c.params-to_sql-3.ensures) at c.change.ensures.ran)
-    (with_sticker (maps_in old.now.trees) c.args.uri.now c.args.name.now (Some c.args.value.now)) (puts_sticker old c.args.uri.now c.args.name.now c.args.value.now c.utf8.uri c.utf8.name c.utf8.value)
-    (rw (c.params-to_sql.ensures, c.params-to_sql-2.ensures, c.params-to_sql-3.ensures) at c.change.ensures.survives)
-
-set_whole : (uri name value : List ℕ) → IsWhole set_text (Text uri ∷ Text name ∷ Text value ∷ [])
-unfolding understood everything
-set_whole uri name value = (refl, refl)
+    turns_there g.S.Store c.args.self.now.connection c.has_target.new.connection c.in_ok-has_target.ensures.reads (state g.S.Store c.set_note.new.connection) (SetSticker c.args.kind c.args.target.now c.args.name.now c.args.value.now) c.set_note.result c.set_note.ensures.turns
 
 pub returns-clause-answers : goal.returns-clause-answers
 returns-clause-answers g c = λ trusted.
     let old = state g.S.Store c.args.self.now.connection in
-    let new = state g.S.Store c.change.new.connection in
-    let uri = c.args.uri.now in
-    let name = c.args.name.now in
-    let value = c.args.value.now in
-    let failed : Type 0 = StoreFailed old new (SetSticker uri name value) in
-    answers_done failed (refusal_of_set name) c.change.result (search rules)
-    (change_blames set_text (Text uri ∷ Text name ∷ Text value ∷ []) command set_is tt old new c.change.result (rw (c.params-to_sql.ensures, c.params-to_sql-2.ensures, c.params-to_sql-3.ensures) at c.change.ensures.ran) _ failed (set_whole uri name value)
-    (set_refused old uri name value trusted.1.ready) trusted.1.ready trusted.0 (λ why. why))
+    let first : Option ShelfFault = refusal_of_target (note_maps old.now.trees) c.args.kind c.args.target.now in
+    let is : c.in_ok-has_target.field-0 ≡ true = search rules in
+    answers_there g.S.Store c.args.self.now.connection c.has_target.new.connection c.in_ok-has_target.ensures.reads (state g.S.Store c.set_note.new.connection) (SetSticker c.args.kind c.args.target.now c.args.name.now c.args.value.now) c.set_note.result first (refusal_of_note_name c.args.name.now) c.set_note.ensures.turns
+    (λ clean ready. rw is at (c.in_ok-has_target.ensures.found clean ready)) c.set_note.ensures.answers trusted

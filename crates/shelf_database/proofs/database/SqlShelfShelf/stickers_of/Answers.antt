@@ -1,51 +1,32 @@
-use Rattle.std.proofs.Common.{[], ◌∷◌, map, sym, ◌∙◌, is_ok, inl, inr, refl, true}
-use Rattle.std.proofs.lemmas.Simd.{map-map}
-use Rattle.sqlite.specs.declared.types.Value.TheVariants.{Text}
+use Rattle.std.proofs.Common.{◌≡◌, Option, true, inl, rules}
 use Rattle.sqlite.specs.Held.{state}
-use Rattle.shelf.specs.Entries.{entry_texts}
+use Rattle.shelf.specs.declared.faults.ShelfFault.{ShelfFault}
 use Rattle.shelf.specs.Calls.{StickersOf}
-use Rattle.shelf.specs.Maps.{no_refusal}
-use Rattle.shelf_database.specs.Tables.{has_text}
-use Rattle.shelf_database.specs.Faults.{HasFailed, LacksText, StoreFailed}
-use Rattle.shelf_database.proofs.AskLemmas.{asked_reads, asked_answer, asked_refuses, refused_answers, handed_on}
-use Rattle.shelf_database.proofs.BlameLemmas.{of_uri_asked}
-use Rattle.shelf_database.proofs.FaultLemmas.{answers_for}
-use Rattle.shelf_database.proofs.HoldsLemmas.{both_never_lack}
-use Rattle.shelf_database.proofs.LacksLemmas.{of_uri_lack}
-use Rattle.shelf_database.proofs.QueryLemmas.{read_turns}
-use Rattle.shelf_database.proofs.ShownLemmas.{IfOk-both, of_uri_shown}
+use Rattle.shelf.specs.Maps.{refusal_of_target}
+use Rattle.shelf_database.specs.Tables.{note_maps}
+use Rattle.shelf_database.specs.Faults.{HasFailed, StoreFailed}
+use Rattle.shelf_database.specs.Notes.{no_note_refusal}
+use Rattle.shelf_database.proofs.AskLemmas.{handed_on, refused_answers}
+use Rattle.shelf_database.proofs.ThereLemmas.{turns_there, answers_there, target_alone}
 use Rattle.shelf_database.proofs.database.SqlShelfShelf.stickers_of.Goals as goal
 
-pub returns-in_err-rows-clause-turns : goal.returns-in_err-rows-clause-turns
-returns-in_err-rows-clause-turns g c =
-    let refuses = asked_refuses _ _ (of_uri_asked c.args.uri.now) (state g.S.Store c.args.self.now.connection) (state g.S.Store c.ask.new.connection) (rw c.params-to_sql.ensures at c.ask.ensures.survives) c.in_err-rows.field-0.0 (rw c.params-to_sql.ensures at c.in_err-rows.ensures.refused) in
-    rw (handed_on c.from_residual.result _ c.from_residual.ensures.1) (refuses.turns _)
+pub returns-in_err-has_target-clause-turns : goal.returns-in_err-has_target-clause-turns
+returns-in_err-has_target-clause-turns g c = rw (handed_on c.from_residual.result _ c.from_residual.ensures.1) (c.in_err-has_target.ensures.refused.turns _)
 
-pub returns-in_err-rows-clause-answers : goal.returns-in_err-rows-clause-answers
-returns-in_err-rows-clause-answers g c = λ trusted.
+pub returns-in_err-has_target-clause-answers : goal.returns-in_err-has_target-clause-answers
+returns-in_err-has_target-clause-answers g c = λ trusted.
     let old = state g.S.Store c.args.self.now.connection in
-    let new = state g.S.Store c.ask.new.connection in
-    let refuses = asked_refuses _ _ (of_uri_asked c.args.uri.now) old new (rw c.params-to_sql.ensures at c.ask.ensures.survives) c.in_err-rows.field-0.0 (rw c.params-to_sql.ensures at c.in_err-rows.ensures.refused) in
-    rw (handed_on c.from_residual.result _ c.from_residual.ensures.1) (refused_answers (Unit {0}) old new (HasFailed old new) (StoreFailed old new (StickersOf c.args.uri.now)) no_refusal c.in_err-rows.field-0.0 (λ failed. inl failed) refuses trusted)
+    let new = state g.S.Store c.has_target.new.connection in
+    rw (handed_on c.from_residual.result _ c.from_residual.ensures.1) (refused_answers (Unit {0}) old new (HasFailed old new) (StoreFailed old new (StickersOf c.args.kind c.args.target.now)) (refusal_of_target (note_maps old.now.trees) c.args.kind c.args.target.now) c.in_err-has_target.field-0.0 (λ failed. inl failed) c.in_err-has_target.ensures.refused trusted)
 
 pub returns-clause-turns : goal.returns-clause-turns
 returns-clause-turns g c =
-    let old = state g.S.Store c.args.self.now.connection in
-    let new = state g.S.Store c.ask.new.connection in
-    read_turns old new (is_ok c.entries_of.result) (asked_reads _ _ (of_uri_asked c.args.uri.now) old new (rw c.params-to_sql.ensures at c.ask.ensures.survives) c.in_ok-rows.rows.items (rw c.params-to_sql.ensures at c.in_ok-rows.ensures.shown))
-
-pub returns-clause-entries : goal.returns-clause-entries
-returns-clause-entries g c = λ trusted.
-    let old = state g.S.Store c.args.self.now.connection in
-    let rows = c.in_ok-rows.rows.items in
-    let answer = asked_answer _ _ (of_uri_asked c.args.uri.now) old (state g.S.Store c.ask.new.connection) (rw c.params-to_sql.ensures at c.ask.ensures.survives) rows trusted.1.ready (rw c.params-to_sql.ensures at (c.in_ok-rows.ensures.shown trusted.0)) in
-    IfOk-both c.entries_of.result _ _ _ (λ entries keys values. of_uri_shown c.args.uri.now old.now trusted.1.ready.shelf rows (map entry_texts entries.items)
-    (keys ∙ sym (map-map (λ e. Text e.0) entry_texts entries.items)) (values ∙ sym (map-map (λ e. Text e.1) entry_texts entries.items)) answer) (rw c.deref.ensures.value at c.entries_of.ensures.keys) (rw c.deref.ensures.value at c.entries_of.ensures.values)
+    turns_there g.S.Store c.args.self.now.connection c.has_target.new.connection c.in_ok-has_target.ensures.reads (state g.S.Store c.notes_of.new.connection) (StickersOf c.args.kind c.args.target.now) c.notes_of.result c.notes_of.ensures.turns
 
 pub returns-clause-answers : goal.returns-clause-answers
 returns-clause-answers g c = λ trusted.
     let old = state g.S.Store c.args.self.now.connection in
-    let new = state g.S.Store c.ask.new.connection in
-    let rows = c.in_ok-rows.rows.items in
-    let answer = asked_answer _ _ (of_uri_asked c.args.uri.now) old new (rw c.params-to_sql.ensures at c.ask.ensures.survives) rows trusted.1.ready (rw c.params-to_sql.ensures at (c.in_ok-rows.ensures.shown trusted.0)) in
-    answers_for (LacksText (0 ∷ 1 ∷ []) (λ _. true) rows) (StoreFailed old new (StickersOf c.args.uri.now)) _ c.entries_of.result (λ lacks. absurd (both_never_lack (1 ∷ 2 ∷ 3 ∷ []) 2 3 (has_text 1 c.args.uri.now) (old.now.trees 3) trusted.1.texts.stickers (inr (inl refl)) (inr (inr (inl refl))) (of_uri_lack old.now.trees rows c.args.uri.now answer lacks))) (rw c.deref.ensures.value at c.entries_of.ensures.answers)
+    let first : Option ShelfFault = refusal_of_target (note_maps old.now.trees) c.args.kind c.args.target.now in
+    let is : c.in_ok-has_target.field-0 ≡ true = search rules in
+    target_alone first (StoreFailed old (state g.S.Store c.notes_of.new.connection) (StickersOf c.args.kind c.args.target.now)) c.notes_of.result (answers_there g.S.Store c.args.self.now.connection c.has_target.new.connection c.in_ok-has_target.ensures.reads (state g.S.Store c.notes_of.new.connection) (StickersOf c.args.kind c.args.target.now) c.notes_of.result first (no_note_refusal) c.notes_of.ensures.turns
+    (λ clean ready. rw is at (c.in_ok-has_target.ensures.found clean ready)) c.notes_of.ensures.answers trusted)

@@ -1,0 +1,36 @@
+use Rattle.std.proofs.Common.{inl, [], Ok}
+use Rattle.std.proofs.lemmas.Result.{err_from_is_err_and}
+use Rattle.sqlite.specs.Held.{state}
+use Rattle.shelf_database.specs.Tables.{shelf_schema}
+use Rattle.shelf_database.specs.Opens.{HasNoNotes, CopiesStickers, KeepsOne, copy_query}
+use Rattle.shelf_database.proofs.MakingLemmas.{leads_by, kept_at}
+use Rattle.shelf_database.proofs.MakingBlame.{stopped_for}
+use Rattle.shelf_database.proofs.RunLemmas.{each_one}
+use Rattle.shelf_database.proofs.SongCopies.{song_copying, copies_stickers}
+use Rattle.shelf_database.proofs.SongBlame.{move_sure, move_whole}
+use Rattle.shelf_database.proofs.Statements.{move_text, move_is}
+use Rattle.shelf_database.proofs.profile.copy_stickers.Goals as goal
+
+pub returns-clause-leads : goal.returns-clause-leads
+returns-clause-leads g c =
+    let old = state g.S.Store c.args.transaction.now.conn.now in
+    let new = state g.S.Store c.execute.new.self.conn.now in
+    leads_by HasNoNotes CopiesStickers shelf_schema (λ db has. has.schema) move_text [] song_copying move_is (λ old new text params count ran. ran) old new
+    (λ tally before does sound. copies_stickers old tally new.now before does sound)
+    (Ok c.in_ok-execute.field-0) c.in_ok-execute.ensures.runs (λ outside. kept_at g.S.Store c.args.transaction.now.conn.now c.execute.new.self.conn.now (c.in_ok-execute.ensures.ended outside).1) c.execute.ensures.survives
+
+pub returns-in_err-execute-clause-blamed : goal.returns-in_err-execute-clause-blamed
+returns-in_err-execute-clause-blamed g c =
+    let old = state g.S.Store c.args.transaction.now.conn.now in
+    let new = state g.S.Store c.execute.new.self.conn.now in
+    let how = err_from_is_err_and c.from_residual.result c.from_residual.ensures.1 in
+    rw (how.1, how.2) (stopped_for HasNoNotes KeepsOne shelf_schema (λ db has. has.schema) move_text [] song_copying tt move_is move_whole move_sure old new c.in_err-execute.field-0.0 c.in_err-execute.ensures.runs)
+
+pub returns-clause-ran : goal.returns-clause-ran
+returns-clause-ran g c = λ clean inside.
+    each_one g.S.Store copy_query c.args.transaction.now.conn.now c.execute.new.self.conn.now c.in_ok-execute.field-0 (c.in_ok-execute.ensures.runs clean inside)
+
+pub returns-in_err-execute-clause-ran : goal.returns-in_err-execute-clause-ran
+returns-in_err-execute-clause-ran g c =
+    let how = err_from_is_err_and c.from_residual.result c.from_residual.ensures.1 in
+    rw (how.1, how.2) (λ clean inside. inl (c.in_err-execute.ensures.runs clean inside))
