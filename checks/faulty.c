@@ -7,6 +7,7 @@
  *   FAULTY_ALLOCATION=N  the Nth malloc or realloc finds no memory (ENOMEM)
  *   FAULTY_READ=N        the Nth read or pread fails (EIO)
  *   FAULTY_WRITE=N       the Nth write or pwrite fails (EIO); those to standard error neither fail nor count
+ *   FAULTY_STOP=N        at the Nth such write the program is killed, and nothing is written
  *   FAULTY_PIECE=N       no read and no such write moves more than N bytes
  *   FAULTY_REPORT=FILE   at exit or _exit FILE gets a line 'NAME COUNT' for each count and for the peak memory
  */
@@ -14,6 +15,7 @@
 #include <dlfcn.h>
 #include <errno.h>
 #include <fcntl.h>
+#include <signal.h>
 #include <stdatomic.h>
 #include <stdio.h>
 #include <stdlib.h>
@@ -21,7 +23,7 @@
 #include <unistd.h>
 
 static atomic_long allocations, reads, writes, bytes_read;
-static long refused_allocation, failing_read, failing_write, piece;
+static long refused_allocation, failing_read, failing_write, stopping_write, piece;
 
 static void *(*real_malloc)(size_t);
 static void *(*real_realloc)(void *, size_t);
@@ -47,6 +49,12 @@ static long number_in(const char *variable) {
 
 static int is_due(atomic_long *count, long at) {
     return atomic_fetch_add(count, 1) + 1 == at;
+}
+
+static int fails_to_write(void) {
+    long number = atomic_fetch_add(&writes, 1) + 1;
+    if (number == stopping_write) kill(getpid(), SIGKILL);
+    return number == failing_write;
 }
 
 static size_t cut(size_t size) {
@@ -76,7 +84,7 @@ ssize_t read(int file, void *into, size_t size) {
 ssize_t write(int file, const void *from, size_t size) {
     if (!real_write) find_real_calls();
     if (file == STDERR_FILENO) return real_write(file, from, size);
-    if (is_due(&writes, failing_write)) { errno = EIO; return -1; }
+    if (fails_to_write()) { errno = EIO; return -1; }
     return real_write(file, from, cut(size));
 }
 
@@ -90,7 +98,7 @@ ssize_t pread(int file, void *into, size_t size, off_t at) {
 
 ssize_t pwrite(int file, const void *from, size_t size, off_t at) {
     if (!real_pwrite) find_real_calls();
-    if (is_due(&writes, failing_write)) { errno = EIO; return -1; }
+    if (fails_to_write()) { errno = EIO; return -1; }
     return real_pwrite(file, from, cut(size), at);
 }
 
@@ -128,6 +136,7 @@ __attribute__((constructor)) static void begin(void) {
     refused_allocation = number_in("FAULTY_ALLOCATION");
     failing_read = number_in("FAULTY_READ");
     failing_write = number_in("FAULTY_WRITE");
+    stopping_write = number_in("FAULTY_STOP");
     piece = number_in("FAULTY_PIECE");
     if (getenv("FAULTY_REPORT")) atexit(report);
     allocations = 0; /* those of the program alone are counted */

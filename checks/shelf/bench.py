@@ -22,12 +22,13 @@ TABLES = [
     'CREATE TABLE profile (one INTEGER PRIMARY KEY CHECK (one = 1), number INTEGER NOT NULL)',
     'CREATE TABLE list (name TEXT NOT NULL PRIMARY KEY, uris TEXT NOT NULL)',
     'CREATE TABLE sticker (uri TEXT NOT NULL, name TEXT NOT NULL, value TEXT NOT NULL, PRIMARY KEY (uri, name))',
+    'CREATE TABLE note (kind TEXT NOT NULL, target TEXT NOT NULL, name TEXT NOT NULL, value TEXT NOT NULL, PRIMARY KEY (kind, target, name))',
 ]
 PUT = 'INSERT OR REPLACE INTO list (name, uris) VALUES (?1, ?2)'
 LIST = 'SELECT uris FROM list WHERE name = ?1'
-SET = 'INSERT OR REPLACE INTO sticker (uri, name, value) VALUES (?1, ?2, ?3)'
-# how often each is called, and the wanted multiple of sqlite3's time in memory
-CALLS = {'put': 50, 'list': 200, 'stickers': 10000}
+SET = 'INSERT OR REPLACE INTO note (kind, target, name, value) VALUES (?1, ?2, ?3, ?4)'
+# how often each is called (`query` is what `list` asks the port, without the shelf), and the wanted multiple of sqlite3's time in memory
+CALLS = {'put': 50, 'list': 200, 'query': 200, 'stickers': 10000}
 WANTED = 3
 
 
@@ -39,9 +40,9 @@ def statements(call, count):
     """The statements before the measured ones, and those, each with its values."""
     if call == 'put':
         return [], [(PUT, ('long', TEXT))] * count
-    if call == 'list':
+    if call in ('list', 'query'):
         return [(PUT, ('long', TEXT))], [(LIST, ('long',))] * count
-    return [], [(SET, (uri, 'rating', '5')) for uri in URIS[:count]]
+    return [], [(SET, ('song', uri, 'rating', '5')) for uri in URIS[:count]]
 
 
 def script(pairs):

@@ -1,7 +1,7 @@
 """Reads with sqlite3 the files that a shelf wrote, once closed and once left open, with its log beside it.
 
 Usage: reader.py PROGRAM     (shelf_bench, which reader.sh builds)
-Right are: the lists and stickers below, by their bytes, number 1 in the profile, and `PRAGMA integrity_check` with `ok`.
+Right are: the lists and stickers below, by their bytes, number 2 in the profile, and `PRAGMA integrity_check` with `ok`.
 The exit status is 1 where one differs.
 """
 import os
@@ -19,11 +19,14 @@ LISTS = {
     'long': ['folder/%d.wav' % number for number in range(16384)],
 }
 STICKERS = {
-    ('a.wav', 'rating'): '6',
-    ('a\0b.wav', '\0n'): 'v\0w\0',
-    ("'; DROP TABLE list; --", '"n"'): "it''s",
-    ('é.wav', 'Ω'): '🎵\n',
-    ('empty.wav', 'n'): '',
+    ('song', 'a.wav', 'rating'): '6',
+    ('song', 'a\0b.wav', '\0n'): 'v\0w\0',
+    ('song', "'; DROP TABLE list; --", '"n"'): "it''s",
+    ('song', 'é.wav', 'Ω'): '🎵\n',
+    ('song', 'empty.wav', 'n'): '',
+    ('song', 'b', 'rating'): 'of a song',
+    ('playlist', 'b', 'rating'): 'b',
+    ('playlist', 'new', 'rating'): 'old',
 }
 
 
@@ -39,14 +42,15 @@ def rows(path, query):
 def check(path):
     """The name of each check, and whether it holds."""
     lists = [coded(name, ''.join(uri + '\n' for uri in uris)) for name, uris in LISTS.items()]
-    stickers = [coded(uri, name, value) for (uri, name), value in STICKERS.items()]
+    stickers = [coded(kind, target, name, value) for (kind, target, name), value in STICKERS.items()]
     # the text's bytes in order, as sqlite3's own index gives them
     yield 'lists', rows(path, 'SELECT hex(name), hex(uris) FROM list ORDER BY name') == sorted(lists)
-    by_uri = 'SELECT hex(uri), hex(name), hex(value) FROM sticker ORDER BY uri, name'
-    yield 'stickers', rows(path, by_uri) == sorted(stickers)
-    yield 'types', rows(path, "SELECT DISTINCT typeof(uri), typeof(name), typeof(value) FROM sticker") == ['text|text|text']
-    yield 'profile', rows(path, 'SELECT one, number FROM profile') == ['1|1']
-    yield 'tables', rows(path, "SELECT name FROM sqlite_schema WHERE type = 'table' ORDER BY name") == ['list', 'profile', 'sticker']
+    by_key = 'SELECT hex(kind), hex(target), hex(name), hex(value) FROM note ORDER BY kind, target, name'
+    yield 'stickers', rows(path, by_key) == sorted(stickers) and rows(path, 'SELECT count(*) FROM sticker') == ['0']
+    kinds = 'SELECT DISTINCT typeof(kind), typeof(target), typeof(name), typeof(value) FROM note'
+    yield 'types', rows(path, kinds) == ['text|text|text|text']
+    yield 'profile', rows(path, 'SELECT one, number FROM profile') == ['1|2']
+    yield 'tables', rows(path, "SELECT name FROM sqlite_schema WHERE type = 'table' ORDER BY name") == ['list', 'note', 'profile', 'sticker']
     yield 'integrity_check', rows(path, 'PRAGMA integrity_check') == ['ok']
 
 
