@@ -15,6 +15,7 @@ use Rattle.mpd_command.specs.Database.{rows as database_rows}
 use Rattle.mpd_command.specs.Messages.{rows as messages_rows}
 use Rattle.mpd_command.specs.Options.{rows as options_rows}
 use Rattle.mpd_command.specs.Outputs.{rows as outputs_rows}
+use Rattle.mpd_command.specs.Partitions.{rows as partitions_rows}
 use Rattle.mpd_command.specs.Playback.{rows as playback_rows}
 use Rattle.mpd_command.specs.Playlists.{rows as playlists_rows}
 use Rattle.mpd_command.specs.Queue.{rows as queue_rows}
@@ -45,11 +46,11 @@ stand-at heads (name ∷ names) place (suc i) all low =
     subst (StandsAt heads (get_or names i [])) same (stand-at heads names (place + 1) i (second_so _ _ all) (omega arith))
 
 all-stand : stand starts 0 all_names ≡ true
-unfolding all_names connection_rows database_rows messages_rows options_rows outputs_rows playback_rows playlists_rows queue_rows status_rows stickers_rows starts
+unfolding all_names connection_rows database_rows messages_rows options_rows outputs_rows partitions_rows playback_rows playlists_rows queue_rows status_rows stickers_rows starts
 all-stand = refl
 
 starts-fit : list_all (λ start. leb start (length all_names)) starts ≡ true
-unfolding all_names connection_rows database_rows messages_rows options_rows outputs_rows playback_rows playlists_rows queue_rows status_rows stickers_rows starts
+unfolding all_names connection_rows database_rows messages_rows options_rows outputs_rows partitions_rows playback_rows playlists_rows queue_rows status_rows stickers_rows starts
 starts-fit = refl
 
 at-most : (heads : List ℕ) (most i : ℕ) → list_all (λ start. leb start most) heads ≡ true → get_or heads i 0 ≤ most
@@ -104,7 +105,7 @@ text-of_word word name same = same_word _ _ (position-Some (λ other. bytes_eq o
 
 -- each name that the everyday profile adds is one of all names
 added-named : list_all (λ name. is_some (position (λ other. bytes_eq other name) all_names)) everyday_names ≡ true
-unfolding all_names connection_rows database_rows messages_rows options_rows outputs_rows playback_rows playlists_rows queue_rows status_rows stickers_rows
+unfolding all_names connection_rows database_rows messages_rows options_rows outputs_rows partitions_rows playback_rows playlists_rows queue_rows status_rows stickers_rows
 added-named = refl
 
 each-added : (test : List ℕ → Bool) (names : List (List ℕ)) (word : List ℕ) → list_all test names ≡ true → list_any (λ name. bytes_eq name word) names ≡ true → test word ≡ true

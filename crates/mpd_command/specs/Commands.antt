@@ -6,6 +6,7 @@ use Rattle.mpd_command.specs.Database.{rows as database_rows}
 use Rattle.mpd_command.specs.Messages.{rows as messages_rows}
 use Rattle.mpd_command.specs.Options.{rows as options_rows}
 use Rattle.mpd_command.specs.Outputs.{rows as outputs_rows}
+use Rattle.mpd_command.specs.Partitions.{rows as partitions_rows}
 use Rattle.mpd_command.specs.Playback.{rows as playback_rows}
 use Rattle.mpd_command.specs.Playlists.{rows as playlists_rows}
 use Rattle.mpd_command.specs.Queue.{rows as queue_rows}
@@ -28,4 +29,5 @@ command_of set word words =
     (or_else (under command.Playlists (found (playlists_rows set) word words))
     (or_else (under command.Stickers (found stickers_rows word words))
     (or_else (under command.Outputs (found outputs_rows word words))
-    (under command.Messages (found messages_rows word words))))))))))
+    (or_else (under command.Messages (found messages_rows word words))
+    (under command.Partitions (found partitions_rows word words)))))))))))

@@ -9,6 +9,7 @@ use crate::database::{self, DatabaseCommand};
 use crate::messages::{self, MessageCommand};
 use crate::options::{self, OptionCommand};
 use crate::outputs::{self, OutputCommand};
+use crate::partitions::{self, PartitionCommand};
 use crate::playback::{self, PlaybackCommand};
 use crate::playlists::{self, PlaylistCommand};
 use crate::queue::{self, QueueCommand};
@@ -30,6 +31,7 @@ pub enum Command {
     Connection(ConnectionCommand),
     Outputs(OutputCommand),
     Messages(MessageCommand),
+    Partitions(PartitionCommand),
 }
 
 /// The command of a name and the words after it; none where no group has the name. Which commands there are
@@ -70,5 +72,8 @@ pub(crate) fn read(
     if let Some(command) = outputs::read(alloc, word, words)? {
         return Ok(Some(Command::Outputs(command)));
     }
-    Ok(messages::read(alloc, word, words)?.map(Command::Messages))
+    if let Some(command) = messages::read(alloc, word, words)? {
+        return Ok(Some(Command::Messages(command)));
+    }
+    Ok(partitions::read(alloc, word, words)?.map(Command::Partitions))
 }

@@ -7,6 +7,8 @@ use Rattle.std.specs.List.{flat_map, list_all, list_any}
 use Rattle.mpd_text.specs.Answers.Answer.{pair_line}
 use Rattle.mpd_text.specs.declared.answers.answer.ErrorNumber.{ErrorNumber}
 use Rattle.mpd_text.specs.declared.answers.answer.ErrorNumber.TheVariants.{Argument, Exist, NoExist, System}
+use Rattle.mpd_command.specs.declared.partitions.PartitionCommand.{PartitionCommand}
+use Rattle.mpd_command.specs.declared.partitions.PartitionCommand.TheVariants.{DelPartition, ListPartitions, MoveOutput, NewPartition, Partition}
 use Rattle.song_search.specs.Texts.{ascending}
 use Rattle.player_state.specs.Outputs.{OutputsData, all_elsewhere, holds_any, no_outputs}
 use Rattle.player_state.specs.declared.state.Client.{Client}
@@ -129,3 +131,11 @@ moves fs asked own (Some output) = brings asked output own (holder output fs)
 -- an output comes to the partition of the client that asks; where it is there already, nothing happens
 abbrev pub move_output : List Known → Asked → ℕ → List ℕ → TransitionData
 move_output fs asked own name = moves fs asked own (output_named name fs)
+
+-- what a command of a client makes: of what all know, and of the number of the partition that the client is in
+unfoldable pub planned : List Known → List Seated → Openings → Asked → ℕ → PartitionCommand → TransitionData
+planned fs ks openings asked own (DelPartition name) = delete_partition fs ks asked name
+planned fs ks openings asked own ListPartitions = list_partitions fs asked
+planned fs ks openings asked own (MoveOutput name) = move_output fs asked own name
+planned fs ks openings asked own (NewPartition name) = new_partition fs openings asked name
+planned fs ks openings asked own (Partition name) = partition fs asked own name

@@ -5,4 +5,6 @@ mod names;
 mod partitions;
 
 pub use names::is_partition_name;
-pub use partitions::{delete_partition, list_partitions, move_output, new_partition, partition};
+pub use partitions::{
+    delete_partition, list_partitions, move_output, new_partition, partition, run,
+};

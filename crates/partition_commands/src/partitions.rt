@@ -3,14 +3,33 @@
 ghost use Rattle.std.specs.Prelude.{◌≡◌, ◌<◌, ◌≤◌, IfOk, map, position};
 ghost use Rattle.std.specs.Str.{bytes_eq};
 ghost use Rattle.parts.specs.Parts.{known};
-ghost use Rattle.partition_commands.specs.Partitions.{IsPlanned, begins as begins_lem, brings as brings_lem, delete_partition as delete_partition_lem, done as done_lem, ends_at as ends_at_lem, goes as goes_lem, is_in as is_in_lem, is_used as is_used_lem, list_partitions as list_partitions_lem, move_output as move_output_lem, new_partition as new_partition_lem, opens as opens_lem, output_named as output_named_lem, outputs_elsewhere, partition as partition_lem, seated};
+
+ghost use Rattle.partition_commands.specs.Partitions.{IsPlanned, begins as begins_lem, brings as brings_lem, delete_partition as delete_partition_lem, done as done_lem, ends_at as ends_at_lem, goes as goes_lem, is_in as is_in_lem, is_used as is_used_lem, list_partitions as list_partitions_lem, move_output as move_output_lem, new_partition as new_partition_lem, opens as opens_lem, output_named as output_named_lem, outputs_elsewhere, partition as partition_lem, planned, seated};
 
 use crate::names::{is_partition_name, lines};
+use mpd_command::PartitionCommand;
 use mpd_text::{Answer, ErrorNumber, SharedText};
 use parts::{Crossing, MAX_PARTS, Openings, Parts, opened};
 use player_state::{Client, Outputs};
 use std::alloc::{AllocError, Global};
 use transitions::{Asked, Transition};
+
+/// The rows: what each command of partitions asks for. A new partition is opened with these openings.
+#[rattlefmt::skip]
+#[tactic(auto, unfolding(crate::specs::Partitions::planned))]
+pub fn run(alloc: Global, parts: &Parts, clients: &[Client], openings: Openings, asked: Asked, own: u8, command: &PartitionCommand) -> Result<Transition, AllocError>
+    requires max_cut { openings.max_cut < 9223372036854775808 }
+    requires version { 1 ≤ openings.max_version }
+    ensures { IsPlanned result (planned (map known parts.now) (map seated clients.now) openings asked own command.now) }
+{
+    match command {
+        PartitionCommand::DelPartition(name) => delete_partition(alloc, parts, clients, asked, name.as_str()),
+        PartitionCommand::ListPartitions => list_partitions(alloc, parts, asked),
+        PartitionCommand::MoveOutput(name) => move_output(alloc, parts, asked, own, name.as_str()),
+        PartitionCommand::NewPartition(name) => new_partition(alloc, parts, openings, asked, name.as_str()),
+        PartitionCommand::Partition(name) => partition(alloc, parts, asked, own, name.as_str()),
+    }
+}
 
 /// The client that asks goes to the partition of this name. Where it is there already, nothing happens.
 pub fn partition(
@@ -28,7 +47,12 @@ pub fn partition(
     go(alloc, asked, own, parts.place_named(name))
 }
 
-fn go(alloc: Global, asked: Asked, own: u8, found: Option<u8>) -> Result<Transition, AllocError>
+fn go(
+    alloc: Global,
+    asked: Asked,
+    own: u8,
+    found: Option<u8>,
+) -> Result<Transition, AllocError>
     ensures { IsPlanned result (goes_lem asked own found) }
 {
     match found {
@@ -46,7 +70,11 @@ fn done(alloc: Global, asked: Asked) -> Result<Transition, AllocError>
 }
 
 /// The names of all partitions, in byte order.
-pub fn list_partitions(alloc: Global, parts: &Parts, asked: Asked) -> Result<Transition, AllocError>
+pub fn list_partitions(
+    alloc: Global,
+    parts: &Parts,
+    asked: Asked,
+) -> Result<Transition, AllocError>
     ensures { IsPlanned result (list_partitions_lem (map known parts.now) asked) }
 {
     Transition::shows(asked, lines(alloc, parts.items())?)
@@ -151,12 +179,7 @@ fn end_at(
     ensures { IsPlanned result (ends_at_lem (map known parts.now) (map seated clients.now) asked place) }
 {
     if place == 0 {
-        return Transition::refuses(
-            alloc,
-            asked,
-            ErrorNumber::Argument,
-            "partition is the default",
-        );
+        return Transition::refuses(alloc, asked, ErrorNumber::Argument, "partition is the default");
     }
     if is_used(parts, clients, place) {
         return Transition::refuses(alloc, asked, ErrorNumber::System, "partition is in use");

@@ -1,0 +1,5 @@
+//! Tests of partitions and of their commands.
+#![tactic(auto)]
+
+#[cfg(test)]
+mod partitions;
