@@ -5,8 +5,8 @@ use Rattle.std.specs.List.{enumerate_from, take-map}
 use Rattle.std.proofs.lemmas.Bool.{cond-true, cond-false, cases_Bool, cases_lt, eqb-false}
 use Rattle.std.proofs.lemmas.List.{take-append-drop, get_or_append_left, get_or-append_right, get_or-drop, get_or-take, get_or-map, length-take-le, append-nil, length-map, nil_from_length}
 use Rattle.std.proofs.lemmas.List.Elements.{All-get_or, All-append, All-take, All-drop}
-use Rattle.song_queue.specs.declared.entry.Entry.{Entry}
-use Rattle.song_queue.specs.declared.entry.Slot.{Slot}
+use Rattle.queue_slots.specs.declared.entry.Entry.{Entry}
+use Rattle.queue_slots.specs.declared.entry.Slot.{Slot}
 use Rattle.mpd_text.specs.Songs.Song.{SongData}
 use Rattle.song_queue.specs.Entries.{same_entry, same_queue, entries_for, row_of, rows_at}
 use Rattle.song_queue.specs.State.{QueueState, IsQueue, restamped, kept, written, entries_of, queue_of, edited, wraps, next_version, inserted, removed, is_changed, changed}

@@ -3,14 +3,14 @@ use Rattle.std.proofs.Common.{◌≡◌, ◌≢◌, ℕ, ◌+◌, ◌-◌, ◌<�
 use Rattle.std.specs.Prelude.{All, IsPermutation}
 use Rattle.std.specs.List.{slice_range, take-map}
 use Rattle.std.proofs.lemmas.Bool.{cases_lt}
-use Rattle.std.proofs.lemmas.List.{take_at, drop_at, append-nil, take-take, take-append-drop, length-take-le, length-map, get_or_append_left, get_or-append_right, get_or-map, drop-map, map-append, drop-take, drop-drop}
+use Rattle.std.proofs.lemmas.List.{take_at, drop_at, append-nil, take-take, take-append-drop, length-take-le, length-map, get_or_append_left, get_or-append_right, get_or-map, drop-map, map-append}
 use Rattle.std.proofs.lemmas.List.Edits.{split_between, between_none, length-between, get_or-between}
 use Rattle.std.proofs.lemmas.List.Elements.{All-append, All-take, All-drop}
 use Rattle.std.proofs.lemmas.List.Folds.{drop_split}
 use Rattle.std.proofs.lemmas.List.Sorted.{IsPermutation-trans, IsPermutation-append_left, IsPermutation-append_comm, IsPermutation-keeps, length_permutation}
 use Rattle.std.proofs.lemmas.Slice.{between_is}
-use Rattle.song_queue.specs.declared.entry.Entry.{Entry}
-use Rattle.song_queue.specs.declared.entry.Slot.{Slot}
+use Rattle.queue_slots.specs.declared.entry.Entry.{Entry}
+use Rattle.queue_slots.specs.declared.entry.Slot.{Slot}
 use Rattle.song_queue.specs.Entries.{moved_to}
 use Rattle.song_queue.specs.State.{QueueState, IsQueue, restamped, kept, written, entries_of, queue_of, moved}
 use Rattle.song_queue.specs.Laws.{MovesKeepEntries}
@@ -51,16 +51,6 @@ Distinct-moved_to es start end to order distinct =
 -- the entries from low up to middle and those from there up to high in each other's place
 abbrev pub turned : List Entry → ℕ → ℕ → ℕ → List Entry
 turned es low middle high = take low es ++ (slice_range es middle high ++ slice_range es low middle) ++ drop high es
-
--- what a rotation leaves
-pub rotated : (ss : List Slot) (low middle high : ℕ) → low ≤ middle → middle ≤ high
-    → drop (middle - low) (slice_range ss low high) ++ take (middle - low) (slice_range ss low high) ≡ slice_range ss middle high ++ slice_range ss low middle
-rotated ss low middle high below above =
-    let all : high - low ≡ middle - low + (high - middle) = omega arith in
-    let at : low + (middle - low) ≡ middle = omega arith in
-    let long : drop (middle - low) (slice_range ss low high) ≡ slice_range ss middle high =
-    ap (λ n. drop (middle - low) (take n (drop low ss))) all ∙ drop-take (middle - low) (high - middle) (drop low ss) ∙ ap (take (high - middle)) (drop-drop (middle - low) low ss ∙ ap (λ n. drop n ss) at) in
-    λ i. long i ++ take-take (middle - low) (high - low) (drop low ss) (omega arith) i
 
 -- a part put between two others
 put_between : (xs ys zs : List Entry) (to : ℕ) → length xs ≡ to → take to (xs ++ ys) ++ zs ++ drop to (xs ++ ys) ≡ xs ++ zs ++ ys

@@ -6,8 +6,8 @@ use Rattle.std.proofs.Math.Nat.{mod-eq_of_lt}
 use Rattle.std.proofs.lemmas.Option.{same_Some}
 use Rattle.std.proofs.lemmas.List.{append-nil, set_at, take_at, length_push}
 use Rattle.std.proofs.lemmas.Bool.{cond-true, cond-false, eq-eqb, ne_eqb, ltb-false, or_parts, cases_Bool}
-use Rattle.song_queue.specs.declared.entry.Entry.{Entry}
-use Rattle.song_queue.specs.declared.entry.Slot.{Slot}
+use Rattle.queue_slots.specs.declared.entry.Entry.{Entry}
+use Rattle.queue_slots.specs.declared.entry.Slot.{Slot}
 use Rattle.song_queue.specs.Entries.{same_slot, patch, patch_row, rows_at}
 use Rattle.song_queue.specs.Past.{present, number, version_of, last_change, stamp, is_marked, state_of}
 use Rattle.song_queue.specs.State.{QueueState, queue_of, is_changed, changed}

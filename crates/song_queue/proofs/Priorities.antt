@@ -4,11 +4,11 @@ use Rattle.std.specs.Prelude.{All}
 use Rattle.std.specs.List.{enumerate_from, slice_range}
 use Rattle.std.specs.declared.ops.Range.{Range}
 use Rattle.std.proofs.lemmas.Bool.{cond-true, cond-false, cases_Bool, eq-eqb, le-leb, lt-leb, lt-ltb, le-ltb, and_from, and_left, and_right, and_parts, or_from, or_left, or_cases, leb-true, ltb-true}
-use Rattle.std.proofs.lemmas.List.{length-take-le, length-map, map-id, drop-drop, get_or-map}
+use Rattle.std.proofs.lemmas.List.{length-take-le, length-map, map-id, get_or-map}
 use Rattle.std.proofs.lemmas.List.Edits.{length-between, get_or-between, split_between}
 use Rattle.std.proofs.lemmas.List.Folds.{list_any-append, list_any_more, list_any_at}
-use Rattle.song_queue.specs.declared.entry.Entry.{Entry}
-use Rattle.song_queue.specs.declared.entry.Slot.{Slot}
+use Rattle.queue_slots.specs.declared.entry.Entry.{Entry}
+use Rattle.queue_slots.specs.declared.entry.Slot.{Slot}
 use Rattle.song_queue.specs.Entries.{same_entry, is_named, with_priority}
 use Rattle.song_queue.specs.State.{QueueState, IsQueue, restamped, kept, written, entries_of, queue_of, prioritized, prioritized_slot}
 use Rattle.song_queue.proofs.Same.{same_entry-refl, same_song-refl}
@@ -107,22 +107,20 @@ named-alike f ranges b n (x ∷ xs) alike =
 
 -- one range alone is a part of the list
 pub named-part : {X : Type 0} (f : X → X) (r : Range ℕ) (xs : List X) → r.start ≤ r.end → r.end ≤ length xs
-    → take r.start xs ++ (map f (slice_range xs r.start r.end) ++ drop (r.end - r.start) (drop r.start xs)) ≡ named f (r ∷ []) 0 xs
+    → take r.start xs ++ (map f (slice_range xs r.start r.end) ++ drop r.end xs) ≡ named f (r ∷ []) 0 xs
 named-part f r xs order within =
     let front = take r.start xs in
     let part = slice_range xs r.start r.end in
     let back = drop r.end xs in
     let one : length front ≡ r.start = length-take-le r.start xs (omega arith) in
     let two : length part ≡ r.end - r.start = length-between xs r.start r.end within in
-    let end : r.start + (r.end - r.start) ≡ r.end = omega arith in
     let outside : (k : ℕ) → leb r.start k && ltb k r.end ≡ false → is_named (r ∷ []) k ≡ false = λ k out. or_from _ _ out refl in
     let before = named-alike f (r ∷ []) false 0 front (λ k l. outside (0 + k) (and_left _ _ (lt-leb r.start (0 + k) (omega arith)))) ∙ map-id front in
     let at = named-alike f (r ∷ []) true (0 + length front) part
     (λ k l. or_left _ _ (and_from _ _ (le-leb r.start (0 + length front + k) (omega arith)) (lt-ltb (0 + length front + k) r.end (omega arith)))) in
     let behind = named-alike f (r ∷ []) false (0 + length front + length part) back
     (λ k l. outside (0 + length front + length part + k) (and_right _ _ (le-ltb (0 + length front + length part + k) r.end (omega arith)))) ∙ map-id back in
-    ap (λ x. front ++ (map f part ++ x)) (drop-drop (r.end - r.start) r.start xs ∙ ap (λ n. drop n xs) end)
-    ∙ sym (ap (named f (r ∷ []) 0) (split_between xs r.start r.end order) ∙ named-append f (r ∷ []) 0 front (part ++ back)
+    sym (ap (named f (r ∷ []) 0) (split_between xs r.start r.end order) ∙ named-append f (r ∷ []) 0 front (part ++ back)
     ∙ (λ i. before i ++ (named-append f (r ∷ []) (0 + length front) part back ∙ (λ j. at j ++ behind j)) i))
 
 -- where each named entry has the priority, nothing changes

@@ -1,8 +1,8 @@
 -- What `restamped` gives at the joins that edits make.
 use Rattle.std.proofs.Common.{◌≡◌, ◌≢◌, ℕ, suc, ◌<◌, Bool, false, cond, List, [], ◌∷◌, ◌++◌, length, map, get_or, refl, arith}
 use Rattle.std.proofs.lemmas.Bool.{cond-true, cond-false}
-use Rattle.song_queue.specs.declared.entry.Entry.{Entry}
-use Rattle.song_queue.specs.declared.entry.Slot.{Slot}
+use Rattle.queue_slots.specs.declared.entry.Entry.{Entry}
+use Rattle.queue_slots.specs.declared.entry.Slot.{Slot}
 use Rattle.song_queue.specs.Entries.{same_entry}
 use Rattle.song_queue.specs.State.{restamped, kept, written, entries_of}
 use Rattle.song_queue.proofs.Same.{same_entry-refl, same_entry-other}

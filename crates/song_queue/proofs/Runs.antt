@@ -5,7 +5,7 @@ use Rattle.std.proofs.lemmas.Bool.{cond-true, cond-false, cases_Bool, cases_lt}
 use Rattle.std.proofs.lemmas.List.{length-take, length-drop}
 use Rattle.std.proofs.lemmas.List.Elements.{All-append, All-take, All-drop}
 use Rattle.std.proofs.Math.Nat.{mod-eq_of_lt}
-use Rattle.song_queue.specs.declared.entry.Entry.{Entry}
+use Rattle.queue_slots.specs.declared.entry.Entry.{Entry}
 use Rattle.mpd_text.specs.Songs.Song.{SongData}
 use Rattle.song_queue.specs.Entries.{entries_for, moved_to, with_priority, same_queue}
 use Rattle.song_queue.specs.Shuffles.{shuffled}

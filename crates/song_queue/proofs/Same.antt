@@ -2,7 +2,7 @@
 use Rattle.std.proofs.Common.{◌≡◌, ◌≢◌, Bool, true, false, ◌&&◌, List, [], ◌∷◌, Some, None, Option, refl, ap, eqb}
 use Rattle.std.proofs.lemmas.Bool.{and_parts, and_from, eq-eqb, eqb-true, ne_eqb, false_from_ne_true, and_left}
 use lib.Pointwise.{pointwise}
-use Rattle.song_queue.specs.declared.entry.Entry.{Entry}
+use Rattle.queue_slots.specs.declared.entry.Entry.{Entry}
 use Rattle.mpd_text.specs.Songs.Song.{TagData, SongData}
 use Rattle.mpd_text.specs.Songs.Tags.{tag_number}
 use Rattle.mpd_text.proofs.TagNumbers.{tag_number-inj}

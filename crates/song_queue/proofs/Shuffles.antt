@@ -7,8 +7,8 @@ use Rattle.std.proofs.lemmas.Bool.{cond-true, cond-false, cases_Bool, cases_eq, 
 use Rattle.std.proofs.lemmas.Grind.{get_or_moved}
 use Rattle.std.proofs.lemmas.List.{length-map, map-set, take-set-le, drop-set-lt, get_or-map as read-map, same_lists}
 use Rattle.std.proofs.lemmas.List.Sorted.{IsPermutation-refl, IsPermutation-trans, IsPermutation-swap, IsPermutation-keeps, length_permutation}
-use Rattle.song_queue.specs.declared.entry.Entry.{Entry}
-use Rattle.song_queue.specs.declared.entry.Slot.{Slot}
+use Rattle.queue_slots.specs.declared.entry.Entry.{Entry}
+use Rattle.queue_slots.specs.declared.entry.Slot.{Slot}
 use Rattle.song_queue.specs.Entries.{same_entry}
 use Rattle.song_queue.specs.Shuffles.{shuffled}
 use Rattle.song_queue.specs.State.{QueueState, IsQueue, restamped, kept, written, stamped_slot, stamped_by, entries_of, queue_of, wraps, next_version, shuffled_state}
@@ -169,12 +169,10 @@ module _ (q : QueueState) (is : IsQueue q) (start end : ℕ) (words : List ℕ) 
   after = shuffled q.slots start end words
 
   -- where each entry is at its place again
-  pub shuffled-same : (slots : List Slot) → slots ≡ after → slot_ids slots ≡ slot_ids q.slots
-      → record { slots = slots; version = q.version; greatest_id = q.greatest_id; max_len = q.max_len; max_version = q.max_version; max_id = q.max_id; parity = q.parity } ≡ shuffled_state q start end words
-  shuffled-same slots is_slots same =
-      let back : after ≡ q.slots = shuffled-back q.slots is.distinct start end words within (ap slot_ids (sym is_slots) ∙ same) in
-      (λ i. record { slots = (is_slots ∙ back) i; version = q.version; greatest_id = q.greatest_id; max_len = q.max_len; max_version = q.max_version; max_id = q.max_id; parity = q.parity })
-      ∙ sym (edited-same q (shuffled (queue_of q) start end words) (ap (λ x. entries_of x) (sym back) ∙ map-shuffled (λ (s : Slot). s.entry) q.slots start end words))
+  pub shuffled-same : slot_ids after ≡ slot_ids q.slots → q ≡ shuffled_state q start end words
+  shuffled-same same =
+      let back : after ≡ q.slots = shuffled-back q.slots is.distinct start end words within same in
+      sym (edited-same q (shuffled (queue_of q) start end words) (ap (λ x. entries_of x) (sym back) ∙ map-shuffled (λ (s : Slot). s.entry) q.slots start end words))
 
   -- and where some are elsewhere
   pub shuffled-is : (v : ℕ) (w : Bool) (slots : List Slot) → v ≡ next_version q → w ≡ wraps q → slot_ids after ≢ slot_ids q.slots → slots ≡ stamped_by v w (slot_ids q.slots) after

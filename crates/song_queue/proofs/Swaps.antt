@@ -2,13 +2,14 @@
 use Rattle.std.proofs.Common.{◌≡◌, ◌≢◌, ◌⊎◌, ℕ, zero, suc, ◌<◌, ◌≤◌, Bool, true, false, cond, not, List, [], ◌∷◌, length, map, get_or, set, refl, ap, sym, subst, ◌∙◌, inl, inr, arith}
 use Rattle.std.specs.Prelude.{All, swap}
 use Rattle.std.proofs.lemmas.Bool.{cond-true, cond-false, cases_eq, cases_lt}
-use Rattle.std.proofs.lemmas.List.{length-map, get_or-map, get_or_past, same_lists}
-use Rattle.std.proofs.lemmas.List.Edits.{swapped_from_swap, length-swap}
+use Rattle.std.proofs.lemmas.List.{length-map, get_or-map, get_or_past, same_lists, set_comm}
+use Rattle.std.proofs.lemmas.List.Edits.{swapped_from_swap, swap_is, length-swap}
 use Rattle.std.proofs.lemmas.List.Elements.{All-get_or, All-set}
-use Rattle.song_queue.specs.declared.entry.Entry.{Entry}
-use Rattle.song_queue.specs.declared.entry.Slot.{Slot}
+use Rattle.queue_slots.specs.declared.entry.Entry.{Entry}
+use Rattle.queue_slots.specs.declared.entry.Slot.{Slot}
 use Rattle.song_queue.specs.Entries.{same_entry}
 use Rattle.song_queue.specs.State.{QueueState, IsQueue, restamped, kept, written, write_at, queue_of, swapped, wraps, next_version}
+use Rattle.queue_slots.proofs.Exchanges.{length-write_at}
 use Rattle.song_queue.proofs.Same.{same_entry-refl, same_entry-other}
 use Rattle.song_queue.proofs.Edits.{Distinct, IsQueue-stays, edited-changed, edited-same}
 
@@ -25,11 +26,6 @@ All-swap P (e ∷ es) a b all =
     All-set P (set list a (get_or list b e)) b (get_or list a e) (read a) (All-set P list a (get_or list b e) (read b) all)
 
 module _ (v : ℕ) (w : Bool) where
-  length-write_at : (xs : List Slot) (i : ℕ) → length (write_at v w xs i) ≡ length xs
-  length-write_at [] i = refl
-  length-write_at (x ∷ xs) zero = refl
-  length-write_at (x ∷ xs) (suc i) = ap suc (length-write_at xs i)
-
   get_or-write_at_same : (xs : List Slot) (i : ℕ) (d : Slot) → i < length xs → get_or (write_at v w xs i) i d ≡ written v w (get_or xs i d).entry
   get_or-write_at_same [] i d l = absurd (omega arith)
   get_or-write_at_same (x ∷ xs) zero d l = refl
@@ -53,12 +49,6 @@ module _ (v : ℕ) (w : Bool) where
   get_or-restamped [] (e ∷ es) k d f l m = absurd (omega arith)
   get_or-restamped (s ∷ ss) (e ∷ es) zero d f l m = refl
   get_or-restamped (s ∷ ss) (e ∷ es) (suc k) d f l m = get_or-restamped ss es k d f (omega arith) (omega arith)
-
-  -- the slot written first
-  pub set-written : (xs : List Slot) (i : ℕ) (r : Slot) → i < length xs → set xs i (written v w (get_or xs i r).entry) ≡ write_at v w xs i
-  set-written [] i r l = absurd (omega arith)
-  set-written (x ∷ xs) zero r l = refl
-  set-written (x ∷ xs) (suc i) r l = λ j. x ∷ set-written xs i r (omega arith) j
 
 -- an entry of a list that has one
 pub data One : Type 0 where
@@ -207,3 +197,11 @@ module _ (q : QueueState) (is : IsQueue q) (a b : ℕ) (la : a < length q.slots)
 
   pub swapped-same : a ≡ b → swapped q a b ≡ q
   swapped-same e = edited-same q after (swap-same es a b (omega (arith, length-es)) (omega (arith, length-es)) e)
+
+-- a swap of two places is one of the lower and the higher of them
+pub swap-either : {X : Type 0} (xs : List X) (a b low high : ℕ) → a < length xs → b < length xs → a ≢ b → ((low ≡ a) × (high ≡ b)) ⊎ ((low ≡ b) × (high ≡ a)) → swap xs low high ≡ swap xs a b
+swap-either [] a b low high la lb ne e = refl
+swap-either (x ∷ xs) a b low high la lb ne (inl e) = λ i. swap (x ∷ xs) (e.0 i) (e.1 i)
+swap-either (x ∷ xs) a b low high la lb ne (inr e) =
+    let list = x ∷ xs in
+    (λ i. swap list (e.0 i) (e.1 i)) ∙ sym (swap_is list b a x lb la) ∙ set_comm list b a (get_or list a x) (get_or list b x) (λ same. ne (sym same)) ∙ swap_is list a b x la lb

@@ -5,7 +5,7 @@ use Rattle.std.specs.declared.ops.Range.{Range}
 use lib.Pointwise.{pointwise}
 use Rattle.mpd_text.specs.Songs.Song.{SongData, TagData}
 use Rattle.mpd_text.specs.Songs.Tags.{tag_number}
-use Rattle.song_queue.specs.declared.entry.Entry.{Entry}
+use Rattle.queue_slots.specs.declared.entry.Entry.{Entry}
 
 -- whether two tags are one: the name and the text
 abbrev pub same_tag : TagData → TagData → Bool

@@ -4,7 +4,7 @@ use Rattle.song_queue.specs.State.{QueueState}
 
 abbrev pub state_in : Inside → QueueState
 state_in q = record {
-  slots = q.slots.items;
+  slots = q.slots;
   version = q.version;
   greatest_id = q.greatest_id;
   max_len = q.max_len;

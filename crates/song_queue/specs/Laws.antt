@@ -4,7 +4,7 @@ use Rattle.std.specs.Prelude.{ℕ, ◌≡◌, ◌≢◌, ◌+◌, ◌-◌, ◌<�
 use Rattle.std.specs.List.{slice_range}
 use Rattle.song_queue.specs.declared.edit.Edit.{Edit}
 use Rattle.song_queue.specs.declared.edit.Edit.TheVariants.{Insert, Remove, Move, Prioritize, Swap, Shuffle}
-use Rattle.song_queue.specs.declared.entry.Entry.{Entry}
+use Rattle.queue_slots.specs.declared.entry.Entry.{Entry}
 use Rattle.song_queue.specs.Entries.{same_queue, entries_for, moved_to, with_priority, patch, rows_at}
 use Rattle.song_queue.specs.Shuffles.{shuffled}
 use Rattle.song_queue.specs.Past.{present, number, version_of, after_event, greatest_id, state_of}

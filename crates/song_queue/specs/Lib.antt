@@ -2,7 +2,6 @@ pub mod Entries
 pub mod Shuffles
 pub mod Past
 pub mod State
-pub mod Slots
 pub mod Refusals
 pub mod Laws
 pub mod Rows

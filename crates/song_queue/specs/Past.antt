@@ -3,8 +3,8 @@
 -- reference, The queue; what happens above the greatest version is this profile's).
 use Rattle.std.specs.Prelude.{ℕ, zero, suc, ◌+◌, ◌-◌, ◌%◌, Bool, false, not, ◌&&◌, nat_lt, nat_le, if◌then◌else◌, List, [], ◌∷◌, length, map, slice_get, max}
 use Rattle.std.specs.List.{enumerate_from}
-use Rattle.song_queue.specs.declared.entry.Entry.{Entry}
-use Rattle.song_queue.specs.declared.entry.Slot.{Slot}
+use Rattle.queue_slots.specs.declared.entry.Entry.{Entry}
+use Rattle.queue_slots.specs.declared.entry.Slot.{Slot}
 use Rattle.song_queue.specs.Entries.{same_slot, same_queue}
 use Rattle.song_queue.specs.State.{QueueState}
 

@@ -2,7 +2,7 @@
 use Rattle.std.specs.Prelude.{ℕ, ◌≡◌, false, true, List, [], ◌∷◌, ◌++◌, map, refl}
 use Rattle.std.specs.declared.ops.Range.{Range}
 use Rattle.mpd_text.specs.Songs.Song.{SongData}
-use Rattle.song_queue.specs.declared.entry.Entry.{Entry}
+use Rattle.queue_slots.specs.declared.entry.Entry.{Entry}
 use Rattle.song_queue.specs.Entries.{patch}
 use Rattle.song_queue.specs.Past.{present, state_of}
 use Rattle.song_queue.specs.State.{opened, changed, queue_of}

@@ -1,12 +1,13 @@
 -- A queue with the stamps and marks of its slots, and what an edit makes of it (MPD protocol reference, The
 -- queue; the marks at a wrap are this profile's).
-use Rattle.std.specs.Prelude.{ℕ, zero, suc, ◌≢◌, ◌+◌, ◌<◌, ◌≤◌, Bool, false, not, ◌||◌, nat_lt, ◌==◌, if◌then◌else◌, List, [], ◌∷◌, ◌++◌, length, take, drop, map, filter, swap, All, AllPairs, Option, position}
+use Rattle.std.specs.Prelude.{ℕ, ◌≢◌, ◌+◌, ◌<◌, ◌≤◌, Bool, false, not, ◌==◌, if◌then◌else◌, List, [], ◌∷◌, ◌++◌, length, take, drop, map, filter, swap, All, AllPairs, Option, position}
 use Rattle.std.specs.Bool.{beq}
 use Rattle.std.specs.List.{enumerate_from}
 use Rattle.std.specs.declared.ops.Range.{Range}
 use Rattle.mpd_text.specs.Songs.Song.{SongData}
-use Rattle.song_queue.specs.declared.entry.Entry.{Entry}
-use Rattle.song_queue.specs.declared.entry.Slot.{Slot}
+use Rattle.queue_slots.specs.declared.entry.Entry.{Entry}
+use Rattle.queue_slots.specs.declared.entry.Slot.{Slot}
+pub use Rattle.queue_slots.specs.Slots.{entries_of, written, kept, prioritized_slot, write_at, is_shown}
 use Rattle.song_queue.specs.Entries.{same_entry, same_queue, entries_for, moved_to, with_priority}
 use Rattle.song_queue.specs.Shuffles.{shuffled}
 
@@ -21,29 +22,8 @@ pub record QueueState : Type 0 where
   pub max_id : ℕ
   pub parity : Bool
 
-abbrev pub entries_of : List Slot → List Entry
-entries_of slots = map (λ s. s.entry) slots
-
 abbrev pub queue_of : QueueState → List Entry
 queue_of q = entries_of q.slots
-
--- a slot whose entry is new at this version
-abbrev pub written : ℕ → Bool → Entry → Slot
-written version wraps entry = record { entry = entry; stamp = version; marked = wraps }
-
--- a slot whose entry stays
-abbrev pub kept : Bool → Slot → Slot
-kept wraps slot = record { entry = slot.entry; stamp = slot.stamp; marked = wraps || slot.marked }
-
--- a slot whose entry gets a priority: new at this version where that changes it
-abbrev pub prioritized_slot : ℕ → Bool → ℕ → Slot → Slot
-prioritized_slot version wraps priority slot = if slot.entry.priority == priority then slot else written version wraps (record slot.entry { priority = priority })
-
--- the slots after one is written with the entry that it has
-abbrev pub write_at : ℕ → Bool → List Slot → ℕ → List Slot
-write_at version wraps [] place = []
-write_at version wraps (s ∷ ss) zero = written version wraps s.entry ∷ ss
-write_at version wraps (s ∷ ss) (suc place) = s ∷ write_at version wraps ss place
 
 -- the slots that hold these entries next, compared one by one with what they held
 abbrev pub restamped : ℕ → Bool → List Slot → List Entry → List Slot
@@ -105,10 +85,6 @@ position_of q id = position (λ s. s.entry.id == id) q.slots
 -- the queue has an entry at the place, and the place after it is a number of 64 bits
 abbrev pub HasPlace : QueueState → ℕ → Type 0
 HasPlace q place = (place < length (queue_of q)) × (place < 18446744073709551615)
-
--- whether a slot is shown to a client that knows a version, where another one is present
-abbrev pub is_shown : ℕ → ℕ → Slot → Bool
-is_shown version present slot = slot.marked || nat_lt version slot.stamp || nat_lt present version
 
 -- whether a slot of a queue is shown to a client that knows a version
 abbrev pub is_changed : QueueState → ℕ → Slot → Bool

@@ -2,7 +2,7 @@
 #![tactic(auto)]
 
 mod edit;
-mod entry;
+pub mod entry;
 mod laws;
 mod queue;
 mod slots;

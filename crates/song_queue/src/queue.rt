@@ -1,16 +1,18 @@
 //! The queue and its edits.
 ghost use Rattle.std.specs.Prelude.{◌≡◌, ◌↔◌, ◌+◌, ◌<◌, ◌≤◌, ◌⊎◌, All, Any, length, map, IfOk, IfSome, nat_le, OnOk, OnErr, IsErrOf, IsOkUnless, slice_get, vec_len};
+ghost use Rattle.std.specs.List.{slice_range};
 ghost use Rattle.std.specs.Option.{option_copied};
 ghost use Rattle.std.specs.Bool.{OnTrue, OnFalse};
-ghost use Rattle.song_queue.specs.State.{QueueState, IsQueue, HasPlace, queue_of, position_of, inserted, removed, moved, prioritized, swapped, shuffled_state, changed, opened};
+ghost use Rattle.song_queue.specs.State.{QueueState, IsQueue, HasPlace, entries_of, queue_of, position_of, inserted, removed, moved, prioritized, swapped, shuffled_state, changed, opened};
 ghost use Rattle.song_queue.specs.Refusals.{IsPastEnd, LiesOutside, CannotMove, HasNoRoom, HasNoIds};
 ghost use Rattle.song_queue.specs.Laws.{PatchesEarlier};
 
 use crate::entry::{Entry, Slot};
 use crate::slots::{
-    changed_places, copies, exchange, have_ids, have_priority, ids_of, move_part, new_slots,
-    prioritize, put_in, shuffle_part, stamp_others, take_out, version_after,
+    have_ids, have_priority, ids_of, move_part, new_slots, prioritize, shuffle_part, stamp_others,
+    version_after,
 };
+use queue_slots::Blocks;
 use song_db::SharedSong;
 use std::alloc::{AllocError, Global};
 use std::marker::Model;
@@ -46,7 +48,7 @@ impl From<AllocError> for QueueFault {
 /// parity.
 #[derive(Drop)]
 pub struct Queue {
-    slots: Vec<Slot>,
+    slots: Blocks,
     version: u32,
     greatest_id: u32,
     max_len: usize,
@@ -73,7 +75,7 @@ impl Queue {
         ensures { result ≡ opened max_len max_version max_id }
     {
         Queue {
-            slots: Vec::new(alloc),
+            slots: Blocks::new(alloc),
             version: 1,
             greatest_id: 0,
             max_len,
@@ -87,7 +89,7 @@ impl Queue {
     pub fn try_clone(&self) -> Result<Queue, AllocError>
         ensures { IfOk result (λ copy. copy ≡ self.now) }
     {
-        let slots = copies(*self.slots.allocator(), &self.slots)?;
+        let slots = Blocks::from_slots(self.slots.allocator(), self.slots.copies()?)?;
         Ok(Queue {
             slots,
             version: self.version,
@@ -149,10 +151,17 @@ impl Queue {
     pub fn get(&self, place: usize) -> Option<&Entry>
         ensures { option_copied result ≡ slice_get (queue_of self.now) place }
     {
-        match self.slots.get(place) {
-            Some(slot) => Some(&slot.entry),
-            None => None,
-        }
+        self.slots.get(place)
+    }
+
+    /// The entries from a place to the end of its block, for loops over the queue: each slot has its entry.
+    /// What else a slot has is not what the queue shows of it.
+    pub fn run(&self, place: usize) -> &[Slot]
+        requires { HasPlace self.now place }
+        ensures some { 0 < length result.now }
+        ensures part { entries_of result.now ≡ slice_range (queue_of self.now) place (place + length result.now) }
+    {
+        self.slots.run(place)
     }
 
     /// The place of the entry with an id.
@@ -160,7 +169,7 @@ impl Queue {
         ensures place { result ≡ position_of self.now id }
         ensures within { IfSome result (HasPlace self.now) }
     {
-        self.slots.iter().position(|slot| slot.entry.id == id)
+        self.slots.position_of(id)
     }
 
     /// The places that a client has to learn that knows the queue of a version, rising (MPD protocol
@@ -169,8 +178,7 @@ impl Queue {
         ensures places { IfOk result (λ places. places.items ≡ map (λ row. row.0) (changed self.now version)) }
         ensures patches { IfOk result (λ places. PatchesEarlier self.now version places.items) }
     {
-        let alloc = *self.slots.allocator();
-        let places = changed_places(alloc, &self.slots, version, self.version)?;
+        let places = self.slots.changed_places(version, self.version)?;
         Ok(places)
     }
 
@@ -198,9 +206,9 @@ impl Queue {
             return Ok(());
         }
         let (version, wraps) = version_after(self.version, self.max_version);
-        let alloc = *self.slots.allocator();
+        let alloc = self.slots.allocator();
         let added = new_slots(alloc, self.greatest_id, songs)?;
-        put_in(&mut self.slots, at, added, version, wraps)?;
+        self.slots.put_in(at, added, version, wraps)?;
         self.greatest_id += count as u32;
         self.version = version;
         self.parity = !self.parity;
@@ -222,7 +230,7 @@ impl Queue {
             return Ok(());
         }
         let (version, wraps) = version_after(self.version, self.max_version);
-        take_out(&mut self.slots, start, end, version, wraps);
+        self.slots.take_out(start, end, version, wraps);
         self.version = version;
         self.parity = !self.parity;
         Ok(())
@@ -251,7 +259,7 @@ impl Queue {
             return Ok(());
         }
         let (version, wraps) = version_after(self.version, self.max_version);
-        move_part(self.slots.as_mut_slice(), start, end, to, version, wraps);
+        move_part(&mut self.slots, start, end, to, version, wraps);
         self.version = version;
         self.parity = !self.parity;
         Ok(())
@@ -272,7 +280,7 @@ impl Queue {
             return Ok(());
         }
         let (version, wraps) = version_after(self.version, self.max_version);
-        prioritize(self.slots.as_mut_slice(), ranges, priority, version, wraps);
+        prioritize(&mut self.slots, ranges, priority, version, wraps);
         self.version = version;
         self.parity = !self.parity;
         Ok(())
@@ -293,7 +301,7 @@ impl Queue {
             return Ok(());
         }
         let (version, wraps) = version_after(self.version, self.max_version);
-        exchange(self.slots.as_mut_slice(), a, b, version, wraps);
+        self.slots.exchange(a.min(b), a.max(b), version, wraps);
         self.version = version;
         self.parity = !self.parity;
         Ok(())
@@ -314,14 +322,16 @@ impl Queue {
         if lies_outside(start, end, self.slots.len()) {
             return Err(QueueFault::BadIndex);
         }
-        let alloc = *self.slots.allocator();
-        let ids = ids_of(alloc, &self.slots)?;
-        shuffle_part(self.slots.as_mut_slice(), start, end, words);
-        if have_ids(&self.slots, &ids) {
+        let alloc = self.slots.allocator();
+        let mut slots = self.slots.copies()?;
+        let ids = ids_of(alloc, &slots)?;
+        shuffle_part(slots.as_mut_slice(), start, end, words);
+        if have_ids(&slots, &ids) {
             return Ok(());
         }
         let (version, wraps) = version_after(self.version, self.max_version);
-        stamp_others(self.slots.as_mut_slice(), &ids, version, wraps);
+        stamp_others(slots.as_mut_slice(), &ids, version, wraps);
+        self.slots = Blocks::from_slots(alloc, slots)?;
         self.version = version;
         self.parity = !self.parity;
         Ok(())

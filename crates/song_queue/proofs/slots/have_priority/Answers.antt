@@ -8,18 +8,18 @@ use Rattle.song_queue.proofs.slots.have_priority.Goals as goal
 abbrev none : Range ℕ
 none = record { start = 0; end = 0 }
 
-pub returns-then-not-all_have_priority : goal.returns-then-not-all_have_priority
-returns-then-not-all_have_priority c =
+pub returns-then-not-part_has_priority : goal.returns-then-not-part_has_priority
+returns-then-not-part_has_priority c =
     let i = c.loop-range.range-index in (
       λ no. absurd (false≢true no),
-      λ same. absurd (iff_false c.all_have_priority.ensures c.if-not-all_have_priority.true
+      λ same. absurd (iff_false c.part_has_priority.ensures c.if-not-part_has_priority.true
           (part-same c.args.priority c.args.ranges.now c.args.slots.now i none (omega arith) (c.requires i none (omega arith)).1 same)),
     )
 
 pub loop-range-preserved : goal.loop-range-preserved
 loop-range-preserved c =
     let i = c.loop-range.range-index in
-    AllHave-more c.args.priority c.args.ranges.now c.args.slots.now i none (omega arith) (c.requires i none (omega arith)).1 c.loop-range.invariant (c.all_have_priority.ensures.0 c.if-not-all_have_priority.false)
+    AllHave-more c.args.priority c.args.ranges.now c.args.slots.now i none (omega arith) (c.requires i none (omega arith)).1 c.loop-range.invariant (c.part_has_priority.ensures.0 c.if-not-part_has_priority.false)
 
 pub returns : goal.returns
 returns c =

@@ -1,7 +1,7 @@
 use Rattle.std.proofs.Common.{◌≡◌, ℕ, ◌+◌, ◌++◌, [], ◌∷◌, length, ap, sym, ◌∙◌, arith, append_assoc, false}
 use Rattle.std.proofs.lemmas.List.{length_push}
 use Rattle.std.specs.Vec.Iter.{into_iter_items}
-use Rattle.song_queue.specs.declared.entry.Entry.{Entry}
+use Rattle.queue_slots.specs.declared.entry.Entry.{Entry}
 use Rattle.song_queue.specs.State.{entries_of}
 use Rattle.song_queue.specs.Entries.{entries_for}
 use Rattle.song_queue.proofs.Lists.{entries_for-push, entries_of-push}

@@ -1,8 +1,8 @@
 use Rattle.std.proofs.Common.{ℕ, List, ◌||◌, map, ap, sym, ◌∙◌, ltb}
 use Rattle.std.specs.Prelude.{filter}
 use Rattle.std.specs.List.{enumerate_from}
-use Rattle.song_queue.specs.declared.entry.Entry.{Entry}
-use Rattle.song_queue.specs.declared.entry.Slot.{Slot}
+use Rattle.queue_slots.specs.declared.entry.Entry.{Entry}
+use Rattle.queue_slots.specs.declared.entry.Slot.{Slot}
 use Rattle.song_queue.specs.State.{changed}
 use Rattle.song_queue.proofs.Edits.{map-rows}
 use Rattle.song_queue.proofs.Patches.{patches-earlier}
@@ -11,7 +11,7 @@ use Rattle.song_queue.proofs.queue.Queue.changed_since.Goals as goal
 pub returns-clause-places : goal.returns-clause-places
 returns-clause-places c =
     let shown : List Slot → List (ℕ × Slot) = λ ss. filter (λ (p : ℕ × Slot). p.1.marked || ltb c.args.version p.1.stamp || ltb c.self.inside.version c.args.version) (enumerate_from 0 ss) in
-    c.in_ok-places.ensures ∙ ap (λ ss. map (λ (p : ℕ × Slot). p.0) (shown ss)) c.deref.ensures.value ∙ sym (map-rows (shown c.self.inside.slots.items))
+    c.in_ok-places.ensures ∙ sym (map-rows (shown c.self.inside.slots))
     ∙ ap (λ q. map (λ (p : ℕ × Entry). p.0) (changed q c.args.version)) c.self.view_is
 
 pub returns-clause-patches : goal.returns-clause-patches

@@ -1,7 +1,7 @@
-use Rattle.std.proofs.Common.{◌≡◌, ◌≤◌, ◌≢◌, length, ap, sym, subst, ◌∙◌, arith}
+use Rattle.std.proofs.Common.{◌≡◌, ◌≤◌, ◌≢◌, length, refl, ap, sym, subst, ◌∙◌, arith}
 use Rattle.std.proofs.lemmas.Bool.{OnFalse_at}
-use Rattle.std.proofs.lemmas.List.{take_at, length-map}
-use Rattle.song_queue.specs.declared.entry.Slot.{Slot}
+use Rattle.std.proofs.lemmas.List.{length-map}
+use Rattle.queue_slots.specs.declared.entry.Slot.{Slot}
 use Rattle.song_queue.specs.Entries.{moved_to}
 use Rattle.song_queue.specs.Fields.{state_in}
 use Rattle.song_queue.specs.State.{QueueState, IsQueue, queue_of, moved}
@@ -31,8 +31,8 @@ returns-clause-ok c =
     let order : start ≤ end = lies.0 in
     let fits : end ≤ c.len-len.result = lies.1 in
     let other : queue_of q ≢ moved_to (queue_of q) start end c.args.to = moved_to-other q.slots c.self.invariant.distinct start end c.args.to (omega arith) c.if-to-start.false (omega arith) (omega arith) in
-    let is = edited-is q (λ es. moved_to es start end c.args.to) c.version_after-version.result.0 c.version_after-version.result.1 c.as_mut_slice.result.now _ c.version_after-version.ensures.next c.version_after-version.ensures.wraps
-    c.as_mut_slice.ensures.value other (take_at c.move_part.new.slots _ c.self.inside.slots.len (omega arith) ∙ c.move_part.ensures) in
+    let is = edited-is q (λ es. moved_to es start end c.args.to) c.version_after-version.result.0 c.version_after-version.result.1 q.slots _ c.version_after-version.ensures.next c.version_after-version.ensures.wraps
+    refl other c.move_part.ensures in
     is ∙ ap (λ x. moved x start end c.args.to) c.self.view_is
 
 pub invariant_of-self : goal.invariant_of-self

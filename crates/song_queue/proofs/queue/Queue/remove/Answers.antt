@@ -18,7 +18,7 @@ invariant_of-self c =
     let order : c.args.range.start ≤ c.args.range.end = lies.0 in
     let fits : c.args.range.end ≤ c.len.result = lies.1 in
     let within : c.args.range.end ≤ length q.slots = omega arith in
-    IsQueue-left q c.self.invariant c.args.range.start c.args.range.end order within c.version_after-version.result.0 c.version_after-version.result.1 _ c.take_out.new.slots.items
+    IsQueue-left q c.self.invariant c.args.range.start c.args.range.end order within c.version_after-version.result.0 c.version_after-version.result.1 _ c.take_out.new.self
     c.version_after-version.ensures.next c.version_after-version.ensures.wraps (omega arith) c.take_out.ensures
 
 pub returns-clause-ok : goal.returns-clause-ok
@@ -28,6 +28,6 @@ returns-clause-ok c =
     let order : c.args.range.start ≤ c.args.range.end = lies.0 in
     let fits : c.args.range.end ≤ c.len.result = lies.1 in
     let within : c.args.range.end ≤ length q.slots = omega arith in
-    removed-is q c.self.invariant c.args.range.start c.args.range.end order within c.version_after-version.result.0 c.version_after-version.result.1 c.take_out.new.slots.items
+    removed-is q c.self.invariant c.args.range.start c.args.range.end order within c.version_after-version.result.0 c.version_after-version.result.1 c.take_out.new.self
     c.version_after-version.ensures.next c.version_after-version.ensures.wraps (omega arith) c.take_out.ensures
     ∙ ap (λ x. removed x c.args.range.start c.args.range.end) c.self.view_is

@@ -1,0 +1,6 @@
+use Rattle.std.proofs.Common.{◌≡◌, ◌++◌}
+use Rattle.std.specs.List.{range_with_len}
+use Rattle.queue_slots.proofs.shows.push_all.Given as goal
+
+abbrev pub invariant-loop-step : goal.invariant-loop-step
+invariant-loop-step l = l.places.items ≡ l.fn.places.items ++ range_with_len l.at l.step

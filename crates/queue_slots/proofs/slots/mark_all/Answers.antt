@@ -1,0 +1,13 @@
+use Rattle.std.proofs.Common.{true, ◌<◌, length, get_or, arith}
+use Rattle.std.proofs.lemmas.List.{get_or_default}
+use Rattle.std.proofs.lemmas.List.Edits.{map_over_more}
+use Rattle.queue_slots.specs.Slots.{kept}
+use Rattle.queue_slots.proofs.slots.mark_all.Goals as goal
+
+pub loop-slot-preserved : goal.loop-slot-preserved
+loop-slot-preserved c =
+    let r = c.slot-item.result in
+    let xs = c.loop-slot.slot-items in
+    let i = c.loop-slot.slot-index in
+    let inside : i < length xs = omega arith in
+    map_over_more (kept true) c.args.slots.now xs i (get_or xs i r) (omega arith) c.loop-slot.invariant (get_or_default xs i r (get_or xs i r) inside)

@@ -1,0 +1,4 @@
+pub mod Slots
+pub mod Blocks
+pub mod Views
+pub mod Sequence

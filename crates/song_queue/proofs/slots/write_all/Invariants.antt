@@ -1,6 +1,0 @@
-use Rattle.std.proofs.Common.{◌≡◌, ◌++◌, map, take, drop}
-use Rattle.song_queue.specs.State.{written}
-use Rattle.song_queue.proofs.slots.write_all.Given as goal
-
-abbrev pub invariant-loop-slot : goal.invariant-loop-slot
-invariant-loop-slot l = l.slot-items ≡ map (λ s. written l.version l.wraps s.entry) (take l.slot-index l.fn.slots) ++ drop l.slot-index l.fn.slots
