@@ -13,7 +13,7 @@ use Rattle.player_state.specs.declared.report.Report.{Report}
 use Rattle.partition.specs.History.{Chronicle}
 use Rattle.partition.specs.Image.{Image}
 use Rattle.partition.specs.Legal.{IsPast}
-use Rattle.player_state.specs.Outputs.{FrameBooks, OutputsData, books_after, can_count, can_count_all, decoded_by, discarded_by, frames_fed, is_enabled, is_output, total, written_by}
+use Rattle.player_state.specs.Outputs.{FrameBooks, books_after, can_count, can_count_all, decoded_by, discarded_by, is_output, total, written_by}
 use Rattle.partition.specs.Step.{absent, counts_frames, keeps_limits, limit_of, next_image, transition}
 use Rattle.transitions.specs.Transitions.{acts, report_of}
 use Rattle.counted_player.proofs.Eight.{grown_none, grown_sum, total_sum}
@@ -32,9 +32,9 @@ has_eight c past = record {
   discarded = ap (λ (b : FrameBooks). length b.discarded) past.books;
 }
 
-none_fed : (d : Effect) (report : Report) → is_frameless d ≡ true → frames_fed d report ≡ 0
-none_fed (ByAudio (Accepts number frames)) report e = cc
-none_fed _ report e = refl
+none_fed : (d : Effect) (report : Report) (output : ℕ) → is_frameless d ≡ true → decoded_by d report output ≡ 0
+none_fed (ByAudio (Accepts number frames)) report output e = cc
+none_fed _ report output e = refl
 
 none_written : (d : Effect) (output : ℕ) → is_frameless d ≡ true → written_by d output ≡ 0
 none_written (ByAudio (Settles k written discarded failed)) output e = cc
@@ -44,13 +44,9 @@ none_discarded : (d : Effect) (output : ℕ) → is_frameless d ≡ true → dis
 none_discarded (ByAudio (Settles k written discarded failed)) output e = cc
 none_discarded _ output e = refl
 
-share : (b : Bool) (n : ℕ) → n ≡ 0 → (if b then n else 0) ≡ 0
-share true n e = e
-share false n e = refl
-
 -- the books after an event
 pub books_next : (seat : ℕ) (i : Image) (e : Event)
-    → (next_image seat i e).shared.books ≡ books_after i.shared.books i.part.outputs (transition i e).effect (report_of i.part i.shared.library (transition i e))
+    → (next_image seat i e).shared.books ≡ books_after i.shared.books (transition i e).effect (report_of i.part i.shared.library (transition i e))
 unfolding next_image
 books_next seat i e = refl
 
@@ -58,13 +54,13 @@ module _ (seat : ℕ) (i after : Image) (e : Event) (eight : HasEight i.shared.b
   abbrev report : Report
   report = report_of i.part i.shared.library (transition i e)
 
-  books_are : after.shared.books ≡ books_after i.shared.books i.part.outputs (transition i e).effect report
+  books_are : after.shared.books ≡ books_after i.shared.books (transition i e).effect report
   books_are = ap (λ (j : Image). j.shared.books) is ∙ books_next seat i e
 
-  decoded_stay : (frames_fed (transition i e).effect report ≡ 0) → after.shared.books.decoded ≡ i.shared.books.decoded
+  decoded_stay : ((n : ℕ) → decoded_by (transition i e).effect report n ≡ 0) → after.shared.books.decoded ≡ i.shared.books.decoded
   decoded_stay none =
       ap (λ (b : FrameBooks). b.decoded) books_are
-      ∙ grown_none (decoded_by i.part.outputs (transition i e).effect report) (λ n. share (is_enabled i.part.outputs n) _ none) i.shared.books.decoded eight.decoded
+      ∙ grown_none (decoded_by (transition i e).effect report) none i.shared.books.decoded eight.decoded
 
   written_stay : ((n : ℕ) → written_by (transition i e).effect n ≡ 0) → after.shared.books.written ≡ i.shared.books.written
   written_stay none =
@@ -77,7 +73,7 @@ module _ (seat : ℕ) (i after : Image) (e : Event) (eight : HasEight i.shared.b
   -- an event that brings no frames leaves all books
   pub all_stay : is_frameless (transition i e).effect ≡ true → after.shared.books ≡ i.shared.books
   all_stay frameless = λ k. record {
-    decoded = decoded_stay (none_fed (transition i e).effect report frameless) k;
+    decoded = decoded_stay (λ n. none_fed (transition i e).effect report n frameless) k;
     written = written_stay (λ n. none_written (transition i e).effect n frameless) k;
     discarded = discarded_stay (λ n. none_discarded (transition i e).effect n frameless) k;
   }
@@ -85,7 +81,7 @@ module _ (seat : ℕ) (i after : Image) (e : Event) (eight : HasEight i.shared.b
   -- no number becomes smaller
   pub decoded_grows : sum i.shared.books.decoded ≤ sum after.shared.books.decoded
   decoded_grows = rw (ap (λ (b : FrameBooks). b.decoded) books_are)
-      (grown_sum (decoded_by i.part.outputs (transition i e).effect report) i.shared.books.decoded eight.decoded)
+      (grown_sum (decoded_by (transition i e).effect report) i.shared.books.decoded eight.decoded)
 
   pub written_grows : sum i.shared.books.written ≤ sum after.shared.books.written
   written_grows = rw (ap (λ (b : FrameBooks). b.written) books_are) (grown_sum (written_by (transition i e).effect) i.shared.books.written eight.written)
@@ -138,15 +134,15 @@ few_by b eight can =
       discarded = counted_below b.discarded eight.discarded two.1;
     }
 
-eight_after : (b : FrameBooks) (outputs : OutputsData) (d : Effect) (report : Report) → HasEight (books_after b outputs d report)
-eight_after b outputs d given = record { decoded = refl; written = refl; discarded = refl }
+eight_after : (b : FrameBooks) (d : Effect) (report : Report) → HasEight (books_after b d report)
+eight_after b d given = record { decoded = refl; written = refl; discarded = refl }
 
 pub few_after : (seat : ℕ) (i after : Image) (e : Event) → limit_of seat i e ≡ None → after ≡ next_image seat i e → AreFew after.shared.books
 few_after seat i after e none is =
     let report : Report = report_of i.part i.shared.library (transition i e) in
-    let are : after.shared.books ≡ books_after i.shared.books i.part.outputs (transition i e).effect report = ap (λ (j : Image). j.shared.books) is ∙ books_next seat i e in
-    subst AreFew (sym are) (few_by (books_after i.shared.books i.part.outputs (transition i e).effect report)
-    (eight_after i.shared.books i.part.outputs (transition i e).effect report) (within seat i e none).1)
+    let are : after.shared.books ≡ books_after i.shared.books (transition i e).effect report = ap (λ (j : Image). j.shared.books) is ∙ books_next seat i e in
+    subst AreFew (sym are) (few_by (books_after i.shared.books (transition i e).effect report)
+    (eight_after i.shared.books (transition i e).effect report) (within seat i e none).1)
 
 -- a have is no turn, and a turn feeds nothing
 no_fates : (ended : Bool) (number frames : ℕ) (output : ℕ)
@@ -159,9 +155,10 @@ pub have_fates : (seat : ℕ) (i after : Image) (number frames : ℕ) → HasEig
 have_fates seat i after number frames eight is =
     (written_stay seat i after (Have number frames) eight is (λ n. (no_fates i.shared.ended number frames n).0), discarded_stay seat i after (Have number frames) eight is (λ n. (no_fates i.shared.ended number frames n).1))
 
-turn_feeds : (i : Image) (output written discarded : ℕ) (failed : Bool) (report : Report) → frames_fed (transition i (OutputTurn output written discarded failed)).effect report ≡ 0
-turn_feeds i output written discarded failed report =
-    elim (is_output i.part.outputs output) as (λ b. frames_fed (if b then acts (Settles output written discarded failed) else absent).effect report ≡ 0)
+turn_feeds : (i : Image) (output written discarded : ℕ) (failed : Bool) (report : Report) (number : ℕ)
+    → decoded_by (transition i (OutputTurn output written discarded failed)).effect report number ≡ 0
+turn_feeds i output written discarded failed report number =
+    elim (is_output i.part.outputs output) as (λ b. decoded_by (if b then acts (Settles output written discarded failed) else absent).effect report number ≡ 0)
     [ true ↦ refl | false ↦ refl ]
 
 pub turn_decoded : (seat : ℕ) (i after : Image) (output written discarded : ℕ) (failed : Bool) → HasEight i.shared.books

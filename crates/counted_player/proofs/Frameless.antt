@@ -20,7 +20,7 @@ use Rattle.transitions.specs.Transitions.{CommandResult, TransitionData, departs
 use Rattle.status_commands.specs.Status.{Wish, wish_of}
 use Rattle.idle_clients.specs.Clients.{client_of}
 use Rattle.player_events.specs.declared.event.Event.TheVariants.{Line}
-use Rattle.partition.specs.Step.{result_of, ends_waiting, once_written, transition_line, transition_of, transition_request, transition_wished, written_transition}
+use Rattle.partition.specs.Step.{asked_by, result_of, ends_waiting, once_written, transition_line, transition_of, transition_request, transition_wished, written_transition}
 
 -- neither frames that are fed nor a turn of an output
 abbrev pub is_frameless : Effect → Bool
@@ -37,7 +37,7 @@ wished asked client command_result None = refl
 
 requested : (part : Part) (library : Library) (client : Client) (stand : Stand) (request : Request) (read : Read) → IsFrameless (transition_request part library client stand request read)
 requested part library client stand (asks.Run name command) read =
-    let asked : Asked = record { client = client.number; name = name; stand = stand } in
+    let asked : Asked = asked_by client name stand in
     wished asked client (result_of asked part library read command) (wish_of command)
 requested part library client stand (asks.Refused ack) read = refl
 

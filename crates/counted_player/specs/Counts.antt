@@ -1,5 +1,5 @@
 -- What contracts see of a player whose events are counted.
-use Rattle.std.specs.Prelude.{ℕ, ◌≡◌, ◌<◌, Bool, false, List, [], ◌∷◌, Option, Some, None, ◌==◌, if◌then◌else◌, slice_index_or, length, Result, Ok, Err}
+use Rattle.std.specs.Prelude.{ℕ, ◌≡◌, ◌<◌, List, [], ◌∷◌, Option, Some, None, ◌==◌, if◌then◌else◌, slice_index_or, length, Result, Ok, Err}
 use Rattle.mpd_text.specs.Songs.Song.{SongData}
 use Rattle.shelf.specs.Calls.{Call}
 use Rattle.shelf.specs.Maps.{Standing}
@@ -10,7 +10,7 @@ use Rattle.partition.specs.History.{Chronicle}
 use Rattle.partition.specs.Image.{Image, no_events}
 use Rattle.partition.specs.Legal.{IsPast}
 use Rattle.partition.specs.Lent.{question, writing}
-use Rattle.player_state.specs.Outputs.{empty_books, is_enabled}
+use Rattle.player_state.specs.Outputs.{empty_books}
 use Rattle.transitions.specs.Shelves.{Serves}
 use Rattle.player_events.specs.Events.{with_store_reply}
 use Rattle.partition.specs.Step.{told}
@@ -44,10 +44,6 @@ IsFresh i = (i.shared.made ≡ no_events) × (i.shared.books ≡ empty_books)
 abbrev pub done_in : Result (List OutcomeData) Stop → ℕ
 done_in (Ok tolds) = length tolds
 done_in (Err stop) = stop.done
-
--- which of eight outputs are enabled
-abbrev pub AreEnabled : List Bool → Image → Type 0
-AreEnabled outputs i = (output : ℕ) → output < 8 → slice_index_or outputs output false ≡ is_enabled i.part.outputs output
 
 -- A past that a caller may find, who made so many events: one in which its seat made just these. Events of
 -- the house's own threads are not counted in their seats.

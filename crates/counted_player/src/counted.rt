@@ -3,7 +3,7 @@ ghost use Rattle.std.specs.Prelude.{◌≡◌, IfOk};
 ghost use Rattle.song_queue.specs.State.{queue_of};
 ghost use Rattle.counted_player.specs.Counts.{done_in, song_of};
 
-use crate::frames::{decoded_in, discarded_in, enabled_in, written_in};
+use crate::frames::{decoded_in, discarded_in, written_in};
 use crate::ledgers::Ledgers;
 use crate::seat::{Seat, SeatBooks};
 use crate::wake_fingerprint::WakeFingerprint;
@@ -56,7 +56,7 @@ impl<L: Ledgers> Counted<L> {
     ghost use Rattle.partition.specs.Step.{limit_of, told as told_of};
     ghost use Rattle.partition.specs.Steps.{RefusesStep, entry};
     ghost use Rattle.player_events.specs.Events.{is_line};
-    ghost use Rattle.counted_player.specs.Counts.{done_in, AnswersSomewhere, AreEnabled, IsFresh, own_in, song_of};
+    ghost use Rattle.counted_player.specs.Counts.{done_in, AnswersSomewhere, IsFresh, own_in, song_of};
     ghost use Rattle.counted_player.specs.Seats.{after_events};
     ghost use Rattle.song_queue.specs.State.{queue_of};
     ghost use Rattle.player_core.specs.declared.state.Playback.TheVariants.{Play};
@@ -229,13 +229,6 @@ impl<L: Ledgers> Counted<L> {
     {
         let _past = self.partition.history();
         discarded_in(self.partition.books())
-    }
-
-    /// Which outputs are enabled.
-    pub fn enabled(&self) -> [bool; 8]
-        ensures { AreEnabled result self.now.present }
-    {
-        enabled_in(self.partition.outputs())
     }
 }
 

@@ -3,8 +3,9 @@ use Rattle.std.proofs.Common.{◌≡◌, inl, inr, ℕ, ℤ, Bool, List, length,
 use Rattle.output_ring.specs.declared.feeder.Feeder.{Feeder}
 use Rattle.output_ring.specs.Rings.{SameFeeder}
 use Rattle.player_core.specs.declared.state.Job.{Job}
+use Rattle.player_events.specs.Outcomes.{OutcomeData}
 use Rattle.counted_player.specs.Seats.{SeatCount}
-use Rattle.held_player.specs.Views.{FedData, FeedsShare}
+use Rattle.held_player.specs.Views.{FeedsShare}
 use Rattle.crew_steps.specs.Each.{Each}
 use Rattle.crew_steps.specs.Feeding.{DoesJob, Feeds, HandsOut, feed_told, handed}
 use Rattle.crew_steps.specs.Sounds.{AreOpenFor, IsShut, OpenSongs, ReadsJob}
@@ -12,11 +13,12 @@ use Rattle.crew_steps.proofs.Pushes.{each_fed}
 
 -- what was fed is of its rings
 pub each_decoded : (seat : SeatCount) (before after : ℕ) (job : Job) (frames others : List (List ℤ)) (old new : List Feeder) → Feeds seat before after job frames others old new → Each SameFeeder old new
-each_decoded seat before after job frames others old new feeds = each_fed feeds.0.outputs (handed (feed_told feeds.0.told.report) job.fade others frames) old new feeds.2
+each_decoded seat before after job frames others old new feeds =
+    each_fed (handed (feed_told feeds.0.report) job.fade others frames) old new feeds.2
 
-pub feeds : (seat : SeatCount) (before after : ℕ) (job : Job) (frames others : List (List ℤ)) (old new : List Feeder) (fed : FedData) → FeedsShare seat job.number (length frames) before after fed → HandsOut job.fade frames others fed old new
+pub feeds : (seat : SeatCount) (before after : ℕ) (job : Job) (frames others : List (List ℤ)) (old new : List Feeder) (told : OutcomeData) → FeedsShare seat job.number (length frames) before after told → HandsOut job.fade frames others told old new
     → Feeds seat before after job frames others old new
-feeds seat before after job frames others old new fed told hands = (fed, told, hands)
+feeds seat before after job frames others old new told tells hands = (told, tells, hands)
 
 -- what was read and fed, by the same songs, of the seat and the share that were there before
 pub fed_later : {A B : Type 0} (songs' songs : B) (view : B → OpenSongs) (seat' seat : SeatCount) (share' share : A) (amount : A → ℕ) (after : ℕ) (job : Job) (frames others : List (List ℤ)) (old new : List Feeder) → songs' ≡ songs → seat' ≡ seat → share' ≡ share

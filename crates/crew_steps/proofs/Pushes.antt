@@ -1,5 +1,5 @@
 -- Frames that go into rings.
-use Rattle.std.proofs.Common.{◌≡◌, ℕ, ◌+◌, ◌<◌, Bool, true, false, ◌||◌, if◌then◌else◌, List, [], ◌∷◌, ◌++◌, All, slice_index_or, length, get_or, set, take, refl, sym, subst, ◌∙◌}
+use Rattle.std.proofs.Common.{◌≡◌, ℕ, ◌+◌, ◌<◌, Bool, true, false, ◌||◌, List, [], ◌∷◌, All, length, get_or, set, take, refl, sym, subst, ◌∙◌}
 use Rattle.std.proofs.lemmas.List.{append-nil, take_more_set}
 use Rattle.std.proofs.lemmas.List.Elements.{All-push}
 use Rattle.output_ring.specs.declared.feeder.Feeder.{Feeder}
@@ -34,26 +34,22 @@ each_kept [] (g ∷ gs) e = absurd e
 each_kept (f ∷ fs) [] e = absurd e
 each_kept (f ∷ fs) (g ∷ gs) e = (e.0.0, each_kept fs gs e.1)
 
-fed_from : (outputs : List Bool) (frames : List CutFrame) (n : ℕ) (fs gs : List Feeder) → EachAt (TakesItsOwn outputs frames) n fs gs → Each SameFeeder fs gs
-fed_from outputs frames n [] [] e = tt
-fed_from outputs frames n [] (g ∷ gs) e = absurd e
-fed_from outputs frames n (f ∷ fs) [] e = absurd e
-fed_from outputs frames n (f ∷ fs) (g ∷ gs) e = (e.0.0, fed_from outputs frames (n + 1) fs gs e.1)
+fed_from : (own : ℕ → List CutFrame) (n : ℕ) (fs gs : List Feeder) → EachAt (TakesItsOwn own) n fs gs → Each SameFeeder fs gs
+fed_from own n [] [] e = tt
+fed_from own n [] (g ∷ gs) e = absurd e
+fed_from own n (f ∷ fs) [] e = absurd e
+fed_from own n (f ∷ fs) (g ∷ gs) e = (e.0.0, fed_from own (n + 1) fs gs e.1)
 
-pub each_fed : (outputs : List Bool) (frames : List CutFrame) (fs gs : List Feeder) → EachAt (TakesItsOwn outputs frames) 0 fs gs → Each SameFeeder fs gs
-each_fed outputs frames = fed_from outputs frames 0
+pub each_fed : (own : ℕ → List CutFrame) (fs gs : List Feeder) → EachAt (TakesItsOwn own) 0 fs gs → Each SameFeeder fs gs
+each_fed own = fed_from own 0
 
 pub each_none : (fs gs hs : List Feeder) → Each TakesNone fs gs → Each TakesNone gs hs → Each TakesNone fs hs
 each_none fs gs hs = each_trans TakesNone TakesNone TakesNone fs gs hs none_trans
 
-no_frames : (fed : Bool) (taken : List CutFrame) → taken ≡ taken ++ (if fed then [] else [])
-no_frames true taken = sym (append-nil taken)
-no_frames false taken = sym (append-nil taken)
+-- where no ring has frames of its own, nothing changes
+none_fed_from : (n : ℕ) (fs : List Feeder) → EachAt (TakesItsOwn (λ n. [])) n fs fs
+none_fed_from n [] = tt
+none_fed_from n (f ∷ fs) = ((same_refl f, sym (append-nil (taken_of f))), none_fed_from (n + 1) fs)
 
--- where there are no frames, nothing changes
-none_fed_from : (outputs : List Bool) (n : ℕ) (fs : List Feeder) → EachAt (TakesItsOwn outputs []) n fs fs
-none_fed_from outputs n [] = tt
-none_fed_from outputs n (f ∷ fs) = ((same_refl f, no_frames (slice_index_or outputs n false) (taken_of f)), none_fed_from outputs (n + 1) fs)
-
-pub none_fed : (outputs : List Bool) (fs : List Feeder) → EachAt (TakesItsOwn outputs []) 0 fs fs
-none_fed outputs fs = none_fed_from outputs 0 fs
+pub none_fed : (fs : List Feeder) → EachAt (TakesItsOwn (λ n. [])) 0 fs fs
+none_fed fs = none_fed_from 0 fs

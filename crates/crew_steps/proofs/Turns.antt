@@ -50,12 +50,12 @@ module _ {W : Type 0} (contents : W → Option (List ℕ)) where
   obeys (ScanEnded ends) old reported new w was v came popped hand fates fault same does = (does.0 ∙ fates, does.1 ∙ same)
   obeys (ToDecode job) old reported new w was v came popped hand fates fault same does = (does.0 ∙ fates, does.1 ∙ same)
   obeys (ToFeed feed) old reported new w was v came popped hand fates fault same does = (does.0 ∙ fates, does.1 ∙ same)
-  obeys (ToPlay live) old reported new w was v came popped hand fates fault same does = (
+  obeys (ToPlay heard) old reported new w was v came popped hand fates fault same does = (
     came,
     does.0 ∙ popped,
-    subst (λ (b : Bool). Plays contents live (hand_of old ++ came) b w new v) fault
-        (subst (λ (l : List CutFrame). Plays contents live l (has_failed reported) w new v) hand
-        (subst (λ (u : W). Plays contents live (hand_of reported) (has_failed reported) u new v) same does.1)),
+    subst (λ (b : Bool). Plays contents heard (hand_of old ++ came) b w new v) fault
+        (subst (λ (l : List CutFrame). Plays contents heard l (has_failed reported) w new v) hand
+        (subst (λ (u : W). Plays contents heard (hand_of reported) (has_failed reported) u new v) same does.1)),
   )
   obeys Ended old reported new w was v came popped hand fates fault same does = (does.0 ∙ fates, does.1 ∙ same)
 

@@ -1,5 +1,5 @@
 -- What the rings of the outputs take of a job's frames (this profile's).
-use Rattle.std.specs.Prelude.{ℕ, ℤ, ◌≡◌, ◌⊎◌, ◌+◌, ◌++◌, Bool, false, ◌&&◌, ◌==◌, nat_le, nat_lt, min, List, [], length, Option, Some, None, slice_index_or, if◌then◌else◌}
+use Rattle.std.specs.Prelude.{ℕ, ℤ, ◌≡◌, ◌⊎◌, ◌+◌, ◌++◌, Bool, ◌&&◌, ◌==◌, nat_le, nat_lt, min, List, [], length, Option, Some, None, slice_index_or, if◌then◌else◌}
 use Rattle.output_ring.specs.Frames.{with_cut}
 use Rattle.output_ring.specs.Rings.{SameFeeder, owed_of, taken_of}
 use Rattle.output_ring.specs.declared.feeder.Feeder.{Feeder}
@@ -7,13 +7,14 @@ use Rattle.output_ring.specs.declared.frames.CutFrame.{CutFrame}
 use Rattle.pcm_mix.specs.Blocks.{FadingData, block_of}
 use Rattle.player_core.specs.declared.state.FadePart.{FadePart}
 use Rattle.player_core.specs.declared.state.Job.{Job}
+use Rattle.player_events.specs.Outcomes.{OutcomeData}
 use Rattle.player_events.specs.declared.event.Event.{Event}
 use Rattle.player_events.specs.declared.event.Event.TheVariants.{Failed}
 use Rattle.player_state.specs.declared.report.Feed.{Feed}
 use Rattle.player_state.specs.declared.report.Report.{Report}
 use Rattle.player_state.specs.declared.report.Report.TheVariants.{ToFeed}
 use Rattle.counted_player.specs.Seats.{SeatCount}
-use Rattle.held_player.specs.Views.{FedData, FeedsSomewhere}
+use Rattle.held_player.specs.Views.{FeedsSomewhere}
 use Rattle.crew_steps.specs.Each.{EachAt}
 use Rattle.crew_steps.specs.Sounds.{AreOpenFor, IsShut, OpenSongs, ReadsJob}
 
@@ -25,13 +26,9 @@ OwesNothing f = owed_of f ≡ []
 abbrev pub TakesNone : Feeder → Feeder → Type 0
 TakesNone old new = SameFeeder old new × (taken_of new ≡ taken_of old)
 
--- a ring that is fed took these frames after those before, another none
-abbrev pub TakesIf : Bool → List CutFrame → Feeder → Feeder → Type 0
-TakesIf fed frames old new = SameFeeder old new × (taken_of new ≡ taken_of old ++ (if fed then frames else []))
-
--- the ring of the n-th output took these frames, if they are for it
-abbrev pub TakesItsOwn : List Bool → List CutFrame → ℕ → Feeder → Feeder → Type 0
-TakesItsOwn outputs frames n old new = TakesIf (slice_index_or outputs n false) frames old new
+-- the ring of the n-th output took its own of these frames after those before
+abbrev pub TakesItsOwn : (ℕ → List CutFrame) → ℕ → Feeder → Feeder → Type 0
+TakesItsOwn own n old new = SameFeeder old new × (taken_of new ≡ taken_of old ++ own n)
 
 -- a job's part of a fade, with the other song's frames; none where these are not as many as the job's, or end
 -- after the fade
@@ -51,20 +48,34 @@ abbrev pub feed_told : Report → Option Feed
 feed_told (ToFeed feed) = feed
 feed_told _ = None
 
--- the frames that the outputs are handed, of the cut and at the volume that they are fed with
-abbrev pub handed : Option Feed → Option FadePart → List (List ℤ) → List (List ℤ) → List CutFrame
-handed None fade others frames = []
-handed (Some feed) fade others frames = with_cut (record { number = feed.cut }) (block_at feed.volume fade others frames)
+-- the frames of a block that an output is handed: all of them, of its moves and of the cut of this number,
+-- where they are for it
+abbrev pub own_frames : Option ℕ → ℕ → List (List ℤ) → List CutFrame
+own_frames None number block = []
+own_frames (Some moves) number block = with_cut (record { moves = moves; number = number }) block
 
--- Each ring of an output that the frames are for took them, mixed with the job's fade, of the cut and at the
--- volume that was told of these very frames; none took any where they were stale.
-abbrev pub HandsOut : Option FadePart → List (List ℤ) → List (List ℤ) → FedData → List Feeder → List Feeder → Type 0
-HandsOut fade frames others fed old new = EachAt (TakesItsOwn fed.outputs (handed (feed_told fed.told.report) fade others frames)) 0 old new
+-- the frames of a block that the n-th output is handed by a feed, which names it with its moves where they
+-- are for it
+abbrev pub fed_frames : Feed → List (List ℤ) → ℕ → List CutFrame
+fed_frames feed block n = own_frames (slice_index_or feed.outputs n None) feed.cut block
+
+-- the frames that the n-th output is handed, of its moves, of the cut and at the volume that they are fed
+-- with
+abbrev pub handed : Option Feed → Option FadePart → List (List ℤ) → List (List ℤ) → ℕ → List CutFrame
+handed None fade others frames = λ n. []
+handed (Some feed) fade others frames = fed_frames feed (block_at feed.volume fade others frames)
+
+-- Each ring of an output that the frames are for took them, mixed with the job's fade, of its moves, of the
+-- cut and at the volume that was told of these very frames; none took any where they were stale.
+abbrev pub HandsOut : Option FadePart → List (List ℤ) → List (List ℤ) → OutcomeData → List Feeder → List Feeder → Type 0
+HandsOut fade frames others told old new =
+    EachAt (TakesItsOwn (handed (feed_told told.report) fade others frames)) 0 old new
 
 -- It was told that so many frames of a job are decoded, and these were handed out as it was told of them.
 abbrev pub Feeds : SeatCount → ℕ → ℕ → Job → List (List ℤ) → List (List ℤ) → List Feeder → List Feeder → Type 0
 Feeds seat share_before share_after job frames others old new =
-    (fed : FedData) × FeedsSomewhere seat job.number (length frames) fed share_before share_after × HandsOut job.fade frames others fed old new
+    (told : OutcomeData) × FeedsSomewhere seat job.number (length frames) told share_before share_after
+    × HandsOut job.fade frames others told old new
 
 -- A job whose song failed gave no ring a frame, and that song is not open any more; of another the frames
 -- that its songs have were read, told of, and handed out as it was told.

@@ -8,9 +8,9 @@ use crate::song_source::SongSource;
 use crate::songs::{JobFrames, NoFrames, Songs};
 use counted_devices::Media;
 use counted_player::{Decoded, Ledgers, Seat};
-use held_player::{Fed, News, Reported};
+use held_player::{News, Reported};
 use house::House;
-use output_ring::{Cut, Feeder, FeederEnd};
+use output_ring::{Feeder, FeederEnd};
 use partition::PartitionFault;
 use player_core::{FadePart, Job};
 use player_state::{Feed, Report};
@@ -227,8 +227,8 @@ impl<'h, L: Ledgers, S: SongSource<M> + Drop, M: Media + Drop, R: Wait + Clock> 
         ensures feeds { Feeds self.old.seat self.old.share.amount self.new.share.amount job.now read.frames.items read.others.items feeders.old.items feeders.new.items }
         ensures songs { self.new.songs ≡ self.old.songs }
     {
-        let fed = self.have(job.number, read.frames.len() as u64);
-        hand_out(feeders, job, read, &fed);
+        let told = self.have(job.number, read.frames.len() as u64);
+        hand_out(feeders, job, read, &told);
     }
 
     /// Reads the frames of a job; where there is no memory, again after a while. Its failure tells whether
@@ -314,7 +314,7 @@ impl<'h, L: Ledgers, S: SongSource<M> + Drop, M: Media + Drop, R: Wait + Clock> 
     }
 
     /// Tells that frames of a job are decoded; where that is refused, again after a while.
-    fn have(&mut self, number: u64, frames: u64) -> Fed
+    fn have(&mut self, number: u64, frames: u64) -> Reported
         ensures told { FeedsShare self.old.seat number frames self.old.share.amount self.new.share.amount result }
         ensures songs { self.new.songs ≡ self.old.songs }
     {
@@ -324,7 +324,7 @@ impl<'h, L: Ledgers, S: SongSource<M> + Drop, M: Media + Drop, R: Wait + Clock> 
                 .house
                 .have(rt, &mut self.seat, number, frames, &mut self.share)
             {
-                Ok(fed) => return fed,
+                Ok(told) => return told,
                 Err(_) => self.pause(),
             }
         }
@@ -376,23 +376,23 @@ impl<'h, L: Ledgers, S: SongSource<M> + Drop, M: Media + Drop, R: Wait + Clock> 
 /// Mixes the frames of a job that was accepted, and hands them to the outputs that they are for. Nothing
 /// waits for room in their rings.
 #[tactic(auto, using(crate::proofs::Pushes::none_fed))]
-fn hand_out(feeders: &mut Vec<Feeder>, job: &Job, read: JobFrames, fed: &Fed)
+fn hand_out(feeders: &mut Vec<Feeder>, job: &Job, read: JobFrames, told: &Reported)
     requires { All OwesNothing feeders.old.items }
-    ensures { HandsOut job.now.fade read.frames.items read.others.items fed.now feeders.old.items feeders.new.items }
+    ensures { HandsOut job.now.fade read.frames.items read.others.items told.now feeders.old.items feeders.new.items }
 {
-    let Some(feed) = feed_of(fed) else {
+    let Some(feed) = feed_of(told) else {
         return;
     };
     let JobFrames { mut frames, others } = read;
     mix_block(&mut frames, &others, job.fade, feed.volume);
-    take_all(feeders, &frames, Cut { number: feed.cut }, fed);
+    take_all(feeders, &frames, &feed);
 }
 
 /// What decoded frames are fed with, unless they are stale.
-fn feed_of(fed: &Fed) -> Option<Feed>
-    ensures { result ≡ feed_told fed.now.told.report }
+fn feed_of(told: &Reported) -> Option<Feed>
+    ensures { result ≡ feed_told told.now.report }
 {
-    match fed.report() {
+    match told.report() {
         Report::ToFeed(feed) => feed,
         _ => None,
     }

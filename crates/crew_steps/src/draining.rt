@@ -13,7 +13,7 @@ use frame_ledger::OutputShares;
 use held_player::Reported;
 use house::House;
 use output_ring::{Cut, Drainer, Fates, Live};
-use player_state::Report;
+use player_state::{Heard, Report};
 use std::sync::Wait;
 use std::thread;
 use std::time::{Clock, Duration};
@@ -135,11 +135,11 @@ impl<'h, L: Ledgers, O: Sink + Drop, G: Gate, R: Wait + Clock> Draining<'h, L, O
         ensures failed { self.old.failed ≡ has_failed drainer.old → self.new.failed ≡ has_failed drainer.new }
         ensures goes { result ≡ goes_on told.now.report }
     {
-        let Report::ToPlay(live) = told.report() else {
+        let Report::ToPlay(heard) = told.report() else {
             return false;
         };
-        let wrote = write_hand(drainer, &mut self.writer, live);
-        self.go_on(popped, wrote, told.changes(), live.enabled);
+        let wrote = write_hand(drainer, &mut self.writer, heard);
+        self.go_on(popped, wrote, told.changes(), heard.live.enabled);
         true
     }
 
@@ -242,17 +242,20 @@ struct Wrote {
 }
 
 /// Gives the frames of the hand their fates.
-fn write_hand<O: Sink>(drainer: &mut Drainer, writer: &mut O, live: player_core::Live) -> Wrote
-    ensures plays { Plays O.contents live (hand_of drainer.old) (has_failed drainer.old) writer.old drainer.new writer.new }
+fn write_hand<O: Sink>(drainer: &mut Drainer, writer: &mut O, heard: Heard) -> Wrote
+    ensures plays { Plays O.contents heard (hand_of drainer.old) (has_failed drainer.old) writer.old drainer.new writer.new }
     ensures failed { has_failed drainer.new ≡ (has_failed drainer.old || result.failed) }
     ensures popped { popped_of drainer.new ≡ popped_of drainer.old }
     ensures ring { SameDrainer drainer.old drainer.new }
 {
     let before = drainer.held();
     let live = Live {
-        cut: Cut { number: live.cut },
-        enabled: live.enabled,
-        paused: live.paused,
+        cut: Cut {
+            moves: heard.moves,
+            number: heard.live.cut,
+        },
+        enabled: heard.live.enabled,
+        paused: heard.live.paused,
         ended: false,
     };
     let failed = drainer.write_out(writer, live).is_err();

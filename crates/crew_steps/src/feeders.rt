@@ -1,13 +1,12 @@
 //! The decoder's ends of several rings.
-ghost use Rattle.std.specs.Prelude.{◌≡◌, ◌≤◌, [], All, false, length, vec_len, vec_capacity};
-ghost use Rattle.output_ring.specs.Frames.{with_cut};
+ghost use Rattle.std.specs.Prelude.{◌≡◌, ◌≤◌, [], All, None, false, length, slice_index_or, vec_len, vec_capacity};
 ghost use Rattle.output_ring.specs.Rings.{EndsFeeder};
 ghost use Rattle.crew_steps.specs.Each.{Each, EachAt};
-ghost use Rattle.crew_steps.specs.Feeding.{OwesNothing, TakesItsOwn, TakesNone};
+ghost use Rattle.crew_steps.specs.Feeding.{OwesNothing, TakesItsOwn, TakesNone, fed_frames};
 
-use held_player::Fed;
 use output_ring::{Cut, Feeder, FeederEnd};
 use pcm_mix::Frame;
+use player_state::Feed;
 
 /// What came of moving frames into rings.
 #[derive(Clone, Copy, Debug, PartialEq, Eq)]
@@ -48,25 +47,40 @@ pub fn push_all(feeders: &mut Vec<Feeder>) -> Pushed
     pushed
 }
 
-/// The ring of each output that the frames are for takes them as a block. Nothing waits for room in any.
-pub fn take_all(feeders: &mut Vec<Feeder>, frames: &[Frame], cut: Cut, fed: &Fed)
+/// The ring of each output that the frames are for takes them as a block, of the cut that they are fed with
+/// and of the output's moves. Nothing waits for room in any.
+pub fn take_all(feeders: &mut Vec<Feeder>, frames: &[Frame], feed: &Feed)
     requires most { length frames.now ≤ 1024 }
     requires idle { All OwesNothing feeders.old.items }
-    ensures { EachAt (TakesItsOwn fed.now.outputs (with_cut cut frames.now)) 0 feeders.old.items feeders.new.items }
+    ensures { EachAt (TakesItsOwn (fed_frames feed.now frames.now)) 0 feeders.old.items feeders.new.items }
 {
     for i in 0..feeders.len() {
-        take_one(&mut feeders[i], frames, cut, fed, i);
+        take_one(&mut feeders[i], frames, feed, i);
     }
 }
 
 /// The ring of an output that the frames are for takes them as a block. Nothing waits for room in it.
-fn take_one(feeder: &mut Feeder, frames: &[Frame], cut: Cut, fed: &Fed, output: usize)
+fn take_one(feeder: &mut Feeder, frames: &[Frame], feed: &Feed, output: usize)
     requires most { length frames.now ≤ 1024 }
     requires idle { OwesNothing feeder.old }
-    ensures { TakesItsOwn fed.now.outputs (with_cut cut frames.now) output feeder.old feeder.new }
+    ensures { TakesItsOwn (fed_frames feed.now frames.now) output feeder.old feeder.new }
 {
-    if fed.is_for(output) {
+    if let Some(moves) = moves_of(feed, output) {
+        let cut = Cut {
+            moves,
+            number: feed.cut,
+        };
         feeder.take(frames, cut);
+    }
+}
+
+/// How often an output was moved that frames are for; `None` where they are not for it.
+fn moves_of(feed: &Feed, output: usize) -> Option<u64>
+    ensures { result ≡ slice_index_or feed.now.outputs output None }
+{
+    match feed.outputs.get(output) {
+        Some(moves) => *moves,
+        None => None,
     }
 }
 

@@ -5,7 +5,7 @@ use Rattle.mpd_text.specs.Songs.Song.{SongData}
 use Rattle.player_events.specs.Outcomes.{OutcomeData}
 use Rattle.partition.specs.Image.{Image, opening}
 use Rattle.idle_clients.specs.Clients.{client_of}
-use Rattle.player_state.specs.Outputs.{OutputsData, no_outputs, switched}
+use Rattle.player_state.specs.Outputs.{OutputsData, no_outputs, with_output}
 use Rattle.player_state.specs.Scans.{never_scanned}
 use Rattle.player_events.specs.Events.{with_store_reply}
 use Rattle.partition.specs.Step.{limit_of, next_image, told}
@@ -29,7 +29,7 @@ library_of songs = record { songs = songs; rate = 8000; scan = never_scanned; up
 
 -- a script's player has one output, which is enabled
 abbrev pub one_output : OutputsData
-one_output = switched (record no_outputs { names = codes "out0" ∷ [] }) 0 true
+one_output = with_output no_outputs (codes "out0") true
 
 -- its random orders are drawn from a generator with the seed 0
 abbrev pub setup_of : Limits → Setup

@@ -21,7 +21,7 @@ one : (n : ℕ) (names : Option Subsystems) → length (notice_to n names) ≤ 1
 one n None = omega arith
 one n (Some names) = omega arith
 
-few_for : (raised : ℕ → Subsystems) (ks : List Client) → length (flat_map (notice_for raised) ks) ≤ length ks
+few_for : (raised : Client → Subsystems) (ks : List Client) → length (flat_map (notice_for raised) ks) ≤ length ks
 few_for raised [] = omega arith
 few_for raised (k ∷ ks) =
     let first : length (notice_for raised k) ≤ 1 = one k.number _ in
@@ -46,7 +46,7 @@ told_notices i e = refl
 -- at most one for each client that is there
 pub few_notices : (i : Image) (e : Event) → length (told i e).notices ≤ length i.clients
 few_notices i e =
-    let raised : ℕ → Subsystems = raised_by i.part i.shared.library (transition i e) in
+    let raised : Client → Subsystems = raised_by i.part i.shared.library (transition i e) in
     let after = staying (mover e) (transition i e).response i.clients in
     let many : length (told i e).notices ≡ length (flat_map (notice_for raised) after) = ap length (told_notices i e) in
     omega (arith, many, few_for raised after, fewer_stay (mover e) (transition i e).response i.clients)

@@ -1,6 +1,6 @@
 -- How many notices a command list gives: a client that is told waits no more, and in a list none begins to
 -- wait.
-use Rattle.std.proofs.Common.{◌≡◌, ℕ, zero, suc, ◌+◌, ◌≤◌, Bool, true, false, ◌&&◌, List, [], ◌∷◌, length, map, take, Option, Some, None, is_some, refl, ap, ◌∙◌, length-append, arith, if◌then◌else◌}
+use Rattle.std.proofs.Common.{◌≡◌, ℕ, zero, suc, ◌+◌, ◌≤◌, ◌==◌, Bool, true, false, ◌&&◌, List, [], ◌∷◌, length, map, take, Option, Some, None, is_some, refl, ap, ◌∙◌, length-append, arith, if◌then◌else◌}
 use Rattle.std.specs.Prelude.{count_by, filter, not}
 use Rattle.std.specs.List.{flat_map}
 use Rattle.std.proofs.lemmas.List.Sums.{sum_by-append}
@@ -10,13 +10,14 @@ use Rattle.idle_notes.specs.declared.pending.Pending.{Pending}
 use Rattle.idle_notes.specs.Notes.{due, fresh, noted}
 use Rattle.idle_notes.specs.Sets.{is_nonempty}
 use Rattle.mpd_command.specs.declared.name.Name.{Name}
+use Rattle.mpd_text.specs.declared.songs.song.TagName.{TagName}
 use Rattle.mpd_command.specs.declared.request.Request.{Request}
 use Rattle.mpd_command.specs.declared.request.Request.TheVariants as asks
 use Rattle.shelf.specs.declared.faults.ShelfFault.{ShelfFault}
 use Rattle.player_events.specs.declared.event.Event.{Event}
 use Rattle.player_events.specs.declared.event.Event.TheVariants.{Line}
 use Rattle.transitions.specs.declared.reply.Move.{Move}
-use Rattle.transitions.specs.declared.reply.Move.TheVariants.{Stay}
+use Rattle.transitions.specs.declared.reply.Move.TheVariants.{Stay, Wait, Learn, Resume, Join, Show}
 use Rattle.transitions.specs.declared.asked.Stand.TheVariants.{InList}
 use Rattle.transitions.specs.declared.shelf_calls.StoreReply.{StoreReply}
 use Rattle.transitions.specs.declared.shelf_calls.Read.{Read}
@@ -25,43 +26,54 @@ use Rattle.player_state.specs.declared.state.Library.{Library}
 use Rattle.player_state.specs.declared.state.Part.{Part}
 use Rattle.player_events.specs.declared.event.LogEntry.{LogEntry}
 use Rattle.transitions.specs.Answers.{ResponseData, closes}
-use Rattle.idle_clients.specs.Clients.{clients_after, is_other, move_of, moved, notice_for, notice_to, notified, staying, client_of}
-use Rattle.status_commands.specs.Status.{Wish, wish_of}
+use Rattle.idle_clients.specs.Clients.{clients_after, is_other, move_of, moved, notice_for, notice_to, notified, shown, staying, client_of}
+use Rattle.status_commands.specs.Status.{Wish, ToWait, ToGoOn, ToShow, wish_of}
 use Rattle.transitions.specs.Transitions.{CommandResult, TransitionData, departs}
 use Rattle.partition.specs.Image.{Image}
 use Rattle.partition.specs.Lists.{Answered, entries_of}
 use Rattle.player_events.specs.Events.{ends_list}
 use Rattle.idle_clients.specs.Rooms.{is_waiting, room_for}
 use Rattle.transitions.specs.Shelves.{is_written}
-use Rattle.partition.specs.Step.{result_of, ends_waiting, mover, next_image, once_written, raised_by, told, transition, transition_line, transition_of, transition_request, transition_wished, written_transition}
+use Rattle.partition.specs.Step.{asked_by, result_of, ends_waiting, mover, next_image, once_written, raised_by, told, transition, transition_line, transition_of, transition_request, transition_wished, written_transition}
 use Rattle.idle_clients.proofs.Tells.{fewer_wait}
 use Rattle.held_player.specs.Lists.{notices_in}
 use Rattle.held_player.proofs.Few.{told_notices}
 
+-- a move by which nobody begins to wait
+abbrev IsStill : Move → Type 0
+IsStill Stay = Unit {0}
+IsStill (Wait names) = ⊥
+IsStill Learn = ⊥
+IsStill Resume = ⊥
+IsStill Join = ⊥
+IsStill (Show tags) = Unit {0}
+
 abbrev Stays : TransitionData → Type 0
-Stays t = t.response.move ≡ Stay
+Stays t = IsStill t.response.move
 
 module _ (form : ListForm) (place : ℕ) where
   wished : (name : Name) (client : Client) (command_result : CommandResult) (wish : Option Wish)
-      → Stays (transition_wished (record { client = client.number; name = name; stand = InList form place }) client command_result wish)
-  wished name client command_result (Some wish) = refl
-  wished name client command_result None = refl
+      → Stays (transition_wished (asked_by client name (InList form place)) client command_result wish)
+  wished name client command_result (Some (ToWait names)) = tt
+  wished name client command_result (Some ToGoOn) = tt
+  wished name client command_result (Some (ToShow choice)) = tt
+  wished name client command_result None = tt
 
   requested : (part : Part) (library : Library) (client : Client) (request : Request) (read : Read) → Stays (transition_request part library client (InList form place) request read)
   requested part library client (asks.Run name command) read =
-      wished name client (result_of (record { client = client.number; name = name; stand = InList form place }) part library read command) (wish_of command)
-  requested part library client (asks.Refused ack) read = refl
+      wished name client (result_of (asked_by client name (InList form place)) part library read command) (wish_of command)
+  requested part library client (asks.Refused ack) read = tt
 
   response : (part : Part) (library : Library) (client : Option Client) (request : Request) (read : Read) → Stays (transition_line part library client (InList form place) request read)
-  response part library None request read = refl
+  response part library None request read = tt
   response part library (Some client) request read =
       elim (is_some client.pending.waiting && not (ends_waiting (InList form place) request))
       as (λ b. Stays (if b then departs client.number else transition_request part library client (InList form place) request read))
-      [ true ↦ refl | false ↦ requested part library client request read ]
+      [ true ↦ tt | false ↦ requested part library client request read ]
 
   once : (request : Request) (refused : Option ShelfFault) (t : TransitionData) → Stays t → Stays (once_written (InList form place) request refused t)
   once request None t e = e
-  once request (Some fault) t e = refl
+  once request (Some fault) t e = tt
 
   written : (request : Request) (refused : Option ShelfFault) (t : TransitionData) → Stays t → Stays (written_transition (InList form place) request refused t)
   written request refused t e =
@@ -79,21 +91,21 @@ one_more client clients =
     sum_by-append (λ (k : Client). if is_waiting k then 1 else 0) (client ∷ []) clients ∙ ap (λ n. n + count_by is_waiting clients) (omega arith)
 
 -- a client that is told waits no more
-one_less_at : (raised : Subsystems) (number : ℕ) (waiting : Option Subsystems) (changed : Subsystems)
-    → length (notice_for (λ n. raised) (record { number = number; pending = record { waiting = waiting; changed = changed } }))
-    + room_for (notified (λ n. raised) (record { number = number; pending = record { waiting = waiting; changed = changed } }))
-    ≤ room_for (record { number = number; pending = record { waiting = waiting; changed = changed } })
-one_less_at raised number None changed = omega arith
-one_less_at raised number (Some names) changed =
+one_less_at : (raised : Subsystems) (client : Client) (waiting : Option Subsystems) (changed : Subsystems)
+    → length (notice_for (λ k. raised) (record client { pending = record { waiting = waiting; changed = changed } }))
+    + room_for (notified (λ k. raised) (record client { pending = record { waiting = waiting; changed = changed } }))
+    ≤ room_for (record client { pending = record { waiting = waiting; changed = changed } })
+one_less_at raised client None changed = omega arith
+one_less_at raised client (Some names) changed =
     let p : Pending = noted raised (record { waiting = Some names; changed = changed }) in
     elim (is_nonempty (due p))
-    as (λ b. length (notice_to number (if b then Some (due p) else None)) + room_for (record { number = number; pending = if b then fresh else p }) ≤ 1)
+    as (λ b. length (notice_to client.number (if b then Some (due p) else None)) + room_for (record client { pending = if b then fresh else p }) ≤ 1)
     [ true ↦ omega arith | false ↦ omega arith ]
 
-one_less : (raised : ℕ → Subsystems) (client : Client) → length (notice_for raised client) + room_for (notified raised client) ≤ room_for client
-one_less raised client = one_less_at (raised client.number) client.number client.pending.waiting client.pending.changed
+one_less : (raised : Client → Subsystems) (client : Client) → length (notice_for raised client) + room_for (notified raised client) ≤ room_for client
+one_less raised client = one_less_at (raised client) client client.pending.waiting client.pending.changed
 
-all_less : (raised : ℕ → Subsystems) (clients : List Client)
+all_less : (raised : Client → Subsystems) (clients : List Client)
     → length (flat_map (notice_for raised) clients) + count_by is_waiting (map (notified raised) clients) ≤ count_by is_waiting clients
 all_less raised [] = omega arith
 all_less raised (k ∷ ks) =
@@ -104,10 +116,32 @@ all_less raised (k ∷ ks) =
     let long = length-append (notice_for raised k) (flat_map (notice_for raised) ks) in
     omega (arith, first, rest, before, after, long)
 
-stays_so : (number : ℕ) (response : ResponseData) (clients : List Client) → response.move ≡ Stay → moved number (move_of response) clients ≡ clients
-stays_so number response clients stay =
-    elim (closes response.answer.next) as (λ b. moved number (if b then Stay else response.move) clients ≡ clients)
-    [ true ↦ refl | false ↦ ap (λ (m : Move). moved number m clients) stay ]
+as_many : (f : Client → Client) → ((k : Client) → room_for (f k) ≡ room_for k) → (clients : List Client) → count_by is_waiting (map f clients) ≡ count_by is_waiting clients
+as_many f same [] = refl
+as_many f same (k ∷ ks) =
+    let first = same k in
+    let rest = as_many f same ks in
+    let before = one_more k ks in
+    let after = one_more (f k) (map f ks) in
+    omega (arith, first, rest, before, after)
+
+shown_waits : (number : ℕ) (tags : List TagName) (k : Client) → room_for (shown number tags k) ≡ room_for k
+shown_waits number tags k = elim (k.number == number) as (λ b. room_for (if b then record k { tags = tags } else k) ≡ room_for k) [ true ↦ refl | false ↦ refl ]
+
+-- as many wait after a move by which nobody begins to
+moves_none : (number : ℕ) (move : Move) (clients : List Client) → IsStill move → count_by is_waiting (moved number move clients) ≡ count_by is_waiting clients
+moves_none number Stay clients still = refl
+moves_none number (Wait names) clients still = absurd still
+moves_none number Learn clients still = absurd still
+moves_none number Resume clients still = absurd still
+moves_none number Join clients still = absurd still
+moves_none number (Show tags) clients still = as_many (shown number tags) (shown_waits number tags) clients
+
+stays_so : (number : ℕ) (response : ResponseData) (clients : List Client) → IsStill response.move
+    → count_by is_waiting (moved number (move_of response) clients) ≡ count_by is_waiting clients
+stays_so number response clients still =
+    elim (closes response.answer.next) as (λ b. count_by is_waiting (moved number (if b then Stay else response.move) clients) ≡ count_by is_waiting clients)
+    [ true ↦ refl | false ↦ moves_none number response.move clients still ]
 
 fewer_stay : (number : ℕ) (response : ResponseData) (clients : List Client) → count_by is_waiting (staying number response clients) ≤ count_by is_waiting clients
 fewer_stay number response clients =
@@ -120,14 +154,14 @@ unfolding next_image
 next_clients seat i e = refl
 
 -- each notice of an event that makes no client wait ends a client's waiting
-told_less : (seat : ℕ) (i : Image) (e : Event) → (transition i e).response.move ≡ Stay
+told_less : (seat : ℕ) (i : Image) (e : Event) → Stays (transition i e)
     → length (told i e).notices + count_by is_waiting (next_image seat i e).clients ≤ count_by is_waiting i.clients
 told_less seat i e stay =
-    let raised : ℕ → Subsystems = raised_by i.part i.shared.library (transition i e) in
+    let raised : Client → Subsystems = raised_by i.part i.shared.library (transition i e) in
     let there : List Client = staying (mover e) (transition i e).response i.clients in
     let notices : length (told i e).notices ≡ length (flat_map (notice_for raised) there) = ap length (told_notices i e) in
-    let after : (next_image seat i e).clients ≡ map (notified raised) there = next_clients seat i e ∙ stays_so (mover e) (transition i e).response (map (notified raised) there) stay in
-    let waiting : count_by is_waiting (next_image seat i e).clients ≡ count_by is_waiting (map (notified raised) there) = ap (count_by is_waiting) after in
+    let waiting : count_by is_waiting (next_image seat i e).clients ≡ count_by is_waiting (map (notified raised) there) =
+    ap (count_by is_waiting) (next_clients seat i e) ∙ stays_so (mover e) (transition i e).response (map (notified raised) there) stay in
     let less = all_less raised there in
     let fewer = fewer_stay (mover e) (transition i e).response i.clients in
     omega (arith, notices, waiting, less, fewer)

@@ -16,7 +16,7 @@ use Rattle.partition.specs.Refusals.{MayRefuse}
 use Rattle.transitions.specs.Shelves.{LeavesUnchanged, no_store_reply}
 use Rattle.partition.specs.Step.{limit_of, next_image, told}
 use Rattle.counted_player.specs.Seats.{SeatCount}
-use Rattle.counted_player.specs.Counts.{AnswersSomewhere, AreEnabled, MayFind}
+use Rattle.counted_player.specs.Counts.{AnswersSomewhere, MayFind}
 use Rattle.frame_ledger.specs.declared.books.OutputShares.{OutputShares}
 use Rattle.mpd_command.specs.declared.request.Request.{Request}
 use Rattle.output_ring.specs.declared.frames.Fates.{Fates}
@@ -36,11 +36,6 @@ pub record View : Type 0 where
 pub record Handed : Type 0 where
   pub front : Option Notice
   pub told : OutcomeData
-
--- what the decoder is told of frames that it had, and which outputs were enabled
-pub record FedData : Type 0 where
-  pub told : OutcomeData
-  pub outputs : List Bool
 
 -- an entry of the history
 abbrev pub entry : ℕ → Event → OutcomeData → LogEntry
@@ -79,8 +74,8 @@ abbrev pub CanCount : FrameBooks → Type 0
 CanCount books = (sum books.written < 2 ^ 63) × (sum books.discarded < 2 ^ 63)
 
 -- frames that were decoded joined the history, and the decoder was told so
-abbrev pub JoinsFed : View → View → SeatCount → Event → FedData → Type 0
-JoinsFed before after seat event fed = Joins before.player after.player seat.number event fed.told
+abbrev pub JoinsFed : View → View → SeatCount → Event → OutcomeData → Type 0
+JoinsFed before after seat event told = Joins before.player after.player seat.number event told
 
 -- the turn of an output joined the history, which was told so
 abbrev pub JoinsTurn : View → View → SeatCount → ℕ → Fates → Bool → OutcomeData → Type 0
@@ -134,16 +129,15 @@ TellsSomewhere seat event outcome = (past : Chronicle) × MayFind seat past × (
 abbrev pub RefusesSomewhere : SeatCount → Event → PartitionFault → Type 0
 RefusesSomewhere seat event fault = (past : Chronicle) × MayFind seat past × IsRefusedFor past seat.number event fault
 
--- what the player of one thread tells of frames that were decoded, which outputs were enabled there, and that
--- the share of decoded frames grows by what all outputs are given
-abbrev pub FeedsSomewhere : SeatCount → ℕ → ℕ → FedData → ℕ → ℕ → Type 0
-FeedsSomewhere seat number frames fed share_before share_after =
-    (past : Chronicle) × MayFind seat past × (fed.told ≡ told past.present (Have number frames))
-    × AreEnabled fed.outputs past.present
+-- what the player of one thread tells of frames that were decoded, and that the share of decoded frames grows
+-- by what all outputs are given
+abbrev pub FeedsSomewhere : SeatCount → ℕ → ℕ → OutcomeData → ℕ → ℕ → Type 0
+FeedsSomewhere seat number frames told_of share_before share_after =
+    (past : Chronicle) × MayFind seat past × (told_of ≡ told past.present (Have number frames))
     × (share_after + sum past.present.shared.books.decoded ≡ share_before + sum (next_image seat.number past.present (Have number frames)).shared.books.decoded)
 
-abbrev pub FeedsShare : SeatCount → ℕ → ℕ → ℕ → ℕ → FedData → Type 0
-FeedsShare seat number frames share_before share_after fed = FeedsSomewhere seat number frames fed share_before share_after
+abbrev pub FeedsShare : SeatCount → ℕ → ℕ → ℕ → ℕ → OutcomeData → Type 0
+FeedsShare seat number frames share_before share_after told = FeedsSomewhere seat number frames told share_before share_after
 
 module _ {S : Type 0} (standing : S → Standing) (failed : S → S → Call → Type 0) where
   -- What an event leaves that was refused: before it was begun, for want of memory, all is as it was; else

@@ -7,7 +7,6 @@ mod answered;
 mod changes;
 mod ended_ring;
 mod fates;
-mod fed;
 mod happen;
 mod held;
 mod list;
@@ -20,7 +19,6 @@ mod waiting;
 
 pub use answered::{Answered, AnsweredList, Reported};
 pub use ended_ring::EndedRing;
-pub use fed::Fed;
 pub use held::{Blanks, CrewShares, Held};
 pub use news::News;
 pub use settlement::Settlement;

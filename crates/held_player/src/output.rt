@@ -4,7 +4,6 @@ use crate::answered::Reported;
 use crate::changes::count_change;
 use crate::ended_ring::EndedRing;
 use crate::fates::book_fates;
-use crate::fed::Fed;
 use crate::happen::{hear_frames, hear_turn};
 use crate::held::{CrewShares, Held};
 use crate::settlement::{Settlement, audit_all, settle_rings, show_open};
@@ -24,10 +23,10 @@ impl<L: Ledgers> Held<L> {
     ghost use Rattle.counted_player.specs.Seats.{after_events};
     ghost use Rattle.held_player.specs.Settling.{AreSumsOf, SettlesInTurn, settled_books};
     ghost use Rattle.held_player.specs.Views.{IsRefusedFor, IsUnchangedOrFolded, GrowAsBooks, KeepsDecoded, KeepsFates, turn_of, JoinsFed, JoinsTurn, IsWithinLimits, IsTurnRefused};
-    ghost use Rattle.counted_player.specs.Counts.{own_in, AreEnabled};
+    ghost use Rattle.counted_player.specs.Counts.{own_in};
 
-    /// Frames of a job were decoded. Where they are not stale, they are for each output that is enabled: its
-    /// book and the share grow by them.
+    /// Frames of a job were decoded. Where they are not stale, they are for the outputs that the report
+    /// names: their books and the share grow by them.
     ///
     /// # Errors
     ///
@@ -38,15 +37,14 @@ impl<L: Ledgers> Held<L> {
         number: u64,
         frames: u64,
         share: &mut Share<Decoded<L>>,
-    ) -> Result<Fed, PartitionFault>
+    ) -> Result<Reported, PartitionFault>
         requires { 0 < share.old.parts }
         ensures found { seat.old.number < 4 → own_in seat.old.number self.old.player.present ≡ seat.old.made }
         ensures legal { IsPast self.old.player }
-        ensures told { IfOk result (λ fed. fed.told ≡ told_of self.old.player.present (Have number frames)) }
-        ensures outputs { IfOk result (λ fed. AreEnabled fed.outputs self.old.player.present) }
+        ensures told { IfOk result (λ told. told ≡ told_of self.old.player.present (Have number frames)) }
         ensures player { IfOk result (JoinsFed self.old self.new seat.old (Have number frames)) }
         ensures within { OnOk result (limit_of seat.old.number self.old.player.present (Have number frames) ≡ None) }
-        ensures waiting { IfOk result (λ fed. self.new.waiting ≡ self.old.waiting ++ fed.told.notices) }
+        ensures waiting { IfOk result (λ told. self.new.waiting ≡ self.old.waiting ++ told.notices) }
         ensures kept { OnErr result (self.new.waiting ≡ self.old.waiting) }
         ensures made { OnOk result (seat.new ≡ after_events seat.old 1) }
         ensures seat { OnErr result (seat.new ≡ seat.old) }
@@ -69,16 +67,14 @@ impl<L: Ledgers> Held<L> {
             closed: _closed,
             changes,
         } = self;
-        let outputs = counted.enabled();
         let outcome = hear_frames(counted, waiting, seat, number, frames)?;
         put_all(waiting, outcome.notices());
         let decoded = counted.decoded();
         books.decoded.raise_to(share, &decoded);
         // Frames that are fed wake the outputs.
         count_change(changes, true);
-        Ok(Fed {
+        Ok(Reported {
             outcome,
-            outputs,
             changes: *changes,
         })
     }

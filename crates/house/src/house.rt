@@ -16,7 +16,7 @@ use command_lists::ListForm;
 use counted_player::{Decoded, Discarded, Ledgers, NoSeat, Seat, Written};
 use frame_ledger::OutputShares;
 use held_player::{
-    Answered, AnsweredList, Blanks, CrewShares, EndedRing, Fed, Held, News, Reported, Settlement,
+    Answered, AnsweredList, Blanks, CrewShares, EndedRing, Held, News, Reported, Settlement,
 };
 use idle_clients::Notice;
 use mpd_command::Request;
@@ -207,7 +207,7 @@ impl<L: Ledgers> House<L> {
         number: u64,
         frames: u64,
         share: &mut Share<Decoded<L>>,
-    ) -> Result<Fed, PartitionFault>
+    ) -> Result<Reported, PartitionFault>
         requires { 0 < share.old.parts }
         ensures made { OnOk result (seat.new ≡ after_events seat.old 1) }
         ensures refused { IfErr result (λ fault. RefusesSomewhere seat.old (Have number frames) fault) }

@@ -13,7 +13,7 @@ use held_player::{Blanks, CrewShares, EndedRing, News, Settlement};
 use house::House;
 use output_ring::{Cut, Drainer, Fates, Live, ring};
 use partition::PartitionFault;
-use player_state::Report;
+use player_state::{Feed, Report};
 use std::alloc::{AllocError, Global};
 use std::marker::Brand;
 use std::sync::Wait;
@@ -31,23 +31,28 @@ fn job_told(alloc: Global, report: Report) -> Result<String, PartitionFault> {
 }
 
 /// How frames are fed, and to which of three outputs.
-fn fed_told(
-    alloc: Global,
-    report: Report,
-    outputs: (bool, bool, bool),
-) -> Result<String, PartitionFault> {
+fn fed_told(alloc: Global, report: Report) -> Result<String, PartitionFault> {
     match report {
-        Report::ToFeed(Some(feed)) => Ok(format!(in alloc;
-            "feed {} {} {} {} {}\n",
-            feed.cut, feed.volume, outputs.0, outputs.1, outputs.2
-        )?),
+        Report::ToFeed(Some(feed)) => {
+            let outputs = (is_for(&feed, 0), is_for(&feed, 1), is_for(&feed, 8));
+            Ok(format!(in alloc;
+                "feed {} {} {} {} {}\n",
+                feed.cut, feed.volume, outputs.0, outputs.1, outputs.2
+            )?)
+        }
         _ => Ok(String::from_str(alloc, "stale\n")?),
     }
 }
 
+/// Whether frames are for this output, which was never moved.
+fn is_for(feed: &Feed, output: usize) -> bool {
+    matches!(feed.outputs.get(output), Some(Some(0)))
+}
+
 fn live_told(alloc: Global, report: Report) -> Result<String, PartitionFault> {
     match report {
-        Report::ToPlay(live) => {
+        Report::ToPlay(heard) => {
+            let live = heard.live;
             Ok(format!(in alloc; "live {} {} {}\n", live.cut, live.enabled, live.paused)?)
         }
         _ => Ok(String::from_str(alloc, "nothing\n")?),
@@ -77,9 +82,8 @@ fn has<L: Ledgers>(
     requires { 0 < share.old.parts }
     ensures { share.new.parts ≡ share.old.parts }
 {
-    let fed = house.have(rt, seat, number, 1024, share)?;
-    let outputs = (fed.is_for(0), fed.is_for(1), fed.is_for(8));
-    fed_told(alloc, fed.report(), outputs)
+    let told = house.have(rt, seat, number, 1024, share)?;
+    fed_told(alloc, told.report())
 }
 
 /// An output has its turn.
@@ -104,7 +108,10 @@ fn writes_out(drainer: &mut Drainer, out: &mut FailAt, cut: u64)
     ensures { SameDrainer drainer.old drainer.new }
 {
     let live = Live {
-        cut: Cut { number: cut },
+        cut: Cut {
+            moves: 0,
+            number: cut,
+        },
         enabled: true,
         paused: false,
         ended: false,
@@ -126,7 +133,13 @@ fn ends_told<L: Ledgers>(
 {
     let mut out = FailAt::new(Vec::new(alloc), FailurePoint::Never);
     let (mut feeder, mut drainer) = ring(alloc, 8192, 512)?;
-    feeder.take(&[[1, -1]; 1_024], Cut { number: 1 });
+    feeder.take(
+        &[[1, -1]; 1_024],
+        Cut {
+            moves: 0,
+            number: 1,
+        },
+    );
     let _pushed = feeder.push();
     writes_out(&mut drainer, &mut out, 1);
     turns(rt, alloc, house, seat, shares, 0, drainer.fates())?;

@@ -6,7 +6,8 @@ use Rattle.std.proofs.lemmas.Bool.{eq-eqb, eqb-true}
 use Rattle.idle_notes.specs.declared.sets.Subsystems.{Subsystems}
 use Rattle.idle_notes.specs.Channels.{clients_with_messages, has_messages_beyond}
 use Rattle.idle_notes.specs.Sets.{is_nonempty}
-use Rattle.idle_clients.specs.Clients.{has_messages}
+use Rattle.player_state.specs.declared.state.Client.{Client}
+use Rattle.idle_clients.specs.Clients.{has_messages, newcomer}
 use Rattle.idle_clients.specs.Settled.{nothing}
 use Rattle.idle_clients.specs.Fingerprint.{RaisedData, is_among, raised_in}
 use Rattle.idle_clients.proofs.Listeners.{among_waiting}
@@ -63,7 +64,7 @@ unheard r number none_beyond =
     cases (has_messages number r.channels) refl
 
 quiet_is : (r : RaisedData) → is_nonempty (record r.common { message = false }) ≡ false → has_messages_beyond r.having r.channels ≡ false → raised_in r ≡ nothing
-quiet_is r empty none_beyond = λ i number. (ap (λ (b : Bool). record r.common { message = b }) (unheard r number none_beyond) ∙ is_none (record r.common { message = false }) empty) i
+quiet_is r empty none_beyond = λ i client. (ap (λ (b : Bool). record r.common { message = b }) (unheard r client.number none_beyond) ∙ is_none (record r.common { message = false }) empty) i
 
 beyond_is : (r : RaisedData) → raised_in r ≡ nothing → has_messages_beyond r.having r.channels ≡ false
 beyond_is r none_raised =
@@ -73,14 +74,14 @@ beyond_is r none_raised =
           let one = some_at (λ n. not (is_among n r.having)) (clients_with_messages r.channels) e in
           let has : has_messages one.0 r.channels ≡ true = sym (among_waiting one.0 r.channels) ∙ one.1 in
           let heard : (not (is_among one.0 r.having) && has_messages one.0 r.channels) ≡ true = ap (λ x. x && has_messages one.0 r.channels) one.2 ∙ has in
-          let clash : true ≡ false = sym heard ∙ ap (λ (f : ℕ → Subsystems). (f one.0).message) none_raised in
+          let clash : true ≡ false = sym heard ∙ ap (λ (f : Client → Subsystems). (f (newcomer one.0)).message) none_raised in
           cc
       | false ↦ λ e. refl
     ] in
     cases (has_messages_beyond r.having r.channels) refl
 
 others_are : (r : RaisedData) → raised_in r ≡ nothing → is_nonempty (record r.common { message = false }) ≡ false
-others_are r none_raised = ap (λ (f : ℕ → Subsystems). is_nonempty (record (f 0) { message = false })) none_raised
+others_are r none_raised = ap (λ (f : Client → Subsystems). is_nonempty (record (f (newcomer 0)) { message = false })) none_raised
 
 -- the test is true exactly where nothing is raised for any client
 pub is_quiet : (r : RaisedData) → IsTrue (not (is_nonempty (record r.common { message = false })) && not (has_messages_beyond r.having r.channels)) ↔ (raised_in r ≡ nothing)

@@ -7,10 +7,11 @@ use Rattle.idle_notes.specs.declared.pending.Pending.{Pending}
 use Rattle.idle_notes.specs.declared.sets.Subsystems.{Subsystems}
 use Rattle.idle_notes.specs.Notes.{fresh, waits, cancelled}
 use Rattle.transitions.specs.declared.reply.Move.{Move}
-use Rattle.transitions.specs.declared.reply.Move.TheVariants.{Stay, Wait, Learn, Resume, Join}
+use Rattle.transitions.specs.declared.reply.Move.TheVariants.{Stay, Wait, Learn, Resume, Join, Show}
 use Rattle.player_state.specs.declared.state.Client.{Client}
 use Rattle.transitions.specs.Answers.{ResponseData, closes}
-use Rattle.idle_clients.specs.Clients.{notified, is_other, at, joined, moved, staying, move_of, clients_after, AllAbove, Rising}
+use Rattle.mpd_text.specs.declared.songs.song.TagName.{TagName}
+use Rattle.idle_clients.specs.Clients.{notified, is_other, at, joined, moved, newcomer, shown, staying, move_of, clients_after, AllAbove, Rising}
 use Rattle.idle_clients.specs.Clients.{client_of}
 
 above_map : (f : Client → Client) → ((k : Client) → (f k).number ≡ k.number) → (n : ℕ) (ks : List Client) → AllAbove n ks → AllAbove n (map f ks)
@@ -33,9 +34,6 @@ rising_filter p (k ∷ ks) r =
     elim (p k) as (λ b. Rising (if b then k ∷ filter p ks else filter p ks))
     [ true ↦ (above_filter p k.number ks r.0, rising_filter p ks r.1) | false ↦ rising_filter p ks r.1 ]
 
-abbrev new : ℕ → Client
-new n = record { number = n; pending = fresh }
-
 abbrev place : ℕ → List Client → ℕ
 place n ks = position_or_len (λ k. nat_lt n k.number) ks
 
@@ -45,13 +43,13 @@ first_more n = omega arith
 further : (k : Client) (ks : List Client) (i : ℕ) (x : Client) → insert (k ∷ ks) (1 + i) x ≡ k ∷ insert ks i x
 further k ks i x = ap (λ n. insert (k ∷ ks) n x) (first_more i)
 
-above_insert : (a n : ℕ) → a < n → (ks : List Client) → AllAbove a ks → AllAbove a (insert ks (place n ks) (new n))
+above_insert : (a n : ℕ) → a < n → (ks : List Client) → AllAbove a ks → AllAbove a (insert ks (place n ks) (newcomer n))
 above_insert a n less [] above = (less, tt)
 above_insert a n less (k ∷ ks) above =
-    let cases : (b : Bool) → nat_lt n k.number ≡ b → AllAbove a (insert (k ∷ ks) (place n (k ∷ ks)) (new n)) =
-    λ b. elim b as (λ b. nat_lt n k.number ≡ b → AllAbove a (insert (k ∷ ks) (place n (k ∷ ks)) (new n))) [
+    let cases : (b : Bool) → nat_lt n k.number ≡ b → AllAbove a (insert (k ∷ ks) (place n (k ∷ ks)) (newcomer n)) =
+    λ b. elim b as (λ b. nat_lt n k.number ≡ b → AllAbove a (insert (k ∷ ks) (place n (k ∷ ks)) (newcomer n))) [
       | true ↦ λ e. rw e (less, above)
-      | false ↦ λ e. rw e (subst (AllAbove a) (sym (further k ks (place n ks) (new n))) (above.0, above_insert a n less ks above.1))
+      | false ↦ λ e. rw e (subst (AllAbove a) (sym (further k ks (place n ks) (newcomer n))) (above.0, above_insert a n less ks above.1))
     ] in
     cases (nat_lt n k.number) refl
 
@@ -68,31 +66,34 @@ other_first n k o h =
     ] in
     cases (k.number == n) refl
 
-rising_insert : (n : ℕ) (ks : List Client) → client_of n ks ≡ None → Rising ks → Rising (insert ks (place n ks) (new n))
+rising_insert : (n : ℕ) (ks : List Client) → client_of n ks ≡ None → Rising ks → Rising (insert ks (place n ks) (newcomer n))
 rising_insert n [] none r = (tt, tt)
 rising_insert n (k ∷ ks) none r =
     let other = other_first n k (client_of n ks) none in
-    let cases : (b : Bool) → nat_lt n k.number ≡ b → Rising (insert (k ∷ ks) (place n (k ∷ ks)) (new n)) =
-    λ b. elim b as (λ b. nat_lt n k.number ≡ b → Rising (insert (k ∷ ks) (place n (k ∷ ks)) (new n))) [
+    let cases : (b : Bool) → nat_lt n k.number ≡ b → Rising (insert (k ∷ ks) (place n (k ∷ ks)) (newcomer n)) =
+    λ b. elim b as (λ b. nat_lt n k.number ≡ b → Rising (insert (k ∷ ks) (place n (k ∷ ks)) (newcomer n))) [
       | true ↦ λ e.
           let less : n < k.number = grind (arith, nat_tests) in
           rw e ((less, all_greater k.number n less ks r.0), r)
       | false ↦ λ e.
           let apart : (k.number == n) ≡ false = other.0 in
           let less : k.number < n = grind (arith, nat_tests) in
-          rw e (subst Rising (sym (further k ks (place n ks) (new n))) (above_insert k.number n less ks r.0, rising_insert n ks other.1 r.1))
+          rw e (subst Rising (sym (further k ks (place n ks) (newcomer n))) (above_insert k.number n less ks r.0, rising_insert n ks other.1 r.1))
     ] in
     cases (nat_lt n k.number) refl
 
 rising_joined : (n : ℕ) (ks : List Client) → Rising ks → Rising (joined n ks)
 rising_joined n ks r =
-    let cases : (o : Option Client) → client_of n ks ≡ o → Rising (if is_some o then ks else insert ks (place n ks) (new n)) =
-    λ o. elim o as (λ o. client_of n ks ≡ o → Rising (if is_some o then ks else insert ks (place n ks) (new n)))
+    let cases : (o : Option Client) → client_of n ks ≡ o → Rising (if is_some o then ks else insert ks (place n ks) (newcomer n)) =
+    λ o. elim o as (λ o. client_of n ks ≡ o → Rising (if is_some o then ks else insert ks (place n ks) (newcomer n)))
     [ None ↦ λ e. rising_insert n ks e r | Some k ↦ λ e. r ] in
     cases (client_of n ks) refl
 
 pub at_keeps : (n : ℕ) (f : Pending → Pending) (k : Client) → (at n f k).number ≡ k.number
 at_keeps n f k = elim (k.number == n) as (λ b. (if b then record k { pending = f k.pending } else k).number ≡ k.number) [ true ↦ refl | false ↦ refl ]
+
+pub shown_keeps : (n : ℕ) (tags : List TagName) (k : Client) → (shown n tags k).number ≡ k.number
+shown_keeps n tags k = elim (k.number == n) as (λ b. (if b then record k { tags = tags } else k).number ≡ k.number) [ true ↦ refl | false ↦ refl ]
 
 rising_moved : (n : ℕ) (move : Move) (ks : List Client) → Rising ks → Rising (moved n move ks)
 rising_moved n Stay ks r = r
@@ -100,12 +101,13 @@ rising_moved n (Wait names) ks r = rising_map (at n (waits names)) (at_keeps n (
 rising_moved n Learn ks r = rising_map (at n (λ p. fresh)) (at_keeps n (λ p. fresh)) ks r
 rising_moved n Resume ks r = rising_map (at n cancelled) (at_keeps n cancelled) ks r
 rising_moved n Join ks r = rising_joined n ks r
+rising_moved n (Show tags) ks r = rising_map (shown n tags) (shown_keeps n tags) ks r
 
 pub rising_staying : (n : ℕ) (response : ResponseData) (ks : List Client) → Rising ks → Rising (staying n response ks)
 rising_staying n response ks r =
     elim (closes response.answer.next) as (λ b. Rising (if b then filter (is_other n) ks else ks)) [ true ↦ rising_filter (is_other n) ks r | false ↦ r ]
 
-pub rising_after : (n : ℕ) (raised : ℕ → Subsystems) (response : ResponseData) (ks : List Client) → Rising ks → Rising (clients_after n raised response ks)
+pub rising_after : (n : ℕ) (raised : Client → Subsystems) (response : ResponseData) (ks : List Client) → Rising ks → Rising (clients_after n raised response ks)
 rising_after n raised response ks r =
     rising_moved n (move_of response) (map (notified raised) (staying n response ks))
     (rising_map (notified raised) (λ k. refl) (staying n response ks) (rising_staying n response ks r))

@@ -11,6 +11,8 @@ use Rattle.idle_notes.specs.declared.sets.Subsystems.{Subsystems}
 use Rattle.idle_notes.specs.Sets.{none}
 use Rattle.idle_notes.specs.Channels.{MemberData, messages_of, pairs}
 use Rattle.idle_notes.specs.Notes.{fresh, noted, waits, cancelled, notice_of, settled}
+use Rattle.mpd_text.specs.Songs.Tags.{tag_names}
+use Rattle.mpd_text.specs.declared.songs.song.TagName.{TagName}
 use Rattle.song_queue.specs.declared.entry.Entry.{Entry}
 use Rattle.song_queue.specs.Entries.{same_queue}
 use Rattle.song_queue.specs.State.{queue_of, differ}
@@ -22,7 +24,7 @@ use Rattle.player_core.specs.declared.state.Playback.{Playback}
 use Rattle.player_core.specs.declared.state.Playback.TheVariants.{Stop, Play, Pause}
 use Rattle.player_core.specs.Player.{PlayerState}
 use Rattle.transitions.specs.declared.reply.Move.{Move}
-use Rattle.transitions.specs.declared.reply.Move.TheVariants.{Stay, Wait, Learn, Resume, Join}
+use Rattle.transitions.specs.declared.reply.Move.TheVariants.{Stay, Wait, Learn, Resume, Join, Show}
 use Rattle.idle_clients.specs.declared.notices.Notice.{Notice}
 use Rattle.player_state.specs.declared.state.Client.{Client}
 use Rattle.player_state.specs.declared.state.Library.{Library}
@@ -135,8 +137,8 @@ begins_to_have number before after = not (has_messages number before) && has_mes
 -- the stored playlists, the queue, what is played, the volume, which outputs are enabled, the modes and the
 -- seconds of a fade, the stickers, who listens to which channel. A client hears of messages where it had none
 -- waiting and has some
-abbrev pub raised : ShelfWrite → Watched → Watched → ℕ → Subsystems
-raised written before after number = record none {
+abbrev pub raised : ShelfWrite → Watched → Watched → Client → Subsystems
+raised written before after client = record none {
   database = not (same_songs before.library.songs after.library.songs);
   update = differ before.library.scan.runs after.library.scan.runs;
   stored_playlist = changes_lists written;
@@ -147,7 +149,7 @@ raised written before after number = record none {
   options = not (same_options (options before.player) (options after.player));
   sticker = changes_stickers written;
   subscription = not (same_pairs (pairs before.channels) (pairs after.channels));
-  message = begins_to_have number before.channels after.channels;
+  message = begins_to_have client.number before.channels after.channels;
 }
 
 abbrev pub is_other : ℕ → Client → Bool
@@ -155,25 +157,33 @@ is_other number client = not (client.number == number)
 
 -- what is pending for a client grows by what was raised; it is told what it waits for, and has then nothing
 -- pending
-abbrev pub notified : (ℕ → Subsystems) → Client → Client
-notified raised client = record client { pending = settled (noted (raised client.number) client.pending) }
+abbrev pub notified : (Client → Subsystems) → Client → Client
+notified raised client = record client { pending = settled (noted (raised client) client.pending) }
 
 abbrev pub notice_to : ℕ → Option Subsystems → List Notice
 notice_to number None = []
 notice_to number (Some names) = record { client = number; names = names } ∷ []
 
-abbrev pub notice_for : (ℕ → Subsystems) → Client → List Notice
-notice_for raised client = notice_to client.number (notice_of (noted (raised client.number) client.pending))
+abbrev pub notice_for : (Client → Subsystems) → Client → List Notice
+notice_for raised client = notice_to client.number (notice_of (noted (raised client) client.pending))
 
 -- what one client does to what is pending for it
 abbrev pub at : ℕ → (Pending → Pending) → Client → Client
 at number change client = if client.number == number then record client { pending = change client.pending } else client
 
+-- the client of a number is shown these tags
+abbrev pub shown : ℕ → List TagName → Client → Client
+shown number tags client = if client.number == number then record client { tags = tags } else client
+
+-- a client that comes: it is in the first partition and is shown all tags, and nothing is pending for it
+abbrev pub newcomer : ℕ → Client
+newcomer number = record { number = number; place = 0; tags = tag_names; pending = fresh }
+
 -- a client that is not there comes before the first with a greater number
 abbrev pub joined : ℕ → List Client → List Client
 joined number clients =
     if is_some (client_of number clients) then clients
-    else insert clients (position_or_len (λ client. nat_lt number client.number) clients) (record { number = number; pending = fresh })
+    else insert clients (position_or_len (λ client. nat_lt number client.number) clients) (newcomer number)
 
 abbrev pub moved : ℕ → Move → List Client → List Client
 moved number Stay clients = clients
@@ -181,6 +191,7 @@ moved number (Wait names) clients = map (at number (waits names)) clients
 moved number Learn clients = map (at number (λ p. fresh)) clients
 moved number Resume clients = map (at number cancelled) clients
 moved number Join clients = joined number clients
+moved number (Show tags) clients = map (shown number tags) clients
 
 -- a client whose answer closes it is gone, and makes no move
 abbrev pub staying : ℕ → ResponseData → List Client → List Client
@@ -191,11 +202,11 @@ move_of response = if closes response.answer.next then Stay else response.move
 
 -- the clients after an event that comes from a client and raises these for each: those that stay hear of it,
 -- and then the client does what it does
-abbrev pub clients_after : ℕ → (ℕ → Subsystems) → ResponseData → List Client → List Client
+abbrev pub clients_after : ℕ → (Client → Subsystems) → ResponseData → List Client → List Client
 clients_after number raised response clients = moved number (move_of response) (map (notified raised) (staying number response clients))
 
 -- the notices of an event, by rising client
-abbrev pub notices_after : ℕ → (ℕ → Subsystems) → ResponseData → List Client → List Notice
+abbrev pub notices_after : ℕ → (Client → Subsystems) → ResponseData → List Client → List Notice
 notices_after number raised response clients = flat_map (notice_for raised) (staying number response clients)
 
 -- every client's number is above this

@@ -5,6 +5,7 @@ use Rattle.idle_notes.specs.Channels.{clients_with_messages, is_listening, liste
 use Rattle.idle_notes.specs.declared.sets.Subsystems.{Subsystems}
 use Rattle.idle_notes.specs.Sets.{none}
 use Rattle.song_queue.specs.State.{differ}
+use Rattle.player_state.specs.declared.state.Client.{Client}
 use Rattle.player_state.specs.declared.effect.Effect.{Effect}
 use Rattle.player_state.specs.declared.effect.Effect.TheVariants.{ByCommand}
 use Rattle.player_state.specs.declared.effect.CommandEffect.TheVariants.{Subscribes, Unsubscribes, Leaves}
@@ -67,8 +68,8 @@ pub record RaisedData : Type 0 where
   pub channels : List MemberData
 
 -- what it raised for a client
-abbrev pub raised_in : RaisedData → ℕ → Subsystems
-raised_in r number = record r.common { message = not (is_among number r.having) && has_messages number r.channels }
+abbrev pub raised_in : RaisedData → Client → Subsystems
+raised_in r client = record r.common { message = not (is_among client.number r.having) && has_messages client.number r.channels }
 
 -- the subsystems but messages whose fingerprints differ; whether the songs do and who listens to which
 -- channel, and what was written to the shelf, is known apart
@@ -92,9 +93,9 @@ common_by_player database subscription written before part library =
     common_by_fingerprint database subscription written before (fingerprint part library)
 
 -- what is raised for a client, by the fingerprints before and the player now
-abbrev pub told_by_fingerprint : Bool → Bool → ShelfWrite → FingerprintData → Part → Library → ℕ → Subsystems
-told_by_fingerprint database subscription written before part library number =
-    raised_in (record { common = common_by_player database subscription written before part library; having = before.having; channels = part.channels }) number
+abbrev pub told_by_fingerprint : Bool → Bool → ShelfWrite → FingerprintData → Part → Library → Client → Subsystems
+told_by_fingerprint database subscription written before part library client =
+    raised_in (record { common = common_by_player database subscription written before part library; having = before.having; channels = part.channels }) client
 
 -- for each client it was raised what these tell
 abbrev pub RaisesWhatDiffers : RaisedData → Bool → Bool → ShelfWrite → FingerprintData → Part → Library → Type 0

@@ -15,9 +15,9 @@ AllSettled [] = Unit {0}
 AllSettled (client ∷ clients) = IsSettled client × AllSettled clients
 
 -- nothing is raised for any client
-abbrev pub nothing : ℕ → Subsystems
-nothing number = none
+abbrev pub nothing : Client → Subsystems
+nothing client = none
 
 -- there is room for the notices to these clients: one for each that waits, or none where nothing is raised
-abbrev pub HasRoom : (ℕ → Subsystems) → List Client → ℕ → Type 0
+abbrev pub HasRoom : (Client → Subsystems) → List Client → ℕ → Type 0
 HasRoom raised clients room = (raised ≡ nothing) ⊎ (count_by is_waiting clients ≤ room)

@@ -2,7 +2,7 @@
 ghost use Rattle.std.specs.Prelude.{◌≡◌, ◌++◌, ◌+◌, ◌≤◌, ◌<◌, nat_lt, length, map, filter, count_by, is_some, vec_len, vec_capacity};
 ghost use Rattle.std.specs.List.{flat_map, position_or_len};
 ghost use Rattle.idle_notes.specs.Notes.{fresh, waits, cancelled};
-ghost use Rattle.idle_clients.specs.Clients.{at as at_lem, notified, is_other, joined, moved, notice_for};
+ghost use Rattle.idle_clients.specs.Clients.{at as at_lem, notified, is_other, joined, moved, newcomer as newcomer_lem, notice_for, shown as shown_lem};
 ghost use Rattle.idle_clients.specs.Clients.{client_of};
 ghost use Rattle.idle_clients.specs.Fingerprint.{raised_in};
 ghost use Rattle.idle_clients.specs.Rooms.{is_waiting, listed, room_for, room_in};
@@ -10,6 +10,7 @@ ghost use Rattle.idle_clients.specs.Rooms.{is_waiting, listed, room_for, room_in
 use crate::fingerprint::Raised;
 use crate::notices::{Notice, Notices};
 use idle_notes::{Pending, Subsystems};
+use known_tags::TagSet;
 use player_state::Client;
 use transitions::Move;
 
@@ -55,12 +56,9 @@ fn notify(client: Client, raised: &Raised) -> Client
     ensures { result ≡ notified (raised_in raised.now) client }
 {
     let mut pending = client.pending;
-    pending.note(raised.for_client(client.number));
+    pending.note(raised.for_client(&client));
     let _ = pending.notice();
-    Client {
-        number: client.number,
-        pending,
-    }
+    with_pending(client, pending)
 }
 
 /// Lists the notices that these clients are sent where this is raised.
@@ -82,7 +80,7 @@ fn list_notice(client: Client, raised: &Raised, notices: &mut Notices)
     ensures len { length (listed notices.new) ≤ length (listed notices.old) + room_for client }
 {
     let mut pending = client.pending;
-    pending.note(raised.for_client(client.number));
+    pending.note(raised.for_client(&client));
     if let Some(names) = pending.notice() {
         notices.push(Notice {
             client: client.number,
@@ -102,6 +100,7 @@ pub fn make_move(clients: &mut Vec<Client>, number: u32, moves: Move)
         Move::Learn => refresh(clients, number),
         Move::Resume => resume(clients, number),
         Move::Join => join(clients, number),
+        Move::Show(tags) => show(clients, number, tags),
     }
 }
 
@@ -121,10 +120,7 @@ fn waiting_for(client: Client, number: u32, names: Subsystems) -> Client
     if client.number == number {
         pending.listen(names);
     }
-    Client {
-        number: client.number,
-        pending,
-    }
+    with_pending(client, pending)
 }
 
 fn refresh(clients: &mut [Client], number: u32)
@@ -140,10 +136,7 @@ fn refreshed(client: Client, number: u32) -> Client
     ensures { result ≡ at_lem number (λ p. fresh) client }
 {
     if client.number == number {
-        Client {
-            number,
-            pending: Pending::new(),
-        }
+        with_pending(client, Pending::new())
     } else {
         client
     }
@@ -165,9 +158,42 @@ fn resumed(client: Client, number: u32) -> Client
     if client.number == number {
         pending.cancel();
     }
+    with_pending(client, pending)
+}
+
+/// The client, with this pending for it.
+fn with_pending(client: Client, pending: Pending) -> Client
+    ensures { result ≡ record client { pending = pending } }
+{
     Client {
         number: client.number,
+        place: client.place,
+        tags: client.tags,
         pending,
+    }
+}
+
+fn show(clients: &mut [Client], number: u32, tags: TagSet)
+    ensures { clients.new ≡ map (shown_lem number tags) clients.old }
+{
+    for client in clients.iter_mut() {
+        *client = shown(*client, number, tags);
+    }
+}
+
+/// The client, shown these tags where it is the one of the number.
+fn shown(client: Client, number: u32, tags: TagSet) -> Client
+    ensures { result ≡ shown_lem number tags client }
+{
+    if client.number == number {
+        Client {
+            number,
+            place: client.place,
+            tags,
+            pending: client.pending,
+        }
+    } else {
+        client
     }
 }
 
@@ -179,12 +205,20 @@ fn join(clients: &mut Vec<Client>, number: u32)
     if find_client(clients, number).is_some() {
         return;
     }
-    let client = Client {
-        number,
-        pending: Pending::new(),
-    };
     let place = place_for(clients, number);
-    let _ = clients.insert(place, client);
+    let _ = clients.insert(place, newcomer(number));
+}
+
+/// A client that comes: it is in the first partition and is shown all tags, and nothing is pending for it.
+fn newcomer(number: u32) -> Client
+    ensures { result ≡ newcomer_lem number }
+{
+    Client {
+        number,
+        place: 0,
+        tags: TagSet::all(),
+        pending: Pending::new(),
+    }
 }
 
 /// The place of the first client with a greater number; the number of clients where none has one.

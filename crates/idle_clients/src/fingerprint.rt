@@ -9,7 +9,7 @@ ghost use Rattle.idle_clients.specs.Fingerprint.{RaisesWhatDiffers, changes_subs
 use idle_notes::{Channels, Subsystems};
 use play_order::{Consume, Modes, Single};
 use player_core::{Playback, Player};
-use player_state::{CommandEffect, Effect, Library, Part};
+use player_state::{Client, CommandEffect, Effect, Library, Part};
 use std::alloc::{AllocError, Global};
 use std::marker::Model;
 use transitions::ShelfWrite;
@@ -153,11 +153,12 @@ impl<'a> Model for Raised<'a> {
 
 impl<'a> Raised<'a> {
     /// What it raised for a client.
-    pub(crate) fn for_client(&self, number: u32) -> Subsystems
-        ensures { result ≡ raised_in self.now number }
+    pub(crate) fn for_client(&self, client: &Client) -> Subsystems
+        ensures { result ≡ raised_in self.now client.now }
     {
         Subsystems {
-            message: !is_among(number, self.having) && self.channels.has_messages(number),
+            message: !is_among(client.number, self.having)
+                && self.channels.has_messages(client.number),
             ..self.common
         }
     }

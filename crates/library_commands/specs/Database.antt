@@ -30,7 +30,7 @@ use Rattle.song_search.specs.Folders.{direct_folders, direct_songs, is_folder, u
 use Rattle.shelf_contents.specs.Shown.{playlist_lines}
 use Rattle.transitions.specs.CommandResults.{begins_scan, refusal, shows}
 use Rattle.transitions.specs.Shelves.{Question, NoQuestion, AskNames}
-use Rattle.queue_commands.specs.Queue.{add_songs, tags_for}
+use Rattle.queue_commands.specs.Queue.{add_songs}
 use Rattle.transitions.specs.declared.asked.Asked.{Asked}
 use Rattle.transitions.specs.declared.shelf_calls.Read.{Read}
 use Rattle.transitions.specs.declared.shelf_calls.Read.TheVariants.{Names, Refused as ShelfRefused}
@@ -52,12 +52,12 @@ abbrev pub lines_with : List TagName → Library → List SongData → List ℕ
 lines_with tags library songs = lines_of_songs tags library.rate songs
 
 -- the same, as the client that asks is shown them
-abbrev pub lines_for : Asked → Part → Library → List SongData → List ℕ
-lines_for asked part library songs = lines_with (tags_for asked part) library songs
+abbrev pub lines_for : Asked → Library → List SongData → List ℕ
+lines_for asked library songs = lines_with asked.tags library songs
 
 -- one song, as the client that asks is shown it
-abbrev pub show_song : Asked → Part → Library → SongData → CommandResult
-show_song asked part library song = shows asked (song_lines_with (tags_for asked part) library.rate song)
+abbrev pub show_song : Asked → Library → SongData → CommandResult
+show_song asked library song = shows asked (song_lines_with asked.tags library.rate song)
 
 -- the URIs of songs, a line each
 unfoldable pub lines_of_uris : List SongData → List ℕ
@@ -84,14 +84,14 @@ ordered library case e sort = sorted_by sort (found case e library.songs)
 abbrev pub selected : Library → Case → Expression → Selection → List SongData
 selected library case e selection = windowed selection.window (ordered library case e selection.sort)
 
-abbrev pub find_met : Asked → Part → Library → Case → Selection → Wanted → CommandResult
-find_met asked part library case selection (Meeting e) =
-    shows asked (lines_for asked part library (selected library case e selection))
-find_met asked part library case selection (Refused text) = unreadable asked text
+abbrev pub find_met : Asked → Library → Case → Selection → Wanted → CommandResult
+find_met asked library case selection (Meeting e) =
+    shows asked (lines_for asked library (selected library case e selection))
+find_met asked library case selection (Refused text) = unreadable asked text
 
 -- the songs of a selection are shown
-abbrev pub find : Asked → Part → Library → Case → Selection → CommandResult
-find asked part library case selection = find_met asked part library case selection selection.wanted
+abbrev pub find : Asked → Library → Case → Selection → CommandResult
+find asked library case selection = find_met asked library case selection selection.wanted
 
 abbrev pub add_met : Asked → Part → Library → Case → Selection → Option Place → Wanted → CommandResult
 add_met asked part library case selection place (Meeting e) = add_songs asked part (selected library case e selection) place
@@ -177,34 +177,34 @@ lines_in tags library folder =
     lines_of_folders (direct_folders folder library.songs)
     ++ lines_with tags library (direct_songs folder library.songs)
 
-abbrev pub show_folder : Asked → Part → Library → List ℕ → CommandResult
-show_folder asked part library folder =
-    if is_folder folder library.songs then shows asked (lines_in (tags_for asked part) library folder)
+abbrev pub show_folder : Asked → Library → List ℕ → CommandResult
+show_folder asked library folder =
+    if is_folder folder library.songs then shows asked (lines_in asked.tags library folder)
     else no_such_directory asked
 
 -- of a song its own lines. A name that is a song's is taken as the song
-abbrev pub show_song_or_folder : Asked → Part → Library → Option SongData → List ℕ → CommandResult
-show_song_or_folder asked part library (Some song) uri = show_song asked part library song
-show_song_or_folder asked part library None uri = show_folder asked part library uri
+abbrev pub show_song_or_folder : Asked → Library → Option SongData → List ℕ → CommandResult
+show_song_or_folder asked library (Some song) uri = show_song asked library song
+show_song_or_folder asked library None uri = show_folder asked library uri
 
-abbrev pub list_place : Asked → Part → Library → List ℕ → CommandResult
-list_place asked part library uri = show_song_or_folder asked part library (song_of library.songs uri) uri
+abbrev pub list_place : Asked → Library → List ℕ → CommandResult
+list_place asked library uri = show_song_or_folder asked library (song_of library.songs uri) uri
 
 -- what lies right in the library, and then the names of all stored playlists, in byte order
-abbrev pub list_root : Asked → Part → Library → Read → CommandResult
-list_root asked part library (Names names) =
-    shows asked (lines_in (tags_for asked part) library [] ++ playlist_lines names)
-list_root asked part library (ShelfRefused fault) = refused asked fault
-list_root asked part library _ = misread asked
+abbrev pub list_root : Asked → Library → Read → CommandResult
+list_root asked library (Names names) =
+    shows asked (lines_in asked.tags library [] ++ playlist_lines names)
+list_root asked library (ShelfRefused fault) = refused asked fault
+list_root asked library _ = misread asked
 
 -- stored playlists are shown in the everyday profile, where the whole library is asked for
 abbrev pub shows_playlists : List ℕ → Bool → Bool
 shows_playlists uri everyday = everyday && length uri == 0
 
 -- what lies right in a folder, or in the library
-abbrev pub list_info : Asked → Part → Library → Read → List ℕ → Bool → CommandResult
-list_info asked part library read uri everyday =
-    if shows_playlists uri everyday then list_root asked part library read else list_place asked part library uri
+abbrev pub list_info : Asked → Library → Read → List ℕ → Bool → CommandResult
+list_info asked library read uri everyday =
+    if shows_playlists uri everyday then list_root asked library read else list_place asked library uri
 
 -- the URIs of all songs under a folder
 abbrev pub list_folder : Asked → Library → List ℕ → CommandResult
@@ -227,18 +227,18 @@ abbrev pub list_all : Asked → Library → List ℕ → Bool → CommandResult
 list_all asked library uri everyday = if everyday then list_uris asked library uri else list_folder asked library uri
 
 -- the lines of all songs under a folder
-abbrev pub list_folder_info : Asked → Part → Library → List ℕ → CommandResult
-list_folder_info asked part library folder =
-    if is_folder folder library.songs then shows asked (lines_for asked part library (under folder library.songs))
+abbrev pub list_folder_info : Asked → Library → List ℕ → CommandResult
+list_folder_info asked library folder =
+    if is_folder folder library.songs then shows asked (lines_for asked library (under folder library.songs))
     else no_such_directory asked
 
-abbrev pub list_song_or_folder_info : Asked → Part → Library → Option SongData → List ℕ → CommandResult
-list_song_or_folder_info asked part library (Some song) uri = show_song asked part library song
-list_song_or_folder_info asked part library None uri = list_folder_info asked part library uri
+abbrev pub list_song_or_folder_info : Asked → Library → Option SongData → List ℕ → CommandResult
+list_song_or_folder_info asked library (Some song) uri = show_song asked library song
+list_song_or_folder_info asked library None uri = list_folder_info asked library uri
 
 -- the same; of a song its own lines
-abbrev pub list_all_info : Asked → Part → Library → List ℕ → CommandResult
-list_all_info asked part library uri = list_song_or_folder_info asked part library (song_of library.songs uri) uri
+abbrev pub list_all_info : Asked → Library → List ℕ → CommandResult
+list_all_info asked library uri = list_song_or_folder_info asked library (song_of library.songs uri) uri
 
 -- no picture lies beside a song
 abbrev pub album_art : Asked → Library → List ℕ → CommandResult
@@ -271,16 +271,16 @@ question_of _ = NoQuestion
 unfoldable pub result_of : Asked → Part → Library → Read → DatabaseCommand → CommandResult
 result_of asked part library read (database.AlbumArt uri offset) = album_art asked library uri.0
 result_of asked part library read (database.Count counting) = count_songs asked library counting
-result_of asked part library read (database.Find selection) = find asked part library Heeded selection
+result_of asked part library read (database.Find selection) = find asked library Heeded selection
 result_of asked part library read (database.FindAdd selection place) = find_add asked part library Heeded selection place
 result_of asked part library read (database.List grouping) = list asked library grouping
 result_of asked part library read (database.ListAll uri everyday) = list_all asked library (uri_or_all uri) everyday
-result_of asked part library read (database.ListAllInfo uri) = list_all_info asked part library (uri_or_all uri)
-result_of asked part library read (database.LsInfo uri everyday) = list_info asked part library read (uri_or_all uri) everyday
+result_of asked part library read (database.ListAllInfo uri) = list_all_info asked library (uri_or_all uri)
+result_of asked part library read (database.LsInfo uri everyday) = list_info asked library read (uri_or_all uri) everyday
 result_of asked part library read (database.ReadComments uri) = read_nothing asked library uri.0
 result_of asked part library read (database.ReadPicture uri offset) = read_nothing asked library uri.0
 result_of asked part library read (database.Rescan uri) = update asked library
-result_of asked part library read (database.Search selection) = find asked part library Ignored selection
+result_of asked part library read (database.Search selection) = find asked library Ignored selection
 result_of asked part library read (database.SearchAdd selection place) = find_add asked part library Ignored selection place
 result_of asked part library read (database.SearchAddPl name selection) = search_add_list asked library read name selection
 result_of asked part library read (database.Update uri) = update asked library

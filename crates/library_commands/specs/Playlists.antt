@@ -21,7 +21,7 @@ use Rattle.song_queue.specs.State.{queue_of}
 use Rattle.song_search.specs.Folders.{is_folder, under}
 use Rattle.transitions.specs.Answers.{refused_by_shelf}
 use Rattle.transitions.specs.CommandResults.{bad_index, bad_name, no_such_song, only, refusal, shows, writes}
-use Rattle.queue_commands.specs.Queue.{add_songs, tags_for}
+use Rattle.queue_commands.specs.Queue.{add_songs}
 use Rattle.transitions.specs.Shelves.{Question, NoQuestion, AskNames, AskList, AskStickers}
 use Rattle.transitions.specs.declared.asked.Asked.{Asked}
 use Rattle.transitions.specs.declared.shelf_calls.Read.{Read}
@@ -56,13 +56,13 @@ abbrev pub list_playlist : Asked → Read → List ℕ → CommandResult
 list_playlist asked read name = named asked name (on_list asked read (λ uris. shows asked (uri_lines uris)))
 
 -- the lines of the songs that the library has at some URIs, as the client that asks is shown them
-abbrev pub info_lines_for : Asked → Part → Library → List (List ℕ) → List ℕ
-info_lines_for asked part library uris = info_lines (tags_for asked part) library.rate library.songs uris
+abbrev pub info_lines_for : Asked → Library → List (List ℕ) → List ℕ
+info_lines_for asked library uris = info_lines asked.tags library.rate library.songs uris
 
 -- the same, with the lines of the songs that the library has
-abbrev pub list_playlist_info : Asked → Part → Library → Read → List ℕ → CommandResult
-list_playlist_info asked part library read name =
-    named asked name (on_list asked read (λ uris. shows asked (info_lines_for asked part library uris)))
+abbrev pub list_playlist_info : Asked → Library → Read → List ℕ → CommandResult
+list_playlist_info asked library read name =
+    named asked name (on_list asked read (λ uris. shows asked (info_lines_for asked library uris)))
 
 -- the names of all lists, in byte order
 abbrev pub list_playlists : Asked → Read → CommandResult
@@ -177,7 +177,7 @@ question_of (playlists.Save name) = NoQuestion
 -- what each command makes of the player
 unfoldable pub result_of : Asked → Part → Library → Read → PlaylistCommand → CommandResult
 result_of asked part library read (playlists.ListPlaylist name) = list_playlist asked read name
-result_of asked part library read (playlists.ListPlaylistInfo name) = list_playlist_info asked part library read name
+result_of asked part library read (playlists.ListPlaylistInfo name) = list_playlist_info asked library read name
 result_of asked part library read playlists.ListPlaylists = list_playlists asked read
 result_of asked part library read (playlists.Load name range place) = load asked part library read name range place
 result_of asked part library read (playlists.PlaylistAdd name uri) = playlist_add asked library read name uri.0

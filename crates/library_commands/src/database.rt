@@ -41,16 +41,16 @@ pub fn run(alloc: Global, asked: Asked, part: &Part, library: &Library, read: &R
     match command {
         DatabaseCommand::AlbumArt(uri, _) => album_art(alloc, asked, library, uri),
         DatabaseCommand::Count(counting) => count(alloc, asked, library, counting),
-        DatabaseCommand::Find(selection) => find(alloc, asked, part, library, Case::Heeded, selection),
+        DatabaseCommand::Find(selection) => find(alloc, asked, library, Case::Heeded, selection),
         DatabaseCommand::FindAdd(selection, place) => find_add(alloc, asked, part, library, Case::Heeded, selection, *place),
         DatabaseCommand::List(grouping) => list(alloc, asked, library, grouping),
         DatabaseCommand::ListAll(uri, everyday) => list_all(alloc, asked, library, uri_or_all(uri.as_ref()), *everyday),
-        DatabaseCommand::ListAllInfo(uri) => list_all_info(alloc, asked, part, library, uri_or_all(uri.as_ref())),
-        DatabaseCommand::LsInfo(uri, everyday) => list_info(alloc, asked, part, library, read, uri_or_all(uri.as_ref()), *everyday),
+        DatabaseCommand::ListAllInfo(uri) => list_all_info(alloc, asked, library, uri_or_all(uri.as_ref())),
+        DatabaseCommand::LsInfo(uri, everyday) => list_info(alloc, asked, library, read, uri_or_all(uri.as_ref()), *everyday),
         DatabaseCommand::ReadComments(uri) => read_nothing(alloc, asked, library, uri),
         DatabaseCommand::ReadPicture(uri, _) => read_nothing(alloc, asked, library, uri),
         DatabaseCommand::Rescan(_) => update(alloc, asked, library),
-        DatabaseCommand::Search(selection) => find(alloc, asked, part, library, Case::Ignored, selection),
+        DatabaseCommand::Search(selection) => find(alloc, asked, library, Case::Ignored, selection),
         DatabaseCommand::SearchAdd(selection, place) => find_add(alloc, asked, part, library, Case::Ignored, selection, *place),
         DatabaseCommand::SearchAddPl(name, selection) => search_add_list(alloc, asked, library, read, name, selection),
         DatabaseCommand::Update(_) => update(alloc, asked, library),
@@ -60,25 +60,18 @@ pub fn run(alloc: Global, asked: Asked, part: &Part, library: &Library, read: &R
 fn find(
     alloc: Global,
     asked: Asked,
-    part: &Part,
     library: &Library,
     case: Case,
     selection: &Selection,
 ) -> Result<Transition, AllocError>
-    ensures { IsDecidedBy result (find_lem asked part.now library.now case selection.now) }
+    ensures { IsDecidedBy result (find_lem asked library.now case selection.now) }
 {
     match &selection.wanted {
         Wanted::Meeting(filter) => {
             let songs = ordered(alloc, library, filter, case, selection.sort)?;
             let shown = windowed(&songs, selection.window);
             let mut lines = Answer::new(alloc);
-            push_songs(
-                alloc,
-                &mut lines,
-                library,
-                shown,
-                part.tags.of(asked.client),
-            )?;
+            push_songs(alloc, &mut lines, library, shown, asked.tags)?;
             Transition::shows(asked, lines)
         }
         Wanted::Refused(text) => unreadable(alloc, asked, text.as_str()),
@@ -363,18 +356,17 @@ fn count_found(
 fn list_info(
     alloc: Global,
     asked: Asked,
-    part: &Part,
     library: &Library,
     read: &Read,
     uri: &str,
     everyday: bool,
 ) -> Result<Transition, AllocError>
-    ensures { IsDecidedBy result (list_info_lem asked part.now library.now read.now uri.now everyday) }
+    ensures { IsDecidedBy result (list_info_lem asked library.now read.now uri.now everyday) }
 {
     if shows_playlists(uri, everyday) {
-        return list_root(alloc, asked, part, library, read);
+        return list_root(alloc, asked, library, read);
     }
-    list_place(alloc, asked, part, library, uri)
+    list_place(alloc, asked, library, uri)
 }
 
 /// Whether stored playlists are shown as well: in the everyday profile, where the whole library is asked for.
@@ -388,15 +380,14 @@ fn shows_playlists(uri: &str, everyday: bool) -> bool
 fn list_root(
     alloc: Global,
     asked: Asked,
-    part: &Part,
     library: &Library,
     read: &Read,
 ) -> Result<Transition, AllocError>
-    ensures { IsDecidedBy result (list_root_lem asked part.now library.now read.now) }
+    ensures { IsDecidedBy result (list_root_lem asked library.now read.now) }
 {
     match read {
         Read::Names(names) => {
-            let mut lines = lines_of_folder(alloc, library, "", part.tags.of(asked.client))?;
+            let mut lines = lines_of_folder(alloc, library, "", asked.tags)?;
             push_names(&mut lines, names.as_slice())?;
             Transition::shows(asked, lines)
         }
@@ -409,30 +400,27 @@ fn list_root(
 fn list_place(
     alloc: Global,
     asked: Asked,
-    part: &Part,
     library: &Library,
     uri: &str,
 ) -> Result<Transition, AllocError>
-    ensures { IsDecidedBy result (list_place_lem asked part.now library.now uri.now) }
+    ensures { IsDecidedBy result (list_place_lem asked library.now uri.now) }
 {
     match library.songs.db().get(uri) {
-        Some(song) => show_song(alloc, asked, part, library, song),
-        None => show_folder(alloc, asked, part, library, uri),
+        Some(song) => show_song(alloc, asked, library, song),
+        None => show_folder(alloc, asked, library, uri),
     }
 }
 
 fn show_song(
     alloc: Global,
     asked: Asked,
-    part: &Part,
     library: &Library,
     song: &Song,
 ) -> Result<Transition, AllocError>
-    ensures { IsDecidedBy result (show_song_lem asked part.now library.now song.now) }
+    ensures { IsDecidedBy result (show_song_lem asked library.now song.now) }
 {
     let mut lines = Answer::new(alloc);
-    let tags = part.tags.of(asked.client);
-    push_song_with(alloc, &mut lines, song, &library.rate, tags)?;
+    push_song_with(alloc, &mut lines, song, &library.rate, asked.tags)?;
     Transition::shows(asked, lines)
 }
 
@@ -450,16 +438,15 @@ fn uri_or_all(uri: Option<&Uri>) -> &str
 fn show_folder(
     alloc: Global,
     asked: Asked,
-    part: &Part,
     library: &Library,
     folder: &str,
 ) -> Result<Transition, AllocError>
-    ensures { IsDecidedBy result (show_folder_lem asked part.now library.now folder.now) }
+    ensures { IsDecidedBy result (show_folder_lem asked library.now folder.now) }
 {
     if !is_folder(library.songs.db(), folder) {
         return no_such_directory(alloc, asked);
     }
-    let lines = lines_of_folder(alloc, library, folder, part.tags.of(asked.client))?;
+    let lines = lines_of_folder(alloc, library, folder, asked.tags)?;
     Transition::shows(asked, lines)
 }
 
@@ -563,15 +550,14 @@ fn uri_lines(alloc: Global, songs: &[SharedSong]) -> Result<Answer, AllocError>
 fn list_all_info(
     alloc: Global,
     asked: Asked,
-    part: &Part,
     library: &Library,
     uri: &str,
 ) -> Result<Transition, AllocError>
-    ensures { IsDecidedBy result (list_all_info_lem asked part.now library.now uri.now) }
+    ensures { IsDecidedBy result (list_all_info_lem asked library.now uri.now) }
 {
     match library.songs.db().get(uri) {
-        Some(song) => show_song(alloc, asked, part, library, song),
-        None => list_folder_info(alloc, asked, part, library, uri),
+        Some(song) => show_song(alloc, asked, library, song),
+        None => list_folder_info(alloc, asked, library, uri),
     }
 }
 
@@ -579,17 +565,16 @@ fn list_all_info(
 fn list_folder_info(
     alloc: Global,
     asked: Asked,
-    part: &Part,
     library: &Library,
     folder: &str,
 ) -> Result<Transition, AllocError>
-    ensures { IsDecidedBy result (list_folder_info_lem asked part.now library.now folder.now) }
+    ensures { IsDecidedBy result (list_folder_info_lem asked library.now folder.now) }
 {
     if !is_folder(library.songs.db(), folder) {
         return no_such_directory(alloc, asked);
     }
     let songs = under(library.songs.db(), folder);
-    let lines = song_lines(alloc, library, songs, part.tags.of(asked.client))?;
+    let lines = song_lines(alloc, library, songs, asked.tags)?;
     Transition::shows(asked, lines)
 }
 

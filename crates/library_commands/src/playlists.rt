@@ -33,7 +33,7 @@ pub fn run(alloc: Global, asked: Asked, part: &Part, library: &Library, read: &R
 {
     match command {
         PlaylistCommand::ListPlaylist(name) => list_playlist(alloc, asked, read, name),
-        PlaylistCommand::ListPlaylistInfo(name) => list_playlist_info(alloc, asked, part, library, read, name),
+        PlaylistCommand::ListPlaylistInfo(name) => list_playlist_info(alloc, asked, library, read, name),
         PlaylistCommand::ListPlaylists => list_playlists(alloc, asked, read),
         PlaylistCommand::Load(name, range, place) => load(alloc, asked, part, library, read, name, *range, *place),
         PlaylistCommand::PlaylistAdd(name, uri) => playlist_add(alloc, asked, library, read, name, uri),
@@ -89,20 +89,24 @@ fn list_playlist(
 fn list_playlist_info(
     alloc: Global,
     asked: Asked,
-    part: &Part,
     library: &Library,
     read: &Read,
     name: &Text,
 ) -> Result<Transition, AllocError>
-    ensures { IsDecidedBy result (list_playlist_info_lem asked part.now library.now read.now name.now) }
+    ensures { IsDecidedBy result (list_playlist_info_lem asked library.now read.now name.now) }
 {
     if !is_list_name(name.as_str()) {
         return Transition::bad_name(alloc, asked, name.as_str());
     }
     match read {
         Read::List(uris) => {
-            let tags = part.tags.of(asked.client);
-            let lines = list_info_lines(alloc, uris, library.songs.db(), &library.rate, tags)?;
+            let lines = list_info_lines(
+                alloc,
+                uris,
+                library.songs.db(),
+                &library.rate,
+                asked.tags,
+            )?;
             Transition::shows(asked, lines)
         }
         Read::Refused(fault) => refused(alloc, asked, *fault),

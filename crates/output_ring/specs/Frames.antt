@@ -1,5 +1,5 @@
 -- Frames, and what becomes of them at an output (this profile's).
-use Rattle.std.specs.Prelude.{Result, Ok, Err, ℕ, ℤ, ◌≡◌, ◌+◌, ◌<◌, Bool, ◌&&◌, List, ◌++◌, Option, length, map, take, drop, filter, nat_le}
+use Rattle.std.specs.Prelude.{Result, Ok, Err, ℕ, ℤ, ◌≡◌, ◌+◌, ◌<◌, ◌==◌, Bool, ◌&&◌, ◌||◌, List, ◌++◌, Option, length, map, take, drop, filter, nat_le, nat_lt}
 use Rattle.std.specs.List.{flat_map}
 use Rattle.std.specs.Io.KnownBytes.{Appends}
 use Rattle.pcm_mix.specs.Layouts.{frame_bytes}
@@ -14,13 +14,17 @@ use Rattle.output_ring.specs.declared.frames.WriteFault.{WriteFault}
 abbrev pub with_cut : Cut → List (List ℤ) → List CutFrame
 with_cut cut frames = map (λ frame. record { frame = frame; cut = cut }) frames
 
--- whether a cut comes no later than another
+-- whether a cut comes no later than another: by the moves, and where these are the same by the numbers
 abbrev pub cut_le : Cut → Cut → Bool
-cut_le a b = nat_le a.number b.number
+cut_le a b = nat_lt a.moves b.moves || ((a.moves == b.moves) && nat_le a.number b.number)
 
 -- whether a playing output writes the frame: it is enabled, and the frame's cut is at least the live one
 abbrev pub is_heard : Live → CutFrame → Bool
 is_heard live item = live.enabled && cut_le live.cut item.cut
+
+-- whether a frame's block was accepted since the output was last moved
+abbrev pub is_since_move : Live → CutFrame → Bool
+is_since_move live item = nat_le live.cut.moves item.cut.moves
 
 -- of some frames those that are written, in order
 abbrev pub heard : Live → List CutFrame → List (List ℤ)

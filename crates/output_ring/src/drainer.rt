@@ -39,9 +39,9 @@ pub struct Drainer {
 
 impl Drainer {
     ghost use mathlib.Core.List.{IsPrefix};
-    ghost use Rattle.std.specs.Prelude.{◌≡◌, ◌+◌, ◌^◌, ◌<◌, ◌≤◌, [], ◌++◌, IfOk, IfSome, IsSome, MatchResult, ◌||◌, ◌↔◌, is_err, OnErr, length, true};
+    ghost use Rattle.std.specs.Prelude.{◌≡◌, ◌+◌, ◌^◌, ◌<◌, ◌≤◌, [], ◌++◌, filter, IfOk, IfSome, IsSome, MatchResult, ◌||◌, ◌↔◌, is_err, OnErr, length, true};
     ghost use Rattle.counted_devices.specs.CallCounts.{HasFailed};
-    ghost use Rattle.output_ring.specs.Frames.{no_fates, both, counted, totals_after, fates_in};
+    ghost use Rattle.output_ring.specs.Frames.{heard, is_since_move, no_fates, both, counted, totals_after, fates_in};
     ghost use Rattle.output_ring.specs.Rings.{taken_of, owed_of, fates_of, popped_of, came_of, hand_of, most_of, ring_of, totals_of, unreported_of, has_failed, accounted_of, hand_fates, HasNoFates, HandHasRoom, HandHasRoomForRing, CanPop, CanPopRing, KeepsFates, KeepsPopped, KeepsAllButReport, KeepsAllButRing, KeepsFeeder, AreEnds, AreEndsAfter, AccountsForAll, end_owed, SameDrainer};
     ghost use Rattle.output_ring.specs.Turns.{OnHold, OnPlay, DiscardsHand, KeepsHand, WritesHand, FailsInHand};
 
@@ -55,7 +55,10 @@ impl Drainer {
     {
         let silence = CutFrame {
             frame: [0, 0],
-            cut: Cut { number: 0 },
+            cut: Cut {
+                moves: 0,
+                number: 0,
+            },
         };
         let mut slots = Vec::new(alloc);
         slots.resize(most, silence)?;
@@ -102,12 +105,16 @@ impl Drainer {
     /// Gives each frame of the hand its fate, and says how many were written and how many discarded. After a
     /// fault of a writer all is discarded; else a pause or the end keeps the hand; else a frame is written
     /// where the output is enabled and the frame's cut is at least the live one, and discarded otherwise.
+    #[tactic(auto, using(crate::proofs::Moves::heard_since))]
     pub fn write_out<W: Sink>(&mut self, writer: &mut W, live: Live) -> Result<Fates, WriteFault>
         ensures after_fault { has_failed self.old ≡ true → DiscardsHand self.old self.new writer.old writer.new result }
         ensures held { OnHold self.old live (KeepsHand self.old self.new writer.old writer.new result) }
         ensures played { OnPlay self.old live ((hand_of self.new ≡ []) × MatchResult result
             (λ f. WritesHand live self.old (W.contents writer.old) (W.contents writer.new) f)
             (λ e. FailsInHand live self.old (W.contents writer.old) (W.contents writer.new) e)) }
+
+        // No frame is heard of a block that was accepted before the output was last moved.
+        ensures moved { heard live (hand_of self.old) ≡ heard live (filter (is_since_move live) (hand_of self.old)) }
 
         // Only a failure of this writer during this call is a fault.
         ensures fault { OnErr result (HasFailed (W.call_counts writer.old) (W.call_counts writer.new)) }

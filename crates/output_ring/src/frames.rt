@@ -1,10 +1,12 @@
 //! Frames with their cuts, and what an output does with them.
 use pcm_mix::Frame;
 
-/// The cut number of a block. Every manual start, seek and stop raises it, and frames of an earlier cut are
-/// heard no more.
+/// The cut of a block: how often its output had been moved, and then the number of the cut, which every
+/// manual start, seek and stop raises. The moves are compared first. Frames of an earlier cut are heard no
+/// more.
 #[derive(Clone, Copy, PartialEq, Eq, PartialOrd, Ord, Debug)]
 pub struct Cut {
+    pub moves: u64,
     pub number: u64,
 }
 

@@ -1,10 +1,11 @@
 -- Which events make a client wait, or tell it what changed: `idle` alone.
-use Rattle.std.proofs.Common.{◌≡◌, ◌⊎◌, inl, inr, ℕ, zero, suc, ◌==◌, Bool, true, false, not, ◌&&◌, codes, nat_lt, nat_le, List, [], ◌∷◌, Option, Some, None, is_some, length, refl, ap, sym, ◌∙◌, if◌then◌else◌}
+use Rattle.std.proofs.Common.{◌≡◌, ◌⊎◌, inl, inr, ℕ, zero, suc, ◌==◌, Bool, true, false, not, ◌&&◌, codes, nat_lt, nat_le, List, [], ◌∷◌, Option, Some, None, is_some, option_map, length, refl, ap, sym, ◌∙◌, if◌then◌else◌}
 use Rattle.std.specs.Prelude.{insert}
 use Rattle.std.specs.List.{list_any, position_or_len}
 use Rattle.std.proofs.lemmas.Bool.{eqb-true}
 use Rattle.idle_notes.specs.declared.sets.Subsystems.{Subsystems}
-use Rattle.idle_notes.specs.Notes.{fresh, waits, cancelled, noted, due}
+use Rattle.idle_notes.specs.Notes.{fresh, waits, cancelled, noted, notice_of, due}
+use Rattle.mpd_text.specs.declared.songs.song.TagName.{TagName}
 use Rattle.idle_notes.specs.Sets.{is_nonempty}
 use Rattle.player_state.specs.declared.state.Library.{Library}
 use Rattle.mpd_command.specs.declared.command.Command.{Command}
@@ -18,20 +19,21 @@ use Rattle.player_events.specs.declared.event.Event.TheVariants.{Connect, Discon
 use Rattle.player_state.specs.declared.effect.AudioStep.TheVariants.{Settles}
 use Rattle.player_state.specs.Outputs.{is_output}
 use Rattle.transitions.specs.declared.reply.Move.{Move}
-use Rattle.transitions.specs.declared.reply.Move.TheVariants.{Stay, Wait, Learn, Resume, Join}
+use Rattle.transitions.specs.declared.reply.Move.TheVariants.{Stay, Wait, Learn, Resume, Join, Show}
 use Rattle.transitions.specs.declared.asked.Stand.{Stand}
 use Rattle.transitions.specs.declared.asked.Stand.TheVariants.{Alone, InList}
 use Rattle.player_state.specs.declared.state.Client.{Client}
 use Rattle.player_state.specs.declared.state.Part.{Part}
-use Rattle.transitions.specs.Answers.{Answer, ResponseData, refused_by_shelf, refuses, shut, stays, tells, closes}
+use Rattle.transitions.specs.Answers.{Answer, ResponseData, refused_by_shelf, refuses, shut, stays, succeeds, tells, closes}
 use Rattle.transitions.specs.Shelves.{is_written}
 use Rattle.transitions.specs.declared.shelf_calls.StoreReply.{StoreReply}
 use Rattle.shelf.specs.declared.faults.ShelfFault.{ShelfFault}
-use Rattle.idle_clients.specs.Clients.{notified, at, moved, move_of}
-use Rattle.status_commands.specs.Status.{Wish, ToWait, ToGoOn, granted, resumes, wish_of}
+use Rattle.idle_clients.specs.Clients.{notified, at, moved, move_of, newcomer, shown}
+use Rattle.status_commands.specs.Connection.{choice_of}
+use Rattle.status_commands.specs.Status.{Wish, ToWait, ToGoOn, ToShow, idles, resumes, wish_of}
 use Rattle.transitions.specs.Transitions.{TransitionData}
 use Rattle.idle_clients.specs.Clients.{client_of}
-use Rattle.partition.specs.Step.{absent, result_of, ends_by, greeting, once_written, transition_of, transition_line, transition_wished, written_transition}
+use Rattle.partition.specs.Step.{absent, asked_by, result_of, ends_by, greeting, once_written, transition_of, transition_line, transition_wished, written_transition}
 use Rattle.player_events.specs.Events.{name_of}
 use Rattle.transitions.specs.Transitions.{acts, departs, quiet}
 use Rattle.partition.specs.World.{is_learning}
@@ -46,6 +48,7 @@ Quiet (Wait names) = ⊥
 Quiet Learn = ⊥
 Quiet Resume = Unit {0}
 Quiet Join = Unit {0}
+Quiet (Show tags) = Unit {0}
 
 pub quiet_unheard : (move : Move) → Quiet move → is_learning move ≡ true → ⊥
 quiet_unheard Stay q e = cc
@@ -53,6 +56,7 @@ quiet_unheard (Wait names) q e = q
 quiet_unheard Learn q e = q
 quiet_unheard Resume q e = cc
 quiet_unheard Join q e = cc
+quiet_unheard (Show tags) q e = cc
 
 pub quiet_unwaiting : (move : Move) (names : Subsystems) → Quiet move → move ≡ Wait names → ⊥
 quiet_unwaiting Stay names q e = cc
@@ -60,10 +64,15 @@ quiet_unwaiting (Wait more) names q e = q
 quiet_unwaiting Learn names q e = q
 quiet_unwaiting Resume names q e = cc
 quiet_unwaiting Join names q e = cc
+quiet_unwaiting (Show tags) names q e = cc
 
 -- an answer to a client that makes no move
 quiet_stays : (answer : Answer) → Quiet (move_of (stays answer))
 quiet_stays answer = elim (closes answer.next) as (λ b. Quiet (if b then Stay else Stay)) [ true ↦ tt | false ↦ tt ]
+
+-- nor does one that is shown other tags
+quiet_shown : (answer : Answer) (tags : List TagName) → Quiet (move_of (record { answer = answer; move = Show tags }))
+quiet_shown answer tags = elim (closes answer.next) as (λ b. Quiet (if b then Stay else Show tags)) [ true ↦ tt | false ↦ tt ]
 
 quiet_if : (b : Bool) (x y : TransitionData) → Quiet (move_of x.response) → Quiet (move_of y.response) → Quiet (move_of (if b then x else y).response)
 quiet_if true x y p q = p
@@ -103,11 +112,15 @@ pub record IsAsking (clients : List Client) (event : Event) : Type 0 where
 -- of all commands `idle` alone is a wish to wait
 pub wish_is : (command : Command) (named : Subsystems) → wish_of command ≡ Some (ToWait named) → command ≡ command_group.Status (status_command.Idle named)
 wish_is (command_group.Status (status_command.Idle more)) named e = cc
+wish_is (command_group.Connection it) named e =
+    let cases : (o : Option (List TagName → List TagName)) → option_map ToShow o ≡ Some (ToWait named) → ⊥ =
+    λ o. elim o as (λ o. option_map ToShow o ≡ Some (ToWait named) → ⊥) [ None ↦ λ h. cc | Some choice ↦ λ h. cc ] in
+    absurd (cases (choice_of it) e)
 wish_is _ named e = cc
 
 -- what a client that does not wait is answered when it asks
 abbrev pub transition_idle : Client → Subsystems → TransitionData
-transition_idle client named = quiet (granted client (ToWait named))
+transition_idle client named = quiet (idles named (notice_of (waits named client.pending)))
 
 module _ (part : Part) (library : Library) (heard : StoreReply) (clients : List Client) (number : ℕ) (k : Client) (is_there : client_of number clients ≡ Some k) where
   -- a line of a client that is there: it is closed, or this is done
@@ -119,7 +132,7 @@ module _ (part : Part) (library : Library) (heard : StoreReply) (clients : List 
 
   module _ (name : Name) (command : Command) where
     abbrev run : Stand → Option Wish → TransitionData
-    run stand wish = transition_wished (record { client = k.number; name = name; stand = stand }) k (result_of (record { client = k.number; name = name; stand = stand }) part library heard.read command) wish
+    run stand wish = transition_wished (asked_by k name stand) k (result_of (asked_by k name stand) part library heard.read command) wish
 
     abbrev Kind : Stand → Option Wish → Type 0
     Kind stand wish = Quiet (move_of (line (ends_by stand wish) (run stand wish)).response) ⊎ IsAsking clients (Line number stand (Run name command) heard)
@@ -133,11 +146,18 @@ module _ (part : Part) (library : Library) (heard : StoreReply) (clients : List 
         ] in
         cases k.pending.waiting refl
 
+    shows_quietly : (stand : Stand) (choice : List TagName → List TagName) → Quiet (move_of (run stand (Some (ToShow choice))).response)
+    shows_quietly stand choice = quiet_shown (succeeds stand (codes "")) (choice k.tags)
+
     kind_of_wish : (stand : Stand) (wish : Option Wish) → wish_of command ≡ wish → Kind stand wish
-    kind_of_wish stand None e = inl (quiet_line (ends_by stand None) (run stand None) (quiet_stays (result_of (record { client = k.number; name = name; stand = stand }) part library heard.read command).answer))
+    kind_of_wish stand None e = inl (quiet_line (ends_by stand None) (run stand None) (quiet_stays (result_of (asked_by k name stand) part library heard.read command).answer))
     kind_of_wish Alone (Some (ToWait named)) e = asking named e
     kind_of_wish Alone (Some ToGoOn) e = inl (quiet_line true (run Alone (Some ToGoOn)) (quiet_resumes k))
-    kind_of_wish (InList form place) (Some wish) e = inl (quiet_line false (run (InList form place) (Some wish)) tt)
+    kind_of_wish Alone (Some (ToShow choice)) e = inl (quiet_line false (run Alone (Some (ToShow choice))) (shows_quietly Alone choice))
+    kind_of_wish (InList form place) (Some (ToWait named)) e = inl (quiet_line false (run (InList form place) (Some (ToWait named))) tt)
+    kind_of_wish (InList form place) (Some ToGoOn) e = inl (quiet_line false (run (InList form place) (Some ToGoOn)) tt)
+    kind_of_wish (InList form place) (Some (ToShow choice)) e =
+        inl (quiet_line false (run (InList form place) (Some (ToShow choice))) (shows_quietly (InList form place) choice))
 
   kind_of_line : (stand : Stand) (request : Request) → Quiet (move_of (transition_line part library (Some k) stand request heard.read).response) ⊎ IsAsking clients (Line number stand request heard)
   kind_of_line Alone (Run name command) = kind_of_wish name command Alone (wish_of command) refl
@@ -190,10 +210,10 @@ of_any p (z ∷ zs) e =
     ] in
     cases (p z) refl e
 
-module _ (n : ℕ) (r : ℕ → Subsystems) where
+module _ (n : ℕ) (r : Client → Subsystems) where
   pub notified_some : (k : Client) (named : Subsystems) → (notified r k).pending.waiting ≡ Some named → k.pending.waiting ≡ Some named
   notified_some k named =
-      elim (is_nonempty (due (noted (r k.number) k.pending))) as (λ b. (if b then fresh else noted (r k.number) k.pending).waiting ≡ Some named → k.pending.waiting ≡ Some named)
+      elim (is_nonempty (due (noted (r k) k.pending))) as (λ b. (if b then fresh else noted (r k) k.pending).waiting ≡ Some named → k.pending.waiting ≡ Some named)
       [ true ↦ λ e. cc | false ↦ λ e. e ]
 
   -- a client that waits after its move waited before it, or begins to
@@ -216,6 +236,9 @@ module _ (n : ℕ) (r : ℕ → Subsystems) where
       elim (k.number == n) as (λ b. (if b then record k { pending = cancelled k.pending } else k).pending.waiting ≡ Some named → (k.pending.waiting ≡ Some named) ⊎ ((Resume ≡ Wait named) × (k.number ≡ n)))
       [ true ↦ λ h. cc | false ↦ λ h. inl h ] e
   does_some Join k named e = inl e
+  does_some (Show tags) k named e =
+      elim (k.number == n) as (λ b. (if b then record k { tags = tags } else k).pending.waiting ≡ Some named → (k.pending.waiting ≡ Some named) ⊎ ((Show tags ≡ Wait named) × (k.number ≡ n)))
+      [ true ↦ λ h. inl h | false ↦ λ h. inl h ] e
 
   of_insert : (k new : Client) (xs : List Client) (place : ℕ) → IsIn k (insert xs place new) → IsIn k xs ⊎ (new ≡ k)
   of_insert k new [] zero (inl e) = inr e
@@ -234,9 +257,10 @@ module _ (n : ℕ) (r : ℕ → Subsystems) where
   of_moved (Wait names) k ks named e w = of_map (at n (waits names)) k ks e
   of_moved Learn k ks named e w = of_map (at n (λ p. fresh)) k ks e
   of_moved Resume k ks named e w = of_map (at n cancelled) k ks e
+  of_moved (Show tags) k ks named e w = of_map (shown n tags) k ks e
   of_moved Join k ks named e w =
       let place : ℕ = position_or_len (λ c. nat_lt n c.number) ks in
-      let new : Client = record { number = n; pending = fresh } in
+      let new : Client = newcomer n in
       elim (is_some (client_of n ks)) as (λ b. IsIn k (if b then ks else insert ks place new) → (c : Client) × IsIn c ks × (c ≡ k)) [
         | true ↦ λ h. (k, h, refl)
         | false ↦ λ h. elim (of_insert k new ks place h) [

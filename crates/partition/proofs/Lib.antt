@@ -23,6 +23,7 @@ pub mod Stands
 pub mod Stepped
 pub mod Stepping
 pub mod Whole
+pub mod Wishes
 pub mod Worlds
 pub mod Writing
 pub mod Written

@@ -9,13 +9,14 @@ use Rattle.idle_notes.specs.declared.sets.Subsystems.{Subsystems}
 use Rattle.idle_notes.specs.Sets.{none, union, is_nonempty}
 use Rattle.idle_notes.specs.Notes.{fresh, noted, waits, cancelled, due}
 use Rattle.transitions.specs.declared.reply.Move.{Move}
-use Rattle.transitions.specs.declared.reply.Move.TheVariants.{Stay, Wait, Learn, Resume, Join}
+use Rattle.transitions.specs.declared.reply.Move.TheVariants.{Stay, Wait, Learn, Resume, Join, Show}
 use Rattle.idle_clients.specs.declared.notices.Notice.{Notice}
 use Rattle.player_state.specs.declared.state.Client.{Client}
-use Rattle.idle_clients.specs.Clients.{notified, is_other, at, joined, moved, notice_to, notice_for, AllAbove, Rising}
+use Rattle.mpd_text.specs.declared.songs.song.TagName.{TagName}
+use Rattle.idle_clients.specs.Clients.{notified, is_other, at, joined, moved, newcomer, notice_to, notice_for, shown, AllAbove, Rising}
 use Rattle.idle_clients.specs.Clients.{client_of}
 use Rattle.partition.specs.World.{is_learning}
-use Rattle.idle_clients.proofs.Rises.{at_keeps, rising_filter}
+use Rattle.idle_clients.proofs.Rises.{at_keeps, rising_filter, shown_keeps}
 
 -- each client has this
 abbrev pub Each : (Client → Type 0) → List Client → Type 0
@@ -27,10 +28,10 @@ each_filter P p [] e = tt
 each_filter P p (k ∷ ks) e =
     elim (p k) as (λ b. Each P (if b then k ∷ filter p ks else filter p ks)) [ true ↦ (e.0, each_filter P p ks e.1) | false ↦ each_filter P p ks e.1 ]
 
-module _ (raised : ℕ → Subsystems) where
+module _ (raised : Client → Subsystems) where
   -- whether a client is told
   abbrev pub told : Client → Bool
-  told k = is_nonempty (due (noted (raised k.number) k.pending))
+  told k = is_nonempty (due (noted (raised k) k.pending))
 
   -- whether a client of this number is named among the notices to some
   abbrev pub named : ℕ → List Client → Bool
@@ -38,7 +39,7 @@ module _ (raised : ℕ → Subsystems) where
 
   named_one : (n : ℕ) (k : Client) → list_any (λ x. x.client == n) (notice_for raised k) ≡ (told k && (k.number == n))
   named_one n k =
-      elim (told k) as (λ b. list_any (λ x. x.client == n) (notice_to k.number (if b then Some (due (noted (raised k.number) k.pending)) else None)) ≡ (b && (k.number == n)))
+      elim (told k) as (λ b. list_any (λ x. x.client == n) (notice_to k.number (if b then Some (due (noted (raised k) k.pending)) else None)) ≡ (b && (k.number == n)))
       [ true ↦ elim (k.number == n) as (λ c. (c || false) ≡ c) [ true ↦ refl | false ↦ refl ] | false ↦ refl ]
 
   named_more : (n : ℕ) (k : Client) (ks : List Client) → named n (k ∷ ks) ≡ ((told k && (k.number == n)) || named n ks)
@@ -87,14 +88,18 @@ flagged flag k = record k { pending = record k.pending { changed = flag k.number
 pub unchanged : (flag : ℕ → Subsystems) (k : Client) → flag k.number ≡ k.pending.changed → flagged flag k ≡ k
 unchanged flag k e = ap (λ (s : Subsystems). record k { pending = record k.pending { changed = s } }) e
 
-module _ (raised : ℕ → Subsystems) (flag after : ℕ → Subsystems) (there : ℕ → Bool) (speaker : ℕ) where
-  -- what a client's flags are after an event by which it begins anew or not
-  abbrev pub grown : ℕ → Bool → Subsystems
-  grown n anew = if anew then none else union (flag n) (raised n)
+module _ (raised : Client → Subsystems) (by_number flag after : ℕ → Subsystems) (there : ℕ → Bool) (speaker : ℕ) where
+  -- what a client's flags are after an event that raises this, by which it begins anew or not
+  abbrev grown_by : Subsystems → ℕ → Bool → Subsystems
+  grown_by r n anew = if anew then none else union (flag n) r
 
-  -- the client was there, and its flags were right
+  -- the same, where it raises what it raises for the client of this number
+  abbrev pub grown : ℕ → Bool → Subsystems
+  grown n anew = grown_by (by_number n) n anew
+
+  -- the client was there, its flags were right, and what is raised for it is so by its number
   abbrev pub Right : Client → Type 0
-  Right k = (there k.number ≡ true) × (k.pending.changed ≡ flag k.number)
+  Right k = (there k.number ≡ true) × (k.pending.changed ≡ flag k.number) × (raised k ≡ by_number k.number)
 
   abbrev pub anew : List Client → Bool → ℕ → Bool
   anew ks heard n = not (there n) || (named raised n ks || ((n == speaker) && heard))
@@ -124,12 +129,14 @@ module _ (raised : ℕ → Subsystems) (flag after : ℕ → Subsystems) (there 
   module _ (change : Client → Client) (heard : Bool) (ks : List Client) (is : (n : ℕ) → after n ≡ grown n (anew ks heard n))
       (keeps : (k : Client) → (change (notified raised k)).number ≡ k.number)
       (flags : (k : Client) → k.pending.changed ≡ flag k.number
-      → grown k.number (told raised k || ((k.number == speaker) && heard)) ≡ (change (notified raised k)).pending.changed) where
+      → grown_by (raised k) k.number (told raised k || ((k.number == speaker) && heard)) ≡ (change (notified raised k)).pending.changed) where
     pub each_unchanged : (xs : List Client) → Each Right xs → Each (λ x. named raised x.number ks ≡ told raised x) xs
         → Each (λ k. flagged after k ≡ k) (map change (map (notified raised) xs))
     each_unchanged [] right names = tt
     each_unchanged (x ∷ xs) right names = (
-      unchanged after (change (notified raised x)) (ap after (keeps x) ∙ after_there heard ks is x right.0 names.0 ∙ flags x right.0.1),
+      unchanged after (change (notified raised x))
+          (ap after (keeps x) ∙ after_there heard ks is x right.0 names.0
+          ∙ ap (λ (r : Subsystems). grown_by r x.number (told raised x || ((x.number == speaker) && heard))) (sym right.0.2) ∙ flags x right.0.1),
       each_unchanged xs right.1 names.1,
     )
 
@@ -146,6 +153,10 @@ module _ (raised : ℕ → Subsystems) (flag after : ℕ → Subsystems) (there 
       elim (k.number == speaker) as (λ b. (if b then fresh else k.pending).changed ≡ (if b then record k { pending = fresh } else k).pending.changed)
       [ true ↦ refl | false ↦ refl ]
 
+  shown_flags : (tags : List TagName) (k : Client) → (shown speaker tags k).pending.changed ≡ k.pending.changed
+  shown_flags tags k =
+      elim (k.number == speaker) as (λ b. (if b then record k { tags = tags } else k).pending.changed ≡ k.pending.changed) [ true ↦ refl | false ↦ refl ]
+
   identical : (P : Client → Type 0) (xs : List Client) → Each P (map (λ k. k) xs) → Each P xs
   identical P [] e = tt
   identical P (x ∷ xs) e = (e.0, identical P xs e.1)
@@ -157,18 +168,24 @@ module _ (raised : ℕ → Subsystems) (flag after : ℕ → Subsystems) (there 
     pub stays : ((n : ℕ) → after n ≡ grown n (anew ks false n)) → Each (λ k. flagged after k ≡ k) (map (notified raised) ks)
     stays is =
         identical (λ k. flagged after k ≡ k) (map (notified raised) ks)
-        (each_unchanged (λ k. k) false ks is (λ k. refl) (λ k e. quiet (told raised k) (k.number == speaker) (raised k.number) (flag k.number) k.pending e) ks right names)
+        (each_unchanged (λ k. k) false ks is (λ k. refl) (λ k e. quiet (told raised k) (k.number == speaker) (raised k) (flag k.number) k.pending e) ks right names)
 
     pub keeps_flags : (change : Pending → Pending) → ((p : Pending) → (change p).changed ≡ p.changed) → ((n : ℕ) → after n ≡ grown n (anew ks false n))
         → Each (λ k. flagged after k ≡ k) (map (at speaker change) (map (notified raised) ks))
     keeps_flags change same is =
         each_unchanged (at speaker change) false ks is (same_number change)
-        (λ k e. quiet (told raised k) (k.number == speaker) (raised k.number) (flag k.number) k.pending e ∙ sym (same_flags change same (notified raised k))) ks right names
+        (λ k e. quiet (told raised k) (k.number == speaker) (raised k) (flag k.number) k.pending e ∙ sym (same_flags change same (notified raised k))) ks right names
+
+    pub shows_tags : (tags : List TagName) → ((n : ℕ) → after n ≡ grown n (anew ks false n))
+        → Each (λ k. flagged after k ≡ k) (map (shown speaker tags) (map (notified raised) ks))
+    shows_tags tags is =
+        each_unchanged (shown speaker tags) false ks is (λ k. shown_keeps speaker tags (notified raised k))
+        (λ k e. quiet (told raised k) (k.number == speaker) (raised k) (flag k.number) k.pending e ∙ sym (shown_flags tags (notified raised k))) ks right names
 
     pub clears : ((n : ℕ) → after n ≡ grown n (anew ks true n)) → Each (λ k. flagged after k ≡ k) (map (at speaker (λ p. fresh)) (map (notified raised) ks))
     clears is =
         each_unchanged (at speaker (λ p. fresh)) true ks is (same_number (λ p. fresh))
-        (λ k e. told_now (told raised k) (k.number == speaker) (raised k.number) (flag k.number) k.pending e ∙ cleared (notified raised k)) ks right names
+        (λ k e. told_now (told raised k) (k.number == speaker) (raised k) (flag k.number) k.pending e ∙ cleared (notified raised k)) ks right names
 
     each_insert : (P : Client → Type 0) (xs : List Client) (i : ℕ) (x : Client) → Each P xs → P x → Each P (insert xs i x)
     each_insert P [] zero x e p = (p, tt)
@@ -180,7 +197,7 @@ module _ (raised : ℕ → Subsystems) (flag after : ℕ → Subsystems) (there 
         → Each (λ k. flagged after k ≡ k) (joined speaker (map (notified raised) ks))
     joins is absent =
         let heard : List Client = map (notified raised) ks in
-        let new : Client = record { number = speaker; pending = fresh } in
+        let new : Client = newcomer speaker in
         let place : ℕ = position_or_len (λ k. nat_lt speaker k.number) heard in
         let cases : (o : Option Client) → client_of speaker heard ≡ o → Each (λ k. flagged after k ≡ k) (if is_some o then heard else insert heard place new) =
         λ o. elim o as (λ o. client_of speaker heard ≡ o → Each (λ k. flagged after k ≡ k) (if is_some o then heard else insert heard place new)) [
@@ -202,6 +219,7 @@ module _ (raised : ℕ → Subsystems) (flag after : ℕ → Subsystems) (there 
   each_stands ks rising right Learn is absent = clears ks rising right is
   each_stands ks rising right Resume is absent = keeps_flags ks rising right cancelled (λ p. refl) is
   each_stands ks rising right Join is absent = joins ks rising right is absent
+  each_stands ks rising right (Show tags) is absent = shows_tags ks rising right tags is
 
   -- of a client that is closed, or makes a move
   pub all_stand : (ks : List Client) → Rising ks → Each Right ks → (closed : Bool) (move : Move)

@@ -24,14 +24,15 @@ use Rattle.player_state.specs.declared.scan.ScanMove.TheVariants.{Stay, Begin, E
 use Rattle.player_state.specs.declared.state.Library.{Library}
 use Rattle.player_state.specs.declared.effect.Effect.{Effect}
 use Rattle.player_state.specs.declared.effect.Effect.TheVariants.{ByCommand, ByAudio}
-use Rattle.player_state.specs.declared.effect.CommandEffect.TheVariants.{Rests, Edits, Shuffles, SetsVolume, SetsRepeat, SetsRandom, SetsSingle, SetsConsume, SetsCrossfade, ClearsError, Plays, PlaysPlace, Pauses, TogglesPause, Stops, GoesOn, GoesBack, Seeks, Switches, Subscribes, Unsubscribes, Sends, ReadsMessages, ChoosesTags, Leaves}
+use Rattle.player_state.specs.declared.effect.CommandEffect.TheVariants.{Rests, Edits, Shuffles, SetsVolume, SetsRepeat, SetsRandom, SetsSingle, SetsConsume, SetsCrossfade, ClearsError, Plays, PlaysPlace, Pauses, TogglesPause, Stops, GoesOn, GoesBack, Seeks, Switches, Subscribes, Unsubscribes, Sends, ReadsMessages, Leaves}
 use Rattle.player_state.specs.declared.effect.AudioStep.TheVariants.{Wants, Accepts, Fails, Settles}
 use Rattle.player_events.specs.declared.event.Event.{Event}
 use Rattle.idle_clients.specs.declared.notices.Notice.{Notice}
 use Rattle.player_state.specs.declared.report.Report.{Report}
 use Rattle.player_state.specs.declared.state.Part.{Part}
 use Rattle.player_state.specs.Outputs.{OutputsData, any_enabled, broken}
-use Rattle.player_state.specs.Effects.{Change, ByEdit, ByStep, change_of, entries, outputs_after, played_entry, player_after, player_edited, sought_entry}
+use Rattle.player_core.specs.declared.state.Job.{Job}
+use Rattle.player_state.specs.Effects.{Change, ByEdit, ByStep, asked_for, change_of, entries, outputs_after, played_entry, player_after, player_edited, sought_entry, wanted}
 use Rattle.partition.specs.Image.{Image}
 use Rattle.transitions.specs.Transitions.{TransitionData}
 use Rattle.player_state.specs.Scans.{is_last}
@@ -39,7 +40,7 @@ use Rattle.player_state.proofs.Songs.{same_songs-refl, same_songs-true}
 use Rattle.idle_clients.proofs.Alike.{more_than_none, same_pairs-refl, same_pairs-true, same_enabled-refl, same_enabled-true, same_options-refl, same_options-true, same_playing-refl, same_playing-true}
 use Rattle.idle_clients.specs.Clients.{options, playing, same_enabled, same_pairs, same_options, same_playing}
 use Rattle.player_state.specs.Libraries.{library_after, same_songs, songs_after}
-use Rattle.partition.specs.World.{World, WorldTransition, Differs, past_after, raised_at, world_after_transition}
+use Rattle.partition.specs.World.{PartWorld, World, WorldTransition, Differs, past_after, raised_at, world_after_transition}
 use Rattle.partition.specs.Notices.{AgreeButForUnwatched}
 
 -- a test that answers true only of two that are one, and of each with itself
@@ -103,14 +104,14 @@ pub raised_differ : (number : ℕ) (m : WorldTransition) (x : Subsystem) → (ha
 raised_differ number m Database = tells same_songs same_songs-refl same_songs-true m.before.library.songs m.after.library.songs
 raised_differ number m Update = differs-tells m.before.library.scan.runs m.after.library.scan.runs
 raised_differ number m StoredPlaylist = (λ e. e, λ e. e)
-raised_differ number m Playlist = tells same_queue same_queue-refl same_queue-true (present m.before.past) (present m.after.past)
-raised_differ number m Player = tells same_playing same_playing-refl same_playing-true (playing m.before.player) (playing m.after.player)
-raised_differ number m Mixer = tells nat_eq (λ a. eq-eqb a a refl) eqb-true m.before.volume m.after.volume
-raised_differ number m Output = tells same_enabled same_enabled-refl same_enabled-true m.before.outputs.enabled m.after.outputs.enabled
-raised_differ number m Options = tells same_options same_options-refl same_options-true (options m.before.player) (options m.after.player)
+raised_differ number m Playlist = tells same_queue same_queue-refl same_queue-true (present m.before.part.past) (present m.after.part.past)
+raised_differ number m Player = tells same_playing same_playing-refl same_playing-true (playing m.before.part.player) (playing m.after.part.player)
+raised_differ number m Mixer = tells nat_eq (λ a. eq-eqb a a refl) eqb-true m.before.part.volume m.after.part.volume
+raised_differ number m Output = tells same_enabled same_enabled-refl same_enabled-true m.before.part.outputs.enabled m.after.part.outputs.enabled
+raised_differ number m Options = tells same_options same_options-refl same_options-true (options m.before.part.player) (options m.after.part.player)
 raised_differ number m Sticker = (λ e. e, λ e. e)
-raised_differ number m Subscription = tells same_pairs same_pairs-refl same_pairs-true (pairs m.before.channels) (pairs m.after.channels)
-raised_differ number m Message = begins-tells (messages_of number m.before.channels) (messages_of number m.after.channels)
+raised_differ number m Subscription = tells same_pairs same_pairs-refl same_pairs-true (pairs m.before.part.channels) (pairs m.after.part.channels)
+raised_differ number m Message = begins-tells (messages_of number m.before.part.channels) (messages_of number m.after.part.channels)
 
 same_left : (past : List (List Entry)) (left : List Entry) → present past ≡ present (after_event past left) → after_event past left ≡ past
 same_left past left e =
@@ -139,11 +140,20 @@ same_library library (End found second) songs runs =
     ap (λ (b : Bool). if b then library.updated else second) (ap (same_songs library.songs) (sym songs) ∙ same_songs-refl library.songs) in
     λ i. record library { songs = sym songs i; scan = record library.scan { runs = sym runs i }; updated = updated i }
 
--- the names of outputs stay
-same_names : (outputs : OutputsData) (effect : Effect) → (outputs_after outputs effect).names ≡ outputs.names
-same_names outputs (ByCommand (Switches output on)) = refl
-same_names outputs (ByAudio (Settles output written discarded failed)) = elim failed as (λ b. (if b then broken outputs output else outputs).names ≡ outputs.names) [ true ↦ refl | false ↦ refl ]
-same_names outputs _ = refl
+-- the names of outputs stay, where they are, and how often each was moved
+abbrev StaysThere : OutputsData → OutputsData → Type 0
+StaysThere before after = (after.names ≡ before.names) × (after.here ≡ before.here) × (after.moves ≡ before.moves)
+
+asked_there : (job : Option Job) (outputs : OutputsData) → StaysThere outputs (asked_for job outputs)
+asked_there None outputs = (refl, refl, refl)
+asked_there (Some job) outputs = (refl, refl, refl)
+
+same_there : (rate : ℕ) (part : Part) (effect : Effect) → StaysThere part.outputs (outputs_after rate part effect)
+same_there rate part (ByCommand (Switches output on)) = (refl, refl, refl)
+same_there rate part (ByAudio (Wants owes)) = asked_there (wanted rate part owes).job part.outputs
+same_there rate part (ByAudio (Settles output written discarded failed)) =
+    elim failed as (λ b. StaysThere part.outputs (if b then broken part.outputs output else part.outputs)) [ true ↦ (refl, refl, refl) | false ↦ (refl, refl, refl) ]
+same_there rate part _ = (refl, refl, refl)
 
 -- a step of the player leaves the greatest number
 module _ (p : PlayerState) where
@@ -194,58 +204,63 @@ same_limit rate part (ByCommand (Subscribes client channel)) = refl
 same_limit rate part (ByCommand (Unsubscribes client channel)) = refl
 same_limit rate part (ByCommand (Sends channel text)) = refl
 same_limit rate part (ByCommand (ReadsMessages client)) = refl
-same_limit rate part (ByCommand (ChoosesTags client tags)) = refl
 same_limit rate part (ByCommand (Leaves client)) = refl
 
 -- where no part differs nothing differs but what no subsystem speaks of
-pub agree : (before : World) (i : Image) (event : Event) (t : TransitionData) (notices : List Notice) (report : Report) → i.part.player ≡ before.player
+pub agree : (before : World) (i : Image) (event : Event) (t : TransitionData) (notices : List Notice) (report : Report) → i.part.player ≡ before.part.player → i.part.outputs ≡ before.part.outputs
     → ((number : ℕ) (x : Subsystem) → Differs number x (record { before = before; event = event; transition = t; notices = notices; report = report; after = world_after_transition before i event t }) → ⊥)
     → AgreeButForUnwatched before (world_after_transition before i event t)
-agree before i event t notices report same_player none =
-    let after : World = world_after_transition before i event t in
+agree before i event t notices report same_player same_outputs none =
+    let world : World = world_after_transition before i event t in
+    let was : PartWorld = before.part in
+    let after : PartWorld = world.part in
     let change : Change = change_of before.library.rate i.part t.effect in
-    let songs : before.library.songs ≡ after.library.songs = decides same_songs same_songs-true same_songs-refl before.library.songs after.library.songs (none 0 Database) in
-    let runs : before.library.scan.runs ≡ after.library.scan.runs = modes_of before.library.scan.runs after.library.scan.runs (none 0 Update) in
-    let library : after.library ≡ before.library = same_library before.library t.scan songs runs in
-    let queue : present before.past ≡ present after.past = decides same_queue same_queue-true same_queue-refl (present before.past) (present after.past) (none 0 Playlist) in
-    let past : after.past ≡ before.past = same_past before.past change queue in
-    let played : playing after.player ≡ playing before.player =
-    sym (decides same_playing same_playing-true same_playing-refl (playing before.player) (playing after.player) (none 0 Player)) in
-    let set : options after.player ≡ options before.player =
-    sym (decides same_options same_options-true same_options-refl (options before.player) (options after.player) (none 0 Options)) in
-    let limit : after.player.max_cut ≡ before.player.max_cut = same_limit before.library.rate i.part t.effect ∙ ap (λ (p : PlayerState). p.max_cut) same_player in
-    let volume : after.volume ≡ before.volume = sym (decides nat_eq eqb-true (λ a. eq-eqb a a refl) before.volume after.volume (none 0 Mixer)) in
-    let enabled : after.outputs.enabled ≡ before.outputs.enabled =
-    sym (decides same_enabled same_enabled-true same_enabled-refl before.outputs.enabled after.outputs.enabled (none 0 Output)) in
-    let names : after.outputs.names ≡ before.outputs.names = same_names before.outputs t.effect in
-    let listening : pairs before.channels ≡ pairs after.channels = decides same_pairs same_pairs-true same_pairs-refl (pairs before.channels) (pairs after.channels) (none 0 Subscription) in (
-      λ j. record {
-        past = past j;
-        limits = before.limits;
-        library = library j;
-        player = record {
-          modes = (set j).modes;
-          round = after.player.round;
-          crossfade = (set j).crossfade;
-          playback = (played j).playback;
-          current = (played j).current;
-          place = after.player.place;
-          starts = (played j).starts;
-          cuts = (played j).cuts;
-          error = (played j).error;
-          jobs = after.player.jobs;
-          job = after.player.job;
-          fade = after.player.fade;
-          gave_up = after.player.gave_up;
-          max_cut = limit j;
-        };
-        volume = volume j;
-        outputs = record { names = names j; enabled = enabled j; failed = after.outputs.failed };
-        channels = after.channels;
-        tags = after.tags;
-        played = after.played;
-        clients = after.clients;
-        ended = after.ended;
-      },
-      listening,
+    let songs : before.library.songs ≡ world.library.songs = decides same_songs same_songs-true same_songs-refl before.library.songs world.library.songs (none 0 Database) in
+    let runs : before.library.scan.runs ≡ world.library.scan.runs = modes_of before.library.scan.runs world.library.scan.runs (none 0 Update) in
+    let library : world.library ≡ before.library = same_library before.library t.scan songs runs in
+    let queue : present was.past ≡ present after.past = decides same_queue same_queue-true same_queue-refl (present was.past) (present after.past) (none 0 Playlist) in
+    let past : after.past ≡ was.past = same_past was.past change queue in
+    let played : playing after.player ≡ playing was.player =
+    sym (decides same_playing same_playing-true same_playing-refl (playing was.player) (playing after.player) (none 0 Player)) in
+    let set : options after.player ≡ options was.player =
+    sym (decides same_options same_options-true same_options-refl (options was.player) (options after.player) (none 0 Options)) in
+    let limit : after.player.max_cut ≡ was.player.max_cut = same_limit before.library.rate i.part t.effect ∙ ap (λ (p : PlayerState). p.max_cut) same_player in
+    let volume : after.volume ≡ was.volume = sym (decides nat_eq eqb-true (λ a. eq-eqb a a refl) was.volume after.volume (none 0 Mixer)) in
+    let enabled : after.outputs.enabled ≡ was.outputs.enabled =
+    sym (decides same_enabled same_enabled-true same_enabled-refl was.outputs.enabled after.outputs.enabled (none 0 Output)) in
+    let there = same_there before.library.rate i.part t.effect in
+    let names : after.outputs.names ≡ was.outputs.names = there.0 ∙ ap (λ (o : OutputsData). o.names) same_outputs in
+    let here : after.outputs.here ≡ was.outputs.here = there.1 ∙ ap (λ (o : OutputsData). o.here) same_outputs in
+    let moves : after.outputs.moves ≡ was.outputs.moves = there.2 ∙ ap (λ (o : OutputsData). o.moves) same_outputs in
+    let listening : pairs was.channels ≡ pairs after.channels = decides same_pairs same_pairs-true same_pairs-refl (pairs was.channels) (pairs after.channels) (none 0 Subscription) in (
+      λ j. record { part = after; library = library j; clients = world.clients; ended = world.ended },
+      (
+        λ j. record {
+          place = was.place;
+          name = was.name;
+          past = past j;
+          limits = was.limits;
+          player = record {
+            modes = (set j).modes;
+            round = after.player.round;
+            crossfade = (set j).crossfade;
+            playback = (played j).playback;
+            current = (played j).current;
+            place = after.player.place;
+            starts = (played j).starts;
+            cuts = (played j).cuts;
+            error = (played j).error;
+            jobs = after.player.jobs;
+            job = after.player.job;
+            fade = after.player.fade;
+            gave_up = after.player.gave_up;
+            max_cut = limit j;
+          };
+          volume = volume j;
+          outputs = record { names = names j; here = here j; enabled = enabled j; failed = after.outputs.failed; moves = moves j; asked = after.outputs.asked };
+          channels = after.channels;
+          played = after.played;
+        },
+        listening,
+      ),
     )

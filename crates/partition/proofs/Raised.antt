@@ -50,10 +50,10 @@ by_fingerprint part library after found t e f =
     let next_library : Library = library_after library t.scan in
     ap (λ (p : Part). told_by_fingerprint database (changes_subscriptions part.channels t.effect) t.written (fingerprint part library) p found) e
     ∙ ap (λ (l : Library). told_by_fingerprint database (changes_subscriptions part.channels t.effect) t.written (fingerprint part library) next l) f
-    ∙ (λ j number. record (told_by_fingerprint database (changes_subscriptions part.channels t.effect) t.written (fingerprint part library) next next_library number) {
+    ∙ (λ j client. record (told_by_fingerprint database (changes_subscriptions part.channels t.effect) t.written (fingerprint part library) next next_library client) {
       playlist = sym (by_change part.queue (change_of library.rate part t.effect)) j;
       subscription = sym (changes part.channels t.effect) j;
-      message = begins number part.channels (channels_after part.channels t.effect) j;
+      message = begins client.number part.channels (channels_after part.channels t.effect) j;
     })
 
 -- what is told by readings that are alike
@@ -62,7 +62,7 @@ pub told_alike : (database database' subscription subscription' : Bool) (written
     → told_by_fingerprint database subscription written before part library ≡ told_by_fingerprint database' subscription' written' before' part library
 told_alike database database' subscription subscription' written written' before before' part library d s w b = λ i. told_by_fingerprint (d i) (s i) (w i) (b i) part library
 
-module _ (i : Image) (event : Event) (t : TransitionData) (part : Part) (library : Library) (raised : ℕ → Subsystems) (response : ResponseData) where
+module _ (i : Image) (event : Event) (t : TransitionData) (part : Part) (library : Library) (raised : Client → Subsystems) (response : ResponseData) where
   -- what was told by fingerprints is what the transition raised
   abbrev pub Shown : Type 0
   Shown = raised ≡ told_by_fingerprint (not (same_songs i.shared.library.songs (songs_after i.shared.library t.scan))) (changes_subscriptions i.part.channels t.effect) t.written (fingerprint i.part i.shared.library) part library
@@ -78,7 +78,7 @@ module _ (i : Image) (event : Event) (t : TransitionData) (part : Part) (library
 
   -- the image after a transition, from what was made of each of its fields
   pub stepped : (books : FrameBooks) (ended : Bool) (clients : List Client) → PartIs → LibraryIs
-      → books ≡ books_after i.shared.books i.part.outputs t.effect (report_of i.part i.shared.library t) → ended ≡ ended_after i.shared.ended event → response ≡ t.response → Shown
+      → books ≡ books_after i.shared.books t.effect (report_of i.part i.shared.library t) → ended ≡ ended_after i.shared.ended event → response ≡ t.response → Shown
       → clients ≡ clients_after (mover event) raised response i.clients
       → record { part = part; shared = record i.shared { library = library; books = books; ended = ended }; clients = clients } ≡ after_transition i event t
   stepped books ended clients part_is library_is books_are ended_is said_is raised_is clients_are =

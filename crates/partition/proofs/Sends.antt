@@ -20,16 +20,16 @@ use Rattle.player_events.specs.declared.event.Event.TheVariants.{Connect, Discon
 use Rattle.player_state.specs.declared.effect.AudioStep.TheVariants.{Settles}
 use Rattle.player_state.specs.Outputs.{is_output}
 use Rattle.transitions.specs.declared.reply.Move.{Move}
-use Rattle.transitions.specs.declared.reply.Move.TheVariants.{Stay, Wait, Learn, Resume, Join}
+use Rattle.transitions.specs.declared.reply.Move.TheVariants.{Stay, Wait, Learn, Resume, Join, Show}
 use Rattle.idle_clients.specs.declared.notices.Notice.{Notice}
 use Rattle.player_state.specs.declared.state.Client.{Client}
 use Rattle.player_state.specs.declared.state.Part.{Part}
 use Rattle.transitions.specs.Answers.{ResponseData, refused_by_shelf, stays, closes}
-use Rattle.status_commands.specs.Status.{Wish, ToWait, ToGoOn, wish_of}
-use Rattle.idle_clients.specs.Clients.{notified, is_other, at, moved, notice_to, notice_for, notices_after, clients_after, staying, move_of, AllAbove, Rising}
+use Rattle.status_commands.specs.Status.{Wish, ToWait, ToGoOn, ToShow, wish_of}
+use Rattle.idle_clients.specs.Clients.{notified, is_other, at, moved, newcomer, notice_to, notice_for, notices_after, clients_after, shown, staying, move_of, AllAbove, Rising}
 use Rattle.transitions.specs.Transitions.{TransitionData}
 use Rattle.idle_clients.specs.Clients.{client_of}
-use Rattle.partition.specs.Step.{absent, result_of, ends_by, once_written, transition_of, transition_line, transition_wished, written_transition, speaker, mover}
+use Rattle.partition.specs.Step.{absent, asked_by, result_of, ends_by, once_written, transition_of, transition_line, transition_wished, written_transition, speaker, mover}
 use Rattle.player_events.specs.Events.{name_of}
 use Rattle.transitions.specs.Transitions.{acts, departs, no_response}
 use Rattle.transitions.specs.Shelves.{is_written}
@@ -38,7 +38,7 @@ use Rattle.shelf.specs.declared.faults.ShelfFault.{ShelfFault}
 use Rattle.shelf.specs.declared.faults.ShelfFault.TheVariants.{NoSuchList, Exists, BadName, NoSticker, StoreFault, NoMemory}
 use Rattle.partition.specs.Notices.{IsIn, AllBeyond, NoticesRise}
 use Rattle.partition.proofs.Members.{in_filter, of_filter, in_insert, in_map, of_map, in_flat_map, of_flat_map}
-use Rattle.idle_clients.proofs.Rises.{at_keeps}
+use Rattle.idle_clients.proofs.Rises.{at_keeps, shown_keeps}
 
 above_in : (n : ℕ) (k : Client) (ks : List Client) → AllAbove n ks → IsIn k ks → n < k.number
 above_in n k [] a e = absurd e
@@ -72,10 +72,11 @@ module _ (part : Part) (library : Library) (read : Read) (k : Client) (named nam
       ≡ Wait names
 
   wish_moves : (name : Name) (stand : Stand) (command : Command) (wish : Option Wish) → k.pending.waiting ≡ Some named
-      → Moves (record { client = k.number; name = name; stand = stand }) command wish → ⊥
+      → Moves (asked_by k name stand) command wish → ⊥
   wish_moves name Alone command None w m = (let n = rw w at m in cc)
   wish_moves name Alone command (Some (ToWait more)) w m = (let n = rw w at m in cc)
   wish_moves name Alone command (Some ToGoOn) w m = (let n = rw w at m in cc)
+  wish_moves name Alone command (Some (ToShow choice)) w m = (let n = rw w at m in cc)
   wish_moves name (InList form place) command wish w m = (let n = rw w at m in cc)
 
   line_moves : (stand : Stand) (request : Request) → k.pending.waiting ≡ Some named → move_of (transition_line part library (Some k) stand request read).response ≡ Wait names → ⊥
@@ -124,10 +125,10 @@ is_other_speaker ended part library ks End number ne = inr refl
 is_other_speaker ended part library ks (OutputTurn output written discarded failed) number ne =
     inr (elim (is_output part.outputs output) as (λ b. (if b then acts (Settles output written discarded failed) else absent).response ≡ no_response) [ true ↦ refl | false ↦ refl ])
 
-module _ (n : ℕ) (r : ℕ → Subsystems) where
+module _ (n : ℕ) (r : Client → Subsystems) where
   -- what of a client's named set changed
   abbrev pub news : Client → Subsystems
-  news k = due (noted (r k.number) k.pending)
+  news k = due (noted (r k) k.pending)
 
   one_notice : (k : Client) (number : ℕ) (names : Subsystems) → IsIn (record { client = number; names = names }) (notice_for r k)
       → (is_nonempty (news k) ≡ true) × (k.number ≡ number) × (news k ≡ names)
@@ -164,6 +165,7 @@ module _ (n : ℕ) (r : ℕ → Subsystems) where
   does Learn k = at n (λ p. fresh) k
   does Resume k = at n cancelled k
   does Join k = k
+  does (Show tags) k = shown n tags k
 
   pub does_keeps : (move : Move) (k : Client) → (does move k).number ≡ k.number
   does_keeps Stay k = refl
@@ -171,6 +173,7 @@ module _ (n : ℕ) (r : ℕ → Subsystems) where
   does_keeps Learn k = at_keeps n (λ p. fresh) k
   does_keeps Resume k = at_keeps n cancelled k
   does_keeps Join k = refl
+  does_keeps (Show tags) k = shown_keeps n tags k
 
   pub does_other : (move : Move) (k : Client) → (k.number == n) ≡ false → does move k ≡ k
   does_other Stay k e = refl
@@ -178,6 +181,7 @@ module _ (n : ℕ) (r : ℕ → Subsystems) where
   does_other Learn k e = rw e refl
   does_other Resume k e = rw e refl
   does_other Join k e = refl
+  does_other (Show tags) k e = rw e refl
 
   -- a client that does not wait goes on so, unless it is the one that begins to wait
   pub does_none : (move : Move) (k : Client) → k.pending.waiting ≡ None → ((names : Subsystems) → move ≡ Wait names → k.number ≡ n → ⊥)
@@ -193,6 +197,8 @@ module _ (n : ℕ) (r : ℕ → Subsystems) where
   does_none Resume k w free =
       elim (k.number == n) as (λ b. (if b then record k { pending = cancelled k.pending } else k).pending.waiting ≡ None) [ true ↦ refl | false ↦ w ]
   does_none Join k w free = w
+  does_none (Show tags) k w free =
+      elim (k.number == n) as (λ b. (if b then record k { tags = tags } else k).pending.waiting ≡ None) [ true ↦ w | false ↦ w ]
 
   pub does_wait : (names : Subsystems) (k : Client) → k.number ≡ n → (does (Wait names) k).pending.waiting ≡ Some names
   does_wait names k e = (let same : (k.number == n) ≡ true = eq-eqb k.number n e in rw same refl)
@@ -204,12 +210,13 @@ module _ (n : ℕ) (r : ℕ → Subsystems) where
   moved_in Resume k ks e = in_map (at n cancelled) k ks e
   moved_in Join k ks e =
       let place : ℕ = position_or_len (λ c. nat_lt n c.number) ks in
-      elim (is_some (client_of n ks)) as (λ b. IsIn k (if b then ks else insert ks place (record { number = n; pending = fresh })))
-      [ true ↦ e | false ↦ in_insert k ks place (record { number = n; pending = fresh }) e ]
+      elim (is_some (client_of n ks)) as (λ b. IsIn k (if b then ks else insert ks place (newcomer n)))
+      [ true ↦ e | false ↦ in_insert k ks place (newcomer n) e ]
+  moved_in (Show tags) k ks e = in_map (shown n tags) k ks e
 
   -- a client that does not wait goes on so as it hears, and one that is told waits no more
   pub notified_none : (k : Client) → k.pending.waiting ≡ None → (notified r k).pending.waiting ≡ None
-  notified_none k w = elim (is_nonempty (news k)) as (λ b. (if b then fresh else noted (r k.number) k.pending).waiting ≡ None) [ true ↦ refl | false ↦ w ]
+  notified_none k w = elim (is_nonempty (news k)) as (λ b. (if b then fresh else noted (r k) k.pending).waiting ≡ None) [ true ↦ refl | false ↦ w ]
 
   pub told_none : (k : Client) → is_nonempty (news k) ≡ true → (notified r k).pending.waiting ≡ None
   told_none k e = rw e refl

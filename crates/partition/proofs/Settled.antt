@@ -17,11 +17,12 @@ use Rattle.player_events.specs.declared.event.Event.{Event}
 use Rattle.transitions.specs.declared.asked.Stand.TheVariants.{Alone}
 use Rattle.player_events.specs.declared.event.LogEntry.{LogEntry}
 use Rattle.transitions.specs.declared.reply.Move.{Move}
-use Rattle.transitions.specs.declared.reply.Move.TheVariants.{Stay, Wait, Learn, Resume, Join}
+use Rattle.transitions.specs.declared.reply.Move.TheVariants.{Stay, Wait, Learn, Resume, Join, Show}
 use Rattle.player_state.specs.declared.state.Client.{Client}
 use Rattle.player_state.specs.declared.state.Part.{Part}
 use Rattle.transitions.specs.Answers.{ResponseData}
-use Rattle.idle_clients.specs.Clients.{has_messages, notified, notice_for, notice_to, is_other, at, joined, moved, staying, move_of, clients_after, options, playing, Rising}
+use Rattle.idle_clients.specs.Clients.{has_messages, notified, notice_for, notice_to, is_other, at, joined, moved, newcomer, shown, staying, move_of, clients_after, options, playing, Rising}
+use Rattle.mpd_text.specs.declared.songs.song.TagName.{TagName}
 use Rattle.status_commands.specs.Status.{Wish, idles}
 use Rattle.partition.specs.History.{replay}
 use Rattle.player_state.specs.declared.effect.Effect.{Effect}
@@ -43,7 +44,7 @@ use Rattle.transitions.specs.declared.shelf_calls.ShelfWrite.{ShelfWrite}
 use Rattle.transitions.specs.declared.shelf_calls.ShelfWrite.TheVariants.{Nothing as Unwritten, Put, Create, Rename, Remove, SetSticker, DeleteSticker, DeleteStickers}
 use Rattle.idle_notes.specs.Channels.{pairs}
 use Rattle.idle_clients.proofs.Alike.{same_pairs-refl}
-use Rattle.partition.specs.Step.{transition, transition_of, transition_line, transition_wished, result_of, ends_by, mover, raised_by, next_image, written_transition}
+use Rattle.partition.specs.Step.{asked_by, transition, transition_of, transition_line, transition_wished, result_of, ends_by, mover, raised_by, next_image, written_transition}
 use Rattle.transitions.specs.Transitions.{departs, quiet}
 use Rattle.idle_clients.proofs.Alike.{same_enabled-refl, same_options-refl, same_playing-refl}
 use Rattle.partition.proofs.Asking.{quiet_unwaiting, IsAsking, kind_of, transition_idle}
@@ -77,7 +78,7 @@ begins-own false = refl
 
 rest_raises : (part : Part) (library : Library) (response : ResponseData) (report : Report)
     → raised_by part library (record { effect = ByCommand Rests; scan = StayScan; written = Unwritten; response = response; report = report }) ≡ nothing
-rest_raises part library response report = λ i number. record none {
+rest_raises part library response report = λ i client. record none {
   database = not (same_songs-refl library.songs i);
   update = differ-self library.scan.runs i;
   playlist = not (same_queue-refl (queue_of part.queue) i);
@@ -86,7 +87,7 @@ rest_raises part library response report = λ i number. record none {
   output = not (same_enabled-refl part.outputs.enabled i);
   options = not (same_options-refl (options part.player) i);
   subscription = not (same_pairs-refl (pairs part.channels) i);
-  message = begins-own (has_messages number part.channels) i;
+  message = begins-own (has_messages client.number part.channels) i;
 }
 
 pub unwritten : (w : ShelfWrite) → is_written w ≡ false → w ≡ Unwritten
@@ -111,14 +112,14 @@ pub quiet_raises : (part : Part) (library : Library) (response : ResponseData) �
 quiet_raises part library response = rest_raises part library response Nothing
 
 -- a client that heard is settled
-notified_settled : (r : ℕ → Subsystems) (k : Client) → IsSettled (notified r k)
+notified_settled : (r : Client → Subsystems) (k : Client) → IsSettled (notified r k)
 notified_settled r k =
-    let p : Pending = noted (r k.number) k.pending in
+    let p : Pending = noted (r k) k.pending in
     let cases : (b : Bool) → is_nonempty (due p) ≡ b → is_nonempty (due (if b then fresh else p)) ≡ false =
     λ b. elim b as (λ b. is_nonempty (due p) ≡ b → is_nonempty (due (if b then fresh else p)) ≡ false) [ true ↦ λ e. refl | false ↦ λ e. e ] in
     cases (is_nonempty (due p)) refl
 
-all_notified : (r : ℕ → Subsystems) (ks : List Client) → AllSettled (map (notified r) ks)
+all_notified : (r : Client → Subsystems) (ks : List Client) → AllSettled (map (notified r) ks)
 all_notified r [] = tt
 all_notified r (k ∷ ks) = (notified_settled r k, all_notified r ks)
 
@@ -141,10 +142,14 @@ at_settled : (n : ℕ) (change : Pending → Pending) → ((p : Pending) → is_
 at_settled n change makes k one =
     elim (k.number == n) as (λ b. is_nonempty (due (if b then record k { pending = change k.pending } else k).pending) ≡ false) [ true ↦ makes k.pending | false ↦ one ]
 
+shown_settled : (n : ℕ) (tags : List TagName) (k : Client) → IsSettled k → IsSettled (shown n tags k)
+shown_settled n tags k one =
+    elim (k.number == n) as (λ b. is_nonempty (due (if b then record k { tags = tags } else k).pending) ≡ false) [ true ↦ one | false ↦ one ]
+
 settled_joined : (n : ℕ) (ks : List Client) → AllSettled ks → AllSettled (joined n ks)
 settled_joined n ks all =
     let place : ℕ = position_or_len (λ c. nat_lt n c.number) ks in
-    let new : Client = record { number = n; pending = fresh } in
+    let new : Client = newcomer n in
     elim (is_some (client_of n ks)) as (λ b. AllSettled (if b then ks else insert ks place new)) [ true ↦ all | false ↦ settled_insert ks place new all refl ]
 
 -- a move other than to wait keeps each settled
@@ -155,6 +160,7 @@ settled_moved n (Wait names) ks waiting all = waiting names refl
 settled_moved n Learn ks waiting all = settled_map (at n (λ p. fresh)) (at_settled n (λ p. fresh) (λ p. refl)) ks all
 settled_moved n Resume ks waiting all = settled_map (at n cancelled) (at_settled n cancelled (λ p. refl)) ks all
 settled_moved n Join ks waiting all = settled_joined n ks all
+settled_moved n (Show tags) ks waiting all = settled_map (shown n tags) (shown_settled n tags) ks all
 
 -- a client for which nothing of a set is pending may wait for it, once it has heard of nothing
 nothing_due : (p : Pending) (named : Subsystems) → is_nonempty (meet p.changed named) ≡ false → is_nonempty (meet (settled (noted none p)).changed named) ≡ false
@@ -188,15 +194,15 @@ module _ (ended : Bool) (part : Part) (library : Library) (ks : List Client) (ev
   abbrev Waiting : ℕ → Subsystems → TransitionData → Type 0
   Waiting n names u = AllSettled (map (at n (waits names)) (map (notified (raised_by part library u)) (staying n u.response ks)))
 
-  abbrev asked_by : IsAsking ks event → Asked
-  asked_by a = record { client = a.client.number; name = a.name; stand = Alone }
+  abbrev asked_at : IsAsking ks event → Asked
+  asked_at a = asked_by a.client a.name Alone
 
   idle_is : (a : IsAsking ks event) → t ≡ transition_idle a.client a.named
   idle_is a =
       let once : TransitionData → TransitionData = λ u. written_transition Alone (Run a.name a.command) a.heard.refused u in
       ap (transition_of ended part library ks) a.is
       ∙ ap (λ (o : Option Client). once (transition_line part library o Alone (Run a.name a.command) a.heard.read)) a.found
-      ∙ ap (λ (o : Option Wish). once (if is_some a.client.pending.waiting && not (ends_by Alone o) then departs a.client.number else transition_wished (asked_by a) a.client (result_of (asked_by a) part library a.heard.read a.command) o)) a.wish
+      ∙ ap (λ (o : Option Wish). once (if is_some a.client.pending.waiting && not (ends_by Alone o) then departs a.client.number else transition_wished (asked_at a) a.client (result_of (asked_at a) part library a.heard.read a.command) o)) a.wish
       ∙ ap (λ (w : Option Subsystems). once (if is_some w && true then departs a.client.number else transition_idle a.client a.named)) a.free
 
   -- a client waits only where nothing of what it names is pending for it
@@ -214,7 +220,7 @@ module _ (ended : Bool) (part : Part) (library : Library) (ks : List Client) (ev
             let each : AllSettled (map (at a.number (waits a.named)) (map (notified nothing) ks)) =
             all_in (at a.number (waits a.named)) (notified nothing) ks (one_waits a.number a.named a.client ks rising a.found e) in
             let heard : Waiting a.number a.named (answers false) =
-            subst (λ (r : ℕ → Subsystems). AllSettled (map (at a.number (waits a.named)) (map (notified r) ks))) (sym (quiet_raises part library (idles a.named None))) each in
+            subst (λ (r : Client → Subsystems). AllSettled (map (at a.number (waits a.named)) (map (notified r) ks))) (sym (quiet_raises part library (idles a.named None))) each in
             subst (Waiting (mover event) names) (sym is)
             (subst (λ (x : ℕ). Waiting x names (answers false)) number (subst (λ (s : Subsystems). Waiting a.number s (answers false)) same heard))
       ] in
@@ -263,13 +269,13 @@ no_notices [] all = refl
 no_notices (k ∷ ks) all = ap (λ l. l ++ flat_map (notice_for nothing) ks) (unheard_one k all.0) ∙ no_notices ks all.1
 
 -- where fewer wait there are no more notices
-pub fewer_wanted : (raised : ℕ → Subsystems) (number : ℕ) (ks : List Client) (room : ℕ) → HasRoom raised ks room → HasRoom raised (filter (is_other number) ks) room
+pub fewer_wanted : (raised : Client → Subsystems) (number : ℕ) (ks : List Client) (room : ℕ) → HasRoom raised ks room → HasRoom raised (filter (is_other number) ks) room
 fewer_wanted raised number ks room (inl e) = inl e
 fewer_wanted raised number ks room (inr e) =
     let less : count_by is_waiting (filter (is_other number) ks) ≤ count_by is_waiting ks = fewer_wait number ks in
     inr (omega (arith, less, e))
 
 -- more room does as well
-pub more_room : (raised : ℕ → Subsystems) (clients : List Client) (most room : ℕ) → HasRoom raised clients most → most ≤ room → HasRoom raised clients room
+pub more_room : (raised : Client → Subsystems) (clients : List Client) (most room : ℕ) → HasRoom raised clients most → most ≤ room → HasRoom raised clients room
 more_room raised clients most room (inl none) fits = inl none
 more_room raised clients most room (inr few) fits = inr (omega (arith, few, fits))

@@ -23,7 +23,7 @@ use Rattle.partition.proofs.Notified.{Each, flagged, all_stand}
 use Rattle.partition.proofs.Parts.{raised_differ}
 use Rattle.partition.proofs.Pending.{has_union, has_none, either, or_right, or_left, longer}
 use Rattle.idle_clients.proofs.Rises.{rising_after}
-use Rattle.partition.proofs.Worlds.{same_first, or_more}
+use Rattle.partition.proofs.Worlds.{each, same_first, or_more}
 
 module _ (base : Image) where
   -- what is pending for a client, as a union
@@ -85,11 +85,11 @@ all_among : (ks : List Client) → Each (λ x. among x.number ks ≡ true) ks
 all_among [] = tt
 all_among (k ∷ ks) = (ap (λ b. b || among k.number ks) (same_first k.number), further k ks ks (all_among ks))
 
-both : (P Q : Client → Type 0) (ks : List Client) → Each P ks → Each Q ks → Each (λ k. P k × Q k) ks
-both P Q [] p q = tt
-both P Q (k ∷ ks) p q = ((p.0, q.0), both P Q ks p.1 q.1)
+all_three : (P Q R : Client → Type 0) (ks : List Client) → Each P ks → Each Q ks → Each R ks → Each (λ k. P k × Q k × R k) ks
+all_three P Q R [] p q r = tt
+all_three P Q R (k ∷ ks) p q r = ((p.0, q.0, r.0), all_three P Q R ks p.1 q.1 r.1)
 
-absent : (r : ℕ → Subsystems) (n : ℕ) (ks : List Client) → client_of n (map (notified r) ks) ≡ None → among n ks ≡ false
+absent : (r : Client → Subsystems) (n : ℕ) (ks : List Client) → client_of n (map (notified r) ks) ≡ None → among n ks ≡ false
 absent r n [] e = refl
 absent r n (k ∷ ks) e =
     let rest : Option Client = client_of n (map (notified r) ks) in
@@ -133,17 +133,18 @@ module _ (base : Image) where
   unfolding next_image told
   step i ms h right =
       let t : TransitionData = transition i h.event in
-      let r : ℕ → Subsystems = raised_by i.part i.shared.library t in
+      let r : Client → Subsystems = raised_by i.part i.shared.library t in
       let m : WorldTransition = world_transition_at i h in
       let flag : ℕ → Subsystems = λ n. since base n ms in
       let after : ℕ → Subsystems = λ n. since base n (m ∷ ms) in (
         rising_after (mover h.event) r t.response i.clients right.0,
         (
           unflagged after (after_transition i h.event t).clients
-              (all_stand r flag after (λ n. is_there n (world_of i)) (mover h.event) i.clients right.0
-              (both (λ k. among k.number i.clients ≡ true) (λ k. k.pending.changed ≡ flag k.number) i.clients (all_among i.clients) right.1.0)
+              (all_stand r (λ n. raised_at n m) flag after (λ n. is_there n (world_of i)) (mover h.event) i.clients right.0
+              (all_three (λ k. among k.number i.clients ≡ true) (λ k. k.pending.changed ≡ flag k.number) (λ k. r k ≡ raised_at k.number m) i.clients (all_among i.clients) right.1.0
+              (each (λ k. r k ≡ raised_at k.number m) (λ k. refl) i.clients))
               (closes t.response.answer.next) t.response.move (λ n. refl) (absent r (mover h.event) i.clients)),
-          ap (λ (b : FrameBooks). books_after b i.part.outputs t.effect (report_of i.part i.shared.library t)) right.1.1,
+          ap (λ (b : FrameBooks). books_after b t.effect (report_of i.part i.shared.library t)) right.1.1,
         ),
       )
 

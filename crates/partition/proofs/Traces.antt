@@ -21,13 +21,13 @@ change_in trace done event = let i : Image = image_of trace done in change_of i.
 
 -- what each step makes true of its transition is true of all transitions
 each_from : (P : WorldTransition → List WorldTransition → Type 0)
-    → ((trace : Trace) (done : List LogEntry) (event : Event) → 1 ≤ trace.world.limits.max_version → 0 < length trace.world.past → Rising (image_of trace done).clients
+    → ((trace : Trace) (done : List LogEntry) (event : Event) → 1 ≤ trace.world.part.limits.max_version → 0 < length trace.world.part.past → Rising (image_of trace done).clients
     → P (world_transition_of trace done event) trace.world_transitions)
-    → (trace : Trace) (done hs : List LogEntry) → 1 ≤ trace.world.limits.max_version → 0 < length trace.world.past → Rising (image_of trace done).clients
+    → (trace : Trace) (done hs : List LogEntry) → 1 ≤ trace.world.part.limits.max_version → 0 < length trace.world.part.past → Rising (image_of trace done).clients
     → EachWorldTransition P trace.world_transitions → EachWorldTransition P (trace_from done trace hs).world_transitions
 each_from P holds trace done [] above some rising each = each
 each_from P holds trace done (h ∷ hs) above some rising each =
-    each_from P holds (trace_after_event done trace h.event) (done ++ h ∷ []) hs above (some_past trace.world.past (change_in trace done h.event) some)
+    each_from P holds (trace_after_event done trace h.event) (done ++ h ∷ []) hs above (some_past trace.world.part.past (change_in trace done h.event) some)
     (rising-step trace done h.event above some rising h) (holds trace done h.event above some rising, each)
 
 -- of every history
@@ -44,7 +44,7 @@ one_outcome : (trace : Trace) (done : List LogEntry) (h : LogEntry) → h.told �
 unfolding told
 one_outcome trace done h e = ap (λ (t : OutcomeData). (h.event, t)) (sym e)
 
-outcomes_from : (trace : Trace) (done hs : List LogEntry) → 1 ≤ trace.world.limits.max_version → 0 < length trace.world.past → Rising (image_of trace done).clients
+outcomes_from : (trace : Trace) (done hs : List LogEntry) → 1 ≤ trace.world.part.limits.max_version → 0 < length trace.world.part.past → Rising (image_of trace done).clients
     → AreTold (image_of trace done) hs
     → map outcome_at (reverse (trace_from done trace hs).world_transitions) ≡ map outcome_at (reverse trace.world_transitions) ++ map outcome_in hs
 outcomes_from trace done [] above some rising told = sym (append-nil (map outcome_at (reverse trace.world_transitions)))
@@ -55,7 +55,7 @@ outcomes_from trace done (h ∷ hs) above some rising told =
     let next_is : next_image h.seat (image_of trace done) h.event ≡ image_of (trace_after_event done trace h.event) (done ++ h ∷ []) =
     sym (image_of-step trace done h.event above some rising h refl) in
     let more =
-    outcomes_from (trace_after_event done trace h.event) (done ++ h ∷ []) hs above (some_past trace.world.past (change_in trace done h.event) some)
+    outcomes_from (trace_after_event done trace h.event) (done ++ h ∷ []) hs above (some_past trace.world.part.past (change_in trace done h.event) some)
     (rising-step trace done h.event above some rising h) (subst (λ (i : Image). AreTold i hs) next_is told.1) in
     let last : map outcome_at (reverse (m ∷ trace.world_transitions)) ≡ was ++ outcome_at m ∷ [] =
     ap (map outcome_at) (reverse-append (m ∷ []) trace.world_transitions) ∙ map-append outcome_at (reverse trace.world_transitions) (m ∷ []) in

@@ -6,6 +6,7 @@ use Rattle.idle_notes.specs.declared.sets.Subsystems.{Subsystems}
 use Rattle.idle_notes.specs.declared.subsystem.Subsystem.{Subsystem}
 use Rattle.idle_notes.specs.declared.subsystem.Subsystem.TheVariants.{Database, Update, StoredPlaylist, Playlist, Player, Mixer, Output, Options, Sticker, Subscription, Message}
 use Rattle.idle_notes.specs.Names.{changed_lines}
+use Rattle.mpd_text.specs.declared.songs.song.TagName.{TagName}
 use Rattle.idle_notes.specs.Notes.{waits, notice_of}
 use Rattle.idle_notes.specs.Sets.{union, meet, has, is_nonempty}
 use Rattle.idle_notes.specs.Channels.{messages_of, pairs}
@@ -34,16 +35,15 @@ use Rattle.idle_clients.specs.Clients.{client_of}
 use Rattle.player_state.specs.Libraries.{library_after}
 use Rattle.partition.specs.Step.{transition, transition_of, transition_line, written_transition, speaker, mover, raised_by, after_transition, told_by}
 use Rattle.transitions.specs.Transitions.{report_of}
-use Rattle.partition.specs.World.{Listener, WorldTransition, Trace, Differs, IsPending, watched_in, raised_at, is_there, is_learning, is_told, begins_anew, pending_for, client_in, listener_of, image_of, past_after, world_after_transition}
-use Rattle.partition.specs.Notices.{Raises, IsIn, WaitsFor, HasChanged, Meets, HasNews, IsSent, IsClear, Asks, IsToldNews, Tells}
+use Rattle.partition.specs.World.{Listener, WorldTransition, Trace, Differs, IsPending, raised_at, is_there, is_learning, is_told, begins_anew, pending_for, client_in, listener_of, image_of, past_after, world_after_transition}
+use Rattle.partition.specs.Notices.{Raises, IsIn, Listens, WaitsFor, HasChanged, Meets, HasNews, IsSent, IsClear, Asks, IsToldNews, Tells}
 use Rattle.partition.proofs.Asking.{wish_is, transition_idle, Quiet, quiet_unheard, quiet_unwaiting, IsAsking, kind_of, is_found, of_any, notified_some, does_some, of_moved}
 use Rattle.partition.proofs.Members.{in_map, of_map, any_in, same_sets, has_meet, has_some, is_some}
 use Rattle.partition.proofs.Parts.{raised_differ, agree}
 use Rattle.partition.proofs.Pending.{has_union, has_none, pending_more, reads_pending}
 use Rattle.idle_clients.proofs.Rises.{rising_staying}
 use Rattle.partition.proofs.Sends.{found, news, waiter_moves, notices_rise, does, does_keeps, does_other, does_none, does_wait, notified_none, told_none, untold_waits, is_other_speaker, of_sent, is_sent, kept, kept_was, others_kept, open_kept, lands, there_kept}
-use Rattle.player_state.proofs.Frames.{keeps}
-use Rattle.partition.proofs.Worlds.{same_raised}
+use Rattle.partition.proofs.Worlds.{raised_by_number}
 
 both : (a b : Bool) → a ≡ true → b ≡ true → (a && b) ≡ true
 both true b e f = f
@@ -80,7 +80,7 @@ world_transition_of trace done event =
     let t : TransitionData = transition i event in
     record { before = trace.world; event = event; transition = t; notices = (told_by i event t).notices; report = report_of i.part i.shared.library t; after = world_after_transition trace.world i event t }
 
-module _ (trace : Trace) (done : List LogEntry) (event : Event) (above : 1 ≤ trace.world.limits.max_version) (some : 0 < length trace.world.past)
+module _ (trace : Trace) (done : List LogEntry) (event : Event) (above : 1 ≤ trace.world.part.limits.max_version) (some : 0 < length trace.world.part.past)
     (rising : Rising (image_of trace done).clients) where
   abbrev i : Image
   i = image_of trace done
@@ -88,7 +88,7 @@ module _ (trace : Trace) (done : List LogEntry) (event : Event) (above : 1 ≤ t
   abbrev t : TransitionData
   t = transition i event
 
-  abbrev r : ℕ → Subsystems
+  abbrev r : Client → Subsystems
   r = raised_by i.part i.shared.library t
 
   abbrev ms : List WorldTransition
@@ -103,29 +103,31 @@ module _ (trace : Trace) (done : List LogEntry) (event : Event) (above : 1 ≤ t
   abbrev change : Change
   change = change_of i.shared.library.rate i.part t.effect
 
-  is_raised : (λ (n : ℕ). raised_at n m) ≡ r
-  is_raised = same_raised t.written trace.world.limits trace.world.past change (watched_in m.before) (watched_in m.after) above some (keeps i.shared.library.rate i.part t.effect)
+  -- what is raised for a client is what is raised for the one of its number
+  by_number : (k : Client) → r k ≡ raised_at k.number m
+  by_number k = raised_by_number trace done event above some rising k
 
   pub raises : Raises m
-  raises = record { each = λ number x. raised_differ number m x; all = λ none. agree trace.world i event t m.notices m.report refl none }
+  raises = record { each = λ number x. raised_differ number m x; all = λ none. agree trace.world i event t m.notices m.report refl refl none }
 
-  differs : (number : ℕ) (x : Subsystem) → (has (r number) x ≡ true) ↔ Differs number x m
-  differs number x = subst (λ (s : ℕ → Subsystems). (has (s number) x ≡ true) ↔ Differs number x m) is_raised (raised_differ number m x)
+  differs : (number : ℕ) (x : Subsystem) → (has (raised_at number m) x ≡ true) ↔ Differs number x m
+  differs number x = raised_differ number m x
 
   -- what of a named set changed, by the flags
   abbrev news_of : ℕ → Subsystems → Subsystems
-  news_of number named = meet (union (pending_for number ms) (r number)) named
+  news_of number named = meet (union (pending_for number ms) (raised_at number m)) named
 
   changes : (number : ℕ) (named : Subsystems) (x : Subsystem) → (has (news_of number named) x ≡ true) ↔ ((has named x ≡ true) × HasChanged number x m ms)
   changes number named x =
       let pending : Subsystems = pending_for number ms in
-      let meets : has (news_of number named) x ≡ (has (union pending (r number)) x && has named x) = has_meet (union pending (r number)) named x in
-      let joins : has (union pending (r number)) x ≡ (has pending x || has (r number) x) = has_union pending (r number) x in (
+      let own : Subsystems = raised_at number m in
+      let meets : has (news_of number named) x ≡ (has (union pending own) x && has named x) = has_meet (union pending own) named x in
+      let joins : has (union pending own) x ≡ (has pending x || has own x) = has_union pending own x in (
         λ e. (let p = parts _ _ (sym meets ∙ e) in (
           p.1,
           elim (either _ _ (sym joins ∙ p.0)) [ inl q ↦ inl ((reads_pending number x ms).0 q) | inr q ↦ inr ((differs number x).0 q) ],
         )),
-        λ p. meets ∙ both _ _ (joins ∙ one_of _ _ (elim p.1 as (λ _. (has pending x ≡ true) ⊎ (has (r number) x ≡ true))
+        λ p. meets ∙ both _ _ (joins ∙ one_of _ _ (elim p.1 as (λ _. (has pending x ≡ true) ⊎ (has own x ≡ true))
             [ inl q ↦ inl ((reads_pending number x ms).1 q) | inr q ↦ inr ((differs number x).1 q) ])) p.0,
       )
 
@@ -142,32 +144,46 @@ module _ (trace : Trace) (done : List LogEntry) (event : Event) (above : 1 ≤ t
       )
 
   -- a client of the world, and of its image
-  abbrev client : ℕ → Option Subsystems → Client
-  client number waiting = client_in ms (record { number = number; waiting = waiting })
+  abbrev client : ℕ → ℕ → List TagName → Option Subsystems → Client
+  client number place tags waiting = client_in ms (record { number = number; place = place; tags = tags; waiting = waiting })
 
-  listed : (number : ℕ) (waiting : Option Subsystems) → IsIn (record { number = number; waiting = waiting }) trace.world.clients → IsIn (client number waiting) i.clients
-  listed number waiting e = in_map (client_in ms) (record { number = number; waiting = waiting }) trace.world.clients e
+  abbrev client_of_this : (number : ℕ) (waiting : Option Subsystems) → Listens number waiting trace.world → Client
+  client_of_this number waiting e = client number e.0 e.1 waiting
+
+  listed : (number : ℕ) (waiting : Option Subsystems) (e : Listens number waiting trace.world) → IsIn (client_of_this number waiting e) i.clients
+  listed number waiting e = in_map (client_in ms) (record { number = number; place = e.0; tags = e.1; waiting = waiting }) trace.world.clients e.2
+
+  -- what a client that waits is told, by its number
+  news_is : (number place : ℕ) (tags : List TagName) (named : Subsystems) → news n r (client number place tags (Some named)) ≡ news_of number named
+  news_is number place tags named =
+      ap (λ (s : Subsystems). meet (union (pending_for number ms) s) named) (by_number (client number place tags (Some named)))
 
   -- where a client is after the event
   after_of : (k : Client) (number : ℕ) (waiting : Option Subsystems) → IsIn k (kept n r t.response i.clients) → k.number ≡ number
-      → (does n r (move_of t.response) (notified r k)).pending.waiting ≡ waiting → IsIn (record { number = number; waiting = waiting }) m.after.clients
+      → (does n r (move_of t.response) (notified r k)).pending.waiting ≡ waiting → Listens number waiting m.after
   after_of k number waiting e same w =
       let after : Client = does n r (move_of t.response) (notified r k) in
-      let is : listener_of after ≡ record { number = number; waiting = waiting } =
-      λ j. record { number = (does_keeps n r (move_of t.response) (notified r k) ∙ same) j; waiting = w j } in
-      subst (λ (l : Listener). IsIn l m.after.clients) is (in_map listener_of after (after_transition i event t).clients (lands n r t.response i.clients k e))
+      let is : listener_of after ≡ record { number = number; place = after.place; tags = after.tags; waiting = waiting } =
+      λ j. record { number = (does_keeps n r (move_of t.response) (notified r k) ∙ same) j; place = after.place; tags = after.tags; waiting = w j } in (
+        after.place,
+        after.tags,
+        subst (λ (l : Listener). IsIn l m.after.clients) is (in_map listener_of after (after_transition i event t).clients (lands n r t.response i.clients k e)),
+      )
 
   -- what is sent is news
-  from_listener : (number : ℕ) (waiting : Option Subsystems) → IsIn (record { number = number; waiting = waiting }) trace.world.clients
-      → IsIn (client number waiting) (kept n r t.response i.clients) → is_nonempty (news n r (client number waiting)) ≡ true
-      → HasNews number (news n r (client number waiting)) m ms
-  from_listener number None e k full = (let clash : false ≡ true = full in cc)
-  from_listener number (Some named) e k full =
+  from_listener : (number place : ℕ) (tags : List TagName) (waiting : Option Subsystems)
+      → IsIn (record { number = number; place = place; tags = tags; waiting = waiting }) trace.world.clients
+      → IsIn (client number place tags waiting) (kept n r t.response i.clients) → is_nonempty (news n r (client number place tags waiting)) ≡ true
+      → HasNews number (news n r (client number place tags waiting)) m ms
+  from_listener number place tags None e k full = (let clash : false ≡ true = full in cc)
+  from_listener number place tags (Some named) e k full =
+      let own : Client = client number place tags (Some named) in
+      let is : news n r own ≡ news_of number named = news_is number place tags named in
       record {
         named = named;
-        waited = e;
-        stays = ((does n r (move_of t.response) (notified r (client number (Some named)))).pending.waiting, after_of (client number (Some named)) number _ k refl refl);
-        meets = meets_of number named full;
+        waited = (place, tags, e);
+        stays = ((does n r (move_of t.response) (notified r own)).pending.waiting, after_of own number _ k refl refl);
+        meets = subst (λ (s : Subsystems). Meets number named s m ms) (sym is) (meets_of number named (ap is_nonempty (sym is) ∙ full));
       }
 
   sent_news : (number : ℕ) (names : Subsystems) → IsSent number names m → HasNews number names m ms
@@ -177,31 +193,34 @@ module _ (trace : Trace) (done : List LogEntry) (event : Event) (above : 1 ≤ t
       let l : Listener = was.0 in
       let back : s.0 ≡ client_in ms l = sym was.2 in
       let has_news : HasNews l.number (news n r (client_in ms l)) m ms =
-      from_listener l.number l.waiting was.1 (rw back at s.1) (rw back at s.2) in
+      from_listener l.number l.place l.tags l.waiting was.1 (rw back at s.1) (rw back at s.2) in
       let number_is : l.number ≡ number = ap (λ (c : Client). c.number) was.2 ∙ s.3 in
       let names_are : news n r (client_in ms l) ≡ names = ap (news n r) was.2 ∙ s.4 in
       subst (λ (s : Subsystems). HasNews number s m ms) names_are (subst (λ (x : ℕ). HasNews x (news n r (client_in ms l)) m ms) number_is has_news)
 
   news_sent : (number : ℕ) (names : Subsystems) → HasNews number names m ms → IsSent number names m
   news_sent number names told =
-      let k : Client = client number (Some told.named) in
+      let k : Client = client_of_this number (Some told.named) told.waited in
       let was : IsIn k i.clients = listed number (Some told.named) told.waited in
-      let after = of_map listener_of (record { number = number; waiting = told.stays.0 }) (after_transition i event t).clients told.stays.1 in
+      let there = told.stays.1 in
+      let after = of_map listener_of (record { number = number; place = there.0; tags = there.1; waiting = told.stays.0 }) (after_transition i event t).clients there.2 in
       let stays : IsIn k (kept n r t.response i.clients) =
       there_kept n r t.response i.clients k after.0 was after.1 (ap (λ (l : Listener). l.number) after.2) in
       let is = meets_is number told.named names told.meets in
-      subst (λ (s : Subsystems). IsSent number s m) (sym is.0) (is_sent n r t.response i.clients k stays is.1)
+      let news_are : news n r k ≡ news_of number told.named = news_is number told.waited.0 told.waited.1 told.named in
+      subst (λ (s : Subsystems). IsSent number s m) (news_are ∙ sym is.0) (is_sent n r t.response i.clients k stays (ap is_nonempty news_are ∙ is.1))
 
   sent_clear : (number : ℕ) (names : Subsystems) → IsSent number names m → IsClear number m ms
   sent_clear number names e =
       let s = of_sent n r t.response i.clients number names e in
       let k : Client = s.0 in
       let told : HasNews number names m ms = sent_news number names e in
-      let was : IsIn (client number (Some told.named)) i.clients = listed number (Some told.named) told.waited in
-      let waited : client_of number i.clients ≡ Some (client number (Some told.named)) = found (client number (Some told.named)) i.clients rising was in
+      let own : Client = client_of_this number (Some told.named) told.waited in
+      let was : IsIn own i.clients = listed number (Some told.named) told.waited in
+      let waited : client_of number i.clients ≡ Some own = found own i.clients rising was in
       let free : (more : Subsystems) → move_of t.response ≡ Wait more → k.number ≡ n → ⊥ =
       λ more moves same.
-      waiter_moves i.shared.ended i.part i.shared.library i.clients event (client number (Some told.named)) told.named more
+      waiter_moves i.shared.ended i.part i.shared.library i.clients event own told.named more
       (ap (λ (x : ℕ). client_of x i.clients) (sym same ∙ s.3) ∙ waited) refl moves in
       record {
         waits = after_of k number None s.1 s.3 (does_none n r (move_of t.response) (notified r k) (told_none n r k s.2) free);
@@ -211,10 +230,11 @@ module _ (trace : Trace) (done : List LogEntry) (event : Event) (above : 1 ≤ t
       }
 
   -- a client that waits, stays and makes no move waits on, if it is sent nothing
-  still : (number : ℕ) (named : Subsystems) → ((names : Subsystems) → IsSent number names m → ⊥) → IsIn (client number (Some named)) (kept n r t.response i.clients)
-      → does n r (move_of t.response) (notified r (client number (Some named))) ≡ notified r (client number (Some named)) → WaitsFor number named m.after
-  still number named unsent stays unmoved =
-      let k : Client = client number (Some named) in
+  still : (number place : ℕ) (tags : List TagName) (named : Subsystems) → ((names : Subsystems) → IsSent number names m → ⊥)
+      → IsIn (client number place tags (Some named)) (kept n r t.response i.clients)
+      → does n r (move_of t.response) (notified r (client number place tags (Some named))) ≡ notified r (client number place tags (Some named)) → WaitsFor number named m.after
+  still number place tags named unsent stays unmoved =
+      let k : Client = client number place tags (Some named) in
       let cases : (b : Bool) → is_nonempty (news n r k) ≡ b → WaitsFor number named m.after =
       λ b. elim b as (λ b. is_nonempty (news n r k) ≡ b → WaitsFor number named m.after) [
         | true ↦ λ e. absurd (unsent (news n r k) (is_sent n r t.response i.clients k stays e))
@@ -227,18 +247,18 @@ module _ (trace : Trace) (done : List LogEntry) (event : Event) (above : 1 ≤ t
   on : (number : ℕ) (named : Subsystems) → speaker m.event ≢ Some number → WaitsFor number named m.before → ((names : Subsystems) → IsSent number names m → ⊥)
       → WaitsFor number named m.after
   on number named other waited unsent =
-      let k : Client = client number (Some named) in
+      let k : Client = client_of_this number (Some named) waited in
       elim (is_other_speaker i.shared.ended i.part i.shared.library i.clients event number other) [
-        | inl apart ↦ still number named unsent (others_kept n r t.response i.clients k (listed number (Some named) waited) apart)
+        | inl apart ↦ still number waited.0 waited.1 named unsent (others_kept n r t.response i.clients k (listed number (Some named) waited) apart)
             (does_other n r (move_of t.response) (notified r k) apart)
-        | inr unsaid ↦ still number named unsent (open_kept n r t.response i.clients k (listed number (Some named) waited) (ap (λ (s : ResponseData). closes s.answer.next) unsaid))
+        | inr unsaid ↦ still number waited.0 waited.1 named unsent (open_kept n r t.response i.clients k (listed number (Some named) waited) (ap (λ (s : ResponseData). closes s.answer.next) unsaid))
             (ap (λ (s : ResponseData). does n r (move_of s) (notified r k)) unsaid)
       ]
 
   -- what a client that asks is told
   module _ (number : ℕ) (named : Subsystems) (asks : Asks number named m) where
     abbrev k : Client
-    k = client number None
+    k = client_of_this number None asks.free
 
     abbrev d : Subsystems
     d = meet (pending_for number ms) named
@@ -255,14 +275,14 @@ module _ (trace : Trace) (done : List LogEntry) (event : Event) (above : 1 ≤ t
     same_parts Database e = e (ap (λ (u : TransitionData). (library_after trace.world.library u.scan).songs) (sym transition_is))
     same_parts Update e = e (ap (λ (u : TransitionData). (library_after trace.world.library u.scan).scan.runs) (sym transition_is))
     same_parts StoredPlaylist e = (let clash : true ≡ false = sym e ∙ ap (λ (u : TransitionData). changes_lists u.written) transition_is in cc)
-    same_parts Playlist e = e (ap (λ (u : TransitionData). present (past_after trace.world.past (change_of i.shared.library.rate i.part u.effect))) (sym transition_is))
+    same_parts Playlist e = e (ap (λ (u : TransitionData). present (past_after trace.world.part.past (change_of i.shared.library.rate i.part u.effect))) (sym transition_is))
     same_parts Player e = e (ap (λ (u : TransitionData). playing (player_after i.shared.library.rate i.part u.effect)) (sym transition_is))
-    same_parts Mixer e = e (ap (λ (u : TransitionData). volume_after trace.world.volume u.effect) (sym transition_is))
-    same_parts Output e = e (ap (λ (u : TransitionData). (outputs_after trace.world.outputs u.effect).enabled) (sym transition_is))
+    same_parts Mixer e = e (ap (λ (u : TransitionData). volume_after trace.world.part.volume u.effect) (sym transition_is))
+    same_parts Output e = e (ap (λ (u : TransitionData). (outputs_after i.shared.library.rate i.part u.effect).enabled) (sym transition_is))
     same_parts Options e = e (ap (λ (u : TransitionData). options (player_after i.shared.library.rate i.part u.effect)) (sym transition_is))
     same_parts Sticker e = (let clash : true ≡ false = sym e ∙ ap (λ (u : TransitionData). changes_stickers u.written) transition_is in cc)
-    same_parts Subscription e = e (ap (λ (u : TransitionData). pairs (channels_after trace.world.channels u.effect)) (sym transition_is))
-    same_parts Message e = e.1 (ap (λ (u : TransitionData). messages_of number (channels_after trace.world.channels u.effect)) transition_is ∙ e.0)
+    same_parts Subscription e = e (ap (λ (u : TransitionData). pairs (channels_after trace.world.part.channels u.effect)) (sym transition_is))
+    same_parts Message e = e.1 (ap (λ (u : TransitionData). messages_of number (channels_after trace.world.part.channels u.effect)) transition_is ∙ e.0)
 
     asked : (x : Subsystem) → (has d x ≡ true) ↔ ((has named x ≡ true) × HasChanged number x m ms)
     asked x =
@@ -345,8 +365,9 @@ module _ (trace : Trace) (done : List LogEntry) (event : Event) (above : 1 ≤ t
       let was = of_map (client_in ms) a.client trace.world.clients is.0 in
       let number : was.0.number ≡ a.number = ap (λ (c : Client). c.number) was.2 ∙ is.1 in
       let free : was.0.waiting ≡ None = ap (λ (c : Client). c.pending.waiting) was.2 ∙ a.free in
-      let same : was.0 ≡ record { number = a.number; waiting = None } = λ j. record { number = number j; waiting = free j } in
-      record { name = a.name; heard = a.heard; event = a.is ∙ ap (λ (c : Command). Line a.number Alone (Run a.name c) a.heard) (wish_is a.command a.named a.wish); free = subst (λ (l : Listener). IsIn l trace.world.clients) same was.1 }
+      let same : was.0 ≡ record { number = a.number; place = was.0.place; tags = was.0.tags; waiting = None } =
+      λ j. record { number = number j; place = was.0.place; tags = was.0.tags; waiting = free j } in
+      record { name = a.name; heard = a.heard; event = a.is ∙ ap (λ (c : Command). Line a.number Alone (Run a.name c) a.heard) (wish_is a.command a.named a.wish); free = (was.0.place, was.0.tags, subst (λ (l : Listener). IsIn l trace.world.clients) same was.1) }
 
   told_news : (number : ℕ) → is_told number m ≡ true → IsToldNews number m ms
   told_news number e =
@@ -370,7 +391,7 @@ module _ (trace : Trace) (done : List LogEntry) (event : Event) (above : 1 ≤ t
 
   begins : (number : ℕ) (named : Subsystems) → WaitsFor number named m.after → WaitsFor number named m.before ⊎ Asks number named m
   begins number named e =
-      let from = of_map listener_of (record { number = number; waiting = Some named }) (after_transition i event t).clients e in
+      let from = of_map listener_of (record { number = number; place = e.0; tags = e.1; waiting = Some named }) (after_transition i event t).clients e.2 in
       let waits_after : from.0.pending.waiting ≡ Some named = ap (λ (l : Listener). l.waiting) from.2 in
       let c = of_moved n r (move_of t.response) from.0 (map (notified r) (kept n r t.response i.clients)) named from.1 waits_after in
       let k = of_map (notified r) c.0 (kept n r t.response i.clients) c.1 in
@@ -382,8 +403,9 @@ module _ (trace : Trace) (done : List LogEntry) (event : Event) (above : 1 ≤ t
         | inl w ↦
             (let waited : l.0.waiting ≡ Some named =
             ap (λ (x : Client). x.pending.waiting) l.2 ∙ notified_some n r k.0 named (ap (λ (x : Client). x.pending.waiting) k.2 ∙ w) in
-            let same : l.0 ≡ record { number = number; waiting = Some named } = λ j. record { number = l_number j; waiting = waited j } in
-            inl (subst (λ (x : Listener). IsIn x trace.world.clients) same l.1))
+            let same : l.0 ≡ record { number = number; place = l.0.place; tags = l.0.tags; waiting = Some named } =
+            λ j. record { number = l_number j; place = l.0.place; tags = l.0.tags; waiting = waited j } in
+            inl (l.0.place, l.0.tags, subst (λ (x : Listener). IsIn x trace.world.clients) same l.1))
         | inr w ↦ elim kind [
           | inl quiet ↦ absurd (quiet_unwaiting (move_of t.response) named quiet w.0)
           | inr a ↦

@@ -5,7 +5,9 @@ use Rattle.std.proofs.Math.Nat.{mod-eq_of_lt}
 use Rattle.std.proofs.lemmas.Bool.Decides.{nat_tests}
 use Rattle.idle_notes.specs.declared.sets.Subsystems.{Subsystems}
 use Rattle.idle_notes.specs.Sets.{none, union}
+use Rattle.player_state.specs.declared.effect.Effect.{Effect}
 use Rattle.player_state.specs.declared.state.Library.{Library}
+use Rattle.player_state.specs.declared.state.Part.{Part}
 use Rattle.song_queue.specs.declared.entry.Entry.{Entry}
 use Rattle.song_queue.specs.Laws as queues
 use Rattle.song_queue.specs.Past.{greatest_id, greatest_in, present, state_of}
@@ -20,7 +22,7 @@ use Rattle.partition.specs.declared.state.Setup.{Setup}
 use Rattle.idle_clients.specs.Clients.{Watched, raised, notified, Rising}
 use Rattle.transitions.specs.Answers.{closes}
 use Rattle.partition.specs.History.{made_of, replay}
-use Rattle.player_state.specs.Effects.{Change, ByEdit, ByStep, change_of, channels_after, outputs_after, played_after, player_after, queue_after, tags_after, volume_after}
+use Rattle.player_state.specs.Effects.{Change, ByEdit, ByStep, change_of, part_after, queue_after}
 use Rattle.partition.specs.Image.{Image, opening}
 use Rattle.transitions.specs.Transitions.{TransitionData}
 use Rattle.idle_clients.specs.Clients.{client_of}
@@ -28,7 +30,7 @@ use Rattle.player_state.specs.Libraries.{library_after}
 use Rattle.partition.specs.Legal.{ReplaysWorlds}
 use Rattle.partition.specs.Step.{transition, mover, raised_by, after_transition, ended_after, told_by, next_image}
 use Rattle.transitions.specs.Transitions.{report_of}
-use Rattle.partition.specs.World.{Greatest, Listener, WorldTransition, Trace, raised_at, is_there, begins_anew, watched_in, pending_for, client_in, listener_of, books_of, image_of, past_after, world_after_transition, traced, trace_after_event, trace_from, limits_of, opening_trace}
+use Rattle.partition.specs.World.{Greatest, Listener, PartWorld, WorldTransition, Trace, raised_at, raised_for, is_there, begins_anew, watched_in, pending_for, client_in, listener_of, books_of, image_of, part_in, part_world_after, past_after, world_after_transition, traced, trace_after_event, trace_from, limits_of, opening_trace}
 use Rattle.partition.proofs.Counts.{made_of-more}
 use Rattle.player_state.proofs.Frames.{Keeps, keeps}
 use Rattle.partition.proofs.Notified.{Each, flagged, all_stand}
@@ -54,6 +56,13 @@ follows limits past (ByStep (Some left)) above some kept =
     let same : greatest_in (queue_of (state_at limits past)) ≡ greatest_in (present past) = ap greatest_in (sym (shows limits past)) in
     let low : greatest_in (present past) ≤ greatest_id past = greatest_in-present past in
     sym (edited-at_end limits.max_queue limits.max_version limits.max_id (omega arith) past left some (omega (arith, kept, same, low)))
+
+-- what can be read of a partition after an event is what the event makes of what could be read before it
+pub part_follows : (rate : ℕ) (p : PartWorld) (effect : Effect) → 1 ≤ p.limits.max_version → 0 < length p.past
+    → part_in (part_world_after rate (part_in p) p effect) ≡ part_after rate (part_in p) effect
+part_follows rate p effect above some =
+    ap (λ (q : QueueState). record (part_after rate (part_in p) effect) { queue = q })
+    (follows p.limits p.past (change_of rate (part_in p) effect) above some (keeps rate (part_in p) effect))
 
 -- what an event raised by the worlds is what its transition raises
 pub same_raised : (written : ShelfWrite) (limits : Greatest) (past : List (List Entry)) (change : Change) (before after : Watched) → 1 ≤ limits.max_version → 0 < length past
@@ -85,12 +94,14 @@ module _ (world_transitions : List WorldTransition) where
   all_among [] = tt
   all_among (l ∷ ls) = (ap (λ b. b || among l.number ls) (same_first l.number), further l ls ls (all_among ls))
 
-  with_flags : (there : ℕ → Bool) (ls : List Listener) → Each (λ k. there k.number ≡ true) (map (client_in world_transitions) ls)
-      → Each (λ k. (there k.number ≡ true) × (k.pending.changed ≡ pending_for k.number world_transitions)) (map (client_in world_transitions) ls)
-  with_flags there [] e = tt
-  with_flags there (l ∷ ls) e = ((e.0, refl), with_flags there ls e.1)
+  -- what is raised for a client is what is raised for the one of its number
+  with_flags : (there : ℕ → Bool) (r : Client → Subsystems) (by_number : ℕ → Subsystems) (ls : List Listener) → Each (λ k. there k.number ≡ true) (map (client_in world_transitions) ls)
+      → Each (λ k. r k ≡ by_number k.number) (map (client_in world_transitions) ls)
+      → Each (λ k. (there k.number ≡ true) × (k.pending.changed ≡ pending_for k.number world_transitions) × (r k ≡ by_number k.number)) (map (client_in world_transitions) ls)
+  with_flags there r by_number [] e same = tt
+  with_flags there r by_number (l ∷ ls) e same = ((e.0, refl, same.0), with_flags there r by_number ls e.1 same.1)
 
-  absent : (r : ℕ → Subsystems) (n : ℕ) (ls : List Listener) → client_of n (map (notified r) (map (client_in world_transitions) ls)) ≡ None → among n ls ≡ false
+  absent : (r : Client → Subsystems) (n : ℕ) (ls : List Listener) → client_of n (map (notified r) (map (client_in world_transitions) ls)) ≡ None → among n ls ≡ false
   absent r n [] e = refl
   absent r n (l ∷ ls) e =
       let rest : Option Client = client_of n (map (notified r) (map (client_in world_transitions) ls)) in
@@ -108,7 +119,12 @@ all_same : (world_transitions : List WorldTransition) (ks : List Client) → Eac
 all_same world_transitions [] e = refl
 all_same world_transitions (k ∷ ks) e = λ i. e.0 i ∷ all_same world_transitions ks e.1 i
 
-module _ (trace : Trace) (done : List LogEntry) (event : Event) (above : 1 ≤ trace.world.limits.max_version) (some : 0 < length trace.world.past)
+-- what holds of each client holds of all
+pub each : (P : Client → Type 0) → ((k : Client) → P k) → (ks : List Client) → Each P ks
+each P holds [] = tt
+each P holds (k ∷ ks) = (holds k, each P holds ks)
+
+module _ (trace : Trace) (done : List LogEntry) (event : Event) (above : 1 ≤ trace.world.part.limits.max_version) (some : 0 < length trace.world.part.past)
     (rising : Rising (image_of trace done).clients) where
   abbrev i : Image
   i = image_of trace done
@@ -116,7 +132,7 @@ module _ (trace : Trace) (done : List LogEntry) (event : Event) (above : 1 ≤ t
   abbrev t : TransitionData
   t = transition i event
 
-  abbrev r : ℕ → Subsystems
+  abbrev r : Client → Subsystems
   r = raised_by i.part i.shared.library t
 
   abbrev m : WorldTransition
@@ -128,52 +144,48 @@ module _ (trace : Trace) (done : List LogEntry) (event : Event) (above : 1 ≤ t
   abbrev change : Change
   change = change_of rate i.part t.effect
 
-  is_raised : (λ (n : ℕ). raised_at n m) ≡ r
-  is_raised = same_raised t.written trace.world.limits trace.world.past change (watched_in m.before) (watched_in m.after) above some (keeps rate i.part t.effect)
+  is_raised : raised_for m ≡ r
+  is_raised = same_raised t.written trace.world.part.limits trace.world.part.past change (watched_in m.before) (watched_in m.after) above some (keeps rate i.part t.effect)
 
-  grows : (n : ℕ) → pending_for n (m ∷ trace.world_transitions) ≡ (if begins_anew n m then none else union (pending_for n trace.world_transitions) (r n))
-  grows n =
-      pending_more n m trace.world_transitions (begins_anew n m) refl
-      ∙ ap (λ (s : ℕ → Subsystems). if begins_anew n m then none else union (pending_for n trace.world_transitions) (s n)) is_raised
+  -- what is raised for a client is what is raised for the one of its number
+  pub raised_by_number : (k : Client) → r k ≡ raised_at k.number m
+  raised_by_number k = ap (λ (s : Client → Subsystems). s k) (sym is_raised)
+
+  grows : (n : ℕ) → pending_for n (m ∷ trace.world_transitions) ≡ (if begins_anew n m then none else union (pending_for n trace.world_transitions) (raised_at n m))
+  grows n = pending_more n m trace.world_transitions (begins_anew n m) refl
 
   -- the flags of the clients after an event are what is pending with one more transition
   clients_stand : map (client_in (m ∷ trace.world_transitions)) (map listener_of (after_transition i event t).clients) ≡ (after_transition i event t).clients
   clients_stand =
       all_same (m ∷ trace.world_transitions) (after_transition i event t).clients
-      (all_stand r (λ n. pending_for n trace.world_transitions) (λ n. pending_for n (m ∷ trace.world_transitions)) (λ n. is_there n trace.world) (mover event)
-      i.clients rising (with_flags trace.world_transitions (λ n. is_there n trace.world) trace.world.clients (all_among trace.world_transitions trace.world.clients))
+      (all_stand r (λ n. raised_at n m) (λ n. pending_for n trace.world_transitions) (λ n. pending_for n (m ∷ trace.world_transitions)) (λ n. is_there n trace.world) (mover event)
+      i.clients rising
+      (with_flags trace.world_transitions (λ n. is_there n trace.world) r (λ n. raised_at n m) trace.world.clients (all_among trace.world_transitions trace.world.clients)
+      (each (λ k. r k ≡ raised_at k.number m) raised_by_number i.clients))
       (closes t.response.answer.next) t.response.move grows (absent trace.world_transitions r (mover event) trace.world.clients))
 
   pub image_of-step : (h : LogEntry) → h.event ≡ event → image_of (traced trace i event t) (done ++ h ∷ []) ≡ next_image h.seat i event
   unfolding next_image
   image_of-step h same =
-      let all : List Client → QueueState → List ℕ → Image = λ k q made. record {
-        part = record {
-          queue = q;
-          player = player_after rate i.part t.effect;
-          volume = volume_after trace.world.volume t.effect;
-          outputs = outputs_after trace.world.outputs t.effect;
-          channels = channels_after trace.world.channels t.effect;
-          tags = tags_after trace.world.tags t.effect;
-          played = played_after i.part t.effect;
-        };
+      let all : List Client → Part → List ℕ → Image = λ k p made. record {
+        part = p;
         shared = record { library = library_after trace.world.library t.scan; made = made; books = books_of (m ∷ trace.world_transitions); ended = ended_after trace.world.ended event };
         clients = k;
       } in
-      ap (λ k. all k (state_at trace.world.limits (past_after trace.world.past change)) (made_of (done ++ h ∷ []))) clients_stand
-      ∙ ap (λ q. all (after_transition i event t).clients q (made_of (done ++ h ∷ []))) (follows trace.world.limits trace.world.past change above some (keeps rate i.part t.effect))
-      ∙ ap (all (after_transition i event t).clients (queue_after i.part.queue change)) (sym (made_of-more done h))
+      ap (λ k. all k (part_in (part_world_after rate i.part trace.world.part t.effect)) (made_of (done ++ h ∷ []))) clients_stand
+      ∙ ap (λ p. all (after_transition i event t).clients p (made_of (done ++ h ∷ []))) (part_follows rate trace.world.part t.effect above some)
+      ∙ ap (all (after_transition i event t).clients (part_after rate i.part t.effect)) (sym (made_of-more done h))
 
   pub rising-step : (h : LogEntry) → Rising (image_of (traced trace i event t) (done ++ h ∷ [])).clients
   rising-step h = subst Rising (sym clients_stand) (rising_after (mover event) r t.response i.clients rising)
 
-from : (trace : Trace) (done hs : List LogEntry) → 1 ≤ trace.world.limits.max_version → 0 < length trace.world.past → Rising (image_of trace done).clients
+from : (trace : Trace) (done hs : List LogEntry) → 1 ≤ trace.world.part.limits.max_version → 0 < length trace.world.part.past → Rising (image_of trace done).clients
     → (replay (image_of trace done) hs ≡ image_of (trace_from done trace hs) (done ++ hs)) × Rising (image_of (trace_from done trace hs) (done ++ hs)).clients
 from trace done [] above some rising =
     (ap (image_of trace) (sym (append-nil done)), subst (λ (l : List LogEntry). Rising (image_of trace l).clients) (sym (append-nil done)) rising)
 from trace done (h ∷ hs) above some rising =
     let i : Image = image_of trace done in
-    let rest = from (trace_after_event done trace h.event) (done ++ h ∷ []) hs above (some_past trace.world.past (change_of i.shared.library.rate i.part (transition i h.event).effect) some)
+    let rest = from (trace_after_event done trace h.event) (done ++ h ∷ []) hs above (some_past trace.world.part.past (change_of i.shared.library.rate i.part (transition i h.event).effect) some)
     (rising-step trace done h.event above some rising h) in
     let joined : image_of (trace_from (done ++ h ∷ []) (trace_after_event done trace h.event) hs) ((done ++ h ∷ []) ++ hs) ≡ image_of (trace_from (done ++ h ∷ []) (trace_after_event done trace h.event) hs) (done ++ h ∷ hs) =
     ap (image_of (trace_from (done ++ h ∷ []) (trace_after_event done trace h.event) hs)) (append_assoc done (h ∷ []) hs) in (
@@ -184,7 +196,7 @@ from trace done (h ∷ hs) above some rising =
 pub opens : (setup : Setup) (library : Library) → 1 ≤ setup.limits.max_version → opening setup library ≡ image_of (opening_trace (opening setup library)) []
 opens setup library above =
     let base : Image = opening setup library in
-    let limits : Greatest = limits_of base in
+    let limits : Greatest = limits_of base.part in
     let zeroth : 1 ≡ 0 % limits.max_version + 1 = ap (λ n. n + 1) (sym (mod-eq_of_lt (let h : 0 < limits.max_version = omega arith in h))) in
     ap (λ (v : ℕ). record {
       part = record base.part {

@@ -1,5 +1,5 @@
 -- Turns that write to the shelf, or are refused by it, and do nothing else.
-use Rattle.std.proofs.Common.{◌≡◌, ◌∙◌, ℕ, Bool, true, false, not, ◌&&◌, List, refl, ap, sym}
+use Rattle.std.proofs.Common.{◌≡◌, ◌∙◌, Bool, true, false, not, ◌&&◌, List, refl, ap, sym}
 use Rattle.idle_notes.specs.declared.sets.Subsystems.{Subsystems}
 use Rattle.player_state.specs.declared.effect.Effect.TheVariants.{ByCommand}
 use Rattle.player_state.specs.declared.effect.CommandEffect.TheVariants.{Rests}
@@ -23,7 +23,7 @@ use Rattle.player_core.specs.Player as player
 use Rattle.partition.proofs.Raised.{noticed, stepped}
 use Rattle.player_state.proofs.Songs.{same_songs-refl}
 
-module _ (i : Image) (event : Event) (t : TransitionData) (alone : t ≡ record (quiet t.response) { written = t.written }) (raised : ℕ → Subsystems)
+module _ (i : Image) (event : Event) (t : TransitionData) (alone : t ≡ record (quiet t.response) { written = t.written }) (raised : Client → Subsystems)
     (shown : raised ≡ told_by_fingerprint false false t.written (fingerprint i.part i.shared.library) i.part i.shared.library) where
   effect_is : t.effect ≡ (ByCommand Rests)
   effect_is = ap (λ (u : TransitionData). u.effect) alone
@@ -52,10 +52,10 @@ module _ (i : Image) (event : Event) (t : TransitionData) (alone : t ≡ record 
   is_shown : raised ≡ told_by_fingerprint (not (same_songs i.shared.library.songs (songs_after i.shared.library t.scan))) (changes_subscriptions i.part.channels t.effect) t.written (fingerprint i.part i.shared.library) i.part i.shared.library
   is_shown = shown ∙ (λ j. told_by_fingerprint (sym same_database j) (sym same_subscriptions j) t.written (fingerprint i.part i.shared.library) i.part i.shared.library)
 
-  books_are : (books_after i.shared.books i.part.outputs (ByCommand Rests) Nothing ≡ i.shared.books) → i.shared.books ≡ books_after i.shared.books i.part.outputs t.effect (report_of i.part i.shared.library t)
-  books_are rests = sym rests ∙ (λ j. books_after i.shared.books i.part.outputs (sym effect_is j) (told_nothing j))
+  books_are : (books_after i.shared.books (ByCommand Rests) Nothing ≡ i.shared.books) → i.shared.books ≡ books_after i.shared.books t.effect (report_of i.part i.shared.library t)
+  books_are rests = sym rests ∙ (λ j. books_after i.shared.books (sym effect_is j) (told_nothing j))
 
-  pub written_step : (ended : Bool) (clients : List Client) → ended ≡ ended_after i.shared.ended event → (books_after i.shared.books i.part.outputs (ByCommand Rests) Nothing ≡ i.shared.books)
+  pub written_step : (ended : Bool) (clients : List Client) → ended ≡ ended_after i.shared.ended event → (books_after i.shared.books (ByCommand Rests) Nothing ≡ i.shared.books)
       → clients ≡ clients_after (mover event) raised t.response i.clients
       → record i { shared = record i.shared { ended = ended }; clients = clients } ≡ after_transition i event t
   written_step ended clients ended_is rests clients_are =
@@ -64,7 +64,7 @@ module _ (i : Image) (event : Event) (t : TransitionData) (alone : t ≡ record 
   pub written_notices : (notices : List Notice) → notices ≡ notices_after (mover event) raised t.response i.clients → notices ≡ (told_by i event t).notices
   written_notices notices notices_are = noticed i event t i.part i.shared.library raised t.response notices part_is library_is refl is_shown notices_are
 
-  pub written_counts : (books_after i.shared.books i.part.outputs (ByCommand Rests) Nothing ≡ i.shared.books) → can_count_all i.shared.books ≡ true → counts_frames i t ≡ true
+  pub written_counts : (books_after i.shared.books (ByCommand Rests) Nothing ≡ i.shared.books) → can_count_all i.shared.books ≡ true → counts_frames i t ≡ true
   written_counts rests counted = ap can_count_all (sym (books_are rests)) ∙ counted
 
   pub written_limits : player.is_within i.part.player ≡ true → keeps_limits i t ≡ true

@@ -1,5 +1,5 @@
 -- What a command can read of a player.
-use Rattle.std.specs.Prelude.{ℕ, ◌+◌, Bool, false, List, [], ◌∷◌, slice_set, slice_index_or}
+use Rattle.std.specs.Prelude.{ℕ, ◌+◌, Bool, false, List, [], ◌∷◌, codes, slice_set, slice_index_or}
 use Rattle.rand_core.specs.Pcg32Seed.{pcg32_seed}
 use Rattle.rand_pcg.specs.Pcg.{pcg32_of_seed}
 use Rattle.song_queue.specs.State.{opened}
@@ -44,12 +44,13 @@ no_events = 0 ∷ 0 ∷ 0 ∷ 0 ∷ 0 ∷ 0 ∷ 0 ∷ 0 ∷ 0 ∷ 0 ∷ 0 ∷ 0 
 abbrev pub opening : Setup → Library → Image
 opening setup library = record {
   part = record {
+    place = 0;
+    name = codes "default";
     queue = opened setup.limits.max_queue setup.limits.max_version setup.limits.max_id;
     player = player.opened setup.limits.max_cut (pcg32_of_seed (pcg32_seed 16 setup.random_start));
     volume = 100;
     outputs = setup.outputs;
     channels = [];
-    tags = [];
     played = 0;
   };
   shared = record { library = library; made = no_events; books = empty_books; ended = false };

@@ -6,6 +6,7 @@ use Rattle.idle_notes.specs.declared.sets.Subsystems.{Subsystems}
 use Rattle.idle_notes.specs.declared.subsystem.Subsystem.{Subsystem}
 use Rattle.idle_notes.specs.Channels.{pairs}
 use Rattle.idle_notes.specs.Names.{changed_lines}
+use Rattle.mpd_text.specs.declared.songs.song.TagName.{TagName}
 use Rattle.idle_notes.specs.Sets.{has}
 use Rattle.mpd_command.specs.declared.command.Command.TheVariants as command_group
 use Rattle.mpd_command.specs.declared.status.StatusCommand.TheVariants as status_command
@@ -21,20 +22,30 @@ use Rattle.player_core.specs.Player.{PlayerState}
 use Rattle.player_events.specs.Outcomes.{OutcomeData}
 use Rattle.transitions.specs.declared.shelf_calls.StoreReply.{StoreReply}
 use Rattle.partition.specs.Step.{speaker}
-use Rattle.partition.specs.World.{World, WorldTransition, Differs, IsPending, is_told, raised_at}
+use Rattle.partition.specs.World.{PartWorld, World, WorldTransition, Differs, IsPending, is_told, raised_at}
 
 -- a player's order and its decoder's work, of which no subsystem speaks: the random round, the place in the
 -- song, the jobs and the fade
 abbrev pub with_order_of : PlayerState → PlayerState → PlayerState
 with_order_of p other = record p { round = other.round; place = other.place; jobs = other.jobs; job = other.job; fade = other.fade; gave_up = other.gave_up }
 
--- two worlds are one but for who is there and who waits, the order of play and the decoder's work, which
--- outputs have failed, the messages that wait, the tags that clients are shown, how many frames were decoded,
--- and whether the daemon has ended
+-- what a partition owns is the same but for the order of play and the decoder's work, which outputs have failed
+-- and which the last job is for, the messages that wait, and how many frames were decoded
+abbrev pub AgreesButForUnwatched : PartWorld → PartWorld → Type 0
+AgreesButForUnwatched before after =
+    (after ≡ record before {
+      player = with_order_of before.player after.player;
+      outputs = record before.outputs { failed = after.outputs.failed; asked = after.outputs.asked };
+      channels = after.channels;
+      played = after.played;
+    })
+    × (pairs before.channels ≡ pairs after.channels)
+
+-- two worlds are one but for that, for who is there, who waits and which tags each is shown, and for whether the
+-- daemon has ended
 abbrev pub AgreeButForUnwatched : World → World → Type 0
 AgreeButForUnwatched before after =
-    (after ≡ record before { player = with_order_of before.player after.player; outputs = record before.outputs { failed = after.outputs.failed }; channels = after.channels; tags = after.tags; played = after.played; clients = after.clients; ended = after.ended })
-    × (pairs before.channels ≡ pairs after.channels)
+    (after ≡ record before { part = after.part; clients = after.clients; ended = after.ended }) × AgreesButForUnwatched before.part after.part
 
 -- A subsystem is raised for a client exactly where its part differs. Where no part differs the worlds agree
 -- in all but what no subsystem speaks of, so that whatever else an event changes has a part that speaks of
@@ -48,16 +59,21 @@ abbrev pub IsIn : {A : Type 0} → A → List A → Type 0
 IsIn x [] = ⊥
 IsIn x (y ∷ ys) = (y ≡ x) ⊎ IsIn x ys
 
+-- a client is there, in some partition and shown some tags, and this is what it waits for, if it waits
+abbrev pub Listens : ℕ → Option Subsystems → World → Type 0
+Listens number waiting w =
+    (place : ℕ) × (tags : List TagName) × IsIn (record { number = number; place = place; tags = tags; waiting = waiting }) w.clients
+
 -- a client is there, and waits for these
 abbrev pub WaitsFor : ℕ → Subsystems → World → Type 0
-WaitsFor number named w = IsIn (record { number = number; waiting = Some named }) w.clients
+WaitsFor number named w = Listens number (Some named) w
 
 -- a client is there, and does not wait
 abbrev pub WaitsNot : ℕ → World → Type 0
-WaitsNot number w = IsIn (record { number = number; waiting = None }) w.clients
+WaitsNot number w = Listens number None w
 
 abbrev pub IsThere : ℕ → World → Type 0
-IsThere number w = (waiting : Option Subsystems) × IsIn (record { number = number; waiting = waiting }) w.clients
+IsThere number w = (waiting : Option Subsystems) × Listens number waiting w
 
 -- by this transition a subsystem changed for a client: it was pending before, or its part differs now
 abbrev pub HasChanged : ℕ → Subsystem → WorldTransition → List WorldTransition → Type 0

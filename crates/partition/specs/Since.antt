@@ -13,20 +13,13 @@ use Rattle.idle_clients.specs.Clients.{client_of}
 use Rattle.player_state.specs.Outputs.{FrameBooks, decoded_by, discarded_by, written_by}
 use Rattle.partition.specs.Step.{next_image, told_by, transition}
 use Rattle.transitions.specs.Transitions.{report_of}
-use Rattle.partition.specs.World.{World, WorldTransition, NeverAnew, IsPending, limits_of, listener_of}
+use Rattle.partition.specs.World.{World, WorldTransition, NeverAnew, IsPending, listener_of, part_world_of}
 
 -- the world that an image shows: of its past only the present queue
 abbrev pub world_of : Image → World
 world_of i = record {
-  past = queue_of i.part.queue ∷ [];
-  limits = limits_of i;
+  part = part_world_of (queue_of i.part.queue ∷ []) i.part;
   library = i.shared.library;
-  player = i.part.player;
-  volume = i.part.volume;
-  outputs = i.part.outputs;
-  channels = i.part.channels;
-  tags = i.part.tags;
-  played = i.part.played;
   clients = map listener_of i.clients;
   ended = i.shared.ended;
 }
@@ -77,7 +70,7 @@ summed_onto first of_one (m ∷ ms) = of_one m + summed_onto first of_one ms
 -- the frames of eight outputs: those of the books of a base, and those of the transitions since
 abbrev pub books_since : FrameBooks → List WorldTransition → FrameBooks
 books_since base world_transitions = record {
-  decoded = map (λ output. summed_onto (slice_index_or base.decoded output 0) (λ m. decoded_by m.before.outputs m.transition.effect m.report output) world_transitions) (range_with_len 0 8);
+  decoded = map (λ output. summed_onto (slice_index_or base.decoded output 0) (λ m. decoded_by m.transition.effect m.report output) world_transitions) (range_with_len 0 8);
   written = map (λ output. summed_onto (slice_index_or base.written output 0) (λ m. written_by m.transition.effect output) world_transitions) (range_with_len 0 8);
   discarded = map (λ output. summed_onto (slice_index_or base.discarded output 0) (λ m. discarded_by m.transition.effect output) world_transitions) (range_with_len 0 8);
 }

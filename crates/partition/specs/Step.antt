@@ -3,6 +3,7 @@ use Rattle.std.specs.Prelude.{ℕ, Bool, true, false, not, ◌&&◌, ◌||◌, L
 use Rattle.idle_notes.specs.declared.sets.Subsystems.{Subsystems}
 use Rattle.mpd_command.specs.declared.command.Command.{Command}
 use Rattle.mpd_command.specs.declared.command.Command.TheVariants as command
+use Rattle.mpd_command.specs.declared.name.Name.{Name}
 use Rattle.mpd_command.specs.declared.request.Request.{Request}
 use Rattle.mpd_text.specs.Songs.Song.{SongData}
 use Rattle.mpd_command.specs.declared.request.Request.TheVariants.{Run, Refused}
@@ -56,7 +57,7 @@ result_of asked part library read (command.Queue command) = queue_result asked p
 result_of asked part library read (command.Playlists command) = playlists_result asked part library read command
 result_of asked part library read (command.Database command) = database_result asked part library read command
 result_of asked part library read (command.Stickers command) = stickers_result asked library read command
-result_of asked part library read (command.Connection command) = connection_result asked part command
+result_of asked part library read (command.Connection command) = connection_result asked command
 result_of asked part library read (command.Outputs command) = outputs_result asked part command
 result_of asked part library read (command.Messages command) = messages_result asked part command
 
@@ -65,11 +66,17 @@ abbrev pub transition_wished : Asked → Client → CommandResult → Option Wis
 transition_wished asked client command_result (Some wish) = quiet (wished asked client wish)
 transition_wished asked client command_result None = transition_by command_result
 
-abbrev pub transition_command : Asked → Part → Library → Read → Client → Command → TransitionData
-transition_command asked part library read client command = transition_wished asked client (result_of asked part library read command) (wish_of command)
+-- what an answer is made for: a command of a client, which names it so and whose line comes so
+abbrev pub asked_by : Client → Name → Stand → Asked
+asked_by client name stand = record { client = client.number; tags = client.tags; name = name; stand = stand }
+
+abbrev pub transition_command : Part → Library → Client → Name → Stand → Command → Read → TransitionData
+transition_command part library client name stand command read =
+    let asked : Asked = asked_by client name stand in
+    transition_wished asked client (result_of asked part library read command) (wish_of command)
 
 abbrev pub transition_request : Part → Library → Client → Stand → Request → Read → TransitionData
-transition_request part library client stand (Run name command) read = transition_command (record { client = client.number; name = name; stand = stand }) part library read client command
+transition_request part library client stand (Run name command) read = transition_command part library client name stand command read
 transition_request part library client stand (Refused ack) read = quiet (stays (refuses stand ack.command ack.number ack.text))
 
 abbrev pub greeting : ResponseData
@@ -113,7 +120,9 @@ written_transition stand request refused t = if is_written t.written then once_w
 
 -- an output that is not there has nothing to play (this profile's)
 abbrev pub absent : TransitionData
-absent = record (quiet no_response) { report = ToPlay (record { cut = 0; enabled = false; paused = false }) }
+absent = record (quiet no_response) {
+  report = ToPlay (record { moves = 0; live = record { cut = 0; enabled = false; paused = false } });
+}
 
 -- the turn of an output
 abbrev pub output_turn : Part → ℕ → AudioStep → TransitionData
@@ -176,7 +185,7 @@ abbrev pub mover : Event → ℕ
 mover event = unwrap_or (speaker event) 0
 
 -- what a transition raises for each client: what differs between the parts before and after it
-abbrev pub raised_by : Part → Library → TransitionData → ℕ → Subsystems
+abbrev pub raised_by : Part → Library → TransitionData → Client → Subsystems
 raised_by part library t = raised t.written (watched_of part library) (watched_of (part_after library.rate part t.effect) (library_after library t.scan))
 
 -- whether the daemon has ended, after an event
@@ -190,7 +199,7 @@ after_transition i event t = record {
   part = part_after i.shared.library.rate i.part t.effect;
   shared = record i.shared {
     library = library_after i.shared.library t.scan;
-    books = books_after i.shared.books i.part.outputs t.effect (report_of i.part i.shared.library t);
+    books = books_after i.shared.books t.effect (report_of i.part i.shared.library t);
     ended = ended_after i.shared.ended event;
   };
   clients = clients_after (mover event) (raised_by i.part i.shared.library t) t.response i.clients;
@@ -210,7 +219,7 @@ told i event = told_by i event (transition i event)
 
 -- the numbers of frames after a transition
 abbrev pub books_by : FrameBooks → Part → Library → TransitionData → FrameBooks
-books_by books part library t = books_after books part.outputs t.effect (report_of part library t)
+books_by books part library t = books_after books t.effect (report_of part library t)
 
 -- whether the frames that a transition tells of can be counted with all others
 abbrev pub counts_frames : Image → TransitionData → Bool

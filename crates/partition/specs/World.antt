@@ -1,12 +1,12 @@
 -- The plain data of a player of one thread, with every queue that it had, and everything that happened to it.
-use Rattle.std.specs.Prelude.{◌≡◌, ◌≢◌, ℕ, ◌+◌, ◌==◌, Bool, true, false, not, ◌&&◌, ◌||◌, List, [], ◌∷◌, ◌++◌, Option, Some, None, map, take_while}
+use Rattle.std.specs.Prelude.{◌≡◌, ◌≢◌, ℕ, ◌+◌, ◌==◌, Bool, true, false, not, ◌&&◌, ◌||◌, List, [], ◌∷◌, ◌++◌, Option, Some, None, map, take_while, if◌then◌else◌}
 use Rattle.std.specs.List.{list_any, range_with_len}
 use Rattle.idle_notes.specs.declared.sets.Subsystems.{Subsystems}
 use Rattle.idle_notes.specs.declared.subsystem.Subsystem.{Subsystem}
 use Rattle.idle_notes.specs.declared.subsystem.Subsystem.TheVariants.{Database, Update, StoredPlaylist, Playlist, Player, Mixer, Output, Options, Sticker, Subscription, Message}
 use Rattle.idle_notes.specs.Sets.{none, union}
 use Rattle.idle_notes.specs.Channels.{MemberData, messages_of, pairs}
-use Rattle.client_tags.specs.declared.clients.ChosenTags.{ChosenTags}
+use Rattle.mpd_text.specs.declared.songs.song.TagName.{TagName}
 use Rattle.song_queue.specs.declared.entry.Entry.{Entry}
 use Rattle.song_queue.specs.Past.{present, after_event, state_of}
 use Rattle.song_queue.specs.Laws as queues
@@ -14,15 +14,17 @@ use Rattle.player_core.specs.Player.{PlayerState}
 use Rattle.player_events.specs.declared.event.Event.{Event}
 use Rattle.player_events.specs.declared.event.LogEntry.{LogEntry}
 use Rattle.transitions.specs.declared.reply.Move.{Move}
-use Rattle.transitions.specs.declared.reply.Move.TheVariants.{Stay, Wait, Learn, Resume, Join}
+use Rattle.transitions.specs.declared.reply.Move.TheVariants.{Stay, Wait, Learn, Resume, Join, Show}
 use Rattle.idle_clients.specs.declared.notices.Notice.{Notice}
 use Rattle.player_state.specs.declared.state.Client.{Client}
+use Rattle.player_state.specs.declared.effect.Effect.{Effect}
 use Rattle.player_state.specs.declared.state.Library.{Library}
+use Rattle.player_state.specs.declared.state.Part.{Part}
 use Rattle.player_state.specs.declared.report.Report.{Report}
-use Rattle.idle_clients.specs.Clients.{Watched, raised, move_of, options, playing}
+use Rattle.idle_clients.specs.Clients.{Watched, raised, move_of, newcomer, options, playing}
 use Rattle.partition.specs.History.{made_of}
 use Rattle.player_state.specs.Outputs.{FrameBooks, OutputsData, decoded_by, discarded_by, written_by}
-use Rattle.player_state.specs.Effects.{Change, ByEdit, ByStep, change_of, channels_after, outputs_after, played_after, player_after, tags_after, volume_after}
+use Rattle.player_state.specs.Effects.{Change, ByEdit, ByStep, change_of, channels_after, outputs_after, played_after, player_after, volume_after}
 use Rattle.partition.specs.Image.{Image}
 use Rattle.transitions.specs.Transitions.{TransitionData}
 use Rattle.player_state.specs.Libraries.{library_after}
@@ -38,24 +40,31 @@ pub record Greatest : Type 0 where
   pub max_id : ℕ
   pub max_cut : ℕ
 
--- a client, and what it waits for, if it waits
+-- a client, the partition that it is in, the tags that it is shown, and what it waits for, if it waits
 pub record Listener : Type 0 where
   pub number : ℕ
+  pub place : ℕ
+  pub tags : List TagName
   pub waiting : Option Subsystems
 
--- all queues that the player had, the newest first; its limits, its library, what is played, the volume, the
--- outputs, who listens to which channel and the messages that wait, the tags that each client is shown, how
--- many frames were decoded, the clients, and whether the daemon has ended
-pub record World : Type 0 where
+-- what one partition owns: its number and its name; all queues that it had, the newest first; its limits, what
+-- is played, the volume, the outputs, who listens to which channel and the messages that wait, and how many
+-- frames were decoded
+pub record PartWorld : Type 0 where
+  pub place : ℕ
+  pub name : List ℕ
   pub past : List (List Entry)
   pub limits : Greatest
-  pub library : Library
   pub player : PlayerState
   pub volume : ℕ
   pub outputs : OutputsData
   pub channels : List MemberData
-  pub tags : List ChosenTags
   pub played : ℕ
+
+-- what the partition owns, the library, the clients, and whether the daemon has ended
+pub record World : Type 0 where
+  pub part : PartWorld
+  pub library : Library
   pub clients : List Listener
   pub ended : Bool
 
@@ -74,31 +83,60 @@ pub record Trace : Type 0 where
   pub world : World
   pub world_transitions : List WorldTransition
 
+-- what the subsystems speak of, of a partition and a library
+abbrev pub watched_by : PartWorld → Library → Watched
+watched_by p library = record {
+  library = library;
+  queue = present p.past;
+  player = p.player;
+  volume = p.volume;
+  outputs = p.outputs;
+  channels = p.channels;
+}
+
 abbrev pub watched_in : World → Watched
-watched_in w = record { library = w.library; queue = present w.past; player = w.player; volume = w.volume; outputs = w.outputs; channels = w.channels }
+watched_in w = watched_by w.part w.library
 
 -- no message waited for a client, and one does
-abbrev pub BeginsToHave : ℕ → World → World → Type 0
+abbrev pub BeginsToHave : ℕ → PartWorld → PartWorld → Type 0
 BeginsToHave number before after = (messages_of number before.channels ≡ []) × (messages_of number after.channels ≢ [])
 
--- The part that a subsystem speaks of for a client differs between the worlds before and after an event. Of
--- the shelf, which stands beside the worlds, the event tells what was written.
+-- The part that a subsystem speaks of for a client differs between the worlds before and after an event, where
+-- the client's partition is this before it and this after it. Of the shelf, which stands beside the worlds, the
+-- event tells what was written.
+abbrev pub DiffersIn : ℕ → Subsystem → WorldTransition → PartWorld → PartWorld → Type 0
+DiffersIn number Database m before after = m.before.library.songs ≢ m.after.library.songs
+DiffersIn number Update m before after = m.before.library.scan.runs ≢ m.after.library.scan.runs
+DiffersIn number StoredPlaylist m before after = changes_lists m.transition.written ≡ true
+DiffersIn number Playlist m before after = present before.past ≢ present after.past
+DiffersIn number Player m before after = playing before.player ≢ playing after.player
+DiffersIn number Mixer m before after = before.volume ≢ after.volume
+DiffersIn number Output m before after = before.outputs.enabled ≢ after.outputs.enabled
+DiffersIn number Options m before after = options before.player ≢ options after.player
+DiffersIn number Sticker m before after = changes_stickers m.transition.written ≡ true
+DiffersIn number Subscription m before after = pairs before.channels ≢ pairs after.channels
+DiffersIn number Message m before after = BeginsToHave number before after
+
+-- the part that a subsystem speaks of for a client differs between the worlds before and after an event
 abbrev pub Differs : ℕ → Subsystem → WorldTransition → Type 0
-Differs number Database m = m.before.library.songs ≢ m.after.library.songs
-Differs number Update m = m.before.library.scan.runs ≢ m.after.library.scan.runs
-Differs number StoredPlaylist m = changes_lists m.transition.written ≡ true
-Differs number Playlist m = present m.before.past ≢ present m.after.past
-Differs number Player m = playing m.before.player ≢ playing m.after.player
-Differs number Mixer m = m.before.volume ≢ m.after.volume
-Differs number Output m = m.before.outputs.enabled ≢ m.after.outputs.enabled
-Differs number Options m = options m.before.player ≢ options m.after.player
-Differs number Sticker m = changes_stickers m.transition.written ≡ true
-Differs number Subscription m = pairs m.before.channels ≢ pairs m.after.channels
-Differs number Message m = BeginsToHave number m.before m.after
+Differs number subsystem m = DiffersIn number subsystem m m.before.part m.after.part
+
+-- the partition of the client of a number; the first for one that is not there
+abbrev pub place_of : ℕ → List Listener → ℕ
+place_of number [] = 0
+place_of number (l ∷ ls) = if l.number == number then l.place else place_of number ls
+
+-- the client of a number in its partition, whatever it is shown and whatever is pending for it
+abbrev pub seated : ℕ → World → Client
+seated number w = record (newcomer number) { place = place_of number w.clients }
 
 -- what an event raised for a client: the subsystems whose parts differ between the worlds before and after it
+abbrev pub raised_for : WorldTransition → Client → Subsystems
+raised_for m client = raised m.transition.written (watched_in m.before) (watched_in m.after) client
+
+-- the same, for the client of a number, which is where it was before the event
 abbrev pub raised_at : ℕ → WorldTransition → Subsystems
-raised_at number m = raised m.transition.written (watched_in m.before) (watched_in m.after) number
+raised_at number m = raised_for m (seated number m.before)
 
 abbrev pub is_there : ℕ → World → Bool
 is_there number w = list_any (λ k. k.number == number) w.clients
@@ -109,6 +147,7 @@ is_learning (Wait names) = false
 is_learning Learn = true
 is_learning Resume = false
 is_learning Join = false
+is_learning (Show tags) = false
 
 -- a client was sent a notice: after another's event, or as the answer to its own `idle`
 abbrev pub is_told : ℕ → WorldTransition → Bool
@@ -147,10 +186,20 @@ pub record IsPending (number : ℕ) (subsystem : Subsystem) (world_transitions :
 
 -- what commands can read of a client
 abbrev pub client_in : List WorldTransition → Listener → Client
-client_in world_transitions k = record { number = k.number; pending = record { waiting = k.waiting; changed = pending_for k.number world_transitions } }
+client_in world_transitions k = record {
+  number = k.number;
+  place = k.place;
+  tags = k.tags;
+  pending = record { waiting = k.waiting; changed = pending_for k.number world_transitions };
+}
 
 abbrev pub listener_of : Client → Listener
-listener_of client = record { number = client.number; waiting = client.pending.waiting }
+listener_of client = record {
+  number = client.number;
+  place = client.place;
+  tags = client.tags;
+  waiting = client.pending.waiting;
+}
 
 -- a sum over transitions
 abbrev pub summed : (WorldTransition → ℕ) → List WorldTransition → ℕ
@@ -159,7 +208,7 @@ summed of_one (m ∷ ms) = of_one m + summed of_one ms
 
 -- the frames of an output: what it was given, wrote and discarded, summed over the transitions
 abbrev pub decoded_of : List WorldTransition → ℕ → ℕ
-decoded_of world_transitions output = summed (λ m. decoded_by m.before.outputs m.transition.effect m.report output) world_transitions
+decoded_of world_transitions output = summed (λ m. decoded_by m.transition.effect m.report output) world_transitions
 
 abbrev pub written_of : List WorldTransition → ℕ → ℕ
 written_of world_transitions output = summed (λ m. written_by m.transition.effect output) world_transitions
@@ -175,12 +224,26 @@ books_of world_transitions = record {
   discarded = map (discarded_of world_transitions) (range_with_len 0 8);
 }
 
+-- what commands can read of a partition: the present queue with the stamps and marks of its past, and the rest
+-- as it is
+abbrev pub part_in : PartWorld → Part
+part_in p = record {
+  place = p.place;
+  name = p.name;
+  queue = state_of p.limits.max_queue p.limits.max_version p.limits.max_id p.past;
+  player = p.player;
+  volume = p.volume;
+  outputs = p.outputs;
+  channels = p.channels;
+  played = p.played;
+}
+
 -- what commands can read of a trace that these events led to: the present queue with the stamps and marks of
 -- its past, what is pending for each client by the transitions, the frames of each output by the transitions,
 -- and what each seat made
 abbrev pub image_of : Trace → List LogEntry → Image
 image_of trace history = record {
-  part = record { queue = state_of trace.world.limits.max_queue trace.world.limits.max_version trace.world.limits.max_id trace.world.past; player = trace.world.player; volume = trace.world.volume; outputs = trace.world.outputs; channels = trace.world.channels; tags = trace.world.tags; played = trace.world.played };
+  part = part_in trace.world.part;
   shared = record { library = trace.world.library; made = made_of history; books = books_of trace.world_transitions; ended = trace.world.ended };
   clients = map (client_in trace.world_transitions) trace.world.clients;
 }
@@ -191,17 +254,23 @@ past_after past (ByEdit edit) = after_event past (queues.queue_after past edit)
 past_after past (ByStep None) = past
 past_after past (ByStep (Some left)) = after_event past left
 
+-- what a partition owns after an event, of which it is known what commands can read of it before; its number,
+-- its name and its limits stay
+abbrev pub part_world_after : ℕ → Part → PartWorld → Effect → PartWorld
+part_world_after rate part p effect = record p {
+  past = past_after p.past (change_of rate part effect);
+  player = player_after rate part effect;
+  volume = volume_after p.volume effect;
+  outputs = outputs_after rate part effect;
+  channels = channels_after p.channels effect;
+  played = played_after part effect;
+}
+
 -- the world after a transition, of which the image of the world before it is known
 abbrev pub world_after_transition : World → Image → Event → TransitionData → World
 world_after_transition w i event t = record w {
-  past = past_after w.past (change_of w.library.rate i.part t.effect);
+  part = part_world_after w.library.rate i.part w.part t.effect;
   library = library_after w.library t.scan;
-  player = player_after w.library.rate i.part t.effect;
-  volume = volume_after w.volume t.effect;
-  outputs = outputs_after w.outputs t.effect;
-  channels = channels_after w.channels t.effect;
-  tags = tags_after w.tags t.effect;
-  played = played_after i.part t.effect;
   clients = map listener_of (after_transition i event t).clients;
   ended = ended_after w.ended event;
 }
@@ -225,22 +294,34 @@ abbrev pub trace_from : List LogEntry → Trace → List LogEntry → Trace
 trace_from done trace [] = trace
 trace_from done trace (h ∷ hs) = trace_from (done ++ h ∷ []) (trace_after_event done trace h.event) hs
 
-abbrev pub limits_of : Image → Greatest
-limits_of i = record { max_queue = i.part.queue.max_len; max_version = i.part.queue.max_version; max_id = i.part.queue.max_id; max_cut = i.part.player.max_cut }
+abbrev pub limits_of : Part → Greatest
+limits_of part = record {
+  max_queue = part.queue.max_len;
+  max_version = part.queue.max_version;
+  max_id = part.queue.max_id;
+  max_cut = part.player.max_cut;
+}
+
+-- what a partition owns, with these queues as its past
+abbrev pub part_world_of : List (List Entry) → Part → PartWorld
+part_world_of past part = record {
+  place = part.place;
+  name = part.name;
+  past = past;
+  limits = limits_of part;
+  player = part.player;
+  volume = part.volume;
+  outputs = part.outputs;
+  channels = part.channels;
+  played = part.played;
+}
 
 -- a trace in which nothing happened to a player
 abbrev pub opening_trace : Image → Trace
 opening_trace base = record {
   world = record {
-    past = [] ∷ [];
-    limits = limits_of base;
+    part = part_world_of ([] ∷ []) base.part;
     library = base.shared.library;
-    player = base.part.player;
-    volume = base.part.volume;
-    outputs = base.part.outputs;
-    channels = base.part.channels;
-    tags = base.part.tags;
-    played = base.part.played;
     clients = [];
     ended = base.shared.ended;
   };

@@ -7,7 +7,7 @@ ghost use Rattle.player_state.specs.Fits.{Fits};
 ghost use Rattle.transitions.specs.Shelves.{is_ok_read};
 ghost use Rattle.partition.specs.Applying.{OkGives, WritesAlone};
 ghost use Rattle.partition.specs.Lent.{ReadsFor, TurnsByRead};
-ghost use Rattle.partition.specs.Step.{ended_scan, output_turn, result_of, ends_waiting as ends_waiting_lem, response_to_new, transition_command, transition_line, transition_of, transition_request};
+ghost use Rattle.partition.specs.Step.{asked_by as asked_by_lem, ended_scan, output_turn, result_of, ends_waiting as ends_waiting_lem, response_to_new, transition_command, transition_line, transition_of, transition_request};
 ghost use Rattle.player_events.specs.Events.{store_reply_at};
 ghost use Rattle.transitions.specs.Transitions.{acts};
 ghost use Rattle.transitions.specs.Transitions.{transition_by};
@@ -16,14 +16,14 @@ use crate::state::MAX_CLIENTS;
 use idle_clients::find_client;
 use library_commands::asking::ask;
 use library_commands::{database, playlists, stickers};
-use mpd_command::{Command, Request, StatusCommand};
+use mpd_command::{Command, Name, Request, StatusCommand};
 use player_core::Live;
 use player_events::Event;
-use player_state::{AudioStep, Client, Library, Part, Report, ScanMove};
+use player_state::{AudioStep, Client, Heard, Library, Part, Report, ScanMove};
 use queue_commands::{playback, queue};
 use shelf::Shelf;
 use song_db::SharedDb;
-use status_commands::status::{idle, no_idle};
+use status_commands::status::wish;
 use status_commands::{connection, messages, options, outputs, status};
 use std::alloc::{AllocError, Global};
 use transitions::{Asked, Move, Read, Response, Stand, Transition, refuses_line, shut, tells};
@@ -125,7 +125,11 @@ fn settle(
         enabled: false,
         paused: false,
     };
-    Transition::reports(alloc, ScanMove::Stay, Report::ToPlay(live))
+    Transition::reports(
+        alloc,
+        ScanMove::Stay,
+        Report::ToPlay(Heard { moves: 0, live }),
+    )
 }
 
 fn connect(alloc: Global, clients: &[Client], number: u32) -> Result<Response, AllocError>
@@ -211,12 +215,7 @@ fn answer_request(
 {
     match request {
         Request::Run(name, command) => {
-            let asked = Asked {
-                client: client.number,
-                name: *name,
-                stand,
-            };
-            answer_command(alloc, asked, part, library, read, client, command)
+            answer_command(alloc, part, library, read, client, *name, stand, command)
         }
         Request::Refused(ack) => {
             let response = refuses_line(alloc, stand, ack.command, ack.number, ack.text.as_str())?;
@@ -228,24 +227,33 @@ fn answer_request(
 /// A client's wish leaves the player as it is; another command has its result.
 fn answer_command(
     alloc: Global,
-    asked: Asked,
     part: &Part,
     library: &Library,
     read: &Read,
     client: Client,
+    name: Name,
+    stand: Stand,
     command: &Command,
 ) -> Result<Transition, AllocError>
-    ensures transition { OkGives result (transition_command asked part.now library.now read.now client command.now) }
+    ensures transition { OkGives result (transition_command part.now library.now client name stand command.now read.now) }
     ensures fits { IfOk result (λ transition. Fits part.now transition.effect) }
 {
-    match command {
-        Command::Status(StatusCommand::Idle(named)) => {
-            Ok(Transition::only(idle(alloc, asked, client, *named)?))
-        }
-        Command::Status(StatusCommand::NoIdle) => {
-            Ok(Transition::only(no_idle(alloc, asked, client)?))
-        }
-        _ => run(alloc, asked, part, library, read, command),
+    let asked = asked_by(&client, name, stand);
+    match wish(alloc, asked_by(&client, name, stand), client, command)? {
+        Some(response) => Ok(Transition::only(response)),
+        None => run(alloc, asked, part, library, read, command),
+    }
+}
+
+/// What an answer is made for: a command of a client, which names it so and whose line comes so.
+fn asked_by(client: &Client, name: Name, stand: Stand) -> Asked
+    ensures { result ≡ asked_by_lem client.now name stand }
+{
+    Asked {
+        client: client.number,
+        tags: client.tags,
+        name,
+        stand,
     }
 }
 
@@ -269,7 +277,7 @@ fn run(
         Command::Playlists(command) => playlists::run(alloc, asked, part, library, read, command),
         Command::Database(command) => database::run(alloc, asked, part, library, read, command),
         Command::Stickers(command) => stickers::run(alloc, asked, library, read, command),
-        Command::Connection(command) => connection::run(alloc, asked, part, command),
+        Command::Connection(command) => connection::run(alloc, asked, command),
         Command::Outputs(command) => outputs::run(alloc, asked, part, command),
         Command::Messages(command) => messages::run(alloc, asked, part, command),
     }

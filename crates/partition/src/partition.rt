@@ -141,7 +141,7 @@ impl Partition {
         ensures { IfOk result (λ partition. partition ≡ begun setup.limits.history (opening setup library)) }
     {
         let limit = setup.limits.history as usize;
-        let state = State::opening(alloc, setup, library);
+        let state = State::opening(alloc, setup, library)?;
         let base = state.image(alloc)?;
         Ok(Partition {
             alloc,

@@ -2,9 +2,9 @@
 ghost use Rattle.std.specs.Prelude.{◌≡◌, ◌<◌, ◌≤◌, IfOk};
 ghost use Rattle.partition.specs.Image.{image_of_state, opening};
 
-use client_tags::ClientTags;
 use command_arguments::Volume;
 use idle_notes::Channels;
+use mpd_text::SharedText;
 use player_core::Player;
 use player_state::{Client, FrameCounts, Library, Outputs, Part};
 use song_queue::Queue;
@@ -68,10 +68,14 @@ impl Drop for State {
 
 impl State {
     /// The state of a player to which nothing happened.
-    pub(crate) fn opening(alloc: Global, setup: Setup, library: Library) -> State
+    pub(crate) fn opening(
+        alloc: Global,
+        setup: Setup,
+        library: Library,
+    ) -> Result<State, AllocError>
         requires max_cut { setup.limits.max_cut < 9223372036854775808 }
         requires version { 1 ≤ setup.limits.max_version }
-        ensures { image_of_state result ≡ opening setup library }
+        ensures { IfOk result (λ state. image_of_state state ≡ opening setup library) }
     {
         let limits = setup.limits;
         let queue = Queue::new(
@@ -80,14 +84,15 @@ impl State {
             limits.max_version,
             limits.max_id,
         );
-        State {
+        Ok(State {
             part: Part {
+                place: 0,
+                name: SharedText::of(String::from_str(alloc, "default")?)?,
                 queue,
                 player: Player::new(alloc, setup.random_start, limits.max_cut),
                 volume: Volume::full(),
                 outputs: setup.outputs,
                 channels: Channels::new(alloc),
-                tags: ClientTags::new(alloc),
                 played: 0,
             },
             library,
@@ -95,7 +100,7 @@ impl State {
             books: FrameCounts::empty(),
             ended: false,
             clients: Vec::new(alloc),
-        }
+        })
     }
 
     /// The state, a second time: what becomes of either leaves the other as it is. No song and no text is

@@ -124,7 +124,8 @@ fn report_told(alloc: Global, report: Report) -> Result<String, AllocError> {
         Report::ToDecode(None) => String::from_str(alloc, "no job\n"),
         Report::ToFeed(Some(feed)) => format!(in alloc; "feed {} {}\n", feed.cut, feed.volume),
         Report::ToFeed(None) => String::from_str(alloc, "stale\n"),
-        Report::ToPlay(live) => {
+        Report::ToPlay(heard) => {
+            let live = heard.live;
             format!(in alloc; "live {} {} {}\n", live.cut, live.enabled, live.paused)
         }
         Report::Nothing => Ok(String::new(alloc)),

@@ -1,9 +1,9 @@
 -- Books that an event leaves as they are.
-use Rattle.std.proofs.Common.{◌≡◌, ℕ, ◌+◌, true, false, List, [], ◌∷◌, length, refl, arith, if◌then◌else◌}
+use Rattle.std.proofs.Common.{◌≡◌, ℕ, ◌+◌, true, List, [], ◌∷◌, length, refl, arith}
 use Rattle.player_state.specs.declared.effect.Effect.TheVariants.{ByCommand}
 use Rattle.player_state.specs.declared.effect.CommandEffect.TheVariants.{Rests}
 use Rattle.player_state.specs.declared.report.Report.TheVariants.{Nothing}
-use Rattle.player_state.specs.Outputs.{OutputsData, books_after, can_count, can_count_all, decoded_by, grown, is_enabled}
+use Rattle.player_state.specs.Outputs.{books_after, can_count, can_count_all, decoded_by, grown}
 
 none_more : (x a : ℕ) → x ≡ 0 → x + a ≡ a
 none_more x a e = omega (arith, e)
@@ -23,13 +23,10 @@ grown_none (a ∷ b ∷ c ∷ d ∷ e ∷ f ∷ []) eight more none = absurd (om
 grown_none (a ∷ b ∷ c ∷ d ∷ e ∷ f ∷ g ∷ []) eight more none = absurd (omega (arith, eight))
 grown_none (a ∷ b ∷ c ∷ d ∷ e ∷ f ∷ g ∷ h ∷ k ∷ more_numbers) eight more none = absurd (omega (arith, eight))
 
-none_fed : (outputs : OutputsData) (number : ℕ) → decoded_by outputs (ByCommand Rests) Nothing number ≡ 0
-none_fed outputs number = elim (is_enabled outputs number) as (λ b. (let share : ℕ = if b then 0 else 0 in share) ≡ 0) [ true ↦ refl | false ↦ refl ]
-
-pub rests_same : (outputs : OutputsData) (decoded written discarded : List ℕ) → length decoded ≡ 8 → length written ≡ 8 → length discarded ≡ 8
-    → books_after (record { decoded = decoded; written = written; discarded = discarded }) outputs (ByCommand Rests) Nothing ≡ record { decoded = decoded; written = written; discarded = discarded }
-rests_same outputs decoded written discarded d w x = λ i. record {
-  decoded = grown_none decoded d (decoded_by outputs (ByCommand Rests) Nothing) (none_fed outputs) i;
+pub rests_same : (decoded written discarded : List ℕ) → length decoded ≡ 8 → length written ≡ 8 → length discarded ≡ 8
+    → books_after (record { decoded = decoded; written = written; discarded = discarded }) (ByCommand Rests) Nothing ≡ record { decoded = decoded; written = written; discarded = discarded }
+rests_same decoded written discarded d w x = λ i. record {
+  decoded = grown_none decoded d (decoded_by (ByCommand Rests) Nothing) (λ n. refl) i;
   written = grown_none written w (λ n. 0) (λ n. refl) i;
   discarded = grown_none discarded x (λ n. 0) (λ n. refl) i;
 }

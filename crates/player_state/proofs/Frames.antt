@@ -1,5 +1,5 @@
--- The frames that events feed, and what steps leave of the queue.
-use Rattle.std.proofs.Common.{◌≡◌, ℕ, ◌+◌, ◌≤◌, Bool, true, false, not, ◌&&◌, nat_le, List, [], ◌∷◌, Option, Some, None, is_some, filter, max, refl, arith, if◌then◌else◌}
+-- What steps leave of the queue.
+use Rattle.std.proofs.Common.{ℕ, ◌+◌, ◌≤◌, Bool, true, false, not, ◌&&◌, nat_le, List, [], ◌∷◌, Option, Some, None, filter, max, arith, if◌then◌else◌}
 use Rattle.song_queue.specs.declared.entry.Entry.{Entry}
 use Rattle.song_queue.specs.Past.{greatest_in}
 use Rattle.play_order.specs.declared.modes.Modes.{Modes}
@@ -16,15 +16,9 @@ use Rattle.player_state.specs.declared.effect.Effect.{Effect}
 use Rattle.player_state.specs.declared.effect.Effect.TheVariants.{ByCommand, ByAudio}
 use Rattle.player_state.specs.declared.effect.CommandEffect.TheVariants.{GoesOn}
 use Rattle.player_state.specs.declared.effect.AudioStep.TheVariants.{Wants, Accepts}
-use Rattle.player_state.specs.declared.report.Report.TheVariants.{ToFeed}
 use Rattle.player_state.specs.declared.state.Part.{Part}
-use Rattle.player_state.specs.Outputs.{any_enabled, frames_fed}
-use Rattle.player_state.specs.Effects.{Change, ByEdit, ByStep, change_of, entries, feed_of}
-
--- the frames of a have are fed where they are accepted
-pub fed : (number frames volume : ℕ) (cut : Option ℕ) → frames_fed (ByAudio (Accepts number frames)) (ToFeed (feed_of volume cut)) ≡ (if is_some cut then frames else 0)
-fed number frames volume None = refl
-fed number frames volume (Some cut) = refl
+use Rattle.player_state.specs.Outputs.{any_enabled}
+use Rattle.player_state.specs.Effects.{Change, ByEdit, ByStep, change_of, entries}
 
 -- a step that leaves something of the queue brings no entry in
 abbrev pub Keeps : List Entry → Change → Type 0

@@ -1,3 +1,4 @@
+pub mod Given
 pub mod Booked
 pub mod Frames
 pub mod Songs

@@ -1,22 +1,21 @@
 -- What an event does to what one player owns (MPD protocol reference, Controlling playback; The queue;
 -- Playback options; Audio output devices; Client to client; the decoder's and the outputs' steps are this
 -- profile's).
-use Rattle.std.specs.Prelude.{ℕ, ◌+◌, Bool, false, ◌&&◌, not, nat_le, if◌then◌else◌, List, Option, Some, None, option_map, slice_get}
-use Rattle.client_tags.specs.Choices.{with_tags, without}
-use Rattle.client_tags.specs.declared.clients.ChosenTags.{ChosenTags}
+use Rattle.std.specs.Prelude.{ℕ, ◌+◌, Bool, false, ◌&&◌, not, nat_le, if◌then◌else◌, List, Option, Some, None, option_map, slice_get, slice_index_or}
 use Rattle.idle_notes.specs.Channels.{MemberData, subscribed, unsubscribed, sent, emptied, left}
 use Rattle.song_queue.specs.declared.entry.Entry.{Entry}
 use Rattle.song_queue.specs.declared.edit.Edit.{Edit}
 use Rattle.song_queue.specs.declared.edit.Edit.TheVariants.{Insert, Remove, Move, Prioritize, Swap, Shuffle}
 use Rattle.song_queue.specs.Laws.{state_after_edit}
 use Rattle.song_queue.specs.State.{QueueState, queue_of}
+use Rattle.player_core.specs.declared.state.Job.{Job}
 use Rattle.player_core.specs.Player as player
 use Rattle.player_core.specs.Player.{PlayerState}
 use Rattle.player_core.specs.Steps as steps
 use Rattle.player_core.specs.Decoding as decoding
 use Rattle.player_state.specs.declared.effect.Effect.{Effect}
 use Rattle.player_state.specs.declared.effect.Effect.TheVariants.{ByCommand, ByAudio}
-use Rattle.player_state.specs.declared.effect.CommandEffect.TheVariants.{Rests, Edits, Shuffles, SetsVolume, SetsRepeat, SetsRandom, SetsSingle, SetsConsume, SetsCrossfade, ClearsError, Plays, PlaysPlace, Pauses, TogglesPause, Stops, GoesOn, GoesBack, Seeks, Switches, Subscribes, Unsubscribes, Sends, ReadsMessages, ChoosesTags, Leaves}
+use Rattle.player_state.specs.declared.effect.CommandEffect.TheVariants.{Rests, Edits, Shuffles, SetsVolume, SetsRepeat, SetsRandom, SetsSingle, SetsConsume, SetsCrossfade, ClearsError, Plays, PlaysPlace, Pauses, TogglesPause, Stops, GoesOn, GoesBack, Seeks, Switches, Subscribes, Unsubscribes, Sends, ReadsMessages, Leaves}
 use Rattle.player_state.specs.declared.effect.AudioStep.TheVariants.{Wants, Accepts, Fails, Settles}
 use Rattle.player_state.specs.declared.report.Feed.{Feed}
 use Rattle.player_state.specs.declared.report.Report.{Report}
@@ -24,7 +23,7 @@ use Rattle.player_state.specs.declared.report.Report.TheVariants.{Nothing, ToDec
 use Rattle.player_state.specs.declared.scan.ScanMove.{ScanMove}
 use Rattle.player_state.specs.declared.scan.ScanMove.TheVariants.{Begin}
 use Rattle.player_state.specs.declared.state.Part.{Part}
-use Rattle.player_state.specs.Outputs.{OutputsData, any_enabled, is_enabled, switched, turned}
+use Rattle.player_state.specs.Outputs.{OutputsData, any_enabled, asked_all, fed, is_enabled, switched, turned}
 use Rattle.player_state.specs.Scans.{ScanData}
 
 abbrev pub entries : Part → List Entry
@@ -104,7 +103,6 @@ player_after rate part (ByCommand (Subscribes client channel)) = part.player
 player_after rate part (ByCommand (Unsubscribes client channel)) = part.player
 player_after rate part (ByCommand (Sends channel text)) = part.player
 player_after rate part (ByCommand (ReadsMessages client)) = part.player
-player_after rate part (ByCommand (ChoosesTags client tags)) = part.player
 player_after rate part (ByCommand (Leaves client)) = part.player
 
 -- what an event makes of the queue: an edit, or what a step of the player leaves of it
@@ -128,10 +126,16 @@ abbrev pub volume_after : ℕ → Effect → ℕ
 volume_after volume (ByCommand (SetsVolume new)) = new
 volume_after volume _ = volume
 
-abbrev pub outputs_after : OutputsData → Effect → OutputsData
-outputs_after outputs (ByCommand (Switches output on)) = switched outputs output on
-outputs_after outputs (ByAudio (Settles output written discarded failed)) = turned outputs output failed
-outputs_after outputs _ = outputs
+-- a job, if one is given, is for the outputs that are in the partition now
+abbrev pub asked_for : Option Job → OutputsData → OutputsData
+asked_for None outputs = outputs
+asked_for (Some job) outputs = asked_all outputs
+
+abbrev pub outputs_after : ℕ → Part → Effect → OutputsData
+outputs_after rate part (ByCommand (Switches output on)) = switched part.outputs output on
+outputs_after rate part (ByAudio (Wants owes)) = asked_for (wanted rate part owes).job part.outputs
+outputs_after rate part (ByAudio (Settles output written discarded failed)) = turned part.outputs output failed
+outputs_after rate part _ = part.outputs
 
 -- who listens to which channel, and the messages that wait for each
 abbrev pub channels_after : List MemberData → Effect → List MemberData
@@ -141,16 +145,6 @@ channels_after channels (ByCommand (Sends channel text)) = sent channel text cha
 channels_after channels (ByCommand (ReadsMessages client)) = emptied client channels
 channels_after channels (ByCommand (Leaves client)) = left client channels
 channels_after channels _ = channels
-
--- the tags that each client is shown
-abbrev pub tags_after : List ChosenTags → Effect → List ChosenTags
-tags_after chosen (ByCommand (ChoosesTags client tags)) = with_tags client tags chosen
-tags_after chosen (ByCommand (Leaves client)) = without client chosen
-tags_after chosen _ = chosen
-
--- a client leaves: what it subscribed to and the tags that it chose go
-abbrev pub part_left : ℕ → Part → Part
-part_left client part = record part { channels = left client part.channels; tags = without client part.tags }
 
 -- as many frames as can be counted
 abbrev pub counted : ℕ → ℕ
@@ -165,28 +159,42 @@ abbrev pub played_after : Part → Effect → ℕ
 played_after part (ByAudio (Accepts number frames)) = played_with part.played (had part number frames).feed frames
 played_after part _ = part.played
 
+-- the decoder asks for a job
+abbrev pub part_asked : ℕ → Part → Bool → Part
+part_asked rate part owes =
+    record (part_stepped part (wanted rate part owes).stepped) { outputs = asked_for (wanted rate part owes).job part.outputs }
+
 -- the player takes frames of a job
 abbrev pub part_with : Part → ℕ → ℕ → Part
 part_with part number frames = record (part_stepped part (had part number frames).stepped) { played = played_with part.played (had part number frames).feed frames }
 
--- what one player owns, after an event
+-- what one player owns, after an event; its number and its name stay
 abbrev pub part_after : ℕ → Part → Effect → Part
 part_after rate part effect = record {
+  place = part.place;
+  name = part.name;
   queue = queue_after part.queue (change_of rate part effect);
   player = player_after rate part effect;
   volume = volume_after part.volume effect;
-  outputs = outputs_after part.outputs effect;
+  outputs = outputs_after rate part effect;
   channels = channels_after part.channels effect;
-  tags = tags_after part.tags effect;
   played = played_after part effect;
 }
 
-abbrev pub feed_of : ℕ → Option ℕ → Option Feed
-feed_of volume cut = option_map (λ cut. record { cut = cut; volume = volume }) cut
+-- what frames are fed with that were accepted: their cut, the volume, and the outputs that they are for
+abbrev pub feed_of : ℕ → OutputsData → Option ℕ → Option Feed
+feed_of volume outputs cut = option_map (λ cut. record { cut = cut; volume = volume; outputs = fed outputs }) cut
 
--- what an output is told after its turn: what is to be heard
+-- what frames of a job are fed with; nothing where they are stale
+abbrev pub fed_with : Part → ℕ → ℕ → Option Feed
+fed_with part number frames = feed_of part.volume part.outputs (had part number frames).feed
+
+-- what an output is told after its turn: how often it was moved, and what is to be heard
 abbrev pub heard_after_turn : Part → ℕ → Bool → Report
-heard_after_turn part output failed = ToPlay (decoding.turn part.player (is_enabled (turned part.outputs output failed) output))
+heard_after_turn part output failed = ToPlay (record {
+  moves = slice_index_or part.outputs.moves output 0;
+  live = decoding.turn part.player (is_enabled (turned part.outputs output failed) output);
+})
 
 -- what is told where nothing else is
 abbrev pub told_or : Report → Report → Report
@@ -198,7 +206,7 @@ told_or other own = other
 abbrev pub report_after : ℕ → Part → Effect → Report → Report
 report_after rate part (ByCommand Rests) report = report
 report_after rate part (ByAudio (Wants owes)) report = ToDecode (wanted rate part owes).job
-report_after rate part (ByAudio (Accepts number frames)) report = ToFeed (feed_of part.volume (had part number frames).feed)
+report_after rate part (ByAudio (Accepts number frames)) report = ToFeed (fed_with part number frames)
 report_after rate part (ByAudio (Settles output written discarded failed)) report = told_or report (heard_after_turn part output failed)
 report_after rate part _ report = Nothing
 

@@ -1,21 +1,20 @@
 //! What an event does to what one player owns.
 ghost use Rattle.std.specs.Prelude.{◌≡◌, ℕ, true, None, IfErr, OnOk, OnErr};
-ghost use Rattle.client_tags.specs.Choices.{with_tags};
-ghost use Rattle.idle_notes.specs.Channels.{sent, send_refusal, subscribed, subscribe_refusal, unsubscribed, unsubscribe_refusal};
+ghost use Rattle.idle_notes.specs.Channels.{left, sent, send_refusal, subscribed, subscribe_refusal, unsubscribed, unsubscribe_refusal};
 ghost use Rattle.song_queue.specs.Laws.{Takes};
 ghost use Rattle.player_core.specs.Player as player;
 ghost use Rattle.player_state.specs.Outputs.{turned};
 ghost use Rattle.player_state.specs.Fits.{Fits};
-ghost use Rattle.player_state.specs.Effects.{feed_of as feed_of_lem, had, heard_after_turn, part_after, part_edited, part_left, part_stepped, part_with, played_place, played_with as played_with_lem, player_after, player_edited, report_after, sought_place, told_or as told_or_lem, wanted, with_channels};
+ghost use Rattle.player_state.specs.Effects.{asked_for, fed_with, feed_of as feed_of_lem, had, heard_after_turn, part_after, part_asked, part_edited, part_with, played_place, played_with as played_with_lem, player_after, player_edited, report_after, sought_place, told_or as told_or_lem, wanted, with_channels};
 ghost use Rattle.player_state.specs.Outcomes.{IsAtLimitOnlyBeyond, IsDoneOnlyWithin, Reports};
 
-use crate::report::{Feed, Report};
+use crate::outputs::Outputs;
+use crate::report::{Feed, Heard, Report};
 use crate::state::Part;
 use command_arguments::Volume;
-use known_tags::TagSet;
 use mpd_text::Text;
 use play_order::{Consume, Single};
-use player_core::PlayerFault;
+use player_core::{Job, PlayerFault};
 use song_db::Rate;
 use song_queue::Edit;
 
@@ -57,9 +56,7 @@ pub enum CommandEffect {
     Sends(Text, Text),
     /// The messages that wait for a client are read.
     ReadsMessages(u32),
-    /// A client is shown these tags from now on.
-    ChoosesTags(u32, TagSet),
-    /// A client goes, with its channels, its messages and its set of tags.
+    /// A client goes, with its channels and its messages.
     Leaves(u32),
 }
 
@@ -90,7 +87,6 @@ impl Drop for CommandEffect {
             | CommandEffect::Unsubscribes(_, _)
             | CommandEffect::Sends(_, _)
             | CommandEffect::ReadsMessages(_)
-            | CommandEffect::ChoosesTags(_, _)
             | CommandEffect::Leaves(_) => {}
         }
     }
@@ -131,8 +127,7 @@ impl CommandEffect {
             CommandEffect::Unsubscribes(client, channel) => { unsubscribe(part, client, channel.as_str()); Ok(done(part)) }
             CommandEffect::Sends(channel, text) => { send(part, channel.as_str(), text.as_str())?; Ok(done(part)) }
             CommandEffect::ReadsMessages(client) => { let _ = part.channels.read(client); Ok(done(part)) }
-            CommandEffect::ChoosesTags(client, tags) => { choose_tags(part, client, tags)?; Ok(done(part)) }
-            CommandEffect::Leaves(client) => { leave(part, client); Ok(done(part)) }
+            CommandEffect::Leaves(client) => { part.channels.leave(client); Ok(done(part)) }
         }
     }
 }
@@ -233,23 +228,6 @@ fn send(part: &mut Part, channel: &str, text: &str) -> Result<(), PlayerFault>
         .map_err(|_| PlayerFault::NoMemory)
 }
 
-fn choose_tags(part: &mut Part, client: u32, tags: TagSet) -> Result<(), PlayerFault>
-    ensures part { OnOk result (part.new ≡ record part.old { tags = with_tags client tags part.old.tags }) }
-    ensures memory { IfErr result (λ fault. fault ≡ PlayerFault.NoMemory) }
-    ensures err { OnErr result (part.new ≡ part.old) }
-{
-    part.tags
-        .set(client, tags)
-        .map_err(|_| PlayerFault::NoMemory)
-}
-
-fn leave(part: &mut Part, client: u32)
-    ensures { part.new ≡ part_left client part.old }
-{
-    part.channels.leave(client);
-    part.tags.leave(client);
-}
-
 fn settle(part: &mut Part, output: usize, failed: bool) -> Report
     ensures part { part.new ≡ record part.old { outputs = turned part.old.outputs output failed } }
     ensures report { result ≡ heard_after_turn part.old output failed }
@@ -257,7 +235,10 @@ fn settle(part: &mut Part, output: usize, failed: bool) -> Report
 {
     part.outputs.settle(output, failed);
     let _ = done(part);
-    Report::ToPlay(part.player.turn(part.outputs.is_enabled(output)))
+    Report::ToPlay(Heard {
+        moves: part.outputs.moves(output),
+        live: part.player.turn(part.outputs.is_enabled(output)),
+    })
 }
 
 /// What is told, or where that is nothing the step's own.
@@ -330,7 +311,7 @@ fn seek_place(part: &mut Part, place: usize, frame: u64) -> Result<Report, Playe
 }
 
 fn want(part: &mut Part, rate: &Rate, owes: bool) -> Result<Report, PlayerFault>
-    ensures part { OnOk result (part.new ≡ part_stepped part.old (wanted rate.now part.old owes).stepped) }
+    ensures part { OnOk result (part.new ≡ part_asked rate.now part.old owes) }
     ensures report { Reports result (Report.ToDecode (wanted rate.now part.old owes).job) }
     ensures within { IsDoneOnlyWithin result (wanted rate.now part.old owes).stepped.player }
     ensures limit { IsAtLimitOnlyBeyond result (wanted rate.now part.old owes).stepped.player }
@@ -340,13 +321,23 @@ fn want(part: &mut Part, rate: &Rate, owes: bool) -> Result<Report, PlayerFault>
     let job = part
         .player
         .want(rate.frames(), &mut part.queue, enabled, owes)?;
+    ask(&mut part.outputs, job);
     let _ = done(part);
     Ok(Report::ToDecode(job))
 }
 
+/// A job, if one is given, is for the outputs that are in the partition now.
+fn ask(outputs: &mut Outputs, job: Option<Job>)
+    ensures { outputs.new ≡ asked_for job outputs.old }
+{
+    if job.is_some() {
+        outputs.ask();
+    }
+}
+
 fn accept(part: &mut Part, number: u64, frames: u64) -> Result<Report, PlayerFault>
     ensures part { OnOk result (part.new ≡ part_with part.old number frames) }
-    ensures report { Reports result (Report.ToFeed (feed_of_lem part.old.volume (had part.old number frames).feed)) }
+    ensures report { Reports result (Report.ToFeed (fed_with part.old number frames)) }
     ensures within { IsDoneOnlyWithin result (had part.old number frames).stepped.player }
     ensures limit { IsAtLimitOnlyBeyond result (had part.old number frames).stepped.player }
     ensures err { OnErr result (part.new ≡ part.old) }
@@ -354,7 +345,7 @@ fn accept(part: &mut Part, number: u64, frames: u64) -> Result<Report, PlayerFau
     let cut = part.player.have(&mut part.queue, number, frames)?;
     part.played = played_with(part.played, cut, frames);
     let _ = done(part);
-    Ok(Report::ToFeed(feed_of(cut, &part.volume)))
+    Ok(Report::ToFeed(feed_of(cut, &part.volume, &part.outputs)))
 }
 
 /// How many frames were decoded, with those of a have that was accepted.
@@ -367,11 +358,15 @@ fn played_with(played: u64, cut: Option<u64>, frames: u64) -> u64
     }
 }
 
-fn feed_of(cut: Option<u64>, volume: &Volume) -> Option<Feed>
-    ensures { result ≡ feed_of_lem volume.now cut }
+fn feed_of(cut: Option<u64>, volume: &Volume, outputs: &Outputs) -> Option<Feed>
+    ensures { result ≡ feed_of_lem volume.now outputs.now cut }
 {
-    cut.map(|cut| Feed {
-        cut,
-        volume: volume.percent(),
-    })
+    match cut {
+        Some(cut) => Some(Feed {
+            cut,
+            volume: volume.percent(),
+            outputs: outputs.fed(),
+        }),
+        None => None,
+    }
 }

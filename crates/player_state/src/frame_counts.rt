@@ -2,11 +2,12 @@
 ghost use Rattle.player_state.specs.declared.effect.Effect.TheVariants.{ByCommand};
 ghost use Rattle.player_state.specs.declared.effect.CommandEffect.TheVariants.{Rests};
 ghost use Rattle.player_state.specs.declared.report.Report.TheVariants.{Nothing};
-ghost use Rattle.std.specs.Prelude.{◌≡◌, ◌==◌, true, ℕ, if◌then◌else◌, length, map, slice_index_or};
+ghost use Rattle.std.specs.Prelude.{◌≡◌, ◌==◌, true, ℕ, if◌then◌else◌, is_some, length, map, slice_index_or};
 ghost use Rattle.std.specs.List.{range_with_len};
 ghost use Rattle.player_state.specs.declared.report.Report.{Report};
-ghost use Rattle.player_state.specs.FrameCounts.{IsBooked, IsCounted, books_by_part, fed_by_part};
-ghost use Rattle.player_state.specs.Outputs.{OutputsData, can_count_all, books_after as books_after_lem, discarded_by, empty_books, grown as grown_lem, is_enabled, total as total_lem, written_by};
+ghost use Rattle.player_state.specs.Effects.{had};
+ghost use Rattle.player_state.specs.FrameCounts.{IsBooked, IsCounted, books_by_part, given_by_part, given_of};
+ghost use Rattle.player_state.specs.Outputs.{can_count_all, books_after as books_after_lem, discarded_by, empty_books, fed_at, grown as grown_lem, total as total_lem, written_by};
 
 use crate::effect::{AudioStep, Effect};
 use crate::outputs::Outputs;
@@ -64,7 +65,7 @@ impl FrameCounts {
     /// which no output has its turn, leaves them as they are.
     pub fn rest(&self)
         ensures counted { can_count_all self.now ≡ true }
-        ensures same { (outputs : OutputsData) → books_after_lem self.now outputs (ByCommand Rests) Nothing ≡ self.now }
+        ensures same { books_after_lem self.now (ByCommand Rests) Nothing ≡ self.now }
     {
         // To read a field brings what the type keeps of it.
         let _fed = self.decoded[0];
@@ -99,30 +100,41 @@ impl FrameCounts {
     pub fn after(&self, part: &Part, effect: &Effect) -> Option<FrameCounts>
         ensures { (rate : ℕ) (report : Report) → IsBooked result (books_by_part self.now rate part.now effect.now report) }
     {
-        let fed = frames_fed(part, effect);
         Some(FrameCounts {
-            decoded: grown(&self.decoded, &shares(&part.outputs, fed))?,
+            decoded: grown(&self.decoded, &given(part, effect))?,
             written: grown(&self.written, &written(effect))?,
             discarded: grown(&self.discarded, &discarded(effect))?,
         })
     }
 }
 
-/// The frames that an event feeds.
-#[tactic(auto, using(crate::proofs::Frames::fed))]
-fn frames_fed(part: &Part, effect: &Effect) -> u64
-    ensures { (rate : ℕ) (report : Report) → result ≡ fed_by_part rate part.now effect.now report }
+/// The frames that each of eight outputs is given at an event.
+fn given(part: &Part, effect: &Effect) -> Numbers
+    ensures { (rate : ℕ) (report : Report) → result ≡ map (given_by_part rate part.now effect.now report) (range_with_len 0 8) }
 {
     match effect {
-        Effect::ByAudio(AudioStep::Accepts(number, frames))
-            if part.player.would_feed(&part.queue, *number, *frames) => { *frames }
-        _ => 0,
+        Effect::ByAudio(AudioStep::Accepts(number, frames)) => given_by_have(
+            part, *number, *frames,
+        ),
+        _ => [0; 8],
     }
 }
 
-/// So many frames for each output that is enabled.
+/// The frames of a have, for each output that its job was given for; none where it is stale.
+#[tactic(auto, using(crate::proofs::Given::accepted, crate::proofs::Given::stale))]
+fn given_by_have(part: &Part, number: u64, frames: u64) -> Numbers
+    ensures { result ≡ given_of part.now.outputs frames (had part.now number frames).feed }
+{
+    if part.player.would_feed(&part.queue, number, frames) {
+        shares(&part.outputs, frames)
+    } else {
+        [0; 8]
+    }
+}
+
+/// So many frames for each output that a job's frames are fed to.
 fn shares(outputs: &Outputs, frames: u64) -> Numbers
-    ensures { result ≡ map (λ number. if is_enabled outputs.now number then frames else 0) (range_with_len 0 8) }
+    ensures { result ≡ map (λ number. if is_some (fed_at outputs.now number) then frames else 0) (range_with_len 0 8) }
 {
     [
         share(outputs, frames, 0),
@@ -137,9 +149,9 @@ fn shares(outputs: &Outputs, frames: u64) -> Numbers
 }
 
 fn share(outputs: &Outputs, frames: u64, number: usize) -> u64
-    ensures { result ≡ (if is_enabled outputs.now number then frames else 0) }
+    ensures { result ≡ (if is_some (fed_at outputs.now number) then frames else 0) }
 {
-    if outputs.is_enabled(number) {
+    if outputs.fed_at(number).is_some() {
         frames
     } else {
         0

@@ -11,8 +11,8 @@ mod state;
 
 pub use effect::{AudioStep, CommandEffect, Effect, carry_out, done};
 pub use frame_counts::FrameCounts;
-pub use outputs::{MAX_OUTPUTS, Outputs};
-pub use report::{Feed, Report};
+pub use outputs::{Carried, MAX_OUTPUTS, Outputs};
+pub use report::{Feed, Heard, Report};
 pub use same::same_songs;
 pub use scan::{Scan, ScanMove};
 pub use state::{Client, Library, Part};

@@ -1,20 +1,33 @@
 //! The outputs, and the frames that each was given, wrote and discarded.
-ghost use Rattle.std.specs.Prelude.{◌≡◌, ◌<◌, length, IfOk, OnOk, OnErr};
-ghost use Rattle.player_state.specs.Outputs.{any_enabled as any_enabled_lem, has_failed as has_failed_lem, is_enabled as is_enabled_lem, is_output as is_output_lem, no_outputs, switched, turned, with_output};
+ghost use Rattle.std.specs.Prelude.{◌≡◌, ◌<◌, length, slice_index_or, IfOk, OnOk, OnErr};
+ghost use Rattle.player_state.specs.Outputs.{all_elsewhere, any_enabled as any_enabled_lem, asked_all, brought, carried as carried_lem, fed as fed_lem, fed_at as fed_at_lem, has_failed as has_failed_lem, holds_any as holds_any_lem, is_enabled as is_enabled_lem, is_output as is_output_lem, no_outputs, released, switched, turned, with_output};
 
 use mpd_text::SharedText;
 use std::alloc::{AllocError, Global};
 use std::marker::Model;
 
+/// What an output takes along when it is moved to another partition: its flags, and how often it was moved.
+#[derive(Clone, Copy, Debug, PartialEq, Eq)]
+pub struct Carried {
+    pub enabled: bool,
+    pub failed: bool,
+    pub moves: u64,
+}
+
 /// The most outputs.
 pub const MAX_OUTPUTS: usize = 8;
 
-/// The outputs, eight at most: the name of each, whether it is enabled, and whether it has failed.
+/// The outputs, as a partition knows them, eight at most: the names of all; which of them are in the partition;
+/// and of these which are enabled, which have failed, how often each was moved, and which were there when the
+/// decoder's last job was given and have not been moved since.
 #[derive(Drop)]
 pub struct Outputs {
     names: Vec<SharedText>,
+    here: [bool; 8],
     enabled: [bool; 8],
     failed: [bool; 8],
+    moves: [u64; 8],
+    asked: [bool; 8],
 }
 
 impl Model for Outputs {
@@ -23,9 +36,10 @@ impl Model for Outputs {
 
     ghost Value = { OutputsData };
 
-    ghost view = { λ o. record { names = o.names.items; enabled = o.enabled; failed = o.failed } };
+    ghost view = { λ o. record { names = o.names.items; here = o.here; enabled = o.enabled; failed = o.failed; moves = o.moves; asked = o.asked } };
 
-    ghost invariant = { λ o. (length o.names.items ≤ 8) × (length o.enabled ≡ 8) × (length o.failed ≡ 8) };
+    ghost invariant = { λ o. (length o.names.items ≤ 8) × (length o.here ≡ 8) × (length o.enabled ≡ 8) × (length o.failed ≡ 8)
+        × (length o.moves ≡ 8) × (length o.asked ≡ 8) };
 }
 
 impl Outputs {
@@ -35,12 +49,15 @@ impl Outputs {
     {
         Outputs {
             names: Vec::new(alloc),
+            here: [false; 8],
             enabled: [false; 8],
             failed: [false; 8],
+            moves: [0; 8],
+            asked: [false; 8],
         }
     }
 
-    /// One more output, after those that are there.
+    /// One more output, after those that are there; it is in the partition.
     pub fn add(&mut self, name: SharedText, enabled: bool) -> Result<(), AllocError>
         requires { length self.old.names < 8 }
         ensures ok { OnOk result (self.new ≡ with_output self.old name enabled) }
@@ -50,6 +67,7 @@ impl Outputs {
         if self.names.push(name).is_err() {
             return Err(AllocError);
         }
+        self.here[number] = true;
         self.enabled[number] = enabled;
         Ok(())
     }
@@ -61,11 +79,11 @@ impl Outputs {
         &self.names
     }
 
-    /// Whether there is an output of this number.
+    /// Whether the output of this number is in the partition.
     pub fn is_output(&self, number: usize) -> bool
         ensures { result ≡ is_output_lem self.now number }
     {
-        number < self.names.len()
+        number < MAX_OUTPUTS && self.here[number]
     }
 
     pub fn is_enabled(&self, number: usize) -> bool
@@ -80,6 +98,50 @@ impl Outputs {
         number < MAX_OUTPUTS && self.failed[number]
     }
 
+    /// How often an output was moved from one partition to another.
+    pub fn moves(&self, number: usize) -> u64
+        ensures { result ≡ slice_index_or self.now.moves number 0 }
+    {
+        if number < MAX_OUTPUTS {
+            self.moves[number]
+        } else {
+            0
+        }
+    }
+
+    /// Of eight outputs those that frames of the last job are fed to, each with its moves.
+    pub(crate) fn fed(&self) -> [Option<u64>; 8]
+        ensures { result ≡ fed_lem self.now }
+    {
+        [
+            self.fed_at(0),
+            self.fed_at(1),
+            self.fed_at(2),
+            self.fed_at(3),
+            self.fed_at(4),
+            self.fed_at(5),
+            self.fed_at(6),
+            self.fed_at(7),
+        ]
+    }
+
+    pub(crate) fn fed_at(&self, number: usize) -> Option<u64>
+        ensures { result ≡ fed_at_lem self.now number }
+    {
+        if number < MAX_OUTPUTS && self.asked[number] && self.enabled[number] {
+            Some(self.moves[number])
+        } else {
+            None
+        }
+    }
+
+    /// A job is given: its frames are for the outputs that are in the partition now.
+    pub(crate) fn ask(&mut self)
+        ensures { self.new ≡ asked_all self.old }
+    {
+        self.asked = self.here;
+    }
+
     pub(crate) fn any_enabled(&self) -> bool
         ensures { result ≡ any_enabled_lem self.now }
     {
@@ -91,6 +153,60 @@ impl Outputs {
         ensures { result ≡ self.now.enabled }
     {
         self.enabled
+    }
+
+    /// Whether an output is in the partition.
+    pub fn holds_any(&self) -> bool
+        ensures { result ≡ holds_any_lem self.now }
+    {
+        self.here.iter().any(|here| *here)
+    }
+
+    /// What an output takes along from here.
+    pub fn carried(&self, number: usize) -> Carried
+        ensures { result ≡ carried_lem self.now number }
+    {
+        Carried {
+            enabled: self.is_enabled(number),
+            failed: self.has_failed(number),
+            moves: self.moves(number),
+        }
+    }
+
+    /// An output comes, as it is carried. No frames of a job that was given before are for it.
+    pub fn bring(&mut self, number: usize, carried: Carried)
+        ensures { self.new ≡ brought self.old number carried }
+    {
+        if number < MAX_OUTPUTS {
+            self.here[number] = true;
+            self.enabled[number] = carried.enabled;
+            self.failed[number] = carried.failed;
+            self.moves[number] = carried.moves;
+            self.asked[number] = false;
+        }
+    }
+
+    /// An output goes.
+    pub fn release(&mut self, number: usize)
+        ensures { self.new ≡ released self.old number }
+    {
+        if number < MAX_OUTPUTS {
+            self.here[number] = false;
+            self.enabled[number] = false;
+            self.failed[number] = false;
+            self.moves[number] = 0;
+            self.asked[number] = false;
+        }
+    }
+
+    /// The same names, with no output here.
+    pub fn elsewhere(&self, alloc: Global) -> Result<Outputs, AllocError>
+        ensures { IfOk result (λ outputs. outputs ≡ all_elsewhere self.now) }
+    {
+        Ok(Outputs {
+            names: shared_names(alloc, &self.names)?,
+            ..Outputs::none(alloc)
+        })
     }
 
     /// Turns an output on or off.
@@ -118,8 +234,11 @@ impl Outputs {
     {
         Ok(Outputs {
             names: shared_names(alloc, &self.names)?,
+            here: self.here,
             enabled: self.enabled,
             failed: self.failed,
+            moves: self.moves,
+            asked: self.asked,
         })
     }
 }

@@ -8,6 +8,16 @@ pub struct Feed {
     pub cut: u64,
     /// The volume, in percent.
     pub volume: u8,
+    /// Of eight outputs those that are fed, each with how often it was moved.
+    pub outputs: [Option<u64>; 8],
+}
+
+/// What an output does with its frames.
+#[derive(Clone, Copy, Debug, PartialEq, Eq)]
+pub struct Heard {
+    /// How often the output was moved from one partition to another.
+    pub moves: u64,
+    pub live: Live,
 }
 
 /// What an event answers to a part of the daemon that is no client.
@@ -23,7 +33,7 @@ pub enum Report {
     /// How decoded frames are fed to the outputs; `None` where they are stale.
     ToFeed(Option<Feed>),
     /// What an output does with its frames.
-    ToPlay(Live),
+    ToPlay(Heard),
     /// The daemon has ended: a decoder, an output or a scanner ends too.
     Ended,
 }

@@ -3,9 +3,10 @@ ghost use Rattle.std.specs.Prelude.{◌≡◌, IfOk};
 
 use crate::outputs::Outputs;
 use crate::scan::Scan;
-use client_tags::ClientTags;
 use command_arguments::Volume;
 use idle_notes::{Channels, Pending};
+use known_tags::TagSet;
+use mpd_text::SharedText;
 use player_core::Player;
 use song_db::{Rate, SharedDb};
 use song_queue::Queue;
@@ -15,6 +16,10 @@ use std::alloc::{AllocError, Global};
 #[derive(Clone, Copy, Debug, PartialEq, Eq)]
 pub struct Client {
     pub number: u32,
+    /// The partition that it is in, by its number.
+    pub place: u8,
+    /// The tags that it is shown.
+    pub tags: TagSet,
     pub pending: Pending,
 }
 
@@ -44,16 +49,17 @@ impl Library {
     }
 }
 
-/// What one player owns.
+/// What one player owns: one partition of the daemon.
 #[derive(Drop)]
 pub struct Part {
+    /// Its number, by which clients and steps name it; 0 is the one that is always there.
+    pub place: u8,
+    pub name: SharedText,
     pub queue: Queue,
     pub player: Player,
     pub volume: Volume,
     pub outputs: Outputs,
     pub channels: Channels,
-    /// The tags that each client is shown.
-    pub tags: ClientTags,
     /// How many frames were decoded of all songs. The count stops at its greatest value, 2^64-1.
     pub played: u64,
 }
@@ -65,12 +71,13 @@ impl Part {
         ensures { IfOk result (λ image. image ≡ self.now) }
     {
         Ok(Part {
+            place: self.place,
+            name: self.name.clone()?,
             queue: self.queue.try_clone()?,
             player: self.player.image()?,
             volume: self.volume.copied(),
             outputs: self.outputs.shared(alloc)?,
             channels: self.channels.image()?,
-            tags: self.tags.image()?,
             played: self.played,
         })
     }

@@ -5,7 +5,7 @@ use Rattle.std.specs.Prelude.{◌≡◌, ℕ, Bool, false, List, [], ◌∷◌, 
 use Rattle.std.specs.List.{flat_map}
 use Rattle.mpd_text.specs.Answers.Answer.{pair_line}
 use Rattle.mpd_text.specs.Songs.Song.{SongData}
-use Rattle.mpd_text.specs.Songs.Tags.{tag_text}
+use Rattle.mpd_text.specs.Songs.Tags.{tag_names, tag_text}
 use Rattle.mpd_text.specs.declared.songs.song.TagName.{TagName}
 use Rattle.song_db.specs.Lines.{song_lines}
 use Rattle.known_tags.specs.KnownTags.{base_of}
@@ -13,8 +13,7 @@ use Rattle.known_tags.specs.Lines.{song_lines_with}
 use Rattle.known_tags.specs.declared.known_tag.KnownTag.{KnownTag}
 use Rattle.filters.specs.Expressions.{Expression}
 use Rattle.song_search.specs.Answers.{listed}
-use Rattle.player_state.specs.Effects.{tags_after}
-use Rattle.player_state.specs.declared.effect.Effect.TheVariants.{ByCommand}
+use Rattle.player_state.specs.declared.state.Client.{Client}
 use Rattle.player_state.specs.declared.state.Library.{Library}
 use Rattle.player_state.specs.declared.state.Part.{Part}
 use Rattle.transitions.specs.CommandResults.{shows}
@@ -24,28 +23,28 @@ use Rattle.transitions.specs.declared.shelf_calls.Read.{Read}
 use Rattle.mpd_command.specs.declared.command.Command.{Command}
 use Rattle.mpd_command.specs.declared.command.Command.TheVariants as command
 use Rattle.mpd_command.specs.declared.status.StatusCommand.TheVariants as status
-use Rattle.queue_commands.specs.Queue.{tags_for}
 use Rattle.library_commands.specs.Database.{list_texts}
 use Rattle.status_laws.specs.Shown.{Shown, ShowsWorld, text_of as status_text}
 use Rattle.profile_laws.specs.Base.{IsBase}
+use Rattle.tag_laws.specs.ChosenTags.{tags_next}
 use Rattle.tag_laws.specs.HiddenTags.{text_of}
 use Rattle.tag_laws.specs.Results.{result_of}
 use Rattle.tag_laws.specs.ShownSongs.{Lines, Showing, showing_of}
 
--- where no client has chosen tags, none has after a command of the base profile
+-- a client that is shown all tags is shown all after a command of the base profile
 abbrev pub BaseKeepsAllTags : Type 0
 BaseKeepsAllTags =
-    (asked : Asked) (part : Part) (library : Library) (read : Read) (it : Command)
+    (asked : Asked) (client : Client) (it : Command)
     → IsBase it
-    → part.tags ≡ []
-    → tags_after part.tags (ByCommand (result_of asked part library read it).effect) ≡ []
+    → asked.tags ≡ tag_names
+    → tags_next asked client it ≡ tag_names
 
--- and then a song is shown to each client with all its tags
+-- and then a song is shown to it with all its tags
 abbrev pub BaseShowsWholeSongs : Type 0
 BaseShowsWholeSongs =
-    (asked : Asked) (part : Part)
-    → part.tags ≡ []
-    → (rate : ℕ) (song : SongData) → song_lines_with (tags_for asked part) rate song ≡ song_lines rate song
+    (asked : Asked)
+    → asked.tags ≡ tag_names
+    → (rate : ℕ) (song : SongData) → song_lines_with asked.tags rate song ≡ song_lines rate song
 
 -- all lines are shown, where lines of songs are shown
 abbrev pub IsShownWhole : Asked → Showing → CommandResult → Type 0
@@ -56,7 +55,7 @@ IsShownWhole asked _ result = Unit {0}
 abbrev pub BaseShowsAllLines : Type 0
 BaseShowsAllLines =
     (asked : Asked) (part : Part) (library : Library) (read : Read) (it : Command)
-    → part.tags ≡ []
+    → asked.tags ≡ tag_names
     → IsShownWhole asked (showing_of part library read it) (result_of asked part library read it)
 
 -- what a `status` of the base profile shows is what the player is, and has no line `time`

@@ -9,7 +9,7 @@ use Rattle.song_queue.specs.declared.entry.Entry.{Entry}
 use Rattle.song_queue.specs.State.{QueueState, queue_of, position_of}
 use Rattle.player_core.specs.Player.{is_stopped}
 use Rattle.transitions.specs.CommandResults.{bad_index, does, no_such_song, not_playing, shows}
-use Rattle.queue_commands.specs.Queue.{count, current_place, entry_lines, tags_for}
+use Rattle.queue_commands.specs.Queue.{count, current_place, entry_lines}
 use Rattle.player_state.specs.declared.effect.CommandEffect.TheVariants.{ClearsError, GoesBack, GoesOn, Pauses, Plays, PlaysPlace, Seeks, Stops, TogglesPause}
 use Rattle.transitions.specs.declared.asked.Asked.{Asked}
 use Rattle.player_state.specs.declared.state.Library.{Library}
@@ -94,7 +94,7 @@ lines_at tags rate queue (Some place) = lines_of_entry tags rate place (slice_ge
 -- the lines of the current song, if there is one
 abbrev pub current_song : Asked → Part → Library → CommandResult
 current_song asked part library =
-    shows asked (lines_at (tags_for asked part) library.rate part.queue (current_place part))
+    shows asked (lines_at asked.tags library.rate part.queue (current_place part))
 
 abbrev pub clear_error : Asked → CommandResult
 clear_error asked = does asked ClearsError

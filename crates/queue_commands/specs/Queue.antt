@@ -16,7 +16,6 @@ use Rattle.mpd_text.specs.declared.answers.answer.ErrorNumber.TheVariants.{Argum
 use Rattle.mpd_text.specs.declared.answers.ranges.Range.{Range}
 use Rattle.mpd_text.specs.declared.songs.song.TagName.{TagName}
 use Rattle.known_tags.specs.Lines.{song_lines_with}
-use Rattle.client_tags.specs.Choices.{tags_of}
 use Rattle.song_db.specs.Library.{song_of}
 use Rattle.song_queue.specs.declared.edit.Edit.TheVariants.{Insert, Remove, Move, Prioritize, Swap}
 use Rattle.song_queue.specs.declared.entry.Entry.{Entry}
@@ -243,10 +242,6 @@ prio_id asked part priority ids = prioritize asked part (no_such_song asked) pri
 abbrev pub priority_line : ℕ → List ℕ
 priority_line priority = if priority == 0 then [] else pair_line (codes "Prio") (decimal priority)
 
--- the tags that the client that asks is shown
-abbrev pub tags_for : Asked → Part → List TagName
-tags_for asked part = tags_of asked.client part.tags
-
 -- the lines of an entry at a place, with the tags of a set
 abbrev pub entry_lines : List TagName → ℕ → ℕ × Entry → List ℕ
 entry_lines tags rate row =
@@ -285,12 +280,12 @@ meeting queue case e =
 -- the songs of the queue that meet a filter, by their places
 abbrev pub playlist_find : Asked → Part → Library → Case → Wanted → CommandResult
 playlist_find asked part library case (Meeting e) =
-    shows asked (flat_map (entry_lines (tags_for asked part) library.rate) (meeting part.queue case e))
+    shows asked (flat_map (entry_lines asked.tags library.rate) (meeting part.queue case e))
 playlist_find asked part library case (Refused text) = refusal asked Argument text
 
 -- the songs at some places
 abbrev pub show_songs : Asked → Part → Library → Option (Places ℕ) → CommandResult
-show_songs asked part library places = show_places asked part (entry_lines (tags_for asked part) library.rate) places
+show_songs asked part library places = show_places asked part (entry_lines asked.tags library.rate) places
 
 -- the songs of a range, or all of them
 abbrev pub playlist_info : Asked → Part → Library → Option Range → CommandResult
@@ -326,7 +321,7 @@ show_changed asked part lines version (Some r) = shows asked (flat_map lines (ch
 -- the songs at the places that changed since a version, of a range or all
 abbrev pub changes : Asked → Part → Library → ℕ → Option Range → CommandResult
 changes asked part library version range =
-    show_changed asked part (entry_lines (tags_for asked part) library.rate) version (range_or_all range (count part))
+    show_changed asked part (entry_lines asked.tags library.rate) version (range_or_all range (count part))
 
 -- these places, with the ids of their songs
 abbrev pub changed_places : Asked → Part → ℕ → Option Range → CommandResult

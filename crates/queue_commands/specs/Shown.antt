@@ -12,7 +12,7 @@ use Rattle.transitions.specs.declared.asked.Asked.{Asked}
 use Rattle.player_state.specs.declared.state.Library.{Library}
 use Rattle.player_state.specs.declared.state.Part.{Part}
 use Rattle.transitions.specs.Transitions.{CommandResult}
-use Rattle.queue_commands.specs.Queue.{count, entry_lines, place_lines, range_or_all, show_changed, show_places, tags_for, uri_line}
+use Rattle.queue_commands.specs.Queue.{count, entry_lines, place_lines, range_or_all, show_changed, show_places, uri_line}
 
 abbrev pub row_lines : Shown → List TagName → ℕ → ℕ × Entry → List ℕ
 row_lines Song tags rate row = entry_lines tags rate row
@@ -30,9 +30,9 @@ row_as shown tags library place entry = rows_as shown tags library (row_of place
 -- the entries at some places
 abbrev pub places_as : Asked → Part → Library → Shown → Places ℕ → CommandResult
 places_as asked part library shown places =
-    show_places asked part (row_lines shown (tags_for asked part) library.rate) (Some places)
+    show_places asked part (row_lines shown asked.tags library.rate) (Some places)
 
 -- the entries at the places that changed since a version, of a range or all
 abbrev pub changes_as : Asked → Part → Library → Shown → ℕ → Option Range → CommandResult
 changes_as asked part library shown version range =
-    show_changed asked part (row_lines shown (tags_for asked part) library.rate) version (range_or_all range (count part))
+    show_changed asked part (row_lines shown asked.tags library.rate) version (range_or_all range (count part))

@@ -213,15 +213,9 @@ pub fn current_song(
     ensures { IsDecidedBy result (current_song_lem asked part.now library.now) }
 {
     let mut lines = Answer::new(alloc);
+    let tags = asked.tags;
     if let Some(place) = current_place(part) {
-        push_place_lines(
-            alloc,
-            &mut lines,
-            part,
-            library,
-            place,
-            part.tags.of(asked.client),
-        )?;
+        push_place_lines(alloc, &mut lines, part, library, place, tags)?;
     }
     Transition::shows(asked, lines)
 }

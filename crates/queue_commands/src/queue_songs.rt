@@ -86,8 +86,8 @@ pub(crate) fn playlist_find(
     match wanted {
         Wanted::Meeting(filter) => {
             let places = places_meeting(alloc, &part.queue, filter, case)?;
-            let tags = part.tags.of(asked.client);
-            let lines = rows(alloc, &part.queue, library, &places, Shown::Song, tags)?;
+            let shown = Shown::Song;
+            let lines = rows(alloc, &part.queue, library, &places, shown, asked.tags)?;
             Transition::shows(asked, lines)
         }
         Wanted::Refused(text) => {
@@ -146,8 +146,7 @@ fn show_places(
     ensures { IsDecidedBy result (places_as asked part.now library.now shown places) }
 {
     let places: Vec<usize> = places.collect(alloc)?;
-    let tags = part.tags.of(asked.client);
-    let lines = rows(alloc, &part.queue, library, &places, shown, tags)?;
+    let lines = rows(alloc, &part.queue, library, &places, shown, asked.tags)?;
     Transition::shows(asked, lines)
 }
 
@@ -193,8 +192,7 @@ fn show_changed(
         return Transition::bad_index(alloc, asked);
     };
     let changed = changed_within(alloc, &part.queue, version, &places)?;
-    let tags = part.tags.of(asked.client);
-    let lines = rows(alloc, &part.queue, library, &changed, shown, tags)?;
+    let lines = rows(alloc, &part.queue, library, &changed, shown, asked.tags)?;
     Transition::shows(asked, lines)
 }
 

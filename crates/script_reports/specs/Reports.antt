@@ -1,12 +1,12 @@
 -- What a script prints of what a player tells the decoder, an output or the scans (this profile's script).
-use Rattle.std.specs.Prelude.{ℕ, Bool, true, false, List, [], ◌++◌, Option, Some, None, codes, decimal, if◌then◌else◌}
+use Rattle.std.specs.Prelude.{ℕ, ◌==◌, Bool, true, false, List, [], ◌++◌, Option, Some, None, codes, decimal, if◌then◌else◌}
 use Rattle.status_commands.specs.Status.{digit}
 use Rattle.player_state.specs.declared.report.Feed.{Feed}
+use Rattle.player_state.specs.declared.report.Heard.{Heard}
 use Rattle.player_state.specs.declared.report.Report.{Report}
 use Rattle.player_state.specs.declared.report.Report.TheVariants.{Nothing, ToScan, ScanEnded, ToDecode, ToFeed, ToPlay, Ended}
 use Rattle.player_core.specs.declared.state.FadePart.{FadePart}
 use Rattle.player_core.specs.declared.state.Job.{Job}
-use Rattle.player_core.specs.declared.state.Live.{Live}
 
 -- the id of the song that is mixed in, which frame of the fade comes first, and how many it has
 unfoldable pub part_text : FadePart → List ℕ
@@ -27,10 +27,16 @@ job_text job = codes "! job " ++ frames_text job ++ fade_text job.fade ++ codes 
 unfoldable pub feed_text : Feed → List ℕ
 feed_text feed = codes "! feed " ++ decimal feed.cut ++ codes " " ++ decimal feed.volume ++ codes "\n"
 
--- the cut whose frames are to be heard, whether the output is enabled, and whether it keeps its frames
-unfoldable pub live_text : Live → List ℕ
-live_text live =
-    codes "! live " ++ decimal live.cut ++ codes " " ++ decimal (digit live.enabled) ++ codes " " ++ decimal (digit live.paused) ++ codes "\n"
+-- how often an output was moved, where it was
+abbrev pub moves_text : ℕ → List ℕ
+moves_text moves = if moves == 0 then [] else codes " moved " ++ decimal moves
+
+-- the cut whose frames are to be heard, whether the output is enabled, whether it keeps its frames, and how
+-- often it was moved
+unfoldable pub live_text : Heard → List ℕ
+live_text heard =
+    codes "! live " ++ decimal heard.live.cut ++ codes " " ++ decimal (digit heard.live.enabled) ++ codes " "
+    ++ decimal (digit heard.live.paused) ++ moves_text heard.moves ++ codes "\n"
 
 -- how many events the window of the history has, and how many there were in all
 unfoldable pub window_text : ℕ → ℕ → List ℕ
@@ -55,5 +61,5 @@ report_text (ToScan number) = []
 report_text (ScanEnded ended) = done_text ended
 report_text (ToDecode job) = wanted_text job
 report_text (ToFeed feed) = had_text feed
-report_text (ToPlay live) = live_text live
+report_text (ToPlay heard) = live_text heard
 report_text Ended = codes "! ended\n"

@@ -1,10 +1,10 @@
 //! The lines that a player's reports to the decoder, an output or the scans print.
 ghost use Rattle.std.specs.Prelude.{◌≡◌, ◌++◌, string_bytes, IfOk, OnOk};
 ghost use Rattle.status_commands.specs.Status.{digit as digit_lem};
-ghost use Rattle.script_reports.specs.Reports.{done_text, fade_text as fade_text_lem, feed_text, frames_text as frames_text_lem, had_text, job_text, live_text, part_text as part_text_lem, report_text, wanted_text, window_text};
+ghost use Rattle.script_reports.specs.Reports.{done_text, fade_text as fade_text_lem, feed_text, frames_text as frames_text_lem, had_text, job_text, live_text, moves_text as moves_text_lem, part_text as part_text_lem, report_text, wanted_text, window_text};
 
-use player_core::{FadePart, Job, Live};
-use player_state::{Feed, Report};
+use player_core::{FadePart, Job};
+use player_state::{Feed, Heard, Report};
 use std::alloc::{AllocError, Global};
 
 /// Appends what an event tells that comes from no client: `! ok` where it tells nothing.
@@ -17,7 +17,7 @@ pub fn push_report(alloc: Global, shown: &mut Vec<u8>, report: Report) -> Result
         Report::ScanEnded(ended) => push_done(shown, ended),
         Report::ToDecode(job) => push_wanted(alloc, shown, job),
         Report::ToFeed(feed) => push_had(alloc, shown, feed),
-        Report::ToPlay(live) => push_live(alloc, shown, live),
+        Report::ToPlay(heard) => push_live(alloc, shown, heard),
         Report::Ended => shown.extend_from_slice(b"! ended\n"),
     }
 }
@@ -102,20 +102,32 @@ fn part_text(alloc: Global, part: FadePart) -> Result<String, AllocError>
 fn push_feed(alloc: Global, shown: &mut Vec<u8>, feed: Feed) -> Result<(), AllocError>
     ensures { OnOk result (shown.new.items ≡ shown.old.items ++ feed_text feed) }
 {
-    let Feed { cut, volume } = feed;
+    let Feed { cut, volume, .. } = feed;
     let line = format!(in alloc; "! feed {cut} {volume}\n")?;
     shown.extend_from_slice(line.as_bytes())
 }
 
 #[tactic(auto, unfolding(crate::specs::Reports::live_text))]
-fn push_live(alloc: Global, shown: &mut Vec<u8>, live: Live) -> Result<(), AllocError>
-    ensures { OnOk result (shown.new.items ≡ shown.old.items ++ live_text live) }
+fn push_live(alloc: Global, shown: &mut Vec<u8>, heard: Heard) -> Result<(), AllocError>
+    ensures { OnOk result (shown.new.items ≡ shown.old.items ++ live_text heard) }
 {
-    let cut = live.cut;
-    let enabled = digit(live.enabled);
-    let paused = digit(live.paused);
-    let line = format!(in alloc; "! live {cut} {enabled} {paused}\n")?;
+    let cut = heard.live.cut;
+    let enabled = digit(heard.live.enabled);
+    let paused = digit(heard.live.paused);
+    let moved = moves_text(alloc, heard.moves)?;
+    let line = format!(in alloc; "! live {cut} {enabled} {paused}{}\n", moved.as_str())?;
     shown.extend_from_slice(line.as_bytes())
+}
+
+/// How often an output was moved, where it was.
+fn moves_text(alloc: Global, moves: u64) -> Result<String, AllocError>
+    ensures { IfOk result (λ text. string_bytes text ≡ moves_text_lem moves) }
+{
+    if moves == 0 {
+        return Ok(String::new(alloc));
+    }
+    let text = format!(in alloc; " moved {moves}")?;
+    Ok(text)
 }
 
 /// Appends how many events the window of the history has, and how many there were in all.

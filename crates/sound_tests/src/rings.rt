@@ -9,9 +9,15 @@ use std::alloc::{AllocError, Global};
 use std::io;
 use std::io::{ErrorKind, Write};
 
-const FIRST: Cut = Cut { number: 1 };
+const FIRST: Cut = Cut {
+    moves: 0,
+    number: 1,
+};
 
-const SECOND: Cut = Cut { number: 2 };
+const SECOND: Cut = Cut {
+    moves: 0,
+    number: 2,
+};
 
 // A call and what it answers: cuts by their numbers, fates as frames written and discarded, faults with the
 // bytes of a torn frame.
@@ -24,6 +30,11 @@ enum Step {
     Pause(u64, u64),
     Off(u64, u64),
     Fault(u64, u64, u8),
+}
+
+// A cut of an output that was never moved.
+const fn of_no_move(number: u64) -> Cut {
+    Cut { moves: 0, number }
 }
 
 const fn live(cut: Cut, enabled: bool, paused: bool) -> Live {
@@ -89,13 +100,13 @@ fn is_fault(found: Result<Fates, WriteFault>, wanted: WriteFault) -> bool {
 fn holds(feeder: &mut Feeder, drainer: &mut Drainer, out: &mut FailAt, step: &Step) -> bool {
     match *step {
         Step::Take(number, frames) => {
-            offer(feeder, frames, Cut { number });
+            offer(feeder, frames, of_no_move(number));
             true
         }
         Step::Push(want) => push(feeder) == want,
         Step::Pop(want) => pop(drainer) == want,
         Step::Play(number, written, discarded) => {
-            let found = written_out(drainer, out, Cut { number }, true, false);
+            let found = written_out(drainer, out, of_no_move(number), true, false);
             is_written(found, written, discarded)
         }
         Step::Pause(written, discarded) => {
@@ -175,6 +186,44 @@ fn an_old_cut_is_discarded(rt: HostRuntime) {
     let bytes = &[1, 0, 255, 255, 1, 0, 255, 255, 1, 0, 255, 255];
     let told = follow_all(rt.alloc(), (8, 3), FailurePoint::Never, OLD_CUT, bytes);
     wants(&rt, told, "3 5 0");
+}
+
+const BEFORE_MOVES: Cut = Cut {
+    moves: 1,
+    number: 9,
+};
+
+const AFTER_MOVES: Cut = Cut {
+    moves: 3,
+    number: 2,
+};
+
+// The bytes that come out of an output that was moved twice after it took three frames, whose cut has the
+// greater number, and before it took two more; then how many frames were written and discarded.
+fn moved_told(alloc: Global) -> Result<String, AllocError> {
+    let mut out = FailAt::new(Vec::new(alloc), FailurePoint::Never);
+    let (mut feeder, mut drainer) = ring(alloc, 8, 4)?;
+    offer(&mut feeder, &[[1, 2], [3, 4], [5, 6]], BEFORE_MOVES);
+    let _old = push(&mut feeder);
+    offer(&mut feeder, &[[7, 8], [9, 10]], AFTER_MOVES);
+    let _new = push(&mut feeder);
+    for _turn in 0..2 {
+        let _popped = pop(&mut drainer);
+        let _fates = written_out(&mut drainer, &mut out, AFTER_MOVES, true, false);
+    }
+    let bytes = out.bytes();
+    let Totals {
+        written,
+        discarded,
+        ..
+    } = drainer.totals();
+    format!(in alloc; "{bytes:?} {written} {discarded}")
+}
+
+#[test]
+fn frames_of_an_earlier_move_are_not_written(rt: HostRuntime) {
+    let told = moved_told(rt.alloc());
+    wants(&rt, told, "[7, 0, 8, 0, 9, 0, 10, 0] 2 3");
 }
 
 const FAILS_WITHIN: &[Step] = &[

@@ -37,12 +37,18 @@ fn ends_of(alloc: Global, run: Run<'_>) -> Result<(FeederEnd, Drainer), AllocErr
     let (mut feeder, mut drainer) = ring(alloc, run.capacity, run.hand)?;
     feeder.take(
         &[[1, -1]; 1_024][..run.frames.min(1_024)],
-        Cut { number: 1 },
+        Cut {
+            moves: 0,
+            number: 1,
+        },
     );
     let _pushed = feeder.push();
     for turn in run.turns {
         let live = Live {
-            cut: Cut { number: turn.cut },
+            cut: Cut {
+                moves: 0,
+                number: turn.cut,
+            },
             enabled: true,
             paused: turn.paused,
             ended: false,

@@ -1,22 +1,17 @@
--- The commands of the connection, which need nothing of the player but the tags that each client is shown
--- (MPD protocol reference, Connection settings; Reflection; Mounts and neighbors; what can be decoded is this
--- profile's).
-use Rattle.std.specs.Prelude.{ℕ, Bool, true, false, ◌&&◌, List, [], ◌++◌, codes, if◌then◌else◌}
+-- The commands of the connection, which need nothing of the player (MPD protocol reference, Connection
+-- settings; Reflection; Mounts and neighbors; what can be decoded is this profile's).
+use Rattle.std.specs.Prelude.{ℕ, Bool, true, false, ◌&&◌, List, [], ◌++◌, Option, Some, None, codes, if◌then◌else◌}
 use Rattle.std.specs.Borrow.{Bor}
 use Rattle.std.specs.Bool.{beq}
 use Rattle.std.specs.List.{flat_map}
-use Rattle.client_tags.specs.Choices.{tags_of}
 use Rattle.known_tags.specs.Lines.{tagtype_lines}
 use Rattle.known_tags.specs.Sets.{disabled, enabled}
-use Rattle.known_tags.specs.declared.known_tag.KnownTag.{KnownTag}
 use Rattle.mpd_command.specs.Names.{all_names, is_forbidden, is_there}
 use Rattle.mpd_text.specs.Answers.Answer.{pair_line}
 use Rattle.mpd_text.specs.Songs.Tags.{tag_names}
 use Rattle.mpd_text.specs.declared.songs.song.TagName.{TagName}
-use Rattle.player_state.specs.declared.effect.CommandEffect.TheVariants.{ChoosesTags}
-use Rattle.player_state.specs.declared.state.Part.{Part}
-use Rattle.transitions.specs.Answers.{Answer, succeeds}
-use Rattle.transitions.specs.CommandResults.{closes_client, does, ends_daemon, only}
+use Rattle.transitions.specs.Answers.{Answer, shut, succeeds}
+use Rattle.transitions.specs.CommandResults.{closes_client, ends_daemon, only}
 use Rattle.transitions.specs.Transitions.{CommandResult}
 use Rattle.transitions.specs.declared.asked.Asked.{Asked}
 use Rattle.mpd_command.specs.declared.command_set.CommandSet.{CommandSet}
@@ -27,20 +22,16 @@ abbrev pub ping : Asked → Answer
 ping asked = succeeds asked.stand (codes "")
 
 -- the names of the tags that the client is shown, a line each, in their order
-abbrev pub tag_types : Asked → Part → Answer
-tag_types asked part = succeeds asked.stand (tagtype_lines (tags_of asked.client part.tags))
+abbrev pub tag_types : Asked → Answer
+tag_types asked = succeeds asked.stand (tagtype_lines asked.tags)
 
--- the client is shown these tags from now on
-abbrev pub chooses_tags : Asked → List TagName → CommandResult
-chooses_tags asked tags = does asked (ChoosesTags asked.client tags)
-
--- those that are named join the client's tags
-abbrev pub with_tags : Asked → Part → List KnownTag → CommandResult
-with_tags asked part named = chooses_tags asked (enabled named (tags_of asked.client part.tags))
-
--- those that are named leave them
-abbrev pub without_tags : Asked → Part → List KnownTag → CommandResult
-without_tags asked part named = chooses_tags asked (disabled named (tags_of asked.client part.tags))
+-- what a command that chooses tags makes of those that its client is shown
+abbrev pub choice_of : ConnectionCommand → Option (List TagName → List TagName)
+choice_of connection.AllTags = Some (λ tags. tag_names)
+choice_of connection.NoTags = Some (λ tags. [])
+choice_of (connection.WithTags named) = Some (enabled named)
+choice_of (connection.WithoutTags named) = Some (disabled named)
+choice_of _ = None
 
 -- the decoder that there is, and the ending of its files
 unfoldable pub wave_lines : List ℕ
@@ -88,18 +79,18 @@ commands asked set = succeeds asked.stand (command_lines set false)
 abbrev pub not_commands : Asked → CommandSet → Answer
 not_commands asked set = succeeds asked.stand (command_lines set true)
 
--- what each command makes of the player
-unfoldable pub result_of : Asked → Part → ConnectionCommand → CommandResult
-result_of asked part connection.AllTags = chooses_tags asked tag_names
-result_of asked part connection.Close = closes_client asked
-result_of asked part (connection.Commands set) = only (commands asked set)
-result_of asked part connection.Decoders = only (decoders asked)
-result_of asked part connection.Kill = ends_daemon asked
-result_of asked part connection.ListMounts = only (mounts asked)
-result_of asked part connection.NoTags = chooses_tags asked []
-result_of asked part (connection.NotCommands set) = only (not_commands asked set)
-result_of asked part connection.Ping = only (ping asked)
-result_of asked part connection.TagTypes = only (tag_types asked part)
-result_of asked part connection.UrlHandlers = only (url_handlers asked)
-result_of asked part (connection.WithTags named) = with_tags asked part named
-result_of asked part (connection.WithoutTags named) = without_tags asked part named
+-- what each command makes of the player; those that choose tags are wishes and make nothing of it
+unfoldable pub result_of : Asked → ConnectionCommand → CommandResult
+result_of asked connection.AllTags = only shut
+result_of asked connection.Close = closes_client asked
+result_of asked (connection.Commands set) = only (commands asked set)
+result_of asked connection.Decoders = only (decoders asked)
+result_of asked connection.Kill = ends_daemon asked
+result_of asked connection.ListMounts = only (mounts asked)
+result_of asked connection.NoTags = only shut
+result_of asked (connection.NotCommands set) = only (not_commands asked set)
+result_of asked connection.Ping = only (ping asked)
+result_of asked connection.TagTypes = only (tag_types asked)
+result_of asked connection.UrlHandlers = only (url_handlers asked)
+result_of asked (connection.WithTags named) = only shut
+result_of asked (connection.WithoutTags named) = only shut

@@ -1,6 +1,6 @@
 -- The commands that look at outputs and turn them on and off (MPD protocol reference, Audio output devices;
 -- that an output which has failed stays off is this profile's).
-use Rattle.std.specs.Prelude.{ℕ, Bool, true, false, if◌then◌else◌, List, ◌++◌, codes, decimal}
+use Rattle.std.specs.Prelude.{ℕ, Bool, true, false, if◌then◌else◌, List, [], ◌++◌, codes, decimal}
 use Rattle.std.specs.List.{enumerate_from, flat_map}
 use Rattle.mpd_text.specs.Answers.Answer.{pair_line}
 use Rattle.mpd_text.specs.declared.answers.answer.ErrorNumber.TheVariants.{NoExist, System}
@@ -26,14 +26,18 @@ enabled_line on = pair_line (codes "outputenabled") (decimal on)
 abbrev pub output_lines : OutputsData → ℕ × List ℕ → List ℕ
 output_lines outputs row = output_name_lines row.0 row.1 ++ (plugin_line ++ enabled_line (digit (is_enabled outputs row.0)))
 
--- the outputs, by number
+-- the lines of an output that is in the partition
+abbrev pub lines_if_here : OutputsData → ℕ × List ℕ → List ℕ
+lines_if_here outputs row = if is_output outputs row.0 then output_lines outputs row else []
+
+-- the outputs of the partition, by number: the place of the name among those of all outputs
 abbrev pub outputs : Asked → Part → CommandResult
-outputs asked part = shows asked (flat_map (output_lines part.outputs) (enumerate_from 0 part.outputs.names))
+outputs asked part = shows asked (flat_map (lines_if_here part.outputs) (enumerate_from 0 part.outputs.names))
 
 abbrev pub no_such_output : Asked → CommandResult
 no_such_output asked = refusal asked NoExist (codes "no such output")
 
--- an output that is there is turned on, unless it has failed, or off
+-- an output of the partition is turned on, unless it has failed, or off
 abbrev pub switch_known : Asked → Part → ℕ → Bool → CommandResult
 switch_known asked part output true = if has_failed part.outputs output then refusal asked System (codes "output has failed") else does asked (Switches output true)
 switch_known asked part output false = does asked (Switches output false)

@@ -1,11 +1,12 @@
 -- The commands that ask how the player is, and what changed (MPD protocol reference, Querying MPD's status).
-use Rattle.std.specs.Prelude.{ℕ, Bool, true, false, ◌==◌, List, [], ◌++◌, Option, Some, None, is_some, length, if◌then◌else◌, codes, decimal}
+use Rattle.std.specs.Prelude.{ℕ, Bool, true, false, ◌==◌, List, [], ◌++◌, Option, Some, None, is_some, option_map, length, if◌then◌else◌, codes, decimal}
 use Rattle.idle_notes.specs.declared.sets.Subsystems.{Subsystems}
 use Rattle.idle_notes.specs.Names.{changed_lines}
 use Rattle.idle_notes.specs.Notes.{waits, notice_of}
 use Rattle.mpd_command.specs.declared.command.Command.{Command}
 use Rattle.mpd_command.specs.declared.command.Command.TheVariants as command
 use Rattle.mpd_text.specs.declared.answers.answer.ErrorNumber.TheVariants.{Argument}
+use Rattle.mpd_text.specs.declared.songs.song.TagName.{TagName}
 use Rattle.song_db.specs.Lines.{duration_text, millis, seconds_rounded}
 use Rattle.song_queue.specs.declared.entry.Entry.{Entry}
 use Rattle.song_queue.specs.State.{QueueState, queue_of, position_of}
@@ -18,11 +19,11 @@ use Rattle.player_core.specs.declared.state.Playback.{Playback}
 use Rattle.player_core.specs.declared.state.Playback.TheVariants.{Stop, Play, Pause}
 use Rattle.player_core.specs.Player.{is_stopped}
 use Rattle.player_core.specs.Steps.{current_entry, peek}
-use Rattle.transitions.specs.Answers.{ResponseData, refuses_command, shut, stays, tells}
+use Rattle.transitions.specs.Answers.{ResponseData, refuses_command, shut, stays, succeeds, tells}
 use Rattle.transitions.specs.CommandResults.{only, shows}
 use Rattle.queue_commands.specs.Playback.{clear_error, current_song}
 use Rattle.transitions.specs.declared.asked.Asked.{Asked}
-use Rattle.transitions.specs.declared.reply.Move.TheVariants.{Wait, Learn, Resume}
+use Rattle.transitions.specs.declared.reply.Move.TheVariants.{Wait, Learn, Resume, Show}
 use Rattle.transitions.specs.declared.reply.Next.TheVariants.{Waits}
 use Rattle.transitions.specs.declared.asked.Stand.{Stand}
 use Rattle.transitions.specs.declared.asked.Stand.TheVariants.{Alone, InList}
@@ -31,20 +32,24 @@ use Rattle.player_state.specs.declared.state.Part.{Part}
 use Rattle.player_state.specs.declared.state.Library.{Library}
 use Rattle.transitions.specs.Transitions.{CommandResult}
 use Rattle.player_state.specs.Scans.{running}
+use Rattle.status_commands.specs.Connection.{choice_of}
 use Rattle.status_commands.specs.Stats.{stats}
 use Rattle.mpd_text.specs.Answers.Answer.{pair_line}
 use Rattle.mpd_command.specs.declared.status.StatusCommand.{StatusCommand}
 use Rattle.mpd_command.specs.declared.status.StatusCommand.TheVariants as status_command
 
--- what a client asks that changes nothing but how it waits: to wait for these, or to wait no more
+-- what a client asks that changes nothing but the client itself: to wait for these, to wait no more, or to be
+-- shown what this makes of its tags
 pub data Wish : Type 0 where
   ToWait : Subsystems → Wish
   ToGoOn : Wish
+  ToShow : (List TagName → List TagName) → Wish
 
--- what a command asks for by which a client waits, or waits no more
+-- what a command asks for by which a client waits, waits no more, or chooses its tags
 abbrev pub wish_of : Command → Option Wish
 wish_of (command.Status (status_command.Idle named)) = Some (ToWait named)
 wish_of (command.Status status_command.NoIdle) = Some ToGoOn
+wish_of (command.Connection it) = option_map ToShow (choice_of it)
 wish_of _ = None
 
 abbrev pub notice_text : Subsystems → List ℕ
@@ -59,17 +64,20 @@ idles named (Some names) = record { answer = tells (notice_text names); move = L
 abbrev pub resumes : Client → ResponseData
 resumes client = if is_some client.pending.waiting then record { answer = tells (codes "OK\n"); move = Resume } else stays (tells (codes ""))
 
-abbrev pub granted : Client → Wish → ResponseData
-granted client (ToWait named) = idles named (notice_of (waits named client.pending))
-granted client ToGoOn = resumes client
-
 -- how a client waits is no matter of a list
-abbrev pub wished_at : Stand → Asked → Client → Wish → ResponseData
-wished_at Alone asked client wish = granted client wish
-wished_at (InList form place) asked client wish = stays (refuses_command asked Argument (codes "not allowed in a list"))
+abbrev pub alone : Asked → Stand → ResponseData → ResponseData
+alone asked Alone response = response
+alone asked (InList form place) response = stays (refuses_command asked Argument (codes "not allowed in a list"))
 
+-- the client is shown these tags from now on
+abbrev pub shown_next : Asked → List TagName → ResponseData
+shown_next asked tags = record { answer = succeeds asked.stand (codes ""); move = Show tags }
+
+-- what a client is answered that asks for this, and what it does; its tags it may choose in a list too
 abbrev pub wished : Asked → Client → Wish → ResponseData
-wished asked client wish = wished_at asked.stand asked client wish
+wished asked client (ToWait named) = alone asked asked.stand (idles named (notice_of (waits named client.pending)))
+wished asked client ToGoOn = alone asked asked.stand (resumes client)
+wished asked client (ToShow choice) = shown_next asked (choice asked.tags)
 
 abbrev pub digit : Bool → ℕ
 digit true = 1
@@ -97,15 +105,15 @@ mode_lines volume modes =
     ++ (pair_line (codes "random") (decimal (digit modes.random)) ++ (pair_line (codes "single") (single_text modes.single)
     ++ pair_line (codes "consume") (consume_text modes.consume))))
 
--- its queue, and whether it plays
-unfoldable pub queue_lines : ℕ → ℕ → Playback → List ℕ
-queue_lines version length playback =
-    pair_line (codes "partition") (codes "default") ++ (pair_line (codes "playlist") (decimal version)
+-- its name, its queue, and whether it plays
+unfoldable pub queue_lines : List ℕ → ℕ → ℕ → Playback → List ℕ
+queue_lines name version length playback =
+    pair_line (codes "partition") name ++ (pair_line (codes "playlist") (decimal version)
     ++ (pair_line (codes "playlistlength") (decimal length) ++ pair_line (codes "state") (state_text playback)))
 
 -- the same, of what one player owns
 abbrev pub queue_lines_of : Part → List ℕ
-queue_lines_of part = queue_lines part.queue.version (length (queue_of part.queue)) part.player.playback
+queue_lines_of part = queue_lines part.name part.queue.version (length (queue_of part.queue)) part.player.playback
 
 -- a song that is there, by its place and its id
 unfoldable pub song_place_lines : ℕ → ℕ → List ℕ

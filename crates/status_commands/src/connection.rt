@@ -1,39 +1,40 @@
-//! The commands of the connection, which need nothing of the player but the tags that each client is shown
-//! (MPD protocol reference, Connection settings; Reflection; Mounts and neighbors).
+//! The commands of the connection, which need nothing of the player (MPD protocol reference, Connection
+//! settings; Reflection; Mounts and neighbors).
 ghost use Rattle.std.specs.Prelude.{◌≡◌, ◌++◌, IfOk, OnOk};
 ghost use Rattle.player_state.specs.Fits.{Fits};
+ghost use Rattle.player_state.specs.declared.state.Part.{Part};
 ghost use Rattle.transitions.specs.Answers.{Responds, stays};
 ghost use Rattle.transitions.specs.Transitions.{IsDecidedBy};
-ghost use Rattle.status_commands.specs.Connection.{chooses_tags as chooses_tags_lem, command_line, command_lines, command_lines_among, commands as commands_lem, decoder_lines, decoders as decoders_lem, mount_lines, mounts as mounts_lem, not_commands as not_commands_lem, ping as ping_lem, result_of, tag_types as tag_types_lem, type_lines, url_handlers as url_handlers_lem, wave_lines, with_tags as with_tags_lem, without_tags as without_tags_lem};
+ghost use Rattle.status_commands.specs.Connection.{command_line, command_lines, command_lines_among, commands as commands_lem, decoder_lines, decoders as decoders_lem, mount_lines, mounts as mounts_lem, not_commands as not_commands_lem, ping as ping_lem, result_of, tag_types as tag_types_lem, type_lines, url_handlers as url_handlers_lem, wave_lines};
 
-use known_tags::{KnownTag, TagSet, push_tagtypes};
+use known_tags::push_tagtypes;
 use mpd_command::{CommandSet, ConnectionCommand, is_forbidden, is_there, names};
-use mpd_text::{Answer, Sequence};
-use player_state::{CommandEffect, Part};
+use mpd_text::Answer;
 use std::alloc::{AllocError, Global};
-use transitions::{Asked, Response, Transition, shows, succeeds};
+use transitions::{Asked, Response, Transition, shows, shut, succeeds};
 
-/// The rows: what each command asks of the player.
+/// The rows: what each command asks of the player. By those that choose tags a client changes itself, so here
+/// they make nothing of the player.
 #[rattlefmt::skip]
 #[tactic(auto, unfolding(crate::specs::Connection::result_of))]
-pub fn run(alloc: Global, asked: Asked, part: &Part, command: &ConnectionCommand) -> Result<Transition, AllocError>
-    ensures transition { IsDecidedBy result (result_of asked part.now command.now) }
-    ensures fits { IfOk result (λ transition. Fits part.now transition.effect) }
+pub fn run(alloc: Global, asked: Asked, command: &ConnectionCommand) -> Result<Transition, AllocError>
+    ensures transition { IsDecidedBy result (result_of asked command.now) }
+    ensures fits { IfOk result (λ transition. (part : Part) → Fits part transition.effect) }
 {
     match command {
-        ConnectionCommand::AllTags => chooses_tags(alloc, asked, TagSet::all()),
+        ConnectionCommand::AllTags => Ok(Transition::only(shut(alloc)?)),
         ConnectionCommand::Close => Transition::closes_client(alloc, asked),
         ConnectionCommand::Commands(set) => Ok(Transition::only(commands(alloc, asked, *set)?)),
         ConnectionCommand::Decoders => Ok(Transition::only(decoders(alloc, asked)?)),
         ConnectionCommand::Kill => Transition::ends_daemon(alloc, asked),
         ConnectionCommand::ListMounts => Ok(Transition::only(mounts(alloc, asked)?)),
-        ConnectionCommand::NoTags => chooses_tags(alloc, asked, TagSet::empty()),
+        ConnectionCommand::NoTags => Ok(Transition::only(shut(alloc)?)),
         ConnectionCommand::NotCommands(set) => Ok(Transition::only(not_commands(alloc, asked, *set)?)),
         ConnectionCommand::Ping => Ok(Transition::only(ping(alloc, asked)?)),
-        ConnectionCommand::TagTypes => Ok(Transition::only(tag_types(alloc, asked, part)?)),
+        ConnectionCommand::TagTypes => Ok(Transition::only(tag_types(alloc, asked)?)),
         ConnectionCommand::UrlHandlers => Ok(Transition::only(url_handlers(alloc, asked)?)),
-        ConnectionCommand::WithTags(named) => with_tags(alloc, asked, part, named),
-        ConnectionCommand::WithoutTags(named) => without_tags(alloc, asked, part, named),
+        ConnectionCommand::WithTags(_) => Ok(Transition::only(shut(alloc)?)),
+        ConnectionCommand::WithoutTags(_) => Ok(Transition::only(shut(alloc)?)),
     }
 }
 
@@ -44,43 +45,12 @@ fn ping(alloc: Global, asked: Asked) -> Result<Response, AllocError>
 }
 
 /// The tags that the client is shown.
-fn tag_types(alloc: Global, asked: Asked, part: &Part) -> Result<Response, AllocError>
-    ensures { Responds result (stays (tag_types_lem asked part.now)) }
+fn tag_types(alloc: Global, asked: Asked) -> Result<Response, AllocError>
+    ensures { Responds result (stays (tag_types_lem asked)) }
 {
     let mut answer = Answer::new(alloc);
-    push_tagtypes(&mut answer, part.tags.of(asked.client))?;
+    push_tagtypes(&mut answer, asked.tags)?;
     shows(asked, answer)
-}
-
-/// The client is shown these tags from now on.
-fn chooses_tags(alloc: Global, asked: Asked, tags: TagSet) -> Result<Transition, AllocError>
-    ensures { IsDecidedBy result (chooses_tags_lem asked tags) }
-{
-    Transition::does(alloc, asked, CommandEffect::ChoosesTags(asked.client, tags))
-}
-
-fn with_tags(
-    alloc: Global,
-    asked: Asked,
-    part: &Part,
-    named: &Sequence<KnownTag>,
-) -> Result<Transition, AllocError>
-    ensures { IsDecidedBy result (with_tags_lem asked part.now named.now) }
-{
-    let tags = part.tags.of(asked.client);
-    chooses_tags(alloc, asked, tags.enable(named.items()))
-}
-
-fn without_tags(
-    alloc: Global,
-    asked: Asked,
-    part: &Part,
-    named: &Sequence<KnownTag>,
-) -> Result<Transition, AllocError>
-    ensures { IsDecidedBy result (without_tags_lem asked part.now named.now) }
-{
-    let tags = part.tags.of(asked.client);
-    chooses_tags(alloc, asked, tags.disable(named.items()))
 }
 
 fn decoders(alloc: Global, asked: Asked) -> Result<Response, AllocError>

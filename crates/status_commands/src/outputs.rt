@@ -1,7 +1,7 @@
 //! The commands that look at outputs and turn them on and off (MPD protocol reference, Audio output devices).
 ghost use Rattle.std.specs.Prelude.{◌≡◌, ◌++◌, IfOk, OnOk};
 ghost use Rattle.std.specs.List.{enumerate_from, flat_map};
-ghost use Rattle.status_commands.specs.Outputs.{no_such_output as no_such_output_lem, enabled_line, output_lines, output_name_lines, outputs as outputs_lem, plugin_line, result_of, switch_output as switch_output_lem, toggle_output as toggle_output_lem};
+ghost use Rattle.status_commands.specs.Outputs.{no_such_output as no_such_output_lem, enabled_line, lines_if_here, output_lines, output_name_lines, outputs as outputs_lem, plugin_line, result_of, switch_output as switch_output_lem, toggle_output as toggle_output_lem};
 ghost use Rattle.player_state.specs.Fits.{Fits};
 ghost use Rattle.transitions.specs.Transitions.{IsDecidedBy};
 
@@ -34,15 +34,30 @@ fn outputs(alloc: Global, asked: Asked, part: &Part) -> Result<Transition, Alloc
 }
 
 fn lines_of(alloc: Global, outputs: &Outputs) -> Result<Answer, AllocError>
-    ensures { IfOk result (λ lines. lines ≡ flat_map (output_lines outputs.now) (enumerate_from 0 outputs.now.names)) }
+    ensures { IfOk result (λ lines. lines ≡ flat_map (lines_if_here outputs.now) (enumerate_from 0 outputs.now.names)) }
 {
     let mut lines = Answer::new(alloc);
     let mut number = 0;
     for name in outputs.names() {
-        push_output(&mut lines, outputs, number, name.as_str())?;
+        push_if_here(&mut lines, outputs, number, name.as_str())?;
         number += 1;
     }
     Ok(lines)
+}
+
+/// Shows an output, if it is in the partition.
+fn push_if_here(
+    lines: &mut Answer,
+    outputs: &Outputs,
+    number: usize,
+    name: &str,
+) -> Result<(), AllocError>
+    ensures { OnOk result (lines.new ≡ lines.old ++ lines_if_here outputs.now (number, name.now)) }
+{
+    if !outputs.is_output(number) {
+        return Ok(());
+    }
+    push_output(lines, outputs, number, name)
 }
 
 fn push_output(

@@ -1,16 +1,19 @@
-//! The commands that ask how the player is, and what changed (MPD protocol reference, Querying MPD's status).
-ghost use Rattle.std.specs.Prelude.{◌≡◌, IfOk, OnOk, ◌++◌, codes};
+//! The commands that ask how the player is, and what changed (MPD protocol reference, Querying MPD's status);
+//! what a client asks that changes the client alone.
+ghost use Rattle.std.specs.Prelude.{◌≡◌, IfOk, OnOk, ◌++◌, codes, Some, option_map};
 ghost use Rattle.idle_notes.specs.Notes.{waits, notice_of};
 ghost use Rattle.std.specs.Option.{option_copied};
-ghost use Rattle.status_commands.specs.Status.{ToWait, ToGoOn, audio_line, consume_text as consume_text_lem, current_duration, current_lines, current_time, digit as digit_lem, duration_line, elapsed_line, error_line, fade_line, idles, last_lines, mode_lines, next_lines_of, next_place_lines, progress_lines, queue_lines_of, result_of, resumes, scan_line, single_text as single_text_lem, song_place_lines, state_text as state_text_lem, status as status_lem, time_line, whole_seconds as whole_seconds_lem, wished};
+ghost use Rattle.status_commands.specs.Status.{ToWait, ToGoOn, audio_line, consume_text as consume_text_lem, current_duration, current_lines, current_time, digit as digit_lem, duration_line, elapsed_line, error_line, fade_line, idles, last_lines, mode_lines, next_lines_of, next_place_lines, progress_lines, queue_lines, queue_lines_of, result_of, resumes, scan_line, shown_next, single_text as single_text_lem, song_place_lines, state_text as state_text_lem, status as status_lem, time_line, whole_seconds as whole_seconds_lem, wish_of, wished};
 ghost use Rattle.mpd_text.specs.declared.answers.answer.ErrorNumber.TheVariants.{Argument};
 ghost use Rattle.transitions.specs.Answers.{Responds, refuses_command, stays};
+ghost use Rattle.mpd_command.specs.declared.command.Command.TheVariants.{Connection};
 ghost use Rattle.transitions.specs.Transitions.{IsDecidedBy};
 ghost use Rattle.player_state.specs.Fits.{Fits};
 
 use crate::stats::stats;
 use idle_notes::Subsystems;
-use mpd_command::StatusCommand;
+use known_tags::TagSet;
+use mpd_command::{Command, ConnectionCommand, StatusCommand};
 use mpd_text::{Answer, ErrorNumber, SharedText};
 use play_order::{Consume, Modes, Single};
 use player_core::Playback;
@@ -18,7 +21,9 @@ use player_state::{Client, Library, Part};
 use queue_commands::playback::{clear_error, current_song, is_stopped};
 use song_db::{Rate, duration, length_of, rounded};
 use std::alloc::{AllocError, Global};
-use transitions::{Asked, Move, Next, Response, Stand, Transition, refuses, shut, tells};
+use transitions::{
+    Asked, Move, Next, Response, Stand, Transition, refuses, shut, succeeds_and, tells,
+};
 
 /// The rows: what each command shows. By `idle` and `noidle` a client waits, so here they make nothing of the
 /// player.
@@ -88,14 +93,33 @@ fn consume_text(consume: Consume) -> &'static str
     }
 }
 
-#[tactic(auto, unfolding(crate::specs::Status::queue_lines))]
 fn push_queue(lines: &mut Answer, part: &Part) -> Result<(), AllocError>
     ensures { OnOk result (lines.new ≡ lines.old ++ queue_lines_of part.now) }
 {
-    lines.pair("partition", "default")?;
-    lines.pair("playlist", part.queue.version())?;
-    lines.pair("playlistlength", part.queue.len())?;
-    lines.pair("state", state_text(part.player.playback()))
+    push_queue_lines(
+        lines,
+        part.name.as_str(),
+        part.queue.version(),
+        part.queue.len(),
+        part.player.playback(),
+    )
+}
+
+/// The name of the partition, the version and length of its queue, and whether it plays.
+#[tactic(auto, unfolding(crate::specs::Status::queue_lines))]
+fn push_queue_lines(
+    lines: &mut Answer,
+    name: &str,
+    version: u32,
+    length: usize,
+    playback: Playback,
+) -> Result<(), AllocError>
+    ensures { OnOk result (lines.new ≡ lines.old ++ queue_lines name.now version length playback) }
+{
+    lines.pair("partition", name)?;
+    lines.pair("playlist", version)?;
+    lines.pair("playlistlength", length)?;
+    lines.pair("state", state_text(playback))
 }
 
 fn state_text(playback: Playback) -> &'static str
@@ -311,8 +335,57 @@ pub(crate) fn digit(on: bool) -> u8
     if on { 1 } else { 0 }
 }
 
+/// What a client is answered that asks to wait, to wait no more, or to be shown other tags; none, where it
+/// asks for something else.
+pub fn wish(
+    alloc: Global,
+    asked: Asked,
+    client: Client,
+    command: &Command,
+) -> Result<Option<Response>, AllocError>
+    ensures { IfOk result (λ response. response ≡ option_map (wished asked client) (wish_of command.now)) }
+{
+    match command {
+        Command::Status(StatusCommand::Idle(named)) => {
+            Ok(Some(idle(alloc, asked, client, *named)?))
+        }
+        Command::Status(StatusCommand::NoIdle) => Ok(Some(no_idle(alloc, asked, client)?)),
+        Command::Connection(command) => choose_tags(alloc, asked, client, command),
+        _ => Ok(None),
+    }
+}
+
+/// Shows a client other tags from now on, where it asks for that.
+fn choose_tags(
+    alloc: Global,
+    asked: Asked,
+    client: Client,
+    command: &ConnectionCommand,
+) -> Result<Option<Response>, AllocError>
+    ensures { IfOk result (λ response. response ≡ option_map (wished asked client) (wish_of (Connection command.now))) }
+{
+    match command {
+        ConnectionCommand::AllTags => show_next(alloc, asked, TagSet::all()),
+        ConnectionCommand::NoTags => show_next(alloc, asked, TagSet::empty()),
+        ConnectionCommand::WithTags(named) => {
+            show_next(alloc, asked, asked.tags.enable(named.items()))
+        }
+        ConnectionCommand::WithoutTags(named) => {
+            show_next(alloc, asked, asked.tags.disable(named.items()))
+        }
+        _ => Ok(None),
+    }
+}
+
+/// The client is shown these tags from now on.
+fn show_next(alloc: Global, asked: Asked, tags: TagSet) -> Result<Option<Response>, AllocError>
+    ensures { IfOk result (λ response. response ≡ Some (shown_next asked tags)) }
+{
+    Ok(Some(succeeds_and(alloc, asked, Move::Show(tags))?))
+}
+
 /// Tells a client at once of what changed already, or lets it wait.
-pub fn idle(
+fn idle(
     alloc: Global,
     asked: Asked,
     client: Client,
@@ -340,7 +413,7 @@ fn wait_for(alloc: Global, client: Client, named: Subsystems) -> Result<Response
     tells(answer.into_string(), Move::Learn)
 }
 
-pub fn no_idle(alloc: Global, asked: Asked, client: Client) -> Result<Response, AllocError>
+fn no_idle(alloc: Global, asked: Asked, client: Client) -> Result<Response, AllocError>
     ensures { Responds result (wished asked client ToGoOn) }
 {
     match asked.stand {

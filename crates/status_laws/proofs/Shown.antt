@@ -110,7 +110,7 @@ shown-of everyday part library = record {
   random = decimal (status.digit part.player.modes.random);
   single = status.single_text part.player.modes.single;
   consume = status.consume_text part.player.modes.consume;
-  partition = codes "default";
+  partition = part.name;
   playlist = decimal part.queue.version;
   playlistlength = decimal (length (queue_of part.queue));
   state = status.state_text part.player.playback;
@@ -215,12 +215,12 @@ mode-lines volume m r =
     five (pair_line (codes "volume") (decimal volume)) (pair_line (codes "repeat") (decimal (status.digit m.repeat))) (pair_line (codes "random") (decimal (status.digit m.random)))
     (pair_line (codes "single") (status.single_text m.single)) (pair_line (codes "consume") (status.consume_text m.consume)) r
 
-queue-lines : (version len : ℕ) (p : Playback) (r : List ℕ) → status.queue_lines version len p ++ r
-    ≡ pair_line (codes "partition") (codes "default") ++ (pair_line (codes "playlist") (decimal version) ++ (pair_line (codes "playlistlength") (decimal len)
+queue-lines : (name : List ℕ) (version len : ℕ) (p : Playback) (r : List ℕ) → status.queue_lines name version len p ++ r
+    ≡ pair_line (codes "partition") name ++ (pair_line (codes "playlist") (decimal version) ++ (pair_line (codes "playlistlength") (decimal len)
     ++ (pair_line (codes "state") (status.state_text p) ++ r)))
 unfolding status.queue_lines
-queue-lines version len p r =
-    four (pair_line (codes "partition") (codes "default")) (pair_line (codes "playlist") (decimal version)) (pair_line (codes "playlistlength") (decimal len))
+queue-lines name version len p r =
+    four (pair_line (codes "partition") name) (pair_line (codes "playlist") (decimal version)) (pair_line (codes "playlistlength") (decimal len))
     (pair_line (codes "state") (status.state_text p)) r
 
 song-at : (place : Option ℕ) (id : ℕ) (r : List ℕ) → status.song_lines_at place id ++ r
@@ -325,7 +325,7 @@ lines everyday part library =
     ∙ ap (λ l. line_if (codes "time") s.time ++ (line_if (codes "elapsed") s.elapsed ++ (line_if (codes "duration") s.duration ++ (line_if (codes "audio") s.audio ++ l)))) last in
     let e3 = next-lines queue next r4 ∙ ap (λ l. line_if (codes "nextsong") s.nextsong ++ (line_if (codes "nextsongid") s.nextsongid ++ l)) e4 in
     let e2 = song-lines queue part.player.current r3 ∙ ap (λ l. line_if (codes "song") s.song ++ (line_if (codes "songid") s.songid ++ l)) e3 in
-    let e1 = queue-lines part.queue.version (length (queue_of part.queue)) part.player.playback r2
+    let e1 = queue-lines part.name part.queue.version (length (queue_of part.queue)) part.player.playback r2
     ∙ ap (λ l. pair_line (codes "partition") s.partition ++ (pair_line (codes "playlist") s.playlist
     ++ (pair_line (codes "playlistlength") s.playlistlength ++ (pair_line (codes "state") s.state ++ l)))) e2 in
     mode-lines part.volume part.player.modes r1

@@ -165,7 +165,7 @@ pub record ShowsWorld (everyday : Bool) (part : Part) (library : Library) (shown
   pub random : ShowsFlag part.player.modes.random shown.random
   pub single : ShowsSingle part.player.modes.single shown.single
   pub consume : ShowsConsume part.player.modes.consume shown.consume
-  pub partition : shown.partition ≡ codes "default"
+  pub partition : shown.partition ≡ part.name
   pub playlist : shown.playlist ≡ decimal part.queue.version
   pub playlistlength : shown.playlistlength ≡ decimal (length (queue_of part.queue))
   pub state : ShowsState part.player.playback shown.state

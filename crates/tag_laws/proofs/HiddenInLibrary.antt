@@ -1,5 +1,5 @@
 -- What the commands of the library and of stored playlists, and `currentsong`, show less hidden tags.
-use Rattle.std.proofs.Common.{◌≡◌, ℕ, Bool, true, false, cond, List, [], ◌∷◌, Option, Some, None, refl, codes}
+use Rattle.std.proofs.Common.{ℕ, Bool, true, false, cond, List, [], ◌∷◌, Option, Some, None, refl, codes}
 use Rattle.std.specs.List.{flat_map}
 use Rattle.mpd_text.specs.Answers.Answer.{pair_line}
 use Rattle.mpd_text.specs.Songs.Song.{SongData}
@@ -32,14 +32,14 @@ use Rattle.mpd_command.specs.declared.playlists.PlaylistCommand.TheVariants as p
 use Rattle.mpd_command.specs.declared.status.StatusCommand.{StatusCommand}
 use Rattle.mpd_command.specs.declared.status.StatusCommand.TheVariants as status
 use Rattle.queue_commands.specs.Playback.{lines_at, lines_of_entry as entry_lines_at}
-use Rattle.queue_commands.specs.Queue.{current_place, tags_for}
-use Rattle.library_commands.specs.Database.{find_met, lines_in, lines_of_folders, lines_of_songs as song_lines, lines_with, list_info, list_place, list_root, list_song_or_folder_info, no_such_directory, show_song_or_folder, shows_playlists, uri_or_all, result_of as database_result}
+use Rattle.queue_commands.specs.Queue.{current_place}
+use Rattle.library_commands.specs.Database.{find_met, lines_in, lines_of_folders, lines_of_songs as song_lines, lines_with, list_info, list_place, list_root, list_song_or_folder_info, list_texts, no_such_directory, show_song_or_folder, shows_playlists, uri_or_all, result_of as database_result}
 use Rattle.library_commands.specs.Playlists.{on_list, refused, result_of as playlists_result}
 use Rattle.status_commands.specs.Status.{result_of as status_result}
 use Rattle.tag_laws.specs.HiddenLines.{IsShownLess, unchosen}
 use Rattle.tag_laws.specs.HiddenTags.{IsTagSet, LessTags, line, lines_of_song}
 use Rattle.tag_laws.specs.ShownSongs.{Lines, Refusal, Showing, current_lines, database_shown, folder_shown, lines_in_folder, lines_of_entry, lines_of_songs, lines_of_uri, list_shown, playlists_shown, root_shown, selection_shown, status_shown, under_shown}
-use Rattle.tag_laws.proofs.HiddenInQueue.{all-tags, answers, row-less}
+use Rattle.tag_laws.proofs.HiddenInQueue.{answers, row-less}
 use Rattle.tag_laws.proofs.HiddenLines.{less-append, less-each, less-line, less-nil, song-less}
 
 -- one test chooses what is shown, and for both
@@ -57,10 +57,10 @@ refused-same asked set NoSticker = (refl, refl)
 refused-same asked set StoreFault = (refl, refl)
 refused-same asked set NoMemory = (refl, refl)
 
-module _ (set all : List TagName) (is : IsTagSet set) (whole : all ≡ tag_names) where
-  songs-less : (library : Library) (songs : List SongData) → LessTags set (lines_of_songs library songs) (lines_with set library songs) (lines_with all library songs)
+module _ (set : List TagName) (is : IsTagSet set) where
+  songs-less : (library : Library) (songs : List SongData) → LessTags set (lines_of_songs library songs) (lines_with set library songs) (lines_with tag_names library songs)
   unfolding song_lines
-  songs-less library songs = less-each set (lines_of_song library.rate) (song_lines_with set library.rate) (song_lines_with all library.rate) (song-less set all is whole library.rate) songs
+  songs-less library songs = less-each set (lines_of_song library.rate) (song_lines_with set library.rate) (song_lines_with tag_names library.rate) (song-less set is library.rate) songs
 
   folders-less : (folders : List (List ℕ)) → LessTags set (flat_map (λ name. line (codes "directory") name ∷ []) folders) (lines_of_folders folders) (lines_of_folders folders)
   unfolding lines_of_folders
@@ -68,112 +68,108 @@ module _ (set all : List TagName) (is : IsTagSet set) (whole : all ≡ tag_names
       less-each set (λ name. line (codes "directory") name ∷ []) (pair_line (codes "directory")) (pair_line (codes "directory"))
       (λ name. less-line set (codes "directory") name refl) folders
 
-  folder-less : (library : Library) (folder : List ℕ) → LessTags set (lines_in_folder library folder) (lines_in set library folder) (lines_in all library folder)
+  folder-less : (library : Library) (folder : List ℕ) → LessTags set (lines_in_folder library folder) (lines_in set library folder) (lines_in tag_names library folder)
   folder-less library folder =
       let folders : List (List ℕ) = direct_folders folder library.songs in
       let songs : List SongData = direct_songs folder library.songs in
       less-append set (flat_map (λ name. line (codes "directory") name ∷ []) folders) (lines_of_songs library songs)
-      (lines_of_folders folders) (lines_of_folders folders) (lines_with set library songs) (lines_with all library songs) (folders-less folders) (songs-less library songs)
+      (lines_of_folders folders) (lines_of_folders folders) (lines_with set library songs) (lines_with tag_names library songs) (folders-less folders) (songs-less library songs)
 
   lists-less : (names : List (List ℕ)) → LessTags set (flat_map (λ name. line (codes "playlist") name ∷ []) names) (playlist_lines names) (playlist_lines names)
   lists-less names =
       less-each set (λ name. line (codes "playlist") name ∷ []) (λ name. pair_line (codes "playlist") name) (λ name. pair_line (codes "playlist") name)
       (λ name. less-line set (codes "playlist") name refl) names
 
-  info-less : (library : Library) (uri : List ℕ) (o : Option SongData) → LessTags set (lines_of_uri library uri o) (info set library.rate uri o) (info all library.rate uri o)
+  info-less : (library : Library) (uri : List ℕ) (o : Option SongData) → LessTags set (lines_of_uri library uri o) (info set library.rate uri o) (info tag_names library.rate uri o)
   info-less library uri None = less-line set (codes "file") uri refl
-  info-less library uri (Some song) = song-less set all is whole library.rate song
+  info-less library uri (Some song) = song-less set is library.rate song
 
   infos-less : (library : Library) (uris : List (List ℕ)) → LessTags set (flat_map (λ uri. lines_of_uri library uri (song_of library.songs uri)) uris)
-      (info_lines set library.rate library.songs uris) (info_lines all library.rate library.songs uris)
+      (info_lines set library.rate library.songs uris) (info_lines tag_names library.rate library.songs uris)
   infos-less library uris =
       less-each set (λ uri. lines_of_uri library uri (song_of library.songs uri)) (λ uri. info set library.rate uri (song_of library.songs uri))
-      (λ uri. info all library.rate uri (song_of library.songs uri)) (λ uri. info-less library uri (song_of library.songs uri)) uris
+      (λ uri. info tag_names library.rate uri (song_of library.songs uri)) (λ uri. info-less library uri (song_of library.songs uri)) uris
 
-  entry-at : (rate place : ℕ) (o : Option Entry) → LessTags set (lines_of_entry rate place o) (entry_lines_at set rate place o) (entry_lines_at all rate place o)
+  entry-at : (rate place : ℕ) (o : Option Entry) → LessTags set (lines_of_entry rate place o) (entry_lines_at set rate place o) (entry_lines_at tag_names rate place o)
   entry-at rate place None = less-nil set
-  entry-at rate place (Some entry) = row-less set all is whole rate (place, entry)
+  entry-at rate place (Some entry) = row-less set is rate (place, entry)
 
-  lines-at : (part : Part) (library : Library) (o : Option ℕ) → LessTags set (current_lines part library o) (lines_at set library.rate part.queue o) (lines_at all library.rate part.queue o)
+  lines-at : (part : Part) (library : Library) (o : Option ℕ) → LessTags set (current_lines part library o) (lines_at set library.rate part.queue o) (lines_at tag_names library.rate part.queue o)
   lines-at part library None = less-nil set
   lines-at part library (Some place) = entry-at library.rate place _
 
-module _ (asked : Asked) (part : Part) (library : Library) (is : IsTagSet (tags_for asked part)) where
+module _ (asked : Asked) (library : Library) (is : IsTagSet asked.tags) where
   abbrev set : List TagName
-  set = tags_for asked part
-
-  abbrev all : List TagName
-  all = tags_for asked (unchosen asked part)
+  set = asked.tags
 
   selection-less : (case : Case) (selection : Selection) (wanted : Wanted)
-      → IsShownLess asked set (selection_shown library case selection wanted) (find_met asked part library case selection wanted) (find_met asked (unchosen asked part) library case selection wanted)
-  selection-less case selection (Meeting e) = answers asked set _ _ _ (songs-less set all is (all-tags asked part) library _)
+      → IsShownLess asked set (selection_shown library case selection wanted) (find_met asked library case selection wanted) (find_met (unchosen asked) library case selection wanted)
+  selection-less case selection (Meeting e) = answers asked set _ _ _ (songs-less set is library _)
   selection-less case selection (Refused text) = (refl, refl)
 
-  song-shown : (song : SongData) → IsShownLess asked set (Lines (lines_of_song library.rate song)) (shows asked (song_lines_with set library.rate song)) (shows asked (song_lines_with all library.rate song))
+  song-shown : (song : SongData) → IsShownLess asked set (Lines (lines_of_song library.rate song)) (shows asked (song_lines_with set library.rate song)) (shows asked (song_lines_with tag_names library.rate song))
   song-shown song =
-      answers asked set (lines_of_song library.rate song) (song_lines_with set library.rate song) (song_lines_with all library.rate song) (song-less set all is (all-tags asked part) library.rate song)
+      answers asked set (lines_of_song library.rate song) (song_lines_with set library.rate song) (song_lines_with tag_names library.rate song) (song-less set is library.rate song)
 
-  place-less : (uri : List ℕ) (o : Option SongData) → IsShownLess asked set (folder_shown library uri o) (show_song_or_folder asked part library o uri) (show_song_or_folder asked (unchosen asked part) library o uri)
+  place-less : (uri : List ℕ) (o : Option SongData) → IsShownLess asked set (folder_shown library uri o) (show_song_or_folder asked library o uri) (show_song_or_folder (unchosen asked) library o uri)
   place-less uri (Some song) = song-shown song
   place-less uri None =
       where-test asked set (is_folder uri library.songs) (Lines (lines_in_folder library uri)) Refusal
-      (shows asked (lines_in set library uri)) (no_such_directory asked) (shows asked (lines_in all library uri)) (no_such_directory asked)
-      (answers asked set _ _ _ (folder-less set all is (all-tags asked part) library uri)) (refl, refl)
+      (shows asked (lines_in set library uri)) (no_such_directory asked) (shows asked (lines_in tag_names library uri)) (no_such_directory asked)
+      (answers asked set _ _ _ (folder-less set is library uri)) (refl, refl)
 
-  root-less : (read : Read) → IsShownLess asked set (root_shown library read) (list_root asked part library read) (list_root asked (unchosen asked part) library read)
+  root-less : (read : Read) → IsShownLess asked set (root_shown library read) (list_root asked library read) (list_root (unchosen asked) library read)
   root-less (read_variant.Names names) =
       answers asked set _ _ _ (less-append set (lines_in_folder library []) (flat_map (λ name. line (codes "playlist") name ∷ []) names)
-      (lines_in set library []) (lines_in all library []) (playlist_lines names) (playlist_lines names)
-      (folder-less set all is (all-tags asked part) library []) (lists-less set all is (all-tags asked part) names))
+      (lines_in set library []) (lines_in tag_names library []) (playlist_lines names) (playlist_lines names)
+      (folder-less set is library []) (lists-less set is names))
   root-less (read_variant.Refused fault) = refused-same asked set fault
   root-less _ = (refl, refl)
 
   info-shown : (read : Read) (uri : List ℕ) (everyday : Bool) → IsShownLess asked set (cond (shows_playlists uri everyday) (root_shown library read) (folder_shown library uri (song_of library.songs uri)))
-      (list_info asked part library read uri everyday) (list_info asked (unchosen asked part) library read uri everyday)
+      (list_info asked library read uri everyday) (list_info (unchosen asked) library read uri everyday)
   info-shown read uri everyday =
       where-test asked set (shows_playlists uri everyday) (root_shown library read) (folder_shown library uri (song_of library.songs uri))
-      (list_root asked part library read) (list_place asked part library uri) (list_root asked (unchosen asked part) library read) (list_place asked (unchosen asked part) library uri)
+      (list_root asked library read) (list_place asked library uri) (list_root (unchosen asked) library read) (list_place (unchosen asked) library uri)
       (root-less read) (place-less uri (song_of library.songs uri))
 
   under-less : (uri : List ℕ) (o : Option SongData)
-      → IsShownLess asked set (under_shown library uri o) (list_song_or_folder_info asked part library o uri) (list_song_or_folder_info asked (unchosen asked part) library o uri)
+      → IsShownLess asked set (under_shown library uri o) (list_song_or_folder_info asked library o uri) (list_song_or_folder_info (unchosen asked) library o uri)
   under-less uri (Some song) = song-shown song
   under-less uri None =
       where-test asked set (is_folder uri library.songs) (Lines (lines_of_songs library (under uri library.songs))) Refusal
-      (shows asked (lines_with set library (under uri library.songs))) (no_such_directory asked) (shows asked (lines_with all library (under uri library.songs))) (no_such_directory asked)
-      (answers asked set _ _ _ (songs-less set all is (all-tags asked part) library (under uri library.songs))) (refl, refl)
+      (shows asked (lines_with set library (under uri library.songs))) (no_such_directory asked) (shows asked (lines_with tag_names library (under uri library.songs))) (no_such_directory asked)
+      (answers asked set _ _ _ (songs-less set is library (under uri library.songs))) (refl, refl)
 
   list-less : (read : Read) → IsShownLess asked set (list_shown library read)
-      (on_list asked read (λ uris. shows asked (info_lines set library.rate library.songs uris))) (on_list asked read (λ uris. shows asked (info_lines all library.rate library.songs uris)))
-  list-less (read_variant.List uris) = answers asked set _ _ _ (infos-less set all is (all-tags asked part) library uris)
+      (on_list asked read (λ uris. shows asked (info_lines set library.rate library.songs uris))) (on_list asked read (λ uris. shows asked (info_lines tag_names library.rate library.songs uris)))
+  list-less (read_variant.List uris) = answers asked set _ _ _ (infos-less set is library uris)
   list-less (read_variant.Refused fault) = refused-same asked set fault
   list-less _ = (refl, refl)
 
-pub database_less : (asked : Asked) (part : Part) (library : Library) (read : Read) (it : DatabaseCommand) → IsTagSet (tags_for asked part)
-    → IsShownLess asked (tags_for asked part) (database_shown library read it) (database_result asked part library read it) (database_result asked (unchosen asked part) library read it)
-unfolding database_result
-database_less asked part library read (database.Find selection) is = selection-less asked part library is Heeded selection selection.wanted
-database_less asked part library read (database.ListAllInfo uri) is = under-less asked part library is (uri_or_all uri) (song_of library.songs (uri_or_all uri))
-database_less asked part library read (database.LsInfo uri everyday) is = info-shown asked part library is read (uri_or_all uri) everyday
-database_less asked part library read (database.Search selection) is = selection-less asked part library is Ignored selection selection.wanted
+pub database_less : (asked : Asked) (part : Part) (library : Library) (read : Read) (it : DatabaseCommand) → IsTagSet asked.tags
+    → IsShownLess asked asked.tags (database_shown library read it) (database_result asked part library read it) (database_result (unchosen asked) part library read it)
+unfolding database_result list_texts
+database_less asked part library read (database.Find selection) is = selection-less asked library is Heeded selection selection.wanted
+database_less asked part library read (database.ListAllInfo uri) is = under-less asked library is (uri_or_all uri) (song_of library.songs (uri_or_all uri))
+database_less asked part library read (database.LsInfo uri everyday) is = info-shown asked library is read (uri_or_all uri) everyday
+database_less asked part library read (database.Search selection) is = selection-less asked library is Ignored selection selection.wanted
 database_less asked part library read _ is = refl
 
-pub playlists_less : (asked : Asked) (part : Part) (library : Library) (read : Read) (it : PlaylistCommand) → IsTagSet (tags_for asked part)
-    → IsShownLess asked (tags_for asked part) (playlists_shown library read it) (playlists_result asked part library read it) (playlists_result asked (unchosen asked part) library read it)
+pub playlists_less : (asked : Asked) (part : Part) (library : Library) (read : Read) (it : PlaylistCommand) → IsTagSet asked.tags
+    → IsShownLess asked asked.tags (playlists_shown library read it) (playlists_result asked part library read it) (playlists_result (unchosen asked) part library read it)
 unfolding playlists_result
 playlists_less asked part library read (playlists.ListPlaylistInfo name) is =
-    let tags : List TagName = tags_for asked part in
-    let others : List TagName = tags_for asked (unchosen asked part) in
+    let tags : List TagName = asked.tags in
     where-test asked tags (is_list_name name) (list_shown library read) Refusal
     (on_list asked read (λ uris. shows asked (info_lines tags library.rate library.songs uris))) (bad_name asked name)
-    (on_list asked read (λ uris. shows asked (info_lines others library.rate library.songs uris))) (bad_name asked name)
-    (list-less asked part library is read) (refl, refl)
+    (on_list asked read (λ uris. shows asked (info_lines tag_names library.rate library.songs uris))) (bad_name asked name)
+    (list-less asked library is read) (refl, refl)
 playlists_less asked part library read _ is = refl
 
-pub status_less : (asked : Asked) (part : Part) (library : Library) (it : StatusCommand) → IsTagSet (tags_for asked part)
-    → IsShownLess asked (tags_for asked part) (status_shown part library it) (status_result asked part library it) (status_result asked (unchosen asked part) library it)
+pub status_less : (asked : Asked) (part : Part) (library : Library) (it : StatusCommand) → IsTagSet asked.tags
+    → IsShownLess asked asked.tags (status_shown part library it) (status_result asked part library it) (status_result (unchosen asked) part library it)
 unfolding status_result
 status_less asked part library status.CurrentSong is =
-    answers asked (tags_for asked part) _ _ _ (lines-at (tags_for asked part) (tags_for asked (unchosen asked part)) is (all-tags asked part) part library (current_place part))
+    answers asked asked.tags _ _ _ (lines-at asked.tags is part library (current_place part))
 status_less asked part library _ is = refl

@@ -91,25 +91,23 @@ tags-less set tags (name ∷ names) =
     ] in
     goes (has name set) refl
 
-pub song-less : (set all : List TagName) → IsTagSet set → all ≡ tag_names
-    → (rate : ℕ) (song : SongData) → LessTags set (lines_of_song rate song) (song_lines_with set rate song) (song_lines_with all rate song)
-song-less set all is whole rate song =
+pub song-less : (set : List TagName) → IsTagSet set
+    → (rate : ℕ) (song : SongData) → LessTags set (lines_of_song rate song) (song_lines_with set rate song) (song_lines_with tag_names rate song)
+song-less set is rate song =
     let lines : List Line = flat_map (lines-of song.tags) tag_names in
-    let tags : LessTags set lines (tag_lines_of set song.tags) (tag_lines_of all song.tags)
-    = subst (λ (s : List TagName). LessTags set lines (tag_lines_of s song.tags) (tag_lines_of all song.tags)) (sym is)
-    (subst (λ (s : List TagName). LessTags set lines (tag_lines_of (filter (λ name. has name set) tag_names) song.tags) (tag_lines_of s song.tags)) (sym whole)
-    (tags-less set song.tags tag_names)) in
+    let tags : LessTags set lines (tag_lines_of set song.tags) (tag_lines_of tag_names song.tags)
+    = subst (λ (s : List TagName). LessTags set lines (tag_lines_of s song.tags) (tag_lines_of tag_names song.tags)) (sym is) (tags-less set song.tags tag_names) in
     let rounded : List ℕ = decimal (seconds_rounded (millis rate song.frames)) in
     let exact : List ℕ = duration_text (millis rate song.frames) in
     let file : List ℕ = pair_line (codes "file") song.uri in
     let time : List ℕ = pair_line (codes "Time") rounded in
     let long : List ℕ = pair_line (codes "duration") exact in
     let last : List Line = line (codes "Time") rounded ∷ line (codes "duration") exact ∷ [] in
-    less-append set (line (codes "file") song.uri ∷ []) (lines ++ last) file file (tag_lines_of set song.tags ++ (time ++ long)) (tag_lines_of all song.tags ++ (time ++ long))
+    less-append set (line (codes "file") song.uri ∷ []) (lines ++ last) file file (tag_lines_of set song.tags ++ (time ++ long)) (tag_lines_of tag_names song.tags ++ (time ++ long))
     (less-line set (codes "file") song.uri refl)
-    (less-append set lines last (tag_lines_of set song.tags) (tag_lines_of all song.tags) (time ++ long) (time ++ long) tags
+    (less-append set lines last (tag_lines_of set song.tags) (tag_lines_of tag_names song.tags) (time ++ long) (time ++ long) tags
     (less-append set (line (codes "Time") rounded ∷ []) (line (codes "duration") exact ∷ []) time time long long
     (less-line set (codes "Time") rounded refl) (less-line set (codes "duration") exact refl)))
 
 pub songs_show_less : SongsShowLess
-songs_show_less set is rate song = song-less set tag_names is refl rate song
+songs_show_less set is rate song = song-less set is rate song

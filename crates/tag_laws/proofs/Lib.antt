@@ -3,7 +3,4 @@ pub mod HiddenInQueue
 pub mod HiddenInLibrary
 pub mod SetsOfTags
 pub mod HiddenAnswers
-pub mod KeptInQueue
-pub mod KeptInStatus
-pub mod KeptInLibrary
-pub mod KeptTags
+pub mod ChosenTags

@@ -1,10 +1,8 @@
 -- What a client that has chosen tags is shown by each command: what it would be shown with all tags, less the
 -- lines of the tags that are not in its set (MPD protocol reference, Connection settings: `tagtypes`).
 use Rattle.std.specs.Prelude.{◌≡◌, true, List}
+use Rattle.mpd_text.specs.Songs.Tags.{tag_names}
 use Rattle.mpd_text.specs.declared.songs.song.TagName.{TagName}
-use Rattle.client_tags.specs.Choices.{without}
-use Rattle.player_state.specs.Effects.{tags_after}
-use Rattle.player_state.specs.declared.effect.Effect.TheVariants.{ByCommand}
 use Rattle.player_state.specs.declared.state.Library.{Library}
 use Rattle.player_state.specs.declared.state.Part.{Part}
 use Rattle.transitions.specs.CommandResults.{shows}
@@ -12,14 +10,13 @@ use Rattle.transitions.specs.Transitions.{CommandResult}
 use Rattle.transitions.specs.declared.asked.Asked.{Asked}
 use Rattle.transitions.specs.declared.shelf_calls.Read.{Read}
 use Rattle.mpd_command.specs.declared.command.Command.{Command}
-use Rattle.queue_commands.specs.Queue.{tags_for}
-use Rattle.tag_laws.specs.HiddenTags.{ChoicesAreSets, shown, text_of}
+use Rattle.tag_laws.specs.HiddenTags.{IsTagSet, shown, text_of}
 use Rattle.tag_laws.specs.Results.{result_of}
 use Rattle.tag_laws.specs.ShownSongs.{Lines, NoSongs, OwnTags, Refusal, Showing, showing_of}
 
--- the player, where the client that asks has chosen no tags, and so is shown all of them
-abbrev pub unchosen : Asked → Part → Part
-unchosen asked part = record part { tags = without asked.client part.tags }
+-- the same asked by a client that has chosen no tags, and so is shown all of them
+abbrev pub unchosen : Asked → Asked
+unchosen asked = record asked { tags = tag_names }
 
 -- of two clients, the first with a set of tags and the second with all of them, the second is shown all these
 -- lines, and the first those that are not hidden from it; a refusal, and what has nothing to do with songs,
@@ -36,13 +33,6 @@ IsShownLess asked set OwnTags less whole = Unit {0}
 abbrev pub HiddenTagsAreLeftOut : Type 0
 HiddenTagsAreLeftOut =
     (asked : Asked) (part : Part) (library : Library) (read : Read) (it : Command)
-    → ChoicesAreSets part.tags
-    → IsShownLess asked (tags_for asked part) (showing_of part library read it)
-    (result_of asked part library read it) (result_of asked (unchosen asked part) library read it)
-
--- each choice stays a set of tags, whatever a command does
-abbrev pub ChoicesStaySets : Type 0
-ChoicesStaySets =
-    (asked : Asked) (part : Part) (library : Library) (read : Read) (it : Command)
-    → ChoicesAreSets part.tags
-    → ChoicesAreSets (tags_after part.tags (ByCommand (result_of asked part library read it).effect))
+    → IsTagSet asked.tags
+    → IsShownLess asked asked.tags (showing_of part library read it)
+    (result_of asked part library read it) (result_of (unchosen asked) part library read it)

@@ -10,7 +10,6 @@ use Rattle.mpd_text.specs.declared.songs.song.TagName.{TagName}
 use Rattle.song_db.specs.Lines.{duration_text, first_tag, millis, seconds_rounded}
 use Rattle.known_tags.specs.Lines.{song_lines_with}
 use Rattle.known_tags.specs.Sets.{has}
-use Rattle.client_tags.specs.declared.clients.ChosenTags.{ChosenTags}
 
 -- a line of an answer: a name and a text
 pub record Line : Type 0 where
@@ -54,11 +53,6 @@ lines_of_song rate song =
 -- a set of tags, as clients have them: in the order of answers, each once
 abbrev pub IsTagSet : List TagName → Type 0
 IsTagSet set = set ≡ filter (λ name. has name set) tag_names
-
--- each choice of a client is such a set
-abbrev pub ChoicesAreSets : List ChosenTags → Type 0
-ChoicesAreSets [] = Unit {0}
-ChoicesAreSets (one ∷ others) = IsTagSet one.tags × ChoicesAreSets others
 
 -- what is shown of a song with a set of tags are its lines, less those of the tags that are not in the set
 abbrev pub SongsShowLess : Type 0

@@ -2,3 +2,4 @@ pub mod HiddenTags
 pub mod ShownSongs
 pub mod Results
 pub mod HiddenLines
+pub mod ChosenTags

@@ -26,6 +26,6 @@ result_of asked part library read (command.Queue it) = queue_result asked part l
 result_of asked part library read (command.Playlists it) = playlists_result asked part library read it
 result_of asked part library read (command.Database it) = database_result asked part library read it
 result_of asked part library read (command.Stickers it) = stickers_result asked library read it
-result_of asked part library read (command.Connection it) = connection_result asked part it
+result_of asked part library read (command.Connection it) = connection_result asked it
 result_of asked part library read (command.Outputs it) = outputs_result asked part it
 result_of asked part library read (command.Messages it) = messages_result asked part it

@@ -167,10 +167,6 @@ status_shown part library _ = NoSongs
 -- what the commands of the connection show
 abbrev pub connection_shown : ConnectionCommand → Showing
 connection_shown connection.TagTypes = OwnTags
-connection_shown connection.AllTags = OwnTags
-connection_shown connection.NoTags = OwnTags
-connection_shown (connection.WithoutTags named) = OwnTags
-connection_shown (connection.WithTags named) = OwnTags
 connection_shown _ = NoSongs
 
 -- what each command shows of songs

@@ -1,8 +1,6 @@
-//! Tests of the tags that clients know, of sets of tags, and of the sets that clients choose.
+//! Tests of the tags that clients know, and of sets of tags.
 #![tactic(auto)]
 
-#[cfg(test)]
-mod client_sets;
 #[cfg(test)]
 mod known_names;
 #[cfg(test)]

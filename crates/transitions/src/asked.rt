@@ -3,6 +3,7 @@ ghost use Rattle.std.specs.Prelude.{◌≡◌};
 ghost use Rattle.transitions.specs.Answers.{place_of};
 
 use command_lists::ListForm;
+use known_tags::TagSet;
 use mpd_command::Name;
 
 /// How a line comes.
@@ -25,10 +26,12 @@ impl Stand {
     }
 }
 
-/// What an answer is made for: a command of a client, and how its line comes.
+/// What an answer is made for: a command of a client, the tags that this client is shown, and how its line
+/// comes.
 #[derive(Clone, Copy)]
 pub struct Asked {
     pub client: u32,
+    pub tags: TagSet,
     pub name: Name,
     pub stand: Stand,
 }

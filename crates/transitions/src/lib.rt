@@ -12,6 +12,8 @@ mod transition;
 pub use asked::{Asked, Stand};
 pub use refusals::{Refusals, shelf_refuses};
 pub use reply::{Move, Next, Reply};
-pub use response::{Response, refuses, refuses_line, shows, shut, shut_down, succeeds, tells};
+pub use response::{
+    Response, refuses, refuses_line, shows, shut, shut_down, succeeds, succeeds_and, tells,
+};
 pub use shelf_calls::{Entries, Names, Read, ShelfWrite, StoreReply};
 pub use transition::{Telling, Transition};

@@ -2,6 +2,7 @@
 ghost use Rattle.std.specs.Prelude.{◌≡◌};
 
 use idle_notes::Subsystems;
+use known_tags::TagSet;
 use mpd_text::SharedText;
 use std::marker::Model;
 
@@ -32,7 +33,7 @@ impl Next {
     }
 }
 
-/// What an event does to what is pending for the client that it comes from.
+/// What an event does to the client that it comes from.
 #[derive(Clone, Copy, Debug, PartialEq, Eq)]
 pub enum Move {
     Stay,
@@ -44,6 +45,8 @@ pub enum Move {
     Resume,
     /// It comes.
     Join,
+    /// It is shown these tags from now on.
+    Show(TagSet),
 }
 
 /// The bytes for the client that spoke, what becomes of it, and whether it was refused something.

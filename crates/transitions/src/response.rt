@@ -107,6 +107,15 @@ pub fn succeeds(alloc: Global, asked: Asked) -> Result<Response, AllocError>
     shows(asked, Answer::new(alloc))
 }
 
+/// A success that shows no lines, by which the client that asks does this.
+pub fn succeeds_and(alloc: Global, asked: Asked, moves: Move) -> Result<Response, AllocError>
+    ensures { Responds result (record { answer = succeeds_lem asked.stand (codes ""); move = moves }) }
+{
+    let mut nothing = Answer::new(alloc);
+    end(&mut nothing, asked.stand)?;
+    tells(nothing.into_string(), moves)
+}
+
 /// A success that shows these lines.
 pub fn shows(asked: Asked, lines: Answer) -> Result<Response, AllocError>
     ensures { Responds result (stays (succeeds_lem asked.stand lines)) }

@@ -1,6 +1,7 @@
-use Rattle.std.proofs.Common.{◌≡◌, ◌∙◌, ◌++◌, ℕ, [], List, ap, sym, append-nil, rules}
+use Rattle.std.proofs.Common.{◌≡◌, ◌∙◌, ◌++◌, [], List, ap, sym, append-nil, rules}
 use Rattle.std.specs.List.{flat_map}
 use Rattle.idle_notes.specs.declared.sets.Subsystems.{Subsystems}
+use Rattle.player_state.specs.declared.state.Client.{Client}
 use Rattle.idle_clients.specs.Clients.{notice_for}
 use Rattle.idle_clients.specs.declared.notices.Notice.{Notice}
 use Rattle.idle_clients.specs.Rooms.{listed}
@@ -13,5 +14,5 @@ pub returns-then-is_nothing-clause-notices : goal.returns-then-is_nothing-clause
 returns-then-is_nothing-clause-notices c =
     let none : raised_in c.args.raised.now ≡ nothing = search rules in
     let untold : flat_map (notice_for (raised_in c.args.raised.now)) c.args.clients.now ≡ [] =
-    ap (λ (r : ℕ → Subsystems). flat_map (notice_for r) c.args.clients.now) none ∙ no_notices c.args.clients.now c.requires.settled in
+    ap (λ (r : Client → Subsystems). flat_map (notice_for r) c.args.clients.now) none ∙ no_notices c.args.clients.now c.requires.settled in
     sym (ap (λ (l : List Notice). listed c.args.notices.now ++ l) untold ∙ append-nil (listed c.args.notices.now))

@@ -1,6 +1,6 @@
 use Rattle.tag_laws.proofs.HiddenAnswers.{hidden_tags_are_left_out}
 use Rattle.tag_laws.proofs.HiddenLines.{songs_show_less}
-use Rattle.tag_laws.proofs.KeptTags.{choices_stay_sets}
+use Rattle.tag_laws.proofs.ChosenTags.{tags_stay_sets}
 use Rattle.tag_laws.proofs.showing.hidden_tags_are_left_out.Goals as goal
 
 pub returns-clause-songs : goal.returns-clause-songs
@@ -10,4 +10,4 @@ pub returns-clause-answers : goal.returns-clause-answers
 returns-clause-answers c = hidden_tags_are_left_out
 
 pub returns-clause-sets : goal.returns-clause-sets
-returns-clause-sets c = choices_stay_sets
+returns-clause-sets c = tags_stay_sets

@@ -3,7 +3,7 @@ use Rattle.partition.proofs.partition.Partition.open.Goals as goal
 
 pub invariant_of-result : goal.invariant_of-result
 invariant_of-result c =
-    let opened = c.opening-state.ensures in
+    let opened = c.in_ok-state.ensures in
     let copied = c.in_ok-base.ensures in
     record {
       room = c.requires.history;

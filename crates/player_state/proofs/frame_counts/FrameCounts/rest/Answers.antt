@@ -8,5 +8,5 @@ returns-clause-counted c =
     ap can_count_all (sym c.self.view_is) ∙ all_counted c.self.inside.decoded c.self.inside.written c.self.inside.discarded c.self.invariant.3 c.self.invariant.4 c.self.invariant.5
 
 pub returns-clause-same : goal.returns-clause-same
-returns-clause-same c = λ outputs.
-    rw (← c.self.view_is) (rests_same outputs c.self.inside.decoded c.self.inside.written c.self.inside.discarded c.self.invariant.0 c.self.invariant.1 c.self.invariant.2)
+returns-clause-same c =
+    rw (← c.self.view_is) (rests_same c.self.inside.decoded c.self.inside.written c.self.inside.discarded c.self.invariant.0 c.self.invariant.1 c.self.invariant.2)
