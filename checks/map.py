@@ -1,0 +1,373 @@
+#!/usr/bin/env python3
+"""The drawings of docs/MAP.md, made from crates.txt and the sources.
+
+    checks/map.py              says whether they are as they are drawn here, and what a drawing says that is not so
+    checks/map.py --write      writes them there
+
+The crates and what they stand on are those of crates.txt. What is drawn beside them stands in the tables below, and each line of these
+is looked up: a room has each library once and stands on no room above it; a call is in its crate, and the crate of a step stands on that of
+the step which it makes; a field is one of the struct, and none is left out; a definition is in its file, a law and a clause in their crate.
+The exit status is 1 where something differs.
+"""
+import os
+import re
+import sys
+
+sys.dont_write_bytecode = True
+
+from crates import table_of
+
+TOP = os.path.dirname(os.path.dirname(os.path.abspath(__file__)))
+MAP = 'docs/MAP.md'
+TESTS = re.compile(r'_tests$|^(?:worked_rows|daemon_day|player_sessions)$')
+
+# the rooms, the highest first
+ROOMS = [
+    ('the program', 'music_daemon shelf_file serving scan_report settings command_line'),
+    ('clients', 'mpd_server mpd_session mpd_answers'),
+    ("the house's threads", 'crew crew_steps'),
+    ('the house', 'house held_player counted_player'),
+    ('scripts', 'daemon_script script_reports script_lines'),
+    ('laws', 'profile_laws tag_laws status_laws'),
+    ('one-thread player', 'partition player_events idle_clients'),
+    ('commands', 'queue_commands library_commands status_commands transitions shelf_contents player_state'),
+    ('requests', 'mpd_command selections command_arguments command_lists'),
+    ('the shelf', 'shelf_database shelf'),
+    ('what is played', 'player_core play_order song_queue queue_slots idle_notes'),
+    ('songs', 'song_groups song_search filters known_tags library_scan song_db'),
+    ('sound', 'frame_ledger output_ring wave pcm_mix'),
+    ('texts, devices', 'mpd_text counted_devices'),
+]
+
+# A way: a step is its depth, crate, call and what it does; a step stands on the one above it that is less deep. A text alone is a mark.
+LINE = [
+    (0, 'mpd_server', 'Server::serve', 'one loop over all sockets; a turn for each that is ready'),
+    (1, 'mpd_session', 'Session::turn', 'bytes are read, and unsent bytes written'),
+    (2, 'mpd_text', 'Splitter::feed', 'bytes become lines'),
+    (2, 'mpd_answers', 'Gatherer::take', 'a line alone, or a whole command list'),
+    (2, 'mpd_answers', 'ask', ''),
+    (3, 'mpd_command', 'Request::of_line', 'a typed command, or the first refusal'),
+    (3, 'house', 'House::command', 'or `list`'),
+    '---- the lock is taken',
+    (4, 'held_player', 'Held::command', 'a notice that waits comes in front'),
+    (5, 'counted_player', 'Counted::apply', "the event is counted in the seat's book"),
+    (6, 'partition', 'Partition::apply', 'a full window is folded; the shelf is asked'),
+    (7, 'queue_commands', 'run', 'or another group: a transition, nothing changed yet'),
+    (7, 'transitions', 'Transition::carry_out', 'the part and the library change'),
+    (7, 'idle_clients', 'notify_all', 'what was raised is pending, and who waits is told'),
+    '---- the lock is free',
+    (2, 'mpd_answers', 'Owed::push_to', 'the answer joins the unsent bytes'),
+]
+FRAME = [
+    (0, 'crew_steps', 'Decoder::run', "the decoder's thread"),
+    (1, 'house', 'House::notice', 'lock: a want is given a job'),
+    (1, 'wave', 'Reader::frames_at', 'frames of the song, and of the one that it fades into'),
+    (1, 'house', 'House::have', 'lock: for which outputs, of which cut, at which volume'),
+    (1, 'pcm_mix', 'mix', 'faded, then at the volume'),
+    (1, 'output_ring', 'Feeder::take', 'into the ring of each of these outputs'),
+    '---- the ring: no lock, nothing waits',
+    (0, 'crew_steps', 'Draining::run', "an output's thread"),
+    (1, 'output_ring', 'Drainer::pop', 'into its hand'),
+    (1, 'house', 'House::turn', 'lock: fates are told; the live cut, enabled, paused'),
+    (1, 'output_ring', 'Drainer::write_out', 'each frame of the hand is written or discarded'),
+    '---- the end',
+    (0, 'crew', 'close', 'all threads are joined'),
+    (1, 'house', 'House::settle_all', 'lock'),
+    (2, 'frame_ledger', 'settle', 'ring and books agree, or it is said why not'),
+]
+
+# What the lock holds: depth, crate, struct and its fields with what they are; None for what no contract speaks of.
+HELD = [
+    (0, 'house', 'House', {'held': 'the lock', 'state_changed': None, 'notices_wait': None}),
+    (1, 'held_player', 'Held', {
+        'counted': 'the player, below', 'waiting': 'notices that were not handed out', 'books': 'frames decoded, written, discarded',
+        'free': 'seats that nobody has', 'closed': 'all shares, once outputs are settled', 'alloc': None, 'changes': None}),
+    (2, 'counted_player', 'Counted', {'partition': 'below', 'seats': 'the book of each counted seat'}),
+    (3, 'partition', 'Partition', {
+        'base': 'the state that the window begins at', 'history': 'the window of events', 'state': 'the present one, below',
+        'limit': 'the most events of the window', 'bytes': None, 'alloc': None}),
+    (4, 'partition', 'State', {
+        'part': 'below', 'library': 'the songs, and the scan', 'made': 'events of each seat', 'books': 'frames of each output',
+        'ended': 'whether the daemon has', 'clients': 'tags, what they wait for, what is pending'}),
+    (5, 'player_state', 'Part', {
+        'place': 'its number', 'name': None, 'queue': 'slots, stamps, ids', 'player': 'what is played', 'volume': None,
+        'outputs': 'which are enabled or failed', 'channels': 'who listens, and messages', 'played': None}),
+]
+
+# The theorems: what is promised; the call that carries it and its clause; the file and definition that the clause names; laws of that.
+THEOREMS = [
+    'whenever the lock is free',
+    ('held_player', 'Held::history', 'legal', 'partition/Legal', 'IsPast', ''),
+    ('held_player', 'Held::history', 'books', 'partition/Image', 'books', ''),
+    'song ids are distinct',
+    ('partition', 'Partition::history', 'distinct', 'song_queue/State', 'queue_of', 'song_queue: ids_are_distinct ids_never_return'),
+    'each slot has the version that last changed it',
+    ('partition', 'Partition::history', 'legal', 'partition/Legal', 'IsPast', ''),
+    ('partition', 'Partition::history', 'present', 'partition/History', 'replay',
+     'partition: replays_worlds; song_queue: edits_follow_past'),
+    ('song_queue', 'Queue::changed_since', 'patches', 'song_queue/Laws', 'PatchesEarlier', 'song_queue: patches_give_present'),
+    'a pending set is what changed since the last notice',
+    ('partition', 'Partition::history', 'pending', 'partition/Since', 'HasPendingSince', 'partition: reads_pending'),
+    'every reply is the one-thread player\'s at its place',
+    ('partition', 'Partition::apply', 'ok', 'partition/Lent', 'RecordsOnce', 'partition: replays_worlds'),
+    ('partition', 'Partition::apply', 'refused', 'partition/Lent', 'Refuses', ''),
+    ('partition', 'Partition::run_list', 'ok', 'partition/Lists', 'RunsList', 'partition: entries_are_whole'),
+    ('partition', 'Partition::fold', 'ok', 'partition/History', 'folded', 'partition: folds_are_unseen'),
+    ('house', 'House::command', 'somewhere', 'held_player/Views', 'AnswersClient', ''),
+    ('mpd_session', 'Session::turn', 'turns', 'mpd_session/Sessions', 'Turns',
+     'mpd_session: turns_join any_cut_of_bytes; mpd_answers: lines_ask_for'),
+    ('daemon_script', 'run_script', 'ok', 'daemon_script/Output', 'WritesOutput', 'daemon_script: runs_are_traced'),
+    'decoded frames are written or discarded, in order, then left',
+    ('crew', 'close', 'settled', 'crew/Closing', 'ClosesRuns', ''),
+    ('held_player', 'Held::settle_all', 'settles', 'held_player/Settling', 'SettlesInTurn', ''),
+    ('frame_ledger', 'settle', 'balances', 'frame_ledger/Balance', 'Balances', ''),
+    ('output_ring', 'Drainer::write_out', 'played', 'output_ring/Turns', 'WritesHand', ''),
+    'what the commands are',
+    ('mpd_text', 'words', 'found', 'mpd_text/Lines/Words', 'AreWordsOf', 'mpd_text: one_reading some_reading any_cut'),
+    ('mpd_command', 'Request::of_line', '', 'mpd_command/Requests', 'request_of', 'profile_laws: base_profile_asks_for_no_more'),
+    ('queue_commands', 'run', 'transition', 'transitions/Transitions', 'IsDecidedBy',
+     'status_laws: status_shows_world; tag_laws: hidden_tags_are_left_out'),
+    'what comes next',
+    ('play_order', 'Round::after_next', 'round', 'play_order/Ends', 'round_after', 'play_order: one_follows chooses_unplayed rounds_go_on'),
+    ('player_core', 'Player::next', 'ok', 'player_core/Steps', 'after_next', 'player_core: next_goes_on rounds_play_each_once'),
+    ('player_core', 'Player::have', 'feed', 'player_core/Decoding', 'have', 'player_core: feeds_once feeds_as_asked'),
+    'songs, files, the shelf',
+    ('filters', 'Filter::parse', 'answer', 'filters/Answers', 'IsAnswer', 'filters: one_answer parsed_is_the_answer'),
+    ('filters', 'Filter::matches', 'truth', 'filters/Truth', 'Holds', 'song_search: meets_is_truth'),
+    ('song_groups', 'order', 'order', 'song_groups/Order', 'IsStablyOrdered', 'song_groups: one_order'),
+    ('library_scan', 'scan_disk', 'scan', 'library_scan/Trees', 'IsScanOf', ''),
+    ('wave', 'read_head', 'value', 'wave/Waves', 'wave_of', 'wave: chunks_are_those_of_the_bytes'),
+    ('pcm_mix', 'mix', '', 'pcm_mix/Blocks', 'block_of', ''),
+    ('shelf_database', 'SqlShelf::over', 'opened', 'shelf_database/Opens', 'Opens', ''),
+    ('settings', 'settings', 'taken', 'settings/Values', 'Says', 'settings: one_cause'),
+    ('command_line', 'command_line', 'asks', 'command_line/Programs', 'Asks', 'command_line: readings'),
+]
+
+
+def read(path):
+    with open(os.path.join(TOP, path), encoding='utf-8') as file:
+        return file.read()
+
+
+def code_of(crate, part='src', ending='.rt'):
+    """The files of a crate's part, joined."""
+    texts = []
+    for at, folders, names in os.walk(os.path.join(TOP, 'crates', crate, part)):
+        folders.sort()
+        texts += [read(os.path.relpath(os.path.join(at, name), TOP)) for name in sorted(names) if name.endswith(ending)]
+    return '\n'.join(texts)
+
+
+def below():
+    """Of each crate those of crates.txt that its line names."""
+    lines = table_of(TOP)
+    return {crate: [it for it in line.split(':')[1].split() if it in lines] for crate, line in lines.items()}
+
+
+def all_below(crate, deps, found=None):
+    found = set() if found is None else found
+    for it in deps[crate]:
+        if it not in found:
+            found.add(it)
+            all_below(it, deps, found)
+    return found
+
+
+# ---- what the tables say that is not so
+
+def wrong_rooms(deps):
+    place = {crate: at for at, (_, crates) in enumerate(ROOMS) for crate in crates.split()}
+    libraries = [crate for crate in deps if not TESTS.search(crate)]
+    yield from ('%s is in no room' % crate for crate in libraries if crate not in place)
+    yield from ('%s is in a room and not in crates.txt' % crate for crate in place if crate not in deps)
+    for crate in libraries:
+        for it in deps[crate]:
+            if it in place and crate in place and place[it] < place[crate]:
+                yield '%s stands on %s of a room above it' % (crate, it)
+
+
+def clauses_of(crate, call):
+    """Of each function of a call's name in a crate the clauses, by their names; one without a name is ''."""
+    text = code_of(crate)
+    for found in re.finditer(r'\bfn %s\b' % call.split('::')[-1], text):
+        head = re.split(r'\n(?:    )?\{|\n(?:    )?}', text[found.end():], maxsplit=1)[0]
+        yield dict(re.findall(r'(?s)ensures (\w*) ?\{(.*?)(?=ensures|\Z)', head))
+
+
+def has_call(crate, call, clause='', definition=''):
+    """Whether a crate has a call, whose clause names a definition."""
+    return any(not definition or re.search(r'\b%s(?:_lem)?\b' % definition, clauses.get(clause, '')) for clauses in clauses_of(crate, call))
+
+
+def wrong_way(name, way, deps):
+    above = {}
+    for step in way:
+        if isinstance(step, str):
+            continue
+        depth, crate, call, _ = step
+        above[depth] = crate
+        if crate not in deps:
+            yield '%s: there is no crate %s' % (name, crate)
+        elif not has_call(crate, call):
+            yield '%s: %s has no %s' % (name, crate, call)
+        elif depth and crate != above[depth - 1] and crate not in all_below(above[depth - 1], deps):
+            yield '%s: %s does not stand on %s' % (name, above[depth - 1], crate)
+
+
+def wrong_fields():
+    for _, crate, name, fields in HELD:
+        body = re.search(r'(?m)^\s*pub(?:\(crate\))? struct %s\b[^\n]*\{\n(.*?)^\}' % name, code_of(crate), re.S)
+        there = re.findall(r'(?m)^    (?:pub(?:\(crate\))? )?(\w+): ', body.group(1)) if body else []
+        yield from ('what the lock holds: %s has no %s' % (name, it) for it in fields if it not in there)
+        yield from ('what the lock holds: %s of %s is not told' % (it, name) for it in there if it not in fields)
+
+
+def laws_of(text):
+    for part in filter(None, text.split('; ')):
+        crate, names = part.split(': ')
+        yield from ((crate, name) for name in names.split())
+
+
+def wrong_theorems():
+    for row in THEOREMS:
+        if isinstance(row, str):
+            continue
+        crate, call, clause, place, definition, laws = row
+        if not has_call(crate, call, clause, definition):
+            yield 'theorems: %s has no %s whose clause %s names %s' % (crate, call, clause, definition)
+        home, _, path = place.partition('/')
+        path = 'crates/%s/specs/%s.antt' % (home, path)
+        if not os.path.exists(os.path.join(TOP, path)) or not re.search(r'(?m)^\s*(?:\w+ )*%s\b' % definition, read(path)):
+            yield 'theorems: there is no %s in %s' % (definition, path)
+        yield from ('theorems: %s has no law %s' % it for it in laws_of(laws) if not has_call(*it))
+
+
+# ---- the drawings
+
+def rooms_below(deps):
+    """Of each room those that it stands on, but for those that one of these stands on."""
+    place = {crate: at for at, (_, crates) in enumerate(ROOMS) for crate in crates.split()}
+    on = {at: {place[it] for crate in crates.split() for it in deps[crate] if it in place} - {at} for at, (_, crates) in enumerate(ROOMS)}
+    return {at: sorted(on[at] - set().union(*(all_below(it, on) for it in on[at]))) for at in on}
+
+
+def rows_of(crates, width):
+    rows = ['']
+    for crate in crates.split():
+        if rows[-1] and len(rows[-1]) + len(crate) > width:
+            rows.append('')
+        rows[-1] += crate + '  '
+    return rows
+
+
+def draw_rooms(deps):
+    on, width = rooms_below(deps), max(len(title) for title, _ in ROOMS)
+    edge = '-' * (width + 62)
+    lines = [edge]
+    for at, (title, crates) in enumerate(ROOMS):
+        for number, row in enumerate(rows_of(crates, 54)):
+            head = ('%2d  %s' % (len(ROOMS) - at, title)) if number == 0 else ''
+            foot = '   on ' + ', '.join(str(len(ROOMS) - it) for it in on[at]) if number == 0 and on[at] else ''
+            lines.append(('%-*s  %-56s%s' % (width + 4, head, row, foot)).rstrip())
+        lines.append(edge)
+    return lines
+
+
+def draw_way(way):
+    width = max(3 * step[0] + len(step[1]) for step in way if not isinstance(step, str)) + 3
+    lines = []
+    for step in way:
+        if isinstance(step, str):
+            lines.append(step + ' ' + '-' * (100 - len(step)))
+            continue
+        depth, crate, call, does = step
+        head = '   ' * (depth - 1) + ('└─' if depth else '') + crate
+        lines.append(('%-*s %-22s %s' % (width, head, call, does)).rstrip())
+    return lines
+
+
+def draw_held():
+    lines = []
+    for depth, crate, name, fields in HELD:
+        lines.append('%s%s%s (%s)' % ('   ' * (depth - 1), '└─' if depth else '', name, crate))
+        told = [(field, what) for field, what in fields.items() if what]
+        lines += ['%s   %-11s %s' % ('   ' * depth, field, what) for field, what in told]
+        beside = [field for field, what in fields.items() if not what]
+        if beside:
+            lines.append('%s   beside them %s' % ('   ' * depth, ', '.join(beside)))
+    return lines
+
+
+def draw_theorems():
+    rows = [row for row in THEOREMS if not isinstance(row, str)]
+    calls = {row: '%s%s' % (row[1], ' (%s)' % row[2] if row[2] else '') for row in rows}
+    first, second = max(map(len, calls.values())), max(len('%s: %s' % row[3:5]) for row in rows)
+    lines = []
+    for row in THEOREMS:
+        if isinstance(row, str):
+            lines.append(row)
+            continue
+        names = ', '.join(name for _, name in laws_of(row[5]))
+        line = '   %s %s> %-*s' % (calls[row], '-' * (first + 1 - len(calls[row])), second, '%s: %s' % row[3:5])
+        lines.append((line + (' <- ' + names if names else '')).rstrip())
+    return lines
+
+
+def waiting(crate):
+    """The public calls of a crate that take a `Wait`, themselves or by their type."""
+    for block in re.split(r'(?m)^(?=impl\b|pub fn |pub struct )', code_of(crate)):
+        head = block.split('{')[0] if block.startswith('impl') else ''
+        kind = re.search(r'(\w+)(?:<[^{]*)?\s*$', re.sub(r'<[^<>]*>', '', re.sub(r'<[^<>]*>', '', head)).strip()) if head else None
+        for found in re.finditer(r'(?m)^\s*pub fn (\w+)', block):
+            signature = re.split(r'\n\s*(?:ensures|requires|\{)|\{\n', block[found.start():], maxsplit=1)[0]
+            if re.search(r'\bWait\b', signature + head):
+                yield (kind.group(1) + '::' if kind else '') + found.group(1)
+
+
+def draw_waits(deps):
+    lines = []
+    for crate in (it for it in deps if not TESTS.search(it)):
+        calls = list(waiting(crate))
+        for number, row in enumerate(rows_of(' '.join(calls), 84) if calls else []):
+            lines.append(('%-14s %s' % (crate if number == 0 else '', row)).rstrip())
+    return lines
+
+
+def drawings():
+    return {'rooms': draw_rooms(below()), 'line': draw_way(LINE), 'frame': draw_way(FRAME), 'lock': draw_held(),
+            'theorems': draw_theorems(), 'waits': draw_waits(below())}
+
+
+# ---- compared and written
+
+def with_drawings(text, drawn):
+    for name, lines in drawn.items():
+        block = '<!-- %s -->\n```text\n%s\n```\n' % (name, '\n'.join(lines))
+        text = re.sub(r'<!-- %s -->\n```text\n.*?```\n' % name, lambda _: block, text, flags=re.S)
+    return text
+
+
+def faults():
+    deps = below()
+    wrong = list(wrong_rooms(deps))
+    if not wrong:
+        wrong += [*wrong_way("a line's way", LINE, deps), *wrong_way("a frame's way", FRAME, deps), *wrong_fields(), *wrong_theorems()]
+        text, drawn = read(MAP), drawings()
+        wrong += ['%s has no drawing %s' % (MAP, name) for name in drawn if '<!-- %s -->\n```text\n' % name not in text]
+        if text != with_drawings(text, drawn):
+            wrong.append('%s is not as it is drawn: checks/map.py --write' % MAP)
+    return wrong
+
+
+def main():
+    if '--write' in sys.argv[1:]:
+        text = with_drawings(read(MAP), drawings())
+        with open(os.path.join(TOP, MAP), 'w', encoding='utf-8') as file:
+            file.write(text)
+    wrong = faults()
+    print('\n'.join(wrong) or 'the drawings are as they are drawn')
+    return bool(wrong)
+
+
+if __name__ == '__main__':
+    sys.exit(main())
