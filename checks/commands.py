@@ -1,11 +1,12 @@
 #!/usr/bin/env python3
-"""README's list of commands, made from the tables of `mpd_command`.
+"""The list of commands in the manual, packaging/music_daemon.1, made from the tables of `mpd_command`.
 
-    checks/commands.py              says whether README has the list as the tables make it
+    checks/commands.py              says whether the manual has the list as the tables make it
     checks/commands.py --write      writes it there
 
 A command's form is what stands in backquotes at the front of its variant's doc, in the file of its group. Each name of the table
-`COMMANDS` has a variant, and no other. The names that are `ADDED` there, and more forms of a base command, are those of the everyday profile. The exit status is 1 where something differs.
+`COMMANDS` has a variant, and no other. The names that are `ADDED` there, and more forms of a base command, are those of the everyday
+profile. The exit status is 1 where something differs.
 """
 import os
 import re
@@ -13,7 +14,7 @@ import sys
 
 TOP = os.path.dirname(os.path.dirname(os.path.abspath(__file__)))
 SOURCES = 'crates/mpd_command/src/%s.rt'
-# what README says of each group, and the files of its commands
+# what the manual says of each group, and the files of its commands
 GROUPS = [
     ('the library', ['database']),
     ('the queue', ['queue']),
@@ -27,8 +28,11 @@ GROUPS = [
 ]
 # the forms that the everyday profile adds to a command of the base
 ADDED = re.compile(r'tagtypes .')
-# what README says beside a form
+# what the manual says beside a form
 NOTES = {'kill': 'where the settings allow it; a script may not'}
+
+MANUAL = 'packaging/music_daemon.1'
+LIST = re.compile(r'^\.\\" The list of checks/commands\.py\n.*?^\.\\" Its end\n', re.M | re.S)
 
 
 def read(path):
@@ -50,11 +54,12 @@ def names_in_table():
 
 
 def shown(forms):
-    return ', '.join('`%s`%s' % (form, ' (%s)' % NOTES[form] if form in NOTES else '') for form in forms)
+    """Forms as the manual's source has them."""
+    return ', '.join('\\fB%s\\fR%s' % (form.replace('-', '\\-'), ' (%s)' % NOTES[form] if form in NOTES else '') for form in forms)
 
 
 def list_of():
-    """README's list, and the names of the commands in it."""
+    """The manual's list, and the names of the commands in it."""
     _, everyday = names_in_table()
     lines, names, added = [], [], []
     for title, files in GROUPS:
@@ -62,24 +67,31 @@ def list_of():
         names += dict.fromkeys(form.split()[0] for form in forms)
         more = [form for form in forms if form.split()[0] in everyday or ADDED.match(form)]
         added += more
-        lines.append('- %s: %s' % (title, shown(form for form in forms if form not in more)))
-    base = 'The %d commands:\n\n%s.\n' % (len(names) - len(everyday), ';\n'.join(lines))
-    return base + '\nWith `everyday = true` also: %s.\n' % shown(added), names
+        lines.append('.IP \\(bu 2\n%s: %s' % (title, shown(form for form in forms if form not in more)))
+    base = '.\\" The list of checks/commands.py\nThe %d commands:\n%s.\n' % (len(names) - len(everyday), ';\n'.join(lines))
+    return base + '.PP\nWith\n.B everyday = true\nalso: %s.\n.\\" Its end\n' % shown(added), names
 
 
-def main():
+def faults():
+    """What differs between the variants, the table of names and the manual's list."""
     made, names = list_of()
     known, _ = names_in_table()
     wrong = ['%s has no variant with its form' % name for name in known if name not in names]
     wrong += ['%s is no command' % name for name in names if name not in known]
-    readme = read('README.md')
-    found = re.search(r'^The \d+ commands:\n\n(?:- .*\n)+(?:\nWith `everyday = true` also: .*\n)?', readme, re.M)
+    found = LIST.search(read(MANUAL))
+    if not found or found.group() != made:
+        wrong.append('%s does not list the commands so: checks/commands.py --write' % MANUAL)
+    return wrong
+
+
+def main():
     if '--write' in sys.argv[1:]:
-        with open(os.path.join(TOP, 'README.md'), 'w', encoding='utf-8') as file:
-            file.write(readme[:found.start()] + made + readme[found.end():])
-    elif found.group() != made:
-        wrong.append('README does not list them so:\n' + made)
-    print('\n'.join(wrong) or 'README lists the %d commands' % len(known))
+        manual = read(MANUAL)
+        found = LIST.search(manual)
+        with open(os.path.join(TOP, MANUAL), 'w', encoding='utf-8') as file:
+            file.write(manual[:found.start()] + list_of()[0] + manual[found.end():])
+    wrong = faults()
+    print('\n'.join(wrong) or 'the manual lists the %d commands' % len(names_in_table()[0]))
     return bool(wrong)
 
 
