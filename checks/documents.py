@@ -1,29 +1,44 @@
 #!/usr/bin/env python3
-"""Whether the documents name what is there: each word in backquotes, and each name in bold of docs/DEFINITIONS.md, stands somewhere in
-the sources, the checks or the packaging, and each path is one of the repository.
+"""Whether the documents are true to the sources, and few.
 
     checks/documents.py
 
-The exit status is 1 where one is not. A word of the protocol that the daemon does not know, of a tool or of another program is in OTHERS.
+It fails where
+- a word in backquotes stands nowhere in the code, the checks or the packaging (comments do not count), or in a crate's README neither in
+  this crate nor in one that it stands on;
+- a call `Type::name` is named and no file has both the type and the name; a path is none of the repository;
+- a library of crates.txt has no README, or the manual's list of commands is not the one that the tables make;
+- a drawing of docs/MAP.md is not as `checks/map.py` draws it;
+- README's first screen, all before its first heading, has more than 25 lines of 100 columns;
+- all documents together have more than 15,000 words.
+
+A word of the protocol that the daemon does not know, of a tool or of another program is in OTHERS.
 """
 import os
 import re
 import sys
+import textwrap
+
+sys.dont_write_bytecode = True
+
+import commands
+import map as drawings
+from crates import table_of
 
 TOP = os.path.dirname(os.path.dirname(os.path.abspath(__file__)))
-SOURCES = ('crates', 'checks', 'packaging', 'examples')
-DOCUMENTS = ('README.md', 'CONTRIBUTING.md', 'docs', 'checks', 'examples')
-BUILT = {'out', '__pycache__'}
+MOST_WORDS, SCREEN_LINES, SCREEN_COLUMNS = 15000, 25, 100
+PARTS = ('src', 'specs', 'proofs')
+BESIDE = ('checks', 'packaging', 'examples')
+BUILT = {'out', '__pycache__', '.git'}
 OTHERS = {
-    'MPD': {'connection_timeout', 'mixramp'},
-    'the toolchain': {'plant', 'dac8208d650f15bf'},
+    'MPD': {'connection_timeout', 'mixramp', 'listfiles'},
+    'the toolchain': {'plant', 'dac8208d650f15bf', 'verdict', 'tidy'},
     'packages of Debian': {'alsa', 'sudo', 'xvfb'},
-    'the rows of the specification': {'check_rows'},
-    'what was before': {'Desk', 'Sequel'},
-    'any name': {'_after', 'refusal_of_X'},
 }
 WORD = re.compile(r'[A-Za-z_][A-Za-z0-9_]*')
-PATH = re.compile(r'(?:\.ci|checks|crates|docs|examples|packaging)/[\w./-]*')
+PATH = re.compile(r'(?:\.ci|checks|crates|docs|examples|packaging|proofs|src|specs)/[\w./-]*')
+CALL = re.compile(r'\b([A-Z]\w*)::(\w+)')
+SPAN = re.compile(r'`([^`]+)`')
 
 
 def files_in(folder):
@@ -33,49 +48,121 @@ def files_in(folder):
             yield os.path.join(at, name)
 
 
-def words_of_sources():
-    """The words of all sources, and the names of their files and folders."""
-    found = set()
-    for folder in SOURCES:
+def read(path):
+    with open(path, encoding='utf-8', errors='replace') as file:
+        return file.read()
+
+
+def code_of(path):
+    """A file's text; of code what is no comment."""
+    text = read(path)
+    if path.endswith('.rt'):
+        return re.sub(r'(?m)^\s*//.*$', '', text)
+    return re.sub(r'(?m)^\s*--.*$', '', text) if path.endswith('.antt') else text
+
+
+def sources():
+    """The files of each crate, each a path with its text."""
+    return {crate: [(path, code_of(path)) for part in PARTS for path in files_in('crates/%s/%s' % (crate, part))]
+            for crate in table_of(TOP)}
+
+
+def words_of(crate, files):
+    """The words of a crate's code, and the names of its files."""
+    found = {crate}
+    for path, text in files:
+        found.update(WORD.findall(os.path.relpath(path, TOP)))
+        found.update(WORD.findall(text))
+    return found
+
+
+def words_beside():
+    """The words of the checks, the packaging and the examples, and of the names of all files."""
+    found = set().union(*OTHERS.values())
+    for folder in BESIDE:
         for path in files_in(folder):
             found.update(WORD.findall(os.path.relpath(path, TOP)))
-            if path.endswith('.md') or path == os.path.abspath(__file__):
-                continue
-            with open(path, encoding='utf-8', errors='replace') as source:
-                found.update(WORD.findall(source.read()))
-    return found.union(*OTHERS.values())
+            if not path.endswith('.md') and path != os.path.abspath(__file__):
+                found.update(WORD.findall(read(path)))
+    for name in ('crates.txt', 'HANDLES', 'look', 'music_daemon', '.ci/run'):
+        found.update(WORD.findall(name + ' ' + read(os.path.join(TOP, name))))
+    for path in files_in('crates'):
+        if '/data/' in path:
+            found.update(WORD.findall(os.path.relpath(path, TOP) + ' ' + read(path)))
+    return found
 
 
 def documents():
-    for name in DOCUMENTS:
-        path = os.path.join(TOP, name)
-        yield from (it for it in files_in(name) if it.endswith('.md')) if os.path.isdir(path) else [path]
+    """Each document, with the crate that it is of, if it is of one."""
+    crates = table_of(TOP)
+    for path in files_in('.'):
+        if path.endswith('.md'):
+            parts = os.path.relpath(path, TOP).split(os.sep)
+            yield os.path.normpath(path), parts[1] if parts[0] == 'crates' and parts[1] in crates else None
 
 
-def named_in(document, line):
-    """The words that a line names, and its paths."""
-    spans = re.findall(r'`([^`]+)`', line)
-    paths = [path.rstrip('./') for span in spans for path in PATH.findall(span)]
-    if document.endswith('DEFINITIONS.md'):
-        spans += [name for bold in re.findall(r'\*\*([^*]+)\*\*', line) for name in bold.split(', ') if WORD.fullmatch(name)]
-    return [word for span in spans for word in WORD.findall(span) if len(word) > 2 and not word.isupper()], paths
+def stands_on(crate):
+    return table_of(TOP)[crate].split(':')[1].split()
 
 
-def main():
-    known, wrong = words_of_sources(), []
-    for document in documents():
-        with open(document, encoding='utf-8') as lines:
-            for number, line in enumerate(lines, 1):
-                words, paths = named_in(document, line)
-                at = '%s:%d' % (os.path.relpath(document, TOP), number)
-                wrong += ['%s: `%s` is nowhere in the sources' % (at, word) for word in words if word not in known]
-                wrong += ['%s: there is no %s' % (at, path) for path in paths if not os.path.exists(os.path.join(TOP, path))
-                          and not re.search(r'/out\b|[A-Z]{3}', path)]
-    for line in wrong:
-        print(line)
-    print('%d named that are not there' % len(wrong))
-    return 1 if wrong else 0
+def is_call(kind, name, files):
+    """Whether a file has a type (or what is written for it) and an item of a name."""
+    type_of = re.compile(r'(?m)^\s*(?:pub |unsafe )*(?:struct|enum|trait|type|impl)\b.*\b%s\b' % kind)
+    item = re.compile(r'(?:\bfn %s\b|(?m:^\s+%s\b))' % (name, name))
+    return any(type_of.search(text) and item.search(text) for path, text in files if path.endswith('.rt'))
+
+
+def is_path(path, crate):
+    places = [TOP] + ([os.path.join(TOP, 'crates', crate)] if crate else [os.path.join(TOP, 'crates', it) for it in table_of(TOP)])
+    return any(os.path.exists(os.path.join(place, path + ending)) for place in places for ending in ('', '.antt'))
+
+
+def named_wrong(path, crate, files, words, beside):
+    """What a document names that is not there, line by line."""
+    crates = [crate, *(it for it in stands_on(crate) if it in files)] if crate else list(files)
+    known = set().union(beside, *(words[it] for it in crates))
+    for number, line in enumerate(read(path).split('\n'), 1):
+        at = '%s:%d' % (os.path.relpath(path, TOP), number)
+        for span in SPAN.findall(line):
+            paths = [it.rstrip('./') for it in PATH.findall(span)]
+            yield from ('%s: there is no %s' % (at, it) for it in paths if not is_path(it, crate) and not re.search(r'/out\b|[A-Z]{3}', it))
+            names = [it for it in WORD.findall(span) if len(it) > 2 and not it.isupper()]
+            yield from ('%s: `%s` is nowhere in the sources' % (at, it) for it in names if it not in known)
+            for kind, name in CALL.findall(span):
+                if not any(is_call(kind, name, files[it]) for it in crates):
+                    yield '%s: there is no `%s::%s`' % (at, kind, name)
+
+
+def missing():
+    """The libraries of crates.txt that have no README."""
+    for crate in table_of(TOP):
+        has = {name for name in ('specs', 'README.md') if os.path.exists(os.path.join(TOP, 'crates', crate, name))}
+        if has == {'specs'}:
+            yield 'crates/%s has no README.md' % crate
+
+
+def screen_lines():
+    """How many lines README's first screen has."""
+    front = read(os.path.join(TOP, 'README.md')).split('\n## ')[0].rstrip().split('\n')
+    return sum(max(1, len(textwrap.wrap(line, SCREEN_COLUMNS))) for line in front)
+
+
+def check(_program=None):
+    files = sources()
+    words = {crate: words_of(crate, files[crate]) for crate in files}
+    beside = words_beside()
+    wrong = [fault for path, crate in documents() for fault in named_wrong(path, crate, files, words, beside)]
+    wrong += missing()
+    wrong += commands.faults()
+    wrong += drawings.faults()
+    lines, count = screen_lines(), sum(len(read(path).split()) for path, _ in documents())
+    if lines > SCREEN_LINES:
+        wrong.append("README's first screen has %d lines, at most %d are wanted" % (lines, SCREEN_LINES))
+    if count > MOST_WORDS:
+        wrong.append('the documents have %d words, at most %d are wanted' % (count, MOST_WORDS))
+    print('\n'.join(wrong + ["documents: %d words, README's first screen %d lines, %d wrong" % (count, lines, len(wrong))]))
+    return len(wrong)
 
 
 if __name__ == '__main__':
-    sys.exit(main())
+    sys.exit(1 if check() else 0)
