@@ -7,3 +7,4 @@ pub mod ListEntries
 pub mod Owns
 pub mod Same
 pub mod Songs
+pub mod Plans
