@@ -23,3 +23,5 @@ mod updating;
 mod wanted;
 #[cfg(test)]
 mod wire;
+#[cfg(test)]
+mod wired;

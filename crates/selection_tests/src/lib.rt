@@ -1,11 +1,28 @@
-//! Tests of what commands ask for of the songs in the everyday profile.
+//! Tests of the tags that clients know, of songs in another order and in groups, and of what commands ask for
+//! of the songs in the everyday profile.
 #![tactic(auto)]
 
 #[cfg(test)]
 mod big;
 #[cfg(test)]
+mod big_groups;
+#[cfg(test)]
+mod group_helpers;
+#[cfg(test)]
+mod group_rows;
+#[cfg(test)]
+mod group_shelves;
+#[cfg(test)]
 mod groups;
+#[cfg(test)]
+mod known_names;
+#[cfg(test)]
+mod shown_tags;
 #[cfg(test)]
 mod songs;
 #[cfg(test)]
+mod tag_sets;
+#[cfg(test)]
 mod told;
+#[cfg(test)]
+mod wanted;

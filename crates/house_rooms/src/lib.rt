@@ -1,4 +1,7 @@
-//! A house over a few songs, and what is said in it.
+//! A house over a few songs, and what is said in it, for tests. It is a crate of its own, since a crate with
+//! tests is proved twice.
+#![tactic(auto)]
+
 ghost use Rattle.frame_ledger.specs.Shares.{HasAllParts};
 ghost use Rattle.std.specs.Prelude.{◌≡◌, ◌+◌, ◌<◌, IfOk, OnOk};
 ghost use Rattle.held_player.specs.Blanks.{AreFor, HasPartsOfFrames, HasSeatsOfOnePart};

@@ -1,4 +1,4 @@
-//! What all tests of this crate use.
+//! What the tests of groups use.
 use mpd_text::{Answer, Song, Tag, TagName};
 use song_db::{Db, Rate, SharedSong};
 use song_groups::{count_groups, distinct, order, push_counts, push_tuples, tuples};

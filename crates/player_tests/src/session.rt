@@ -7,8 +7,9 @@ use idle_clients::Notice;
 use mpd_command::{CommandSet, Request};
 use mpd_text::{Answer, SharedText, Song};
 use partition::{Limits, ListOutcome, Partition, Setup};
+use player_core::Job;
 use player_events::{Event, Outcome};
-use player_state::{Library, Outputs, Report, Scan};
+use player_state::{Feed, Heard, Library, Outputs, Report, Scan};
 use queue_tests::steps::{entry, first_word, number_of, song};
 use shelf::MemShelf;
 use song_db::{Db, Rate, SharedDb};
@@ -106,35 +107,66 @@ fn notice_told(alloc: Global, notice: &Notice) -> Result<String, AllocError> {
     format!(in alloc; "{}: {}", notice.client, lines.as_str())
 }
 
+/// Number, id, first frame and count of a job. None of these sessions fades.
+fn job_told(alloc: Global, job: Job) -> Result<String, AllocError> {
+    let Job {
+        number,
+        id,
+        from,
+        count,
+        ..
+    } = job;
+    format!(in alloc; "job {number} {id} {from} {count}\n")
+}
+
+fn feed_told(alloc: Global, feed: Feed) -> Result<String, AllocError> {
+    let (cut, volume) = (feed.cut, feed.volume);
+    format!(in alloc; "feed {cut} {volume}\n")
+}
+
+fn live_told(alloc: Global, heard: Heard) -> Result<String, AllocError> {
+    let (cut, enabled, paused) = (heard.live.cut, heard.live.enabled, heard.live.paused);
+    format!(in alloc; "live {cut} {enabled} {paused}\n")
+}
+
+fn scan_told(alloc: Global, number: u64) -> Result<String, AllocError> {
+    format!(in alloc; "scan {number}\n")
+}
+
+/// What is told that has no number.
+fn bare_report(report: Report) -> &'static str {
+    match report {
+        Report::ToDecode(_) => "no job\n",
+        Report::ToFeed(_) => "stale\n",
+        Report::ToScan(_) => "no scan\n",
+        Report::ScanEnded(true) => "ended\n",
+        Report::ScanEnded(false) => "none ran\n",
+        Report::Ended => "the end\n",
+        Report::Nothing | Report::ToPlay(_) => "",
+    }
+}
+
 /// What is told to a scanner, a decoder or an output.
 fn report_told(alloc: Global, report: Report) -> Result<String, AllocError> {
     match report {
-        Report::ToDecode(Some(job)) => {
-            let mut told = format!(in alloc;
-                "job {} {} {} {}",
-                job.number, job.id, job.from, job.count
-            )?;
-            if let Some(fade) = job.fade {
-                let (partner, index, len) = (fade.partner, fade.index, fade.len);
-                told.push_str(format!(in alloc; " fade {partner} {index} {len}")?.as_str())?;
-            }
-            told.push_str("\n")?;
-            Ok(told)
-        }
-        Report::ToDecode(None) => String::from_str(alloc, "no job\n"),
-        Report::ToFeed(Some(feed)) => format!(in alloc; "feed {} {}\n", feed.cut, feed.volume),
-        Report::ToFeed(None) => String::from_str(alloc, "stale\n"),
-        Report::ToPlay(heard) => {
-            let live = heard.live;
-            format!(in alloc; "live {} {} {}\n", live.cut, live.enabled, live.paused)
-        }
-        Report::Nothing => Ok(String::new(alloc)),
-        Report::Ended => String::from_str(alloc, "the end\n"),
-        Report::ToScan(Some(number)) => format!(in alloc; "scan {number}\n"),
-        Report::ToScan(None) => String::from_str(alloc, "no scan\n"),
-        Report::ScanEnded(true) => String::from_str(alloc, "ended\n"),
-        Report::ScanEnded(false) => String::from_str(alloc, "none ran\n"),
+        Report::ToDecode(Some(job)) => job_told(alloc, job),
+        Report::ToFeed(Some(feed)) => feed_told(alloc, feed),
+        Report::ToPlay(heard) => live_told(alloc, heard),
+        Report::ToScan(Some(number)) => scan_told(alloc, number),
+        _ => String::from_str(alloc, bare_report(report)),
     }
+}
+
+/// Adds what others hear, each notice after its client.
+fn add_notices(all: &mut String, alloc: Global, notices: &[Notice]) -> Result<(), AllocError> {
+    for notice in notices {
+        all.push_str(notice_told(alloc, notice)?.as_str())?;
+    }
+    Ok(())
+}
+
+fn add_report(all: &mut String, alloc: Global, report: Report) -> Result<(), AllocError> {
+    all.push_str(report_told(alloc, report)?.as_str())
 }
 
 /// Adds what clients hear of an event: the answer, `waits` or `closed` where the client does or is, and each
@@ -142,10 +174,8 @@ fn report_told(alloc: Global, report: Report) -> Result<String, AllocError> {
 fn add_heard(all: &mut String, alloc: Global, outcome: &Outcome) -> Result<(), AllocError> {
     all.push_str(outcome.reply().text())?;
     all.push_str(after(outcome.reply().next()))?;
-    for notice in outcome.notices() {
-        all.push_str(notice_told(alloc, notice)?.as_str())?;
-    }
-    all.push_str(report_told(alloc, outcome.report())?.as_str())
+    add_notices(all, alloc, outcome.notices())?;
+    add_report(all, alloc, outcome.report())
 }
 
 /// Applies an event, and adds what clients hear of it, or that it was not applied.
@@ -179,7 +209,9 @@ fn counts(player: &Partition, alloc: Global) -> Result<String, AllocError> {
     let entries = player.queue().len();
     let clients = player.clients().len();
     let volume = player.volume().percent();
-    format!(in alloc; "{last} {own} {all} {entries} {clients} {volume}\n")
+    format!(in alloc;
+        "seat 15: {last}, seat 3: {own}, all: {all}, entries: {entries}, clients: {clients}, volume: {volume}\n"
+    )
 }
 
 /// How many events the window has, the bytes that were answered at them, and how many events there were.
@@ -187,7 +219,7 @@ fn window(player: &Partition, alloc: Global) -> Result<String, AllocError> {
     let kept = player.history().len();
     let bytes = player.window_bytes();
     let all = events(player);
-    format!(in alloc; "{kept} {bytes} {all}\n")
+    format!(in alloc; "events: {kept}, bytes: {bytes}, all: {all}\n")
 }
 
 /// What is pending for each client, after its number.
@@ -206,7 +238,7 @@ fn entries(player: &Partition, alloc: Global) -> Result<String, AllocError> {
     let queue = player.queue();
     for place in 0..queue.len() {
         let (id, priority) = entry(queue, place);
-        all.push_str(format!(in alloc; "{id} {priority}\n")?.as_str())?;
+        all.push_str(format!(in alloc; "id {id}, priority {priority}\n")?.as_str())?;
     }
     Ok(all)
 }
@@ -220,20 +252,26 @@ fn last_kept(player: &Partition, alloc: Global) -> Result<String, AllocError> {
     Ok(all)
 }
 
-/// The frames of an output: those that it was given, wrote and discarded.
-fn book(player: &Partition, alloc: Global, output: usize) -> Result<String, AllocError> {
+/// Adds the frames of an output: those that it was given, wrote and discarded.
+fn add_book(
+    all: &mut String,
+    player: &Partition,
+    alloc: Global,
+    output: usize,
+) -> Result<(), AllocError> {
     let books = player.books();
     let (decoded, written) = (books.decoded(output), books.written(output));
     let discarded = books.discarded(output);
-    format!(in alloc; "{decoded} {written} {discarded}\n")
+    let book = format!(in alloc; "decoded {decoded}, written {written}, discarded {discarded}\n")?;
+    all.push_str(book.as_str())
 }
 
 /// The frames of the outputs with the first number and the last, and of one that is not there.
 fn books(player: &Partition, alloc: Global) -> Result<String, AllocError> {
-    let mut all = book(player, alloc, 0)?;
-    all.push_str(book(player, alloc, 6)?.as_str())?;
-    all.push_str(book(player, alloc, 7)?.as_str())?;
-    all.push_str(book(player, alloc, 8)?.as_str())?;
+    let mut all = String::new(alloc);
+    for output in [0, 6, 7, 8] {
+        add_book(&mut all, player, alloc, output)?;
+    }
     Ok(all)
 }
 
@@ -326,20 +364,20 @@ fn list_answer(alloc: Global, outcome: &ListOutcome) -> Result<String, AllocErro
     String::from_str(alloc, str::from_utf8(&answer).unwrap_or("no text\n"))
 }
 
+/// Adds the whole answer of a list.
+fn add_answer(all: &mut String, alloc: Global, outcome: &ListOutcome) -> Result<(), AllocError> {
+    all.push_str(list_answer(alloc, outcome)?.as_str())
+}
+
 /// Adds what clients hear of a list: its whole answer, `closed` where the client is, and each notice after
 /// its client.
 fn add_list(all: &mut String, alloc: Global, outcome: &ListOutcome) -> Result<(), AllocError> {
-    let answer = list_answer(alloc, outcome)?;
-    all.push_str(answer.as_str())?;
-    all.push_str(if outcome.next().closes() {
-        "closed\n"
-    } else {
-        ""
-    })?;
+    add_answer(all, alloc, outcome)?;
+    if outcome.next().closes() {
+        all.push_str("closed\n")?;
+    }
     for one in outcome.outcomes() {
-        for notice in one.notices() {
-            all.push_str(notice_told(alloc, notice)?.as_str())?;
-        }
+        add_notices(all, alloc, one.notices())?;
     }
     Ok(())
 }
@@ -400,11 +438,6 @@ fn decodes(lent: &mut Lent, alloc: Global, rest: &str, all: &mut String) -> Resu
     if rest == "wants" {
         return happens(lent, alloc, 6, Event::Want(false), all);
     }
-    if let Some(rest) = rest.strip_prefix("fails ") {
-        let (number, whose) = first_word(rest);
-        let event = Event::Failed(u64::from(number_of(number)), whose == "partner");
-        return happens(lent, alloc, 6, event, all);
-    }
     let (number, frames) = two_numbers(rest);
     let event = Event::Have(u64::from(number), u64::from(frames));
     happens(lent, alloc, 6, event, all)
@@ -430,39 +463,55 @@ fn folds(player: &mut Partition, all: &mut String) -> Result<(), AllocError> {
     }
 }
 
-/// Adds what is told at a step, by its first word: a client comes or goes, at the last seat; client 1 says a
-/// line in a list, or where `kill` is allowed; a scanner asks or brings something; so does the decoder; an
-/// output has its turn; the history is folded; something is shown; or a client says a line alone.
+/// Adds what client 1 hears in a list, of a whole list, or where `kill` is allowed.
+fn says_otherwise(
+    lent: &mut Lent,
+    alloc: Global,
+    word: &str,
+    rest: &str,
+    all: &mut String,
+) -> Result<(), AllocError> {
+    match word {
+        "plain_list" => says_in_list(lent, alloc, ListForm::Plain, rest, all),
+        "ok_list" => says_in_list(lent, alloc, ListForm::ListOk, rest, all),
+        "runs_plain" => runs_list(lent, alloc, ListForm::Plain, rest, all),
+        "runs_ok" => runs_list(lent, alloc, ListForm::ListOk, rest, all),
+        _ => says_with_leave(lent, alloc, rest, all),
+    }
+}
+
+/// Adds what is told where a client comes or goes, at the last seat, and of a scanner, the decoder or an
+/// output.
+fn tells(
+    lent: &mut Lent,
+    alloc: Global,
+    word: &str,
+    rest: &str,
+    all: &mut String,
+) -> Result<(), AllocError> {
+    match word {
+        "comes" => happens(lent, alloc, 15, Event::Connect(number_of(rest)), all),
+        "goes" => happens(lent, alloc, 15, Event::Disconnect(number_of(rest)), all),
+        "scan" => scans(lent, alloc, rest, all),
+        "decoder" => decodes(lent, alloc, rest, all),
+        _ => turns(lent, alloc, rest, all),
+    }
+}
+
+/// Adds what is told at a step, by its first word: a client comes or goes; client 1 says a line in a list, or
+/// where `kill` is allowed; a scanner asks or brings something; so does the decoder; an output has its turn;
+/// the daemon ends; the history is folded; something is shown; or a client says a line alone.
 fn step(lent: &mut Lent, alloc: Global, line: &str, all: &mut String) -> Result<(), AllocError> {
     let (word, rest) = first_word(line);
-    if word == "comes" {
-        happens(lent, alloc, 15, Event::Connect(number_of(rest)), all)
-    } else if word == "goes" {
-        happens(lent, alloc, 15, Event::Disconnect(number_of(rest)), all)
-    } else if word == "plain_list" {
-        says_in_list(lent, alloc, ListForm::Plain, rest, all)
-    } else if word == "ok_list" {
-        says_in_list(lent, alloc, ListForm::ListOk, rest, all)
-    } else if word == "with_leave" {
-        says_with_leave(lent, alloc, rest, all)
-    } else if word == "runs_plain" {
-        runs_list(lent, alloc, ListForm::Plain, rest, all)
-    } else if word == "runs_ok" {
-        runs_list(lent, alloc, ListForm::ListOk, rest, all)
-    } else if word == "scan" {
-        scans(lent, alloc, rest, all)
-    } else if word == "decoder" {
-        decodes(lent, alloc, rest, all)
-    } else if word == "turn" {
-        turns(lent, alloc, rest, all)
-    } else if word == "ends" {
-        happens(lent, alloc, 0, Event::End, all)
-    } else if word == "folds" {
-        folds(&mut lent.player, all)
-    } else if word == "show" {
-        show(&lent.player, alloc, rest, all)
-    } else {
-        says(lent, alloc, number_of(word), Stand::Alone, rest, all)
+    match word {
+        "plain_list" | "ok_list" | "runs_plain" | "runs_ok" | "with_leave" => {
+            says_otherwise(lent, alloc, word, rest, all)
+        }
+        "comes" | "goes" | "scan" | "decoder" | "turn" => tells(lent, alloc, word, rest, all),
+        "ends" => happens(lent, alloc, 0, Event::End, all),
+        "folds" => folds(&mut lent.player, all),
+        "show" => show(&lent.player, alloc, rest, all),
+        _ => says(lent, alloc, number_of(word), Stand::Alone, rest, all),
     }
 }
 
@@ -474,6 +523,15 @@ fn look_at_window(lent: &Lent, all: &mut String) -> Result<(), AllocError> {
     Ok(())
 }
 
+fn session_of(lent: &mut Lent, alloc: Global, steps: &str) -> Result<String, AllocError> {
+    let mut all = String::new(alloc);
+    for line in steps.lines() {
+        step(lent, alloc, line, &mut all)?;
+        look_at_window(lent, &mut all)?;
+    }
+    Ok(all)
+}
+
 /// What a session of these steps tells, over a library with a song for each line of the URIs, in a window of
 /// at most so many events.
 pub fn session_within(
@@ -483,12 +541,7 @@ pub fn session_within(
     steps: &str,
 ) -> Result<String, AllocError> {
     let mut lent = opened(alloc, history, uris)?;
-    let mut all = String::new(alloc);
-    for line in steps.lines() {
-        step(&mut lent, alloc, line, &mut all)?;
-        look_at_window(&lent, &mut all)?;
-    }
-    Ok(all)
+    session_of(&mut lent, alloc, steps)
 }
 
 /// The same in the greatest window.

@@ -35,75 +35,57 @@ fn line_of<R: Abort>(rt: &R, alloc: Global, settings: &Settings) -> String {
     line
 }
 
-/// The text with the two keys that must be there before it.
-fn with_needed<R: Abort>(rt: &R, alloc: Global, text: &str) -> String {
-    format!(in alloc; "music = \"/m\"\nlisten = \"127.0.0.1:0\"\n{text}").expect(rt, "no memory")
+/// The lines between bars, with the two keys that must be there before them.
+fn with_needed<R: Abort>(rt: &R, alloc: Global, lines: &str) -> String {
+    let mut text = owned(rt, alloc, "music = \"/m\"\nlisten = \"127.0.0.1:0\"");
+    for line in lines.split(" | ") {
+        text.push('\n').expect(rt, "no memory");
+        text.push_str(line).expect(rt, "no memory");
+    }
+    text
 }
 
-/// What is added to the two keys that must be there, and what the whole comes to.
-const ADDED: [(&str, &str); 29] = [
-    ("", "/m 127.0.0.1:0 - 44100 0 4096 8192 false"),
-    (
-        "shelf = \"/s\"\nkill = true",
-        "/m 127.0.0.1:0 /s 44100 0 4096 8192 true",
-    ),
-    (
-        "rate = 8000\nhistory = 1\nring = 1024",
-        "/m 127.0.0.1:0 - 8000 0 1 1024 false",
-    ),
-    (
-        "rate = 192000\nhistory = 65536\nring = 65536",
-        "/m 127.0.0.1:0 - 192000 0 65536 65536 false",
-    ),
-    (
-        "random_start = 9223372036854775807",
-        "/m 127.0.0.1:0 - 44100 9223372036854775807 4096 8192 false",
-    ),
-    (
-        "random_start = 0x10",
-        "/m 127.0.0.1:0 - 44100 16 4096 8192 false",
-    ),
-    ("output = []", "/m 127.0.0.1:0 - 44100 0 4096 8192 false"),
-    (
-        "[[output]]\nname = \"b\"\npath = \"/b\"\n[[output]]\nname = \"a\"\npath = \"/a\"\nenabled = false",
-        "/m 127.0.0.1:0 - 44100 0 4096 8192 false b=/b:true a=/a:false",
-    ),
-    ("port = 1", "BadSetting(port)"),
-    ("a.b = 1", "BadSetting(a)"),
-    ("rate = 7999", "BadSetting(rate)"),
-    ("rate = 192001", "BadSetting(rate)"),
-    ("rate = 44100.0", "BadSetting(rate)"),
-    ("history = 0", "BadSetting(history)"),
-    ("history = 65537", "BadSetting(history)"),
-    ("ring = 1023", "BadSetting(ring)"),
-    ("ring = 65537", "BadSetting(ring)"),
-    ("random_start = -1", "BadSetting(random_start)"),
-    ("random_start = 9223372036854775808", "BadSetting()"),
-    ("kill = 1", "BadSetting(kill)"),
-    ("shelf = 1", "BadSetting(shelf)"),
-    ("zone = 1\nrate = 1\nport = 1", "BadSetting(port)"),
-    ("port = 1\nZone = 1", "BadSetting(Zone)"),
-    ("\"é\" = 1\nzone = 1", "BadSetting(zone)"),
-    ("output = 1", "BadSetting(output)"),
-    (
-        "[output]\nname = \"a\"\npath = \"/a\"",
-        "BadSetting(output)",
-    ),
-    ("[[output]]\nname = \"a\"", "BadSetting(output)"),
-    (
-        "[[output]]\nname = \"a\"\npath = \"/a\"\nport = 1",
-        "BadSetting(output)",
-    ),
-    (
-        "[[output]]\nname = \"a\"\npath = \"/a\"\nenabled = 1",
-        "BadSetting(output)",
-    ),
-];
+/// What is added to the two keys that must be there, its lines between bars, and what the whole comes to.
+const ADDED: &str = " => /m 127.0.0.1:0 - 44100 0 4096 8192 false
+shelf = \"/s\" | kill = true => /m 127.0.0.1:0 /s 44100 0 4096 8192 true
+rate = 8000 | history = 1 | ring = 1024 => /m 127.0.0.1:0 - 8000 0 1 1024 false
+rate = 192000 | history = 65536 | ring = 65536 => /m 127.0.0.1:0 - 192000 0 65536 65536 false
+random_start = 9223372036854775807 => /m 127.0.0.1:0 - 44100 9223372036854775807 4096 8192 false
+random_start = 0x10 => /m 127.0.0.1:0 - 44100 16 4096 8192 false
+output = [] => /m 127.0.0.1:0 - 44100 0 4096 8192 false
+[[output]] | name = \"b\" | path = \"/b\" | [[output]] | name = \"a\" | path = \"/a\" | enabled = false => /m 127.0.0.1:0 - 44100 0 4096 8192 false b=/b:true a=/a:false
+port = 1 => BadSetting(port)
+a.b = 1 => BadSetting(a)
+rate = 7999 => BadSetting(rate)
+rate = 192001 => BadSetting(rate)
+rate = 44100.0 => BadSetting(rate)
+history = 0 => BadSetting(history)
+history = 65537 => BadSetting(history)
+ring = 1023 => BadSetting(ring)
+ring = 65537 => BadSetting(ring)
+random_start = -1 => BadSetting(random_start)
+random_start = 9223372036854775808 => BadSetting()
+kill = 1 => BadSetting(kill)
+shelf = 1 => BadSetting(shelf)
+zone = 1 | rate = 1 | port = 1 => BadSetting(port)
+port = 1 | Zone = 1 => BadSetting(Zone)
+\"é\" = 1 | zone = 1 => BadSetting(zone)
+output = 1 => BadSetting(output)
+[output] | name = \"a\" | path = \"/a\" => BadSetting(output)
+[[output]] | name = \"a\" => BadSetting(output)
+[[output]] | name = \"a\" | path = \"/a\" | port = 1 => BadSetting(output)
+[[output]] | name = \"a\" | path = \"/a\" | enabled = 1 => BadSetting(output)
+";
+
+fn check_pair<R: Abort>(rt: &R, alloc: Global, pair: &str) {
+    let (lines, wanted) = pair.split_once(" => ").unwrap_or((pair, "?"));
+    let whole = with_needed(rt, alloc, lines);
+    wants(rt, lines, told(rt, alloc, whole.as_str()).as_str(), wanted);
+}
 
 fn check_added<R: Abort>(rt: &R, alloc: Global) {
-    for (text, wanted) in ADDED {
-        let whole = with_needed(rt, alloc, text);
-        wants(rt, text, told(rt, alloc, whole.as_str()).as_str(), wanted);
+    for pair in ADDED.lines() {
+        check_pair(rt, alloc, pair);
     }
 }
 

@@ -5,25 +5,29 @@
 //! The songs have frames of 16 bits and two channels, 8,000 a second. `music/morning.wav` has the five
 //! 1 -1, 2 -2, 300 -300, 32767 -32768 and -5 7; `music/old/evening.wav` the two 11 12 and 13 14, and
 //! `later/noon.wav` the three 1000 -1000, 0 256 and -1 -256.
-#![tactic(auto)]
 
-mod client;
-mod files;
-
-use client::visits;
-use files::{SETTINGS, print_files, write_settings};
+use crate::client::visits;
+use crate::files::{SETTINGS, print_files, write_settings};
 use shelf_file::serve_by_file;
 use std::fmt::Display;
+use std::net::Net;
 use std::process::ExitCode;
+use std::sync::Wait;
+use std::thread::Threads;
+use std::time::Clock;
 use std::{io, thread};
 
-/// Status 0 where all went well, 1 after a line on standard error for each that did not.
-fn main(rt: HostRuntime) -> io::Result<ExitCode> {
-    let address = write_settings(&rt)?;
-    let client = thread::spawn(&rt, move || visits(&rt, address))?;
-    let served = went_well(&rt, "daemon", serve_by_file(rt, rt, SETTINGS));
-    let visited = went_well(&rt, "client", client.join(&rt));
-    end(&rt, served && visited)
+/// Lives the day. Both handles are the program's, as of [`serve_by_file`]. Status 0 where all went well, 1
+/// after a line on standard error for each that did not.
+pub fn live<R: Threads + Wait + Clock + Net + Copy + Send + Sync + 'static>(
+    rt: R,
+    host: HostRuntime,
+) -> io::Result<ExitCode> {
+    let address = write_settings(&host)?;
+    let client = thread::spawn(&rt, move || visits(&host, address))?;
+    let served = went_well(&host, "daemon", serve_by_file(rt, host, SETTINGS));
+    let visited = went_well(&host, "client", client.join(&rt));
+    end(&host, served && visited)
 }
 
 /// Whether somebody's day went well; else why not is told on standard error.

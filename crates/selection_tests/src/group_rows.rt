@@ -1,5 +1,5 @@
 //! The library of the worked rows.
-use crate::helpers::{count, holds, library, list, sorted, texts, wants};
+use crate::group_helpers::{count, holds, library, list, sorted, texts, wants};
 use mpd_text::TagName;
 use song_db::Db;
 use std::alloc::Global;

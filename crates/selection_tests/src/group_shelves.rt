@@ -1,5 +1,5 @@
 //! Albums of several artists: which columns of a tuple have a line.
-use crate::helpers::{library, list, sorted, wants};
+use crate::group_helpers::{library, list, sorted, wants};
 use mpd_text::TagName;
 use song_db::Db;
 use std::alloc::Global;

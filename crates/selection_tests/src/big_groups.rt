@@ -1,5 +1,5 @@
 //! Many songs, each in a group of its own.
-use crate::helpers::{count, holds, list, song, sorted, texts};
+use crate::group_helpers::{count, holds, list, song, sorted, texts};
 use mpd_text::{Song, TagName};
 use song_db::Db;
 use std::alloc::Global;

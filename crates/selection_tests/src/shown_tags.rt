@@ -1,5 +1,5 @@
 //! The lines of a song with the tags of a set.
-use crate::sets::{disabled, enabled};
+use crate::tag_sets::{disabled, enabled};
 use crate::wanted::wants;
 use known_tags::{TagSet, all_tags_show_the_whole_song, push_song_with};
 use mpd_text::{Answer, Song, Tag, TagName};
@@ -10,14 +10,19 @@ fn tag(alloc: Global, name: TagName, text: &str) -> Result<Tag, AllocError> {
     Ok(Tag::new(name, String::from_str(alloc, text)?))
 }
 
+fn tags(alloc: Global) -> Result<Vec<Tag>, AllocError> {
+    let artist = tag(alloc, TagName::Artist, "Zo\u{eb}")?;
+    let title = tag(alloc, TagName::Title, "Bee")?;
+    let mut tags = Vec::with_capacity(alloc, 2)?;
+    tags.push_reserved(artist);
+    tags.push_reserved(title);
+    Ok(tags)
+}
+
 /// A song with a title and an artist, 2 seconds long at 8,000 frames a second.
 fn bee(alloc: Global) -> Result<Option<Song>, AllocError> {
-    let mut tags = Vec::new(alloc);
-    tags.push(tag(alloc, TagName::Artist, "Zo\u{eb}")?)
-        .map_err(AllocError::from)?;
-    tags.push(tag(alloc, TagName::Title, "Bee")?)
-        .map_err(AllocError::from)?;
-    Ok(Song::new(String::from_str(alloc, "b.wav")?, tags, 16_000))
+    let uri = String::from_str(alloc, "b.wav")?;
+    Ok(Song::new(uri, tags(alloc)?, 16_000))
 }
 
 /// The lines of that song with the tags of a set.
