@@ -24,6 +24,7 @@ GROUPS = [
     ('stickers, which are texts that clients keep with a song or a stored playlist, such as a rating', ['sticker']),
     ('messages between clients', ['messages']),
     ('the outputs', ['outputs']),
+    ('partitions', ['partitions']),
     ('the connection', ['connection']),
 ]
 # the forms that the everyday profile adds to a command of the base

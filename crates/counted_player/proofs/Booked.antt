@@ -1,10 +1,9 @@
 -- What events leave of the books of frames.
-use Rattle.std.proofs.Common.{◌≡◌, ℕ, ◌+◌, ◌<◌, ◌≤◌, ◌^◌, Bool, true, false, ◌&&◌, ◌||◌, not, nat_le, List, length, Some, None, refl, ap, sym, subst, ◌∙◌, arith, if◌then◌else◌}
+use Rattle.std.proofs.Common.{◌≡◌, ℕ, ◌+◌, ◌<◌, ◌≤◌, ◌^◌, Bool, true, false, ◌&&◌, ◌||◌, not, nat_le, List, length, Option, Some, None, refl, ap, sym, subst, ◌∙◌, arith, if◌then◌else◌}
 use Rattle.std.specs.Prelude.{slice_index_or, sum}
 use Rattle.std.proofs.lemmas.Bool.Decides.{nat_tests}
 use Rattle.player_state.specs.declared.effect.Effect.{Effect}
-use Rattle.player_state.specs.declared.effect.Effect.TheVariants.{ByCommand, ByAudio}
-use Rattle.player_state.specs.declared.effect.CommandEffect.TheVariants.{Rests}
+use Rattle.player_state.specs.declared.effect.Effect.TheVariants.{ByAudio}
 use Rattle.player_state.specs.declared.effect.AudioStep.TheVariants.{Accepts, Settles}
 use Rattle.player_events.specs.declared.event.Event.{Event}
 use Rattle.player_events.specs.declared.event.Event.TheVariants.{Have, OutputTurn}
@@ -14,8 +13,10 @@ use Rattle.partition.specs.History.{Chronicle}
 use Rattle.partition.specs.Image.{Image}
 use Rattle.partition.specs.Legal.{IsPast}
 use Rattle.player_state.specs.Outputs.{FrameBooks, books_after, can_count, can_count_all, decoded_by, discarded_by, is_output, total, written_by}
-use Rattle.partition.specs.Step.{absent, counts_frames, keeps_limits, limit_of, next_image, transition}
-use Rattle.transitions.specs.Transitions.{acts, report_of}
+use Rattle.partition.specs.Step.{absent, counts_frames, have, keeps_limits, limit_of, next_image, output_turn, place_at, report_at, transition}
+use Rattle.parts.specs.Parts.{part_at}
+use Rattle.player_state.specs.declared.state.Part.{Part}
+use Rattle.transitions.specs.Transitions.{acts}
 use Rattle.counted_player.proofs.Eight.{grown_none, grown_sum, total_sum}
 use Rattle.counted_player.proofs.Frameless.{is_frameless}
 
@@ -46,13 +47,13 @@ none_discarded _ output e = refl
 
 -- the books after an event
 pub books_next : (seat : ℕ) (i : Image) (e : Event)
-    → (next_image seat i e).shared.books ≡ books_after i.shared.books (transition i e).effect (report_of i.part i.shared.library (transition i e))
+    → (next_image seat i e).shared.books ≡ books_after i.shared.books (transition i e).effect (report_at i e (transition i e))
 unfolding next_image
 books_next seat i e = refl
 
 module _ (seat : ℕ) (i after : Image) (e : Event) (eight : HasEight i.shared.books) (is : after ≡ next_image seat i e) where
   abbrev report : Report
-  report = report_of i.part i.shared.library (transition i e)
+  report = report_at i e (transition i e)
 
   books_are : after.shared.books ≡ books_after i.shared.books (transition i e).effect report
   books_are = ap (λ (j : Image). j.shared.books) is ∙ books_next seat i e
@@ -97,9 +98,9 @@ within_by false true keeps e = (refl, refl)
 within_by false false keeps e = cc
 
 pub within : (seat : ℕ) (i : Image) (e : Event) → limit_of seat i e ≡ None
-    → (nat_le 9223372036854775807 (slice_index_or i.shared.made seat 0) ≡ false) × (counts_frames i (transition i e) ≡ true)
+    → (nat_le 9223372036854775807 (slice_index_or i.shared.made seat 0) ≡ false) × (counts_frames i e (transition i e) ≡ true)
 unfolding limit_of
-within seat i e none = within_by (nat_le 9223372036854775807 (slice_index_or i.shared.made seat 0)) (counts_frames i (transition i e)) (keeps_limits i (transition i e)) none
+within seat i e none = within_by (nat_le 9223372036854775807 (slice_index_or i.shared.made seat 0)) (counts_frames i e (transition i e)) (keeps_limits i e (transition i e)) none
 
 below : (n : ℕ) → nat_le 9223372036854775807 n ≡ false → n + 1 < 2 ^ 63
 below n e = grind (arith, nat_tests)
@@ -139,30 +140,33 @@ eight_after b d given = record { decoded = refl; written = refl; discarded = ref
 
 pub few_after : (seat : ℕ) (i after : Image) (e : Event) → limit_of seat i e ≡ None → after ≡ next_image seat i e → AreFew after.shared.books
 few_after seat i after e none is =
-    let report : Report = report_of i.part i.shared.library (transition i e) in
+    let report : Report = report_at i e (transition i e) in
     let are : after.shared.books ≡ books_after i.shared.books (transition i e).effect report = ap (λ (j : Image). j.shared.books) is ∙ books_next seat i e in
     subst AreFew (sym are) (few_by (books_after i.shared.books (transition i e).effect report)
     (eight_after i.shared.books (transition i e).effect report) (within seat i e none).1)
 
 -- a have is no turn, and a turn feeds nothing
-no_fates : (ended : Bool) (number frames : ℕ) (output : ℕ)
-    → (written_by (if ended then (ByCommand Rests) else ByAudio (Accepts number frames)) output ≡ 0) × (discarded_by (if ended then (ByCommand Rests) else ByAudio (Accepts number frames)) output ≡ 0)
-no_fates true number frames output = (refl, refl)
-no_fates false number frames output = (refl, refl)
+no_fates : (ended : Bool) (part : Option Part) (number frames : ℕ) (output : ℕ)
+    → (written_by (have ended part number frames).effect output ≡ 0) × (discarded_by (have ended part number frames).effect output ≡ 0)
+no_fates ended None number frames output = (refl, refl)
+no_fates true (Some part) number frames output = (refl, refl)
+no_fates false (Some part) number frames output = (refl, refl)
 
-pub have_fates : (seat : ℕ) (i after : Image) (number frames : ℕ) → HasEight i.shared.books → after ≡ next_image seat i (Have number frames)
+pub have_fates : (seat : ℕ) (i after : Image) (place number frames : ℕ) → HasEight i.shared.books → after ≡ next_image seat i (Have place number frames)
     → (after.shared.books.written ≡ i.shared.books.written) × (after.shared.books.discarded ≡ i.shared.books.discarded)
-have_fates seat i after number frames eight is =
-    (written_stay seat i after (Have number frames) eight is (λ n. (no_fates i.shared.ended number frames n).0), discarded_stay seat i after (Have number frames) eight is (λ n. (no_fates i.shared.ended number frames n).1))
+have_fates seat i after place number frames eight is =
+    let part : Option Part = part_at place i.parts in
+    (written_stay seat i after (Have place number frames) eight is (λ n. (no_fates i.shared.ended part number frames n).0), discarded_stay seat i after (Have place number frames) eight is (λ n. (no_fates i.shared.ended part number frames n).1))
 
-turn_feeds : (i : Image) (output written discarded : ℕ) (failed : Bool) (report : Report) (number : ℕ)
-    → decoded_by (transition i (OutputTurn output written discarded failed)).effect report number ≡ 0
-turn_feeds i output written discarded failed report number =
-    elim (is_output i.part.outputs output) as (λ b. decoded_by (if b then acts (Settles output written discarded failed) else absent).effect report number ≡ 0)
+turn_feeds : (part : Option Part) (output written discarded : ℕ) (failed : Bool) (report : Report) (number : ℕ)
+    → decoded_by (output_turn part output (Settles output written discarded failed)).effect report number ≡ 0
+turn_feeds None output written discarded failed told number = refl
+turn_feeds (Some part) output written discarded failed told number =
+    elim (is_output part.outputs output) as (λ b. decoded_by (if b then acts (Settles output written discarded failed) else absent).effect told number ≡ 0)
     [ true ↦ refl | false ↦ refl ]
 
 pub turn_decoded : (seat : ℕ) (i after : Image) (output written discarded : ℕ) (failed : Bool) → HasEight i.shared.books
     → after ≡ next_image seat i (OutputTurn output written discarded failed) → after.shared.books.decoded ≡ i.shared.books.decoded
 turn_decoded seat i after output written discarded failed eight is =
     decoded_stay seat i after (OutputTurn output written discarded failed) eight is
-    (turn_feeds i output written discarded failed (report_of i.part i.shared.library (transition i (OutputTurn output written discarded failed))))
+    (turn_feeds (part_at (place_at i (OutputTurn output written discarded failed)) i.parts) output written discarded failed (report_at i (OutputTurn output written discarded failed) (transition i (OutputTurn output written discarded failed))))

@@ -7,3 +7,5 @@ pub mod ListEntries
 pub mod Owns
 pub mod Same
 pub mod Songs
+pub mod Plans
+pub mod Sixteen

@@ -1,5 +1,6 @@
 -- What contracts see of a player whose events are counted.
-use Rattle.std.specs.Prelude.{ℕ, ◌≡◌, ◌<◌, List, [], ◌∷◌, Option, Some, None, ◌==◌, if◌then◌else◌, slice_index_or, length, Result, Ok, Err}
+use Rattle.std.specs.Prelude.{ℕ, ◌≡◌, ◌<◌, Bool, true, false, List, [], ◌∷◌, Option, Some, None, is_some, ◌==◌, if◌then◌else◌, slice_index_or, length, Result, Ok, Err}
+use Rattle.std.specs.List.{list_any}
 use Rattle.mpd_text.specs.Songs.Song.{SongData}
 use Rattle.shelf.specs.Calls.{Call}
 use Rattle.shelf.specs.Maps.{Standing}
@@ -10,7 +11,11 @@ use Rattle.partition.specs.History.{Chronicle}
 use Rattle.partition.specs.Image.{Image, no_events}
 use Rattle.partition.specs.Legal.{IsPast}
 use Rattle.partition.specs.Lent.{question, writing}
+use Rattle.parts.specs.Parts.{part_at}
+use Rattle.player_core.specs.declared.state.Playback.{Playback}
+use Rattle.player_core.specs.declared.state.Playback.TheVariants.{Play}
 use Rattle.player_state.specs.Outputs.{empty_books}
+use Rattle.player_state.specs.declared.state.Part.{Part}
 use Rattle.transitions.specs.Shelves.{Serves}
 use Rattle.player_events.specs.Events.{with_store_reply}
 use Rattle.partition.specs.Step.{told}
@@ -32,9 +37,34 @@ abbrev pub song_of : ℕ → List Entry → Option SongData
 song_of id [] = None
 song_of id (e ∷ es) = if e.id == id then Some e.song else song_of id es
 
--- the song of the entry of the queue that has this id, after some past
-abbrev pub IsSongSomewhere : ℕ → Option SongData → Type 0
-IsSongSomewhere id song = (past : Chronicle) × IsPast past × (song ≡ song_of id (queue_of past.present.part.queue))
+abbrev pub song_within : ℕ → Option Part → Option SongData
+song_within id None = None
+song_within id (Some part) = song_of id (queue_of part.queue)
+
+-- the song of the entry that has this id in the queue of the partition of a number, if there is one
+abbrev pub song_at : ℕ → ℕ → Image → Option SongData
+song_at place id i = song_within id (part_at place i.parts)
+
+-- the same, after some past
+abbrev pub IsSongSomewhere : ℕ → ℕ → Option SongData → Type 0
+IsSongSomewhere place id song = (past : Chronicle) × IsPast past × (song ≡ song_at place id past.present)
+
+-- whether a song is being played
+abbrev pub is_playing : Playback → Bool
+is_playing Play = true
+is_playing _ = false
+
+-- the same of some partition
+abbrev pub any_plays : List Part → Bool
+any_plays parts = list_any (λ (p : Part). is_playing p.player.playback) parts
+
+-- of sixteen numbers those of a partition
+abbrev pub ArePlaces : List Bool → Image → Type 0
+ArePlaces places i = (place : ℕ) → place < 16 → slice_index_or places place false ≡ is_some (part_at place i.parts)
+
+-- the same, after some past
+abbrev pub ArePlacesSomewhere : List Bool → Type 0
+ArePlacesSomewhere places = (past : Chronicle) × IsPast past × ArePlaces places past.present
 
 -- a player of which no seat made an event, and whose outputs have no frames
 abbrev pub IsFresh : Image → Type 0

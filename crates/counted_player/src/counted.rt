@@ -1,10 +1,11 @@
 //! The player, with the books that count each seat's events.
 ghost use Rattle.std.specs.Prelude.{◌≡◌, IfOk};
 ghost use Rattle.song_queue.specs.State.{queue_of};
-ghost use Rattle.counted_player.specs.Counts.{done_in, song_of};
+ghost use Rattle.counted_player.specs.Counts.{done_in, is_playing as is_playing_lem, song_at, song_of};
 
 use crate::frames::{decoded_in, discarded_in, written_in};
 use crate::ledgers::Ledgers;
+use crate::places::places_in;
 use crate::seat::{Seat, SeatBooks};
 use crate::wake_fingerprint::WakeFingerprint;
 use command_lists::ListForm;
@@ -12,7 +13,7 @@ use mpd_command::Request;
 use partition::{ListFault, ListOutcome, Partition, PartitionFault};
 use player_core::Playback;
 use player_events::{Event, LogEntry, Outcome};
-use player_state::Client;
+use player_state::{Client, Part};
 use shelf::Shelf;
 use song_db::SharedSong;
 use song_queue::Queue;
@@ -56,10 +57,8 @@ impl<L: Ledgers> Counted<L> {
     ghost use Rattle.partition.specs.Step.{limit_of, told as told_of};
     ghost use Rattle.partition.specs.Steps.{RefusesStep, entry};
     ghost use Rattle.player_events.specs.Events.{is_line};
-    ghost use Rattle.counted_player.specs.Counts.{done_in, AnswersSomewhere, IsFresh, own_in, song_of};
+    ghost use Rattle.counted_player.specs.Counts.{any_plays, done_in, AnswersSomewhere, ArePlaces, IsFresh, own_in, song_at};
     ghost use Rattle.counted_player.specs.Seats.{after_events};
-    ghost use Rattle.song_queue.specs.State.{queue_of};
-    ghost use Rattle.player_core.specs.declared.state.Playback.TheVariants.{Play};
 
     /// A player of which no seat made an event yet.
     pub fn new(partition: Partition, seats: SeatBooks<L>) -> Self
@@ -184,20 +183,29 @@ impl<L: Ledgers> Counted<L> {
         self.partition.has_ended()
     }
 
-    /// Whether a song is being played.
+    /// Whether a song is being played in some partition.
     pub fn plays(&self) -> bool
-        ensures { (result ≡ true) ↔ (self.now.present.part.player.playback ≡ Play) }
+        ensures { result ≡ any_plays self.now.present.parts }
     {
-        matches!(self.partition.player().playback(), Playback::Play)
+        self.partition.parts().iter().any(|part| is_playing(part))
     }
 
-    /// The song of an entry of the present queue.
-    pub fn song(&self, id: u32) -> Result<Option<SharedSong>, AllocError>
-        ensures song { IfOk result (λ song. song ≡ song_of id (queue_of self.now.present.part.queue)) }
+    /// Of sixteen numbers those of a partition.
+    pub fn places(&self) -> [bool; 16]
+        ensures places { ArePlaces result self.now.present }
         ensures legal { IsPast self.now }
     {
         let _past = self.partition.history();
-        song_in(self.partition.queue(), id)
+        places_in(&self.partition)
+    }
+
+    /// The song of an entry of the present queue of the partition of a number.
+    pub fn song(&self, place: u8, id: u32) -> Result<Option<SharedSong>, AllocError>
+        ensures song { IfOk result (λ song. song ≡ song_at place id self.now.present) }
+        ensures legal { IsPast self.now }
+    {
+        let _past = self.partition.history();
+        song_within(&self.partition, place, id)
     }
 
     /// The clients that are connected.
@@ -239,6 +247,23 @@ fn done_of(end: &Result<ListOutcome, ListFault>) -> usize
     match end {
         Ok(outcome) => outcome.outcomes().len(),
         Err(fault) => fault.done,
+    }
+}
+
+/// Whether a song is being played in a partition.
+fn is_playing(part: &Part) -> bool
+    ensures { result ≡ is_playing_lem part.now.player.playback }
+{
+    matches!(part.player.playback(), Playback::Play)
+}
+
+/// The song of the entry that has this id in the queue of the partition of a number, if there is one.
+fn song_within(partition: &Partition, place: u8, id: u32) -> Result<Option<SharedSong>, AllocError>
+    ensures { IfOk result (λ song. song ≡ song_at place id partition.now.present) }
+{
+    match partition.part(place) {
+        Some(part) => song_in(&part.queue, id),
+        None => Ok(None),
     }
 }
 

@@ -1,8 +1,7 @@
 //! The numbers of eight outputs, as the player keeps them.
-ghost use Rattle.std.specs.Prelude.{◌≡◌, ◌<◌, ℕ, false, length, slice_index_or};
-ghost use Rattle.player_state.specs.Outputs.{is_enabled};
+ghost use Rattle.std.specs.Prelude.{◌≡◌, length};
 
-use player_state::{FrameCounts, Outputs};
+use player_state::FrameCounts;
 
 /// The frames that each of eight outputs was given.
 #[tactic(auto, using(crate::proofs::Eight::eight))]
@@ -55,21 +54,5 @@ pub(crate) fn discarded_in(books: &FrameCounts) -> [u64; 8]
         books.discarded(5),
         books.discarded(6),
         books.discarded(7),
-    ]
-}
-
-/// Which of eight outputs are enabled.
-pub(crate) fn enabled_in(outputs: &Outputs) -> [bool; 8]
-    ensures { (output : ℕ) → output < 8 → slice_index_or result output false ≡ is_enabled outputs.now output }
-{
-    [
-        outputs.is_enabled(0),
-        outputs.is_enabled(1),
-        outputs.is_enabled(2),
-        outputs.is_enabled(3),
-        outputs.is_enabled(4),
-        outputs.is_enabled(5),
-        outputs.is_enabled(6),
-        outputs.is_enabled(7),
     ]
 }

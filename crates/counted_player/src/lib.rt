@@ -5,6 +5,7 @@ mod counted;
 mod frames;
 mod ledgers;
 mod mark;
+mod places;
 mod seat;
 mod wake_fingerprint;
 

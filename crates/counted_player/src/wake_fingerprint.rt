@@ -1,30 +1,49 @@
 //! What a thread at rest is woken for.
-use crate::frames::enabled_in;
 use partition::Partition;
 use player_core::Playback;
+use player_state::Part;
 
-/// What changes where a decoder, an output or a scanner has something to do: whether and what is played,
-/// which outputs are enabled, which scan runs, and the end.
+/// What changes where a decoder, an output or a scanner has something to do: which partitions there are, and
+/// of each whether and what is played and which outputs are enabled; which scan runs, and the end.
 #[derive(Clone, Copy, PartialEq, Eq)]
 pub struct WakeFingerprint {
-    playback: Playback,
-    cuts: u64,
-    starts: u64,
-    outputs: [bool; 8],
+    parts: [Option<PartFingerprint>; 16],
     scan: Option<u64>,
     ended: bool,
 }
 
+/// What changes in one partition.
+#[derive(Clone, Copy, PartialEq, Eq)]
+struct PartFingerprint {
+    place: u8,
+    playback: Playback,
+    cuts: u64,
+    starts: u64,
+    outputs: [bool; 8],
+}
+
 impl WakeFingerprint {
     pub(crate) fn of(partition: &Partition) -> WakeFingerprint {
-        let player = partition.player();
+        let mut parts = [None; 16];
+        for (seen, part) in parts.iter_mut().zip(partition.parts()) {
+            *seen = Some(PartFingerprint::of(part));
+        }
         WakeFingerprint {
-            playback: player.playback(),
-            cuts: player.cuts(),
-            starts: player.starts(),
-            outputs: enabled_in(partition.outputs()),
+            parts,
             scan: partition.library().scan.running(),
             ended: partition.has_ended(),
+        }
+    }
+}
+
+impl PartFingerprint {
+    fn of(part: &Part) -> PartFingerprint {
+        PartFingerprint {
+            place: part.place,
+            playback: part.player.playback(),
+            cuts: part.player.cuts(),
+            starts: part.player.starts(),
+            outputs: part.outputs.enabled(),
         }
     }
 }

@@ -1,12 +1,14 @@
 -- Frames that go into rings.
-use Rattle.std.proofs.Common.{◌≡◌, ℕ, ◌+◌, ◌<◌, Bool, true, false, ◌||◌, List, [], ◌∷◌, All, length, get_or, set, take, refl, sym, subst, ◌∙◌}
+use Rattle.std.proofs.Common.{◌≡◌, inl, inr, ℕ, ℤ, ◌+◌, ◌++◌, ap, Option, Some, None, slice_index_or, ◌<◌, Bool, true, false, ◌||◌, List, [], ◌∷◌, All, length, get_or, set, take, refl, sym, subst, ◌∙◌}
 use Rattle.std.proofs.lemmas.List.{append-nil, take_more_set}
 use Rattle.std.proofs.lemmas.List.Elements.{All-push}
 use Rattle.output_ring.specs.declared.feeder.Feeder.{Feeder}
 use Rattle.output_ring.specs.declared.frames.CutFrame.{CutFrame}
-use Rattle.output_ring.specs.Rings.{SameFeeder, taken_of}
+use Rattle.output_ring.specs.Frames.{with_cut}
+use Rattle.output_ring.specs.Rings.{SameFeeder, owed_of, taken_of}
+use Rattle.player_state.specs.declared.report.Feed.{Feed}
 use Rattle.crew_steps.specs.Each.{Each, EachAt}
-use Rattle.crew_steps.specs.Feeding.{TakesItsOwn, TakesNone}
+use Rattle.crew_steps.specs.Feeding.{TakesItsOwn, TakesNone, fed_frames, own_frames}
 use Rattle.crew_steps.proofs.Eaches.{each_set, each_trans, same_refl, same_trans}
 
 pub both : (a b : Bool) → (a || b) ≡ false → (a ≡ false) × (b ≡ false)
@@ -49,7 +51,24 @@ each_none fs gs hs = each_trans TakesNone TakesNone TakesNone fs gs hs none_tran
 -- where no ring has frames of its own, nothing changes
 none_fed_from : (n : ℕ) (fs : List Feeder) → EachAt (TakesItsOwn (λ n. [])) n fs fs
 none_fed_from n [] = tt
-none_fed_from n (f ∷ fs) = ((same_refl f, sym (append-nil (taken_of f))), none_fed_from (n + 1) fs)
+none_fed_from n (f ∷ fs) = ((same_refl f, sym (append-nil (taken_of f)), inl refl), none_fed_from (n + 1) fs)
 
 pub none_fed : (fs : List Feeder) → EachAt (TakesItsOwn (λ n. [])) 0 fs fs
 none_fed fs = none_fed_from 0 fs
+
+-- a ring that a feed names took its block, once nothing waited for room in it
+pub takes_some : (feed : Feed) (frames : List (List ℤ)) (n moves : ℕ) (old mid new : Feeder) → slice_index_or feed.outputs n None ≡ Some moves → TakesNone old mid → SameFeeder mid new
+    → taken_of new ≡ taken_of mid ++ with_cut (record { moves = moves; number = feed.cut }) frames → owed_of new ≡ with_cut (record { moves = moves; number = feed.cut }) frames
+    → TakesItsOwn (fed_frames feed frames) n old new
+takes_some feed frames n moves old mid new is none same taken owed =
+    let own = ap (λ o. own_frames o feed.cut frames) is in (
+      same_trans old mid new none.0 same,
+      taken ∙ ap (λ (l : List CutFrame). l ++ with_cut (record { moves = moves; number = feed.cut }) frames) none.1 ∙ ap (λ (l : List CutFrame). taken_of old ++ l) (sym own),
+      inr (owed ∙ sym own),
+    )
+
+-- another stays as it is
+pub takes_none : (feed : Feed) (frames : List (List ℤ)) (n : ℕ) (f : Feeder) → slice_index_or feed.outputs n None ≡ None → TakesItsOwn (fed_frames feed frames) n f f
+takes_none feed frames n f is =
+    let own = ap (λ o. own_frames o feed.cut frames) is in
+    (same_refl f, sym (append-nil (taken_of f)) ∙ ap (λ (l : List CutFrame). taken_of f ++ l) (sym own), inl own)

@@ -1,5 +1,5 @@
--- While a ring owes frames the player gives no job.
-use Rattle.std.proofs.Common.{◌≡◌, ℕ, Bool, true, false, ◌&&◌, not, Some, None, if◌then◌else◌, refl, ap, sym, ◌∙◌}
+-- While a ring of its outputs owes frames a partition gives no job.
+use Rattle.std.proofs.Common.{◌≡◌, ℕ, List, Bool, true, false, ◌&&◌, not, Option, Some, None, if◌then◌else◌, refl, ap, sym, ◌∙◌}
 use Rattle.player_core.specs.declared.state.Job.{Job}
 use Rattle.player_core.specs.Decoding as decoding
 use Rattle.player_core.specs.Player.{PlayerState, is_playing}
@@ -9,11 +9,13 @@ use Rattle.player_state.specs.declared.effect.CommandEffect.TheVariants.{Rests}
 use Rattle.player_state.specs.declared.effect.AudioStep.TheVariants.{Wants}
 use Rattle.player_state.specs.declared.report.Report.TheVariants.{Ended, Nothing, ToDecode}
 use Rattle.player_state.specs.Effects.{entries, report_after, wanted}
-use Rattle.player_state.specs.Outputs.{any_enabled}
+use Rattle.parts.specs.Parts.{part_at, report_in}
+use Rattle.player_state.specs.Outputs.{any_enabled, owes_any}
 use Rattle.partition.specs.Image.{Image}
 use Rattle.player_state.specs.declared.state.Part.{Part}
 use Rattle.player_events.specs.Outcomes.{OutcomeData}
-use Rattle.partition.specs.Step.{told}
+use Rattle.partition.specs.Step.{told, want}
+use Rattle.crew_steps.specs.Feeding.{OwesNothingSomewhere, OwnOweNothing}
 use Rattle.counted_player.specs.Seats.{SeatCount}
 use Rattle.held_player.specs.Views.{TellsSomewhere}
 
@@ -32,12 +34,26 @@ told_no_job : (ended : Bool) (rate : ℕ) (part : Part) (job : Job) → report_a
 told_no_job true rate part job h = cc
 told_no_job false rate part job h = apart job (sym (ap ToDecode (no_job rate part)) ∙ h)
 
--- the same as above, of what an event tells
-pub no_job_told : (i : Image) (job : Job) → (told i (Want true)).report ≡ ToDecode (Some job) → ⊥
-unfolding told
-no_job_told i job h = told_no_job i.shared.ended i.shared.library.rate i.part job h
+by_owing : (ended : Bool) (rate : ℕ) (part : Part) (job : Job) (owing : Bool)
+    → report_after rate part (if ended then (ByCommand Rests) else ByAudio (Wants owing)) (if ended then Ended else Nothing) ≡ ToDecode (Some job) → owing ≡ false
+by_owing ended rate part job true h = absurd (told_no_job ended rate part job h)
+by_owing ended rate part job false h = refl
 
--- a job is given only where nothing is owed
-pub owes_none : (seat : SeatCount) (owes : Bool) (outcome : OutcomeData) (job : Job) → TellsSomewhere seat (Want owes) outcome → outcome.report ≡ ToDecode (Some job) → owes ≡ false
-owes_none seat false outcome job tells h = refl
-owes_none seat true outcome job tells h = absurd (no_job_told tells.0.present job (ap (λ (t : OutcomeData). t.report) (sym tells.2) ∙ h))
+told_nowhere : (ended : Bool) (job : Job) → (if ended then Ended else ToDecode None) ≡ ToDecode (Some job) → ⊥
+told_nowhere true job h = cc
+told_nowhere false job h = apart job h
+
+told_job : (ended : Bool) (rate : ℕ) (part : Option Part) (owing : List Bool) (job : Job)
+    → report_in rate part (want ended part owing).effect (want ended part owing).report ≡ ToDecode (Some job) → OwnOweNothing owing part
+told_job ended rate None owing job h = absurd (told_nowhere ended job h)
+told_job ended rate (Some part) owing job h = by_owing ended rate part job (owes_any part.outputs owing) h
+
+-- the same, of what an event tells
+job_told : (i : Image) (place : ℕ) (owing : List Bool) (job : Job) → (told i (Want place owing)).report ≡ ToDecode (Some job) → OwnOweNothing owing (part_at place i.parts)
+unfolding told
+job_told i place owing job h = told_job i.shared.ended i.shared.library.rate (part_at place i.parts) owing job h
+
+-- a job is given only where nothing is owed at the outputs of its partition
+pub owes_nothing : (seat : SeatCount) (place : ℕ) (owing : List Bool) (outcome : OutcomeData) (job : Job) → TellsSomewhere seat (Want place owing) outcome → outcome.report ≡ ToDecode (Some job) → OwesNothingSomewhere place owing
+owes_nothing seat place owing outcome job tells h =
+    (tells.0, tells.1.0, job_told tells.0.present place owing job (ap (λ (t : OutcomeData). t.report) (sym tells.2) ∙ h))

@@ -1,5 +1,5 @@
 -- What the rings of the outputs take of a job's frames (this profile's).
-use Rattle.std.specs.Prelude.{ℕ, ℤ, ◌≡◌, ◌⊎◌, ◌+◌, ◌++◌, Bool, ◌&&◌, ◌==◌, nat_le, nat_lt, min, List, [], length, Option, Some, None, slice_index_or, if◌then◌else◌}
+use Rattle.std.specs.Prelude.{ℕ, ℤ, ◌≡◌, ◌⊎◌, ◌+◌, ◌++◌, Bool, false, ◌&&◌, ◌==◌, nat_le, nat_lt, min, List, [], ◌∷◌, length, slice_get, Option, Some, None, slice_index_or, if◌then◌else◌}
 use Rattle.output_ring.specs.Frames.{with_cut}
 use Rattle.output_ring.specs.Rings.{SameFeeder, owed_of, taken_of}
 use Rattle.output_ring.specs.declared.feeder.Feeder.{Feeder}
@@ -10,6 +10,11 @@ use Rattle.player_core.specs.declared.state.Job.{Job}
 use Rattle.player_events.specs.Outcomes.{OutcomeData}
 use Rattle.player_events.specs.declared.event.Event.{Event}
 use Rattle.player_events.specs.declared.event.Event.TheVariants.{Failed}
+use Rattle.parts.specs.Parts.{part_at}
+use Rattle.partition.specs.History.{Chronicle}
+use Rattle.partition.specs.Legal.{IsPast}
+use Rattle.player_state.specs.Outputs.{owes_any}
+use Rattle.player_state.specs.declared.state.Part.{Part}
 use Rattle.player_state.specs.declared.report.Feed.{Feed}
 use Rattle.player_state.specs.declared.report.Report.{Report}
 use Rattle.player_state.specs.declared.report.Report.TheVariants.{ToFeed}
@@ -17,6 +22,26 @@ use Rattle.counted_player.specs.Seats.{SeatCount}
 use Rattle.held_player.specs.Views.{FeedsSomewhere}
 use Rattle.crew_steps.specs.Each.{EachAt}
 use Rattle.crew_steps.specs.Sounds.{AreOpenFor, IsShut, OpenSongs, ReadsJob}
+
+-- whether frames wait for room in a ring, if there is one
+abbrev pub owes : Option Feeder → Bool
+owes None = false
+owes (Some f) = nat_lt 0 (length (owed_of f))
+
+-- of the first eight rings those in which frames wait for room
+abbrev pub owing : List Feeder → List Bool
+owing fs =
+    owes (slice_get fs 0) ∷ owes (slice_get fs 1) ∷ owes (slice_get fs 2) ∷ owes (slice_get fs 3) ∷ owes (slice_get fs 4)
+    ∷ owes (slice_get fs 5) ∷ owes (slice_get fs 6) ∷ owes (slice_get fs 7) ∷ []
+
+-- of the outputs that are in a partition none is among those whose rings owe frames
+abbrev pub OwnOweNothing : List Bool → Option Part → Type 0
+OwnOweNothing owing None = ⊥
+OwnOweNothing owing (Some part) = owes_any part.outputs owing ≡ false
+
+-- the same of the partition of a number, after some past
+abbrev pub OwesNothingSomewhere : ℕ → List Bool → Type 0
+OwesNothingSomewhere place owing = (past : Chronicle) × IsPast past × OwnOweNothing owing (part_at place past.present.parts)
 
 -- no frame waits for room in the ring
 abbrev pub OwesNothing : Feeder → Type 0
@@ -26,9 +51,13 @@ OwesNothing f = owed_of f ≡ []
 abbrev pub TakesNone : Feeder → Feeder → Type 0
 TakesNone old new = SameFeeder old new × (taken_of new ≡ taken_of old)
 
--- the ring of the n-th output took its own of these frames after those before
+-- where there are frames in a block, they alone wait for room in the ring that took them: it owed nothing then
+abbrev pub OwesOnly : List CutFrame → Feeder → Type 0
+OwesOnly block new = (block ≡ []) ⊎ (owed_of new ≡ block)
+
+-- the ring of the n-th output took its own of these frames after those before, when it owed nothing
 abbrev pub TakesItsOwn : (ℕ → List CutFrame) → ℕ → Feeder → Feeder → Type 0
-TakesItsOwn own n old new = SameFeeder old new × (taken_of new ≡ taken_of old ++ own n)
+TakesItsOwn own n old new = SameFeeder old new × (taken_of new ≡ taken_of old ++ own n) × OwesOnly (own n) new
 
 -- a job's part of a fade, with the other song's frames; none where these are not as many as the job's, or end
 -- after the fade
@@ -71,19 +100,20 @@ abbrev pub HandsOut : Option FadePart → List (List ℤ) → List (List ℤ) �
 HandsOut fade frames others told old new =
     EachAt (TakesItsOwn (handed (feed_told told.report) fade others frames)) 0 old new
 
--- It was told that so many frames of a job are decoded, and these were handed out as it was told of them.
-abbrev pub Feeds : SeatCount → ℕ → ℕ → Job → List (List ℤ) → List (List ℤ) → List Feeder → List Feeder → Type 0
-Feeds seat share_before share_after job frames others old new =
-    (told : OutcomeData) × FeedsSomewhere seat job.number (length frames) told share_before share_after
+-- It was told that so many frames of a partition's job are decoded, and these were handed out as it was told of
+-- them.
+abbrev pub Feeds : SeatCount → ℕ → ℕ → ℕ → Job → List (List ℤ) → List (List ℤ) → List Feeder → List Feeder → Type 0
+Feeds seat share_before share_after place job frames others old new =
+    (told : OutcomeData) × FeedsSomewhere seat place job.number (length frames) told share_before share_after
     × HandsOut job.fade frames others told old new
 
--- A job whose song failed gave no ring a frame, and that song is not open any more; of another the frames
--- that its songs have were read, told of, and handed out as it was told.
-abbrev pub DoesJob : OpenSongs → SeatCount → ℕ → ℕ → Job → List Feeder → List Feeder → Type 0
-DoesJob songs seat share_before share_after job old new =
-    ((new ≡ old) × ((partner : Bool) × IsShut songs job partner))
-    ⊎ (AreOpenFor songs job × ((frames : List (List ℤ)) × (others : List (List ℤ)) × ReadsJob songs job frames others × Feeds seat share_before share_after job frames others old new))
+-- A job of a partition whose song failed gave no ring a frame, and that song is not open any more; of another
+-- the frames that its songs have were read, told of, and handed out as it was told.
+abbrev pub DoesJob : OpenSongs → SeatCount → ℕ → ℕ → ℕ → Job → List Feeder → List Feeder → Type 0
+DoesJob songs seat share_before share_after place job old new =
+    ((new ≡ old) × ((partner : Bool) × IsShut songs place job partner))
+    ⊎ (AreOpenFor songs place job × ((frames : List (List ℤ)) × (others : List (List ℤ)) × ReadsJob songs job frames others × Feeds seat share_before share_after place job frames others old new))
 
--- the event that a song of a job has failed: its own, or the one that it fades into
-abbrev pub failure_of : ℕ → Bool → Event
-failure_of number partner = Failed number partner
+-- the event that a song of a partition's job has failed: its own, or the one that it fades into
+abbrev pub failure_of : ℕ → ℕ → Bool → Event
+failure_of place number partner = Failed place number partner

@@ -1,21 +1,34 @@
 -- What contracts see of a song that is open.
-use Rattle.std.specs.Prelude.{◌⊎◌, Option, Some, None}
+use Rattle.std.specs.Prelude.{ℕ, ◌⊎◌, All, List, Option, Some, None}
 use Rattle.std.specs.declared.io.traits.Read as Read
 use Rattle.counted_devices.specs.CallCounts.{HasFailed}
 use Rattle.counted_devices.specs.declared.call_counts.CallCounts.{CallCounts}
 use Rattle.counted_devices.specs.declared.device.Failing as Failing
 use Rattle.counted_devices.specs.declared.device.Media as Media
 use Rattle.wave.specs.Devices.{CalledTooOften}
-use Rattle.crew_steps.specs.Sounds.{Opened}
+use Rattle.crew_steps.specs.Sounds.{IsMeant, Opened}
+use Rattle.crew_steps.specs.declared.part_songs.PartSongs.{PartSongs}
 use Rattle.crew_steps.specs.declared.open_song.OpenSong.{OpenSong}
 
 module _ {M : Type 0} {media : Media.Ghosts M} {read : Read.Ghosts M} {failing : Failing.Ghosts M} where
   abbrev pub opened : OpenSong M media read failing → Opened
-  opened song = record { id = song.id; known = media.all_bytes song.reader.media; head = song.reader.head }
+  opened song = record { place = song.place; id = song.id; known = media.all_bytes song.reader.media; head = song.reader.head }
 
   abbrev pub opened_in : Option (OpenSong M media read failing) → Option Opened
   opened_in None = None
   opened_in (Some song) = Some (opened song)
+
+  -- the songs of a partition have frames and heads that are what their files mean at a rate
+  abbrev pub AreMeant : ℕ → PartSongs M media read failing → Type 0
+  AreMeant rate songs = IsMeant rate (opened_in songs.current) × IsMeant rate (opened_in songs.partner)
+
+  -- where all are so before, all are so after
+  abbrev pub StayMeant : List (PartSongs M media read failing) → List (PartSongs M media read failing) → Type 0
+  StayMeant old new = (rate : ℕ) → All (AreMeant rate) old → All (AreMeant rate) new
+
+  -- the same, where songs were put to the others and some were taken out
+  abbrev pub ExchangesMeant : List (PartSongs M media read failing) → PartSongs M media read failing → List (PartSongs M media read failing) → PartSongs M media read failing → Type 0
+  ExchangesMeant old left new taken = (rate : ℕ) → All (AreMeant rate) old → AreMeant rate left → All (AreMeant rate) new × AreMeant rate taken
 
   -- how the calls of its file ended so far
   abbrev pub calls_of : OpenSong M media read failing → CallCounts

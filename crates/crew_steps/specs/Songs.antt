@@ -11,9 +11,9 @@ abbrev pub IsFaultOf : Bool → NoFrames → Type 0
 IsFaultOf partner fault = (fault ≡ NoMemory) ⊎ (fault ≡ Failed partner)
 
 -- a song of the job that has failed is not open any more
-abbrev pub Fails : OpenSongs → Job → NoFrames → Type 0
-Fails songs job NoMemory = Unit {0}
-Fails songs job (Failed partner) = IsShut songs job partner
+abbrev pub Fails : OpenSongs → ℕ → Job → NoFrames → Type 0
+Fails songs place job NoMemory = Unit {0}
+Fails songs place job (Failed partner) = IsShut songs place job partner
 
 -- the other song has fewer frames than so many, from a place of the fade on
 abbrev pub IsShort : ℕ → Option FadePart → Option Opened → ℕ → Type 0

@@ -1,5 +1,5 @@
 -- What is heard of songs that are open (this profile's).
-use Rattle.std.specs.Prelude.{ℕ, ℤ, ◌≡◌, ◌-◌, ◌==◌, Bool, true, false, List, [], length, take, drop, min, Option, Some, None, Ok, if◌then◌else◌}
+use Rattle.std.specs.Prelude.{ℕ, ℤ, ◌≡◌, ◌-◌, ◌==◌, ◌&&◌, Bool, true, false, List, [], length, take, drop, min, Option, Some, None, Ok, if◌then◌else◌}
 use Rattle.std.specs.Option.{ForSome}
 use Rattle.player_core.specs.declared.state.Job.{Job}
 use Rattle.player_core.specs.declared.state.FadePart.{FadePart}
@@ -7,13 +7,15 @@ use Rattle.wave.specs.declared.head.Head.{Head}
 use Rattle.wave.specs.Meanings.{frames_in, wave_in}
 use Rattle.wave.specs.Waves.{Wave, wave_of}
 
--- a song that is open: its id, its file's bytes, where they are known, and the file's head
+-- a song that is open: the partition in whose queue it is, its id there, its file's bytes, where they are known,
+-- and the file's head
 pub record Opened : Type 0 where
+  pub place : ℕ
   pub id : ℕ
   pub known : Option (List ℕ)
   pub head : Head
 
--- the songs that are open, at a rate: the current one, and the one that it fades into
+-- the songs that are open of one partition, at a rate: the current one, and the one that it fades into
 pub record OpenSongs : Type 0 where
   pub rate : ℕ
   pub current : Option Opened
@@ -49,28 +51,28 @@ abbrev pub AreHeard : ℕ → Option Opened → ℕ → ℕ → List (List ℤ) 
 AreHeard rate None from count frames = ⊥
 AreHeard rate (Some song) from count frames = ForSome song.known (λ bytes. MeansFrames rate bytes from count frames)
 
--- whether the song that is open has this id
-abbrev pub is_song : ℕ → Option Opened → Bool
-is_song id None = false
-is_song id (Some song) = song.id == id
+-- whether the song that is open has this id in the queue of a partition
+abbrev pub is_song : ℕ → ℕ → Option Opened → Bool
+is_song place id None = false
+is_song place id (Some song) = (song.place == place) && (song.id == id)
 
 -- whether the other song of a fade is open, if there is a fade
-abbrev pub is_partner : Option FadePart → Option Opened → Bool
-is_partner None partner = true
-is_partner (Some part) partner = is_song part.partner partner
+abbrev pub is_partner : ℕ → Option FadePart → Option Opened → Bool
+is_partner place None partner = true
+is_partner place (Some part) partner = is_song place part.partner partner
 
 -- the song in one of the two places
 abbrev pub song_at : Bool → OpenSongs → Option Opened
 song_at partner songs = if partner then songs.partner else songs.current
 
--- the songs of a job are open: its own, and the one that it fades into
-abbrev pub AreOpenFor : OpenSongs → Job → Type 0
-AreOpenFor songs job = (is_song job.id songs.current ≡ true) × (is_partner job.fade songs.partner ≡ true)
+-- the songs of a partition's job are open: its own, and the one that it fades into
+abbrev pub AreOpenFor : OpenSongs → ℕ → Job → Type 0
+AreOpenFor songs place job = (is_song place job.id songs.current ≡ true) × (is_partner place job.fade songs.partner ≡ true)
 
--- a song of a job is not open: its own, or the one that it fades into
-abbrev pub IsShut : OpenSongs → Job → Bool → Type 0
-IsShut songs job false = is_song job.id songs.current ≡ false
-IsShut songs job true = is_partner job.fade songs.partner ≡ false
+-- a song of a partition's job is not open: its own, or the one that it fades into
+abbrev pub IsShut : OpenSongs → ℕ → Job → Bool → Type 0
+IsShut songs place job false = is_song place job.id songs.current ≡ false
+IsShut songs place job true = is_partner place job.fade songs.partner ≡ false
 
 -- as many frames of the other song, from a place of the fade on; none without a fade
 abbrev pub OthersOf : ℕ → Option FadePart → Option Opened → ℕ → List (List ℤ) → Type 0

@@ -1,9 +1,10 @@
 //! The thread that decodes.
-ghost use Rattle.std.specs.Prelude.{◌≡◌, ◌<◌, All};
-ghost use Rattle.crew_steps.specs.Feeding.{HandsOut, OwesNothing, feed_told};
+ghost use Rattle.std.specs.Prelude.{◌≡◌, ◌≤◌, vec_len};
+ghost use Rattle.crew_steps.specs.Feeding.{HandsOut, feed_told};
 
-use crate::feeders::{finish_all, push_all, take_all};
+use crate::feeders::{are_among, finish_all, owing, push_all, take_all};
 use crate::mixing::mix_block;
+use crate::rounds::{count_of, next_place};
 use crate::song_source::SongSource;
 use crate::songs::{JobFrames, NoFrames, Songs};
 use counted_devices::Media;
@@ -29,7 +30,8 @@ const LOOKS: u32 = 200;
 /// How often it looks by time at rings into which no frame goes, before it rests until something changes.
 const VAIN_LOOKS: u32 = 16;
 
-/// A decoder that runs: it hands the frames of the house's jobs to the feeders of the outputs.
+/// A decoder that runs: it hands the frames of the house's jobs to the feeders of the outputs. The partitions
+/// are asked for jobs in turn, so that each has its own however many there are.
 #[derive(Drop)]
 pub struct Decoder<'h, L: Ledgers, S: SongSource<M> + Drop, M: Media + Drop, R: Wait + Clock> {
     rt: &'h R,
@@ -38,6 +40,12 @@ pub struct Decoder<'h, L: Ledgers, S: SongSource<M> + Drop, M: Media + Drop, R: 
     seat: Seat<L>,
     share: Share<Decoded<L>>,
     songs: Songs<S, M>,
+    /// The number of the partition that was last asked for a job.
+    place: u8,
+    /// How many were asked one after the other that have none.
+    idle: usize,
+    /// How often the house had changed when the first of them was asked.
+    seen: u64,
     /// How many milliseconds it rests at most while a song is played: half the time that a block lasts.
     look: u64,
     /// How many milliseconds it rests now.
@@ -46,6 +54,8 @@ pub struct Decoder<'h, L: Ledgers, S: SongSource<M> + Drop, M: Media + Drop, R: 
     streak: u64,
     /// How often it rested since a frame went into a ring.
     vain: u32,
+    /// Of the first eight rings those that had no room, however often it looked.
+    stalled: [bool; 8],
     ghost part: { share.parts ≡ 1 },
 }
 
@@ -76,13 +86,13 @@ impl<'h, L: Ledgers, S: SongSource<M> + Drop, M: Media + Drop, R: Wait + Clock> 
     M,
     R,
 > {
-    ghost use Rattle.std.specs.Prelude.{◌≡◌, ◌<◌, ◌≤◌, [], All, false, true, not, IfErr, IfOk, OnErr, OnOk, vec_len, vec_capacity};
+    ghost use Rattle.std.specs.Prelude.{◌≡◌, ◌<◌, ◌≤◌, [], false, true, not, IfErr, IfOk, OnErr, OnOk, vec_len, vec_capacity};
     ghost use Rattle.output_ring.specs.Rings.{EndsFeeder, SameFeeder};
     ghost use Rattle.player_core.specs.declared.state.Job.{Job};
     ghost use Rattle.player_events.specs.declared.event.Event.TheVariants.{Want};
     ghost use Rattle.held_player.specs.Views.{FeedsShare, TellsSomewhere};
     ghost use Rattle.crew_steps.specs.Each.{Each};
-    ghost use Rattle.crew_steps.specs.Feeding.{DoesJob, Feeds, OwesNothing, TakesNone, failure_of};
+    ghost use Rattle.crew_steps.specs.Feeding.{DoesJob, Feeds, OwesNothingSomewhere, TakesNone, failure_of, owing as owing_lem};
     ghost use Rattle.crew_steps.specs.Shown.{songs_of};
     ghost use Rattle.crew_steps.specs.Songs.{Fails, IsFaultOf};
     ghost use Rattle.crew_steps.specs.Sounds.{AreOpenFor, IsShut, ReadsJob, is_partner, is_song, song_at};
@@ -105,11 +115,15 @@ impl<'h, L: Ledgers, S: SongSource<M> + Drop, M: Media + Drop, R: Wait + Clock> 
             house,
             seat: Seat::of_crew(0),
             share,
-            songs: Songs::new(source, rate),
+            songs: Songs::new(alloc, source, rate),
+            place: 0,
+            idle: 0,
+            seen: 0,
             look: look_at(rate),
             wait: 1,
             streak: 0,
             vain: 0,
+            stalled: [false; 8],
         }
     }
 
@@ -140,54 +154,84 @@ impl<'h, L: Ledgers, S: SongSource<M> + Drop, M: Media + Drop, R: Wait + Clock> 
         }
     }
 
-    /// Moves what waits into the rings, and decodes one job if there is one. False at the end.
+    /// Moves what waits into the rings, and decodes a job of the partition that has its turn, if it has one.
+    /// False at the end.
     #[tactic(auto, using(crate::proofs::Eaches::each_same, crate::proofs::Pushes::each_kept))]
     fn decode_once(&mut self, feeders: &mut Vec<Feeder>) -> bool
         ensures { Each SameFeeder feeders.old.items feeders.new.items }
     {
         let owes = self.push(feeders);
-        match self.ask(owes) {
+        let places = self.house.places(self.rt);
+        self.songs.close_gone(places);
+        let place = next_place(places, self.place);
+        self.place = place;
+        match self.ask(place, owes, count_of(places)) {
             Next::Ends => false,
             Next::Again => true,
             Next::Decodes(job) => {
-                self.decode(feeders, &job);
+                self.decode(feeders, place, &job);
                 true
             }
         }
     }
 
-    /// Asks for a job. Where there is none it rests, and where there is no answer it waits a while. There is
-    /// none while a ring owes frames.
-    #[tactic(auto, using(crate::proofs::Wanted::owes_none))]
-    fn ask(&mut self, owes: bool) -> Next
-        ensures { (job : Job) → result ≡ Decodes job → owes ≡ false }
+    /// Asks a partition for a job. Where there is no answer it waits a while. There is no job while a ring of
+    /// one of the partition's outputs owes frames.
+    #[tactic(auto, using(crate::proofs::Wanted::owes_nothing))]
+    fn ask(&mut self, place: u8, owes: [bool; 8], partitions: usize) -> Next
+        ensures { (job : Job) → result ≡ Decodes job → OwesNothingSomewhere place owes }
     {
-        let Ok(told) = self.want(owes) else {
+        let Ok(told) = self.want(place, owes) else {
             self.pause();
             return Next::Again;
         };
         match told.report() {
             Report::Ended => Next::Ends,
-            Report::ToDecode(Some(job)) => Next::Decodes(job),
+            Report::ToDecode(Some(job)) => {
+                self.idle = 0;
+                Next::Decodes(job)
+            }
             _ => {
-                self.rest(told.changes(), owes);
+                self.pass(told.changes(), owes.iter().any(|owes| *owes), partitions);
                 Next::Again
             }
         }
     }
 
-    /// Asks for a job, and says whether frames still wait.
-    fn want(&mut self, owes: bool) -> Result<Reported, PartitionFault>
-        ensures { IfOk result (TellsSomewhere self.old.seat (Want owes)) }
+    /// Asks a partition for a job, and says of which outputs frames still wait.
+    fn want(&mut self, place: u8, owes: [bool; 8]) -> Result<Reported, PartitionFault>
+        ensures { IfOk result (TellsSomewhere self.old.seat (Want place owes)) }
     {
         self.house
-            .notice(self.rt, &mut self.seat, News::Wants(owes))
+            .notice(self.rt, &mut self.seat, News::Wants(place, owes))
     }
 
-    /// Moves frames into the rings, and says whether some still wait.
-    fn push(&mut self, feeders: &mut Vec<Feeder>) -> bool
+    /// Passes over a partition that has no job. Once all were passed over, one after the other, it rests.
+    fn pass(&mut self, changes: u64, owes: bool, partitions: usize) {
+        if self.idle == 0 {
+            self.seen = changes;
+        }
+        self.idle = self.idle.saturating_add(1);
+        if self.idle >= partitions {
+            self.idle = 0;
+            self.rest(self.seen, owes);
+        }
+    }
+
+    /// Moves frames into the rings, and says of the first eight in which some still wait.
+    fn push(&mut self, feeders: &mut Vec<Feeder>) -> [bool; 8]
         ensures kept { Each TakesNone feeders.old.items feeders.new.items }
-        ensures owes { result ≡ false → All OwesNothing feeders.new.items }
+        ensures owes { result ≡ owing_lem feeders.new.items }
+    {
+        self.fill_rings(feeders);
+        owing(feeders)
+    }
+
+    /// Moves frames into the rings. Where several blocks were decoded without a rest, it looks at full rings
+    /// again; but a ring that stayed full so long is not waited for until it has room, or an output that takes
+    /// nothing would hold up those of other partitions.
+    fn fill_rings(&mut self, feeders: &mut Vec<Feeder>)
+        ensures { Each TakesNone feeders.old.items feeders.new.items }
     {
         let looks = if self.streak > 1 { LOOKS } else { 1 };
         for _ in 0..looks {
@@ -195,54 +239,58 @@ impl<'h, L: Ledgers, S: SongSource<M> + Drop, M: Media + Drop, R: Wait + Clock> 
             if pushed.moves {
                 self.vain = 0;
             }
-            if !pushed.waits {
-                return false;
+            let owes = owing(feeders);
+            if are_among(owes, self.stalled) {
+                self.stalled = owes;
+                return;
             }
             thread::yield_now();
         }
-        true
+        if looks > 1 {
+            self.stalled = owing(feeders);
+        }
     }
 
-    /// Decodes a job, and hands its frames to the outputs that they are for.
+    /// Decodes a job of a partition, and hands its frames to the outputs that they are for. No ring of one of
+    /// the partition's outputs owed frames when the job was given.
     #[tactic(auto, using(crate::proofs::Eaches::each_unchanged, crate::proofs::Decodings::failed))]
-    fn decode(&mut self, feeders: &mut Vec<Feeder>, job: &Job)
-        requires { All OwesNothing feeders.old.items }
+    fn decode(&mut self, feeders: &mut Vec<Feeder>, place: u8, job: &Job)
+        requires { OwesNothingSomewhere place (owing_lem feeders.old.items) }
         ensures rings { Each SameFeeder feeders.old.items feeders.new.items }
-        ensures decodes { DoesJob (songs_of self.new.songs) self.old.seat self.old.share.amount self.new.share.amount job.now feeders.old.items feeders.new.items }
+        ensures decodes { DoesJob (songs_of self.new.songs) self.old.seat self.old.share.amount self.new.share.amount place job.now feeders.old.items feeders.new.items }
         ensures rate { self.new.songs.rate ≡ self.old.songs.rate }
     {
         self.streak = self.streak.saturating_add(1);
-        match self.read(job) {
-            Ok(read) => self.feed(feeders, job, read),
+        match self.read(place, job) {
+            Ok(read) => self.feed(feeders, place, job, read),
             Err(partner) => {
-                let _told = self.tell_failure(job.number, partner);
+                let _told = self.tell_failure(place, job.number, partner);
             }
         }
     }
 
     /// Tells that the frames of a job are decoded, and hands them out as it is told.
     #[tactic(auto, using(crate::proofs::Decodings::feeds))]
-    fn feed(&mut self, feeders: &mut Vec<Feeder>, job: &Job, read: JobFrames)
-        requires { All OwesNothing feeders.old.items }
-        ensures feeds { Feeds self.old.seat self.old.share.amount self.new.share.amount job.now read.frames.items read.others.items feeders.old.items feeders.new.items }
+    fn feed(&mut self, feeders: &mut Vec<Feeder>, place: u8, job: &Job, read: JobFrames)
+        ensures feeds { Feeds self.old.seat self.old.share.amount self.new.share.amount place job.now read.frames.items read.others.items feeders.old.items feeders.new.items }
         ensures songs { self.new.songs ≡ self.old.songs }
     {
-        let told = self.have(job.number, read.frames.len() as u64);
-        hand_out(feeders, job, read, &told);
+        let told = self.have(place, job.number, read.frames.len() as u64);
+        hand_out(self.rt, feeders, job, read, &told);
     }
 
     /// Reads the frames of a job; where there is no memory, again after a while. Its failure tells whether
     /// the partner has failed.
-    fn read(&mut self, job: &Job) -> Result<JobFrames, bool>
-        ensures open { OnOk result (AreOpenFor (songs_of self.new.songs) job.now) }
+    fn read(&mut self, place: u8, job: &Job) -> Result<JobFrames, bool>
+        ensures open { OnOk result (AreOpenFor (songs_of self.new.songs) place job.now) }
         ensures read { IfOk result (λ r. ReadsJob (songs_of self.new.songs) job.now r.frames.items r.others.items) }
-        ensures failed { IfErr result (IsShut (songs_of self.new.songs) job.now) }
+        ensures failed { IfErr result (IsShut (songs_of self.new.songs) place job.now) }
         ensures kept { (self.new.seat ≡ self.old.seat) × (self.new.share ≡ self.old.share) }
         ensures rate { self.new.songs.rate ≡ self.old.songs.rate }
     {
         let rt = self.rt;
         for _ in rt.forever() {
-            match self.try_to_read(job) {
+            match self.try_to_read(place, job) {
                 Ok(read) => return Ok(read),
                 Err(NoFrames::Failed(partner)) => return Err(partner),
                 Err(NoFrames::NoMemory) => self.pause(),
@@ -252,36 +300,38 @@ impl<'h, L: Ledgers, S: SongSource<M> + Drop, M: Media + Drop, R: Wait + Clock> 
     }
 
     /// Reads the frames of a job, and opens its songs where they are not open yet.
-    fn try_to_read(&mut self, job: &Job) -> Result<JobFrames, NoFrames>
-        ensures open { OnOk result (AreOpenFor (songs_of self.new.songs) job.now) }
+    fn try_to_read(&mut self, place: u8, job: &Job) -> Result<JobFrames, NoFrames>
+        ensures open { OnOk result (AreOpenFor (songs_of self.new.songs) place job.now) }
         ensures read { IfOk result (λ r. ReadsJob (songs_of self.new.songs) job.now r.frames.items r.others.items) }
-        ensures failed { IfErr result (Fails (songs_of self.new.songs) job.now) }
+        ensures failed { IfErr result (Fails (songs_of self.new.songs) place job.now) }
         ensures kept { (self.new.seat ≡ self.old.seat) × (self.new.share ≡ self.old.share) }
         ensures rate { self.new.songs.rate ≡ self.old.songs.rate }
     {
-        self.open_current(job.id)?;
-        self.open_partner(job.fade)?;
-        self.songs.frames_of(self.alloc, job)
+        // The first job of a partition is number 1.
+        self.songs.turn_to(place, job.number == 1)?;
+        self.open_current(place, job.id)?;
+        self.open_partner(place, job.fade)?;
+        self.songs.frames_of(self.alloc, place, job)
     }
 
     /// Opens the song of this id as the current one, unless it is open.
-    fn open_current(&mut self, id: u32) -> Result<(), NoFrames>
-        ensures open { OnOk result (is_song id (songs_of self.new.songs).current ≡ true) }
-        ensures shut { OnErr result (is_song id (songs_of self.new.songs).current ≡ false) }
+    fn open_current(&mut self, place: u8, id: u32) -> Result<(), NoFrames>
+        ensures open { OnOk result (is_song place id (songs_of self.new.songs).current ≡ true) }
+        ensures shut { OnErr result (is_song place id (songs_of self.new.songs).current ≡ false) }
         ensures fault { IfErr result (IsFaultOf false) }
         ensures kept { (self.new.seat ≡ self.old.seat) × (self.new.share ≡ self.old.share) }
         ensures rate { self.new.songs.rate ≡ self.old.songs.rate }
     {
-        if self.songs.is_current(id) {
+        if self.songs.is_current(place, id) {
             return Ok(());
         }
-        self.open(id, false)
+        self.open(place, id, false)
     }
 
     /// Opens the song that a job fades into as the partner, if it fades, unless it is open.
-    fn open_partner(&mut self, fade: Option<FadePart>) -> Result<(), NoFrames>
-        ensures open { OnOk result (is_partner fade (songs_of self.new.songs).partner ≡ true) }
-        ensures shut { OnErr result (is_partner fade (songs_of self.new.songs).partner ≡ false) }
+    fn open_partner(&mut self, place: u8, fade: Option<FadePart>) -> Result<(), NoFrames>
+        ensures open { OnOk result (is_partner place fade (songs_of self.new.songs).partner ≡ true) }
+        ensures shut { OnErr result (is_partner place fade (songs_of self.new.songs).partner ≡ false) }
         ensures fault { IfErr result (IsFaultOf true) }
         ensures current { (songs_of self.new.songs).current ≡ (songs_of self.old.songs).current }
         ensures kept { (self.new.seat ≡ self.old.seat) × (self.new.share ≡ self.old.share) }
@@ -290,39 +340,39 @@ impl<'h, L: Ledgers, S: SongSource<M> + Drop, M: Media + Drop, R: Wait + Clock> 
         let Some(part) = fade else {
             return Ok(());
         };
-        if self.songs.is_partner(part.partner) {
+        if self.songs.is_partner(place, part.partner) {
             return Ok(());
         }
-        self.open(part.partner, true)
+        self.open(place, part.partner, true)
     }
 
-    /// Opens the song of an entry of the queue, as the current one or as its partner. One that left the queue
-    /// has failed.
-    fn open(&mut self, id: u32, partner: bool) -> Result<(), NoFrames>
-        ensures open { OnOk result (is_song id (song_at partner (songs_of self.new.songs)) ≡ true) }
+    /// Opens the song of an entry of a partition's queue, as the current one or as its partner. One that left
+    /// the queue has failed, as has one of a partition that is gone.
+    fn open(&mut self, place: u8, id: u32, partner: bool) -> Result<(), NoFrames>
+        ensures open { OnOk result (is_song place id (song_at partner (songs_of self.new.songs)) ≡ true) }
         ensures other { song_at (not partner) (songs_of self.new.songs) ≡ song_at (not partner) (songs_of self.old.songs) }
         ensures fault { IfErr result (IsFaultOf partner) }
         ensures shut { OnErr result (songs_of self.new.songs ≡ songs_of self.old.songs) }
         ensures kept { (self.new.seat ≡ self.old.seat) × (self.new.share ≡ self.old.share) }
         ensures rate { self.new.songs.rate ≡ self.old.songs.rate }
     {
-        match self.house.song(self.rt, id) {
-            Ok(Some(song)) => self.songs.open(self.alloc, id, &song, partner),
+        match self.house.song(self.rt, place, id) {
+            Ok(Some(song)) => self.songs.open(self.alloc, place, id, &song, partner),
             Ok(None) => Err(NoFrames::Failed(partner)),
             Err(_) => Err(NoFrames::NoMemory),
         }
     }
 
-    /// Tells that frames of a job are decoded; where that is refused, again after a while.
-    fn have(&mut self, number: u64, frames: u64) -> Reported
-        ensures told { FeedsShare self.old.seat number frames self.old.share.amount self.new.share.amount result }
+    /// Tells that frames of a partition's job are decoded; where that is refused, again after a while.
+    fn have(&mut self, place: u8, number: u64, frames: u64) -> Reported
+        ensures told { FeedsShare self.old.seat place number frames self.old.share.amount self.new.share.amount result }
         ensures songs { self.new.songs ≡ self.old.songs }
     {
         let rt = self.rt;
         for _ in rt.forever() {
             match self
                 .house
-                .have(rt, &mut self.seat, number, frames, &mut self.share)
+                .have(rt, &mut self.seat, place, number, frames, &mut self.share)
             {
                 Ok(told) => return told,
                 Err(_) => self.pause(),
@@ -331,16 +381,16 @@ impl<'h, L: Ledgers, S: SongSource<M> + Drop, M: Media + Drop, R: Wait + Clock> 
         unreachable!()
     }
 
-    /// Tells that a song of a job cannot be read; where that is refused, again after a while.
-    fn tell_failure(&mut self, number: u64, partner: bool) -> Reported
-        ensures told { TellsSomewhere self.old.seat (failure_of number partner) result }
+    /// Tells that a song of a partition's job cannot be read; where that is refused, again after a while.
+    fn tell_failure(&mut self, place: u8, number: u64, partner: bool) -> Reported
+        ensures told { TellsSomewhere self.old.seat (failure_of place number partner) result }
         ensures songs { self.new.songs ≡ self.old.songs }
     {
         let rt = self.rt;
         for _ in rt.forever() {
             match self
                 .house
-                .notice(rt, &mut self.seat, News::Failed(number, partner))
+                .notice(rt, &mut self.seat, News::Failed(place, number, partner))
             {
                 Ok(told) => return told,
                 Err(_) => self.pause(),
@@ -373,11 +423,9 @@ impl<'h, L: Ledgers, S: SongSource<M> + Drop, M: Media + Drop, R: Wait + Clock> 
     }
 }
 
-/// Mixes the frames of a job that was accepted, and hands them to the outputs that they are for. Nothing
-/// waits for room in their rings.
+/// Mixes the frames of a job that was accepted, and hands them to the outputs that they are for.
 #[tactic(auto, using(crate::proofs::Pushes::none_fed))]
-fn hand_out(feeders: &mut Vec<Feeder>, job: &Job, read: JobFrames, told: &Reported)
-    requires { All OwesNothing feeders.old.items }
+fn hand_out(rt: &impl Wait, feeders: &mut Vec<Feeder>, job: &Job, read: JobFrames, told: &Reported)
     ensures { HandsOut job.now.fade read.frames.items read.others.items told.now feeders.old.items feeders.new.items }
 {
     let Some(feed) = feed_of(told) else {
@@ -385,7 +433,7 @@ fn hand_out(feeders: &mut Vec<Feeder>, job: &Job, read: JobFrames, told: &Report
     };
     let JobFrames { mut frames, others } = read;
     mix_block(&mut frames, &others, job.fade, feed.volume);
-    take_all(feeders, &frames, &feed);
+    take_all(rt, feeders, &frames, &feed);
 }
 
 /// What decoded frames are fed with, unless they are stale.

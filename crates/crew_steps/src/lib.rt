@@ -11,6 +11,8 @@ mod new_rings;
 mod open_song;
 mod output;
 mod output_setup;
+mod part_songs;
+mod rounds;
 mod song_source;
 mod songs;
 

@@ -13,6 +13,8 @@ pub(crate) const WIDTH: usize = 8_192;
 /// A song that is open, and frames of it that were read together.
 #[derive(Drop)]
 pub(crate) struct OpenSong<M: Media + Drop> {
+    /// The partition in whose queue it is.
+    place: u8,
     id: u32,
     reader: Reader<M>,
     first: u64,
@@ -27,11 +29,12 @@ impl<M: Media + Drop> OpenSong<M> {
     ghost use Rattle.crew_steps.specs.Sounds.{AreOf, Hold};
     ghost use Rattle.crew_steps.specs.OpenSongs.{calls_of, opened};
 
-    /// The song of this id in a file, whose head this is.
-    pub(crate) fn new(alloc: Global, id: u32, file: M, head: Head) -> OpenSong<M>
-        ensures { opened result ≡ record { id = id; known = M.all_bytes file; head = head } }
+    /// The song of this id in the queue of a partition, in a file whose head this is.
+    pub(crate) fn new(alloc: Global, place: u8, id: u32, file: M, head: Head) -> OpenSong<M>
+        ensures { opened result ≡ record { place = place; id = id; known = M.all_bytes file; head = head } }
     {
         OpenSong {
+            place,
             id,
             reader: Reader::new(file, head),
             first: 0,
@@ -39,11 +42,11 @@ impl<M: Media + Drop> OpenSong<M> {
         }
     }
 
-    /// Whether it has this id.
-    pub(crate) fn is(&self, id: u32) -> bool
-        ensures { result ≡ ((opened self.now).id == id) }
+    /// Whether it has this id in the queue of a partition.
+    pub(crate) fn is(&self, place: u8, id: u32) -> bool
+        ensures { result ≡ (((opened self.now).place == place) && ((opened self.now).id == id)) }
     {
-        self.id == id
+        self.place == place && self.id == id
     }
 
     /// The frames from a place on, as many as are asked for, or fewer where the song has no more.

@@ -1,9 +1,11 @@
 //! The songs that are being decoded.
-ghost use Rattle.std.specs.Prelude.{◌≡◌, ◌≤◌, ◌⊎◌, IfOk, IfErr, vec_len};
-ghost use Rattle.crew_steps.specs.OpenSongs.{HasFault, opened_in};
+ghost use Rattle.std.specs.Prelude.{◌≡◌, ◌≤◌, ◌⊎◌, All, IfOk, IfErr, vec_len};
+ghost use Rattle.crew_steps.specs.OpenSongs.{AreMeant, HasFault, opened_in};
 ghost use Rattle.crew_steps.specs.Sounds.{AreOfSome, IsMeant, is_song};
 
 use crate::open_song::{OpenSong, WIDTH};
+use crate::part_songs::{PartSongs, close_gone, exchange};
+use crate::rounds::is_there;
 use crate::song_source::{SongFault, SongSource};
 use counted_devices::Media;
 use output_ring::MOST_FRAMES;
@@ -30,15 +32,20 @@ pub(crate) struct JobFrames {
     ghost few: { vec_len frames ≤ 1024 },
 }
 
-/// The current song and its partner in a fade, as far as they are open.
+/// The current song of a partition and its partner in a fade, as far as they are open; and those of the other
+/// partitions that jobs were done of.
 #[derive(Drop)]
 pub(crate) struct Songs<S: SongSource<M> + Drop, M: Media + Drop> {
     source: S,
     rate: u32,
+    /// The number of the partition.
+    place: u8,
     current: Option<OpenSong<M>>,
     partner: Option<OpenSong<M>>,
+    others: Vec<PartSongs<M>>,
     ghost current_meant: { IsMeant rate (opened_in current) },
     ghost partner_meant: { IsMeant rate (opened_in partner) },
+    ghost others_meant: { All (AreMeant rate) others.items },
 }
 
 impl<S: SongSource<M> + Drop, M: Media + Drop> Songs<S, M> {
@@ -49,53 +56,102 @@ impl<S: SongSource<M> + Drop, M: Media + Drop> Songs<S, M> {
     ghost use Rattle.crew_steps.specs.Sounds.{AreOfSome, IsMeant, OthersOf, ReadsJob, is_song, song_at};
     ghost use Rattle.crew_steps.specs.declared.songs.NoFrames.{NoFrames};
 
-    pub(crate) fn new(source: S, rate: u32) -> Songs<S, M>
+    pub(crate) fn new(alloc: Global, source: S, rate: u32) -> Songs<S, M>
         ensures { result.rate ≡ rate }
     {
         Songs {
             source,
             rate,
+            place: 0,
             current: None,
             partner: None,
+            others: Vec::new(alloc),
+        }
+    }
+
+    /// Turns to the songs of the partition of a number. Where it has just come, none of it is open: what was
+    /// open of an earlier one of this number is closed.
+    pub(crate) fn turn_to(&mut self, place: u8, is_new: bool) -> Result<(), NoFrames>
+        ensures closed { is_new ≡ true → OnOk result (((songs_of self.new).current ≡ None) × ((songs_of self.new).partner ≡ None)) }
+        ensures fault { IfErr result (λ fault. fault ≡ NoFrames.NoMemory) }
+        ensures rate { self.new.rate ≡ self.old.rate }
+    {
+        if self.place != place && !self.put_aside(place) {
+            return Err(NoFrames::NoMemory);
+        }
+        if is_new {
+            self.close_both();
+        }
+        Ok(())
+    }
+
+    /// Puts the songs of the partition aside, and takes out those of another, if some are there. Answers
+    /// whether there was memory.
+    fn put_aside(&mut self, place: u8) -> bool
+        ensures { self.new.rate ≡ self.old.rate }
+    {
+        if self.others.reserve(1).is_err() {
+            return false;
+        }
+        let left = PartSongs {
+            place: self.place,
+            current: self.current.take(),
+            partner: self.partner.take(),
+        };
+        let taken = exchange(&mut self.others, left, place);
+        self.place = place;
+        self.current = taken.current;
+        self.partner = taken.partner;
+        true
+    }
+
+    /// Closes the songs of the partitions that are gone: of sixteen numbers these are of one.
+    pub(crate) fn close_gone(&mut self, places: [bool; 16])
+        ensures { self.new.rate ≡ self.old.rate }
+    {
+        close_gone(&mut self.others, places);
+        if !is_there(places, self.place) {
+            self.close_both();
         }
     }
 
     /// Whether the current song has this id; a partner that has it becomes the current song where that has
     /// another.
-    pub(crate) fn is_current(&mut self, id: u32) -> bool
-        ensures open { result ≡ (is_song id (opened_in self.old.current) || is_song id (opened_in self.old.partner)) }
-        ensures current { result ≡ is_song id (opened_in self.new.current) }
+    pub(crate) fn is_current(&mut self, place: u8, id: u32) -> bool
+        ensures open { result ≡ (is_song place id (opened_in self.old.current) || is_song place id (opened_in self.old.partner)) }
+        ensures current { result ≡ is_song place id (opened_in self.new.current) }
         ensures kept { result ≡ false → songs_of self.new ≡ songs_of self.old }
         ensures rate { self.new.rate ≡ self.old.rate }
     {
-        if !is_of(&self.current, id) && is_of(&self.partner, id) {
+        if !is_of(&self.current, place, id) && is_of(&self.partner, place, id) {
             self.current = self.partner.take();
         }
-        is_of(&self.current, id)
+        is_of(&self.current, place, id)
     }
 
     /// Whether the partner has this id.
-    pub(crate) fn is_partner(&self, id: u32) -> bool
-        ensures { result ≡ is_song id (songs_of self.now).partner }
+    pub(crate) fn is_partner(&self, place: u8, id: u32) -> bool
+        ensures { result ≡ is_song place id (songs_of self.now).partner }
     {
-        is_of(&self.partner, id)
+        is_of(&self.partner, place, id)
     }
 
     /// Opens the song of an entry of the queue, as the current one or as its partner.
     pub(crate) fn open(
         &mut self,
         alloc: Global,
+        place: u8,
         id: u32,
         song: &SharedSong,
         partner: bool,
     ) -> Result<(), NoFrames>
-        ensures open { OnOk result (is_song id (song_at partner (songs_of self.new)) ≡ true) }
+        ensures open { OnOk result (is_song place id (song_at partner (songs_of self.new)) ≡ true) }
         ensures other { song_at (not partner) (songs_of self.new) ≡ song_at (not partner) (songs_of self.old) }
         ensures fault { IfErr result (IsFaultOf partner) }
         ensures kept { OnErr result (songs_of self.new ≡ songs_of self.old) }
         ensures rate { self.new.rate ≡ self.old.rate }
     {
-        match self.opened(alloc, id, song) {
+        match self.opened(alloc, place, id, song) {
             Ok(opened) => {
                 if partner {
                     self.partner = Some(opened);
@@ -113,20 +169,30 @@ impl<S: SongSource<M> + Drop, M: Media + Drop> Songs<S, M> {
     fn opened(
         &mut self,
         alloc: Global,
+        place: u8,
         id: u32,
         song: &SharedSong,
     ) -> Result<OpenSong<M>, SongFault>
-        ensures id { IfOk result (λ song. (opened song).id ≡ id) }
+        ensures id { IfOk result (λ song. is_song place id (Some (opened song)) ≡ true) }
         ensures meant { IfOk result (λ song. IsMeant self.old.rate (Some (opened song))) }
         ensures kept { (self.new.current ≡ self.old.current) × (self.new.partner ≡ self.old.partner) }
         ensures rate { self.new.rate ≡ self.old.rate }
     {
         let mut file = self.source.open(alloc, song.song().uri())?;
         match read_head(alloc, &mut file, self.rate) {
-            Ok(head) => Ok(OpenSong::new(alloc, id, file, head)),
+            Ok(head) => Ok(OpenSong::new(alloc, place, id, file, head)),
             Err(WaveFault::NoMemory) => Err(SongFault::NoMemory),
             Err(_) => Err(SongFault::Unopened),
         }
+    }
+
+    /// Closes the current song and its partner.
+    fn close_both(&mut self)
+        ensures closed { ((songs_of self.new).current ≡ None) × ((songs_of self.new).partner ≡ None) }
+        ensures rate { self.new.rate ≡ self.old.rate }
+    {
+        self.close(false);
+        self.close(true);
     }
 
     /// Closes the current song, or its partner.
@@ -144,10 +210,15 @@ impl<S: SongSource<M> + Drop, M: Media + Drop> Songs<S, M> {
 
     /// The frames of a job whose songs are open. One that fails is closed, so that its file is opened anew
     /// when it is played again.
-    pub(crate) fn frames_of(&mut self, alloc: Global, job: &Job) -> Result<JobFrames, NoFrames>
+    pub(crate) fn frames_of(
+        &mut self,
+        alloc: Global,
+        place: u8,
+        job: &Job,
+    ) -> Result<JobFrames, NoFrames>
         ensures read { IfOk result (λ read. ReadsJob (songs_of self.old) job.now read.frames.items read.others.items) }
         ensures kept { OnOk result (songs_of self.new ≡ songs_of self.old) }
-        ensures failed { IfErr result (Fails (songs_of self.new) job.now) }
+        ensures failed { IfErr result (Fails (songs_of self.new) place job.now) }
         ensures rate { self.new.rate ≡ self.old.rate }
     {
         let read = self.read_frames(alloc, job);
@@ -199,11 +270,11 @@ impl<S: SongSource<M> + Drop, M: Media + Drop> Songs<S, M> {
     }
 }
 
-fn is_of<M: Media + Drop>(song: &Option<OpenSong<M>>, id: u32) -> bool
-    ensures { result ≡ is_song id (opened_in song.now) }
+fn is_of<M: Media + Drop>(song: &Option<OpenSong<M>>, place: u8, id: u32) -> bool
+    ensures { result ≡ is_song place id (opened_in song.now) }
 {
     match song {
-        Some(song) => song.is(id),
+        Some(song) => song.is(place, id),
         None => false,
     }
 }

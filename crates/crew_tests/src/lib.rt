@@ -14,6 +14,8 @@ mod failing;
 #[cfg(test)]
 mod meeting;
 #[cfg(test)]
+mod partitions;
+#[cfg(test)]
 mod rooms;
 #[cfg(test)]
 mod tunes;

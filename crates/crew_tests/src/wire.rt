@@ -88,9 +88,20 @@ pub(crate) fn right_lines(
     wires: &mut Wires,
     tone: Tone,
 ) -> Result<String, AllocError> {
+    right_apart(alloc, wires, tone, tone)
+}
+
+/// How many that came to the hall are those of one formula, and how many that came to the attic are those of
+/// another.
+pub(crate) fn right_apart(
+    alloc: Global,
+    wires: &mut Wires,
+    to_hall: Tone,
+    to_attic: Tone,
+) -> Result<String, AllocError> {
     let (hall, attic) = (
-        right_frames(&mut wires.hall, tone),
-        right_frames(&mut wires.attic, tone),
+        right_frames(&mut wires.hall, to_hall),
+        right_frames(&mut wires.attic, to_attic),
     );
     format!(in alloc; "{hall} {attic}\n")
 }

@@ -14,7 +14,8 @@ use Rattle.script_lines.specs.Steps.{step_of}
 use Rattle.script_lines.specs.declared.limit.LimitName.{LimitName}
 use Rattle.script_lines.specs.declared.limit.LimitName.TheVariants.{MaxQueue, MaxVersion, MaxId, MaxCut, History, Everyday}
 use Rattle.script_lines.specs.declared.step.Step.{Step}
-use Rattle.script_lines.specs.declared.step.Step.TheVariants.{Song, Limit, Gone, Scanned, Want as WantStep, Have as HaveStep, Failed as FailedStep, Turn as TurnStep, Window}
+use Rattle.script_lines.specs.declared.step.JobStep.{JobStep}
+use Rattle.script_lines.specs.declared.step.Step.TheVariants.{Song, Limit, Gone, Scanned, Job, JobIn, Turn as TurnStep, Window}
 use Rattle.player_events.specs.Outcomes.{OutcomeData}
 use Rattle.player_events.specs.Events.{ends_list}
 use Rattle.transitions.specs.Shelves.{no_store_reply}
@@ -23,7 +24,7 @@ use Rattle.mpd_command.specs.declared.command_set.CommandSet.{CommandSet}
 use Rattle.mpd_command.specs.declared.request.Request.{Request}
 use Rattle.player_events.specs.declared.event.Event.{Event}
 use Rattle.transitions.specs.declared.asked.Stand.TheVariants.{InList}
-use Rattle.player_events.specs.declared.event.Event.TheVariants.{Connect, Disconnect, Line, Want, Have, Failed, OutputTurn}
+use Rattle.player_events.specs.declared.event.Event.TheVariants.{Connect, Disconnect, Line, OutputTurn}
 use Rattle.partition.specs.declared.partition.PartitionFault.{PartitionFault}
 use Rattle.partition.specs.declared.state.Limits.{Limits}
 use Rattle.daemon_script.specs.declared.memory.Memory.{Memory}
@@ -31,7 +32,7 @@ use Rattle.daemon_script.specs.declared.memory.Memory.TheVariants.{Ample, NoneTo
 use Rattle.daemon_script.specs.Kinds.{PlayerKind}
 use Rattle.daemon_script.specs.Output.{Run, script_after, text_of}
 use Rattle.script_reports.specs.Reports.{report_text, window_text}
-use Rattle.daemon_script.specs.Script.{Found, ScriptData, Shown, LineRun, bad, collects, lowers, limits_with, commands_with, has_uri, told_for, notices_for, fault_of, found_at, found_first, found_then, refusal, sent_off, sends_off, applied, applies, scan_result, shown_step, shows_window, step_line, alone_line, request_run, asked_run, alone_run, request_in, read_of, end_of, closed_line, ListRun, list_goes, list_step, list_run, notices_by_number, lines_for, list_of, with_list, commands_run, collected_run, too_large_run, taken_run, line_run, connect_run, line_after, client_run, shown_client, shown_kind, shown_of}
+use Rattle.daemon_script.specs.Script.{Found, ScriptData, Shown, LineRun, bad, collects, lowers, limits_with, commands_with, has_uri, told_for, notices_for, fault_of, found_at, found_first, found_then, refusal, sent_off, sends_off, applied, applies, applies_at, applies_in, job_event, scan_result, shown_step, shows_window, step_line, alone_line, request_run, asked_run, alone_run, request_in, read_of, end_of, closed_line, ListRun, list_goes, list_step, list_run, notices_by_number, lines_for, list_of, with_list, commands_run, collected_run, too_large_run, taken_run, line_run, connect_run, line_after, client_run, shown_client, shown_kind, shown_of}
 use Rattle.daemon_script.proofs.Ranges.{limit_at_least_one}
 
 -- two kinds agree: a relation of their players holds at the opening and is kept by events, and related
@@ -39,6 +40,7 @@ use Rattle.daemon_script.proofs.Ranges.{limit_at_least_one}
 pub record Agree {P Q : Type 0} (m : PlayerKind P) (n : PlayerKind Q) (R : P → Q → Type 0) : Type 0 where
   pub opens : (limits : Limits) (songs : List SongData) → 1 ≤ limits.max_version → R (m.opens limits songs) (n.opens limits songs)
   pub there : (p : P) (q : Q) (number : ℕ) → R p q → m.is_there number p ≡ n.is_there number q
+  pub place : (p : P) (q : Q) (name : List ℕ) → R p q → m.place_named name p ≡ n.place_named name q
   pub full : (p : P) (q : Q) → R p q → m.is_full p ≡ n.is_full q
   pub limit : (p : P) (q : Q) (event : Event) → R p q → m.limit p event ≡ n.limit q event
   pub after : (p : P) (q : Q) (event : Event) → R p q → R (m.after p event) (n.after q event)
@@ -294,6 +296,23 @@ module _ {P Q : Type 0} (m : PlayerKind P) (n : PlayerKind Q) (R : P → Q → T
       → SameShown R (applies m s s.player event found) (applies n (over R s q) q event found)
   event_same s q event found above r = applies_same s.limits s.commands s.songs s.lists s.player q event found above r
 
+  -- a step of the decoder in the partition of a number, if a name is that of one
+  at_same : (s : ScriptData P) (q : Option Q) (place : Option ℕ) (step : JobStep) (found : Found) → 1 ≤ s.limits.max_version → SamePlayer R s.player q
+      → SameShown R (applies_at m s place step found) (applies_at n (over R s q) place step found)
+  at_same s q None step found above r = shows_same R _ s q above r
+  at_same s q (Some place) step found above r = event_same s q (job_event place step) found above r
+
+  in_same : (limits : Limits) (commands : CommandSet) (songs : List SongData) (lists : List (Option CommandList)) (p : Option P) (q : Option Q) (name : List ℕ) (step : JobStep) (found : Found) → 1 ≤ limits.max_version → SamePlayer R p q
+      → SameShown R (applies_in m (record { limits = limits; commands = commands; songs = songs; lists = lists; player = p }) p name step found)
+      (applies_in n (record { limits = limits; commands = commands; songs = songs; lists = lists; player = q }) q name step found)
+  in_same limits commands songs lists None None name step found above r = shows_same R _ (record { limits = limits; commands = commands; songs = songs; lists = lists; player = None }) None above r
+  in_same limits commands songs lists None (Some q) name step found above r = absurd r
+  in_same limits commands songs lists (Some p) None name step found above r = absurd r
+  in_same limits commands songs lists (Some p) (Some q) name step found above r =
+      let s : ScriptData P = record { limits = limits; commands = commands; songs = songs; lists = lists; player = Some p } in
+      subst (λ (place : Option ℕ). SameShown R (applies_at m s (m.place_named name p) step found) (applies_at n (over R s (Some q)) place step found))
+      (agree.place p q name r) (at_same s (Some q) (m.place_named name p) step found above r)
+
   -- what is told of the history, by the player that is there
   window_same : (limits : Limits) (commands : CommandSet) (songs : List SongData) (lists : List (Option CommandList)) (p : Option P) (q : Option Q) → 1 ≤ limits.max_version → SamePlayer R p q
       → SameShown R (shows_window m (record { limits = limits; commands = commands; songs = songs; lists = lists; player = p }) p) (shows_window n (record { limits = limits; commands = commands; songs = songs; lists = lists; player = q }) q)
@@ -313,9 +332,8 @@ module _ {P Q : Type 0} (m : PlayerKind P) (n : PlayerKind Q) (R : P → Q → T
   step_same s q rest (Some (Limit name number)) found e above r = lowers_same R s q name number above (limit_at_least_one rest name number (sym e)) r
   step_same s q rest (Some (Gone number)) found e above r = sends_same s.limits s.commands s.songs s.lists s.player q number found above r
   step_same s q rest (Some Scanned) found e above r = event_same s q (scan_result s) found above r
-  step_same s q rest (Some WantStep) found e above r = event_same s q (Want false) found above r
-  step_same s q rest (Some (HaveStep number frames)) found e above r = event_same s q (Have number frames) found above r
-  step_same s q rest (Some (FailedStep number partner)) found e above r = event_same s q (Failed number partner) found above r
+  step_same s q rest (Some (Job step)) found e above r = event_same s q (job_event 0 step) found above r
+  step_same s q rest (Some (JobIn name step)) found e above r = in_same s.limits s.commands s.songs s.lists s.player q name step found above r
   step_same s q rest (Some (TurnStep written discarded failed)) found e above r = event_same s q (OutputTurn 0 written discarded failed) found above r
   step_same s q rest (Some Window) found e above r = window_same s.limits s.commands s.songs s.lists s.player q above r
 

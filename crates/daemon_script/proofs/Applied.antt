@@ -123,7 +123,7 @@ never false false false e = cc
 never_full : (seat : ℕ) (i : Image) (event : Event) → limit_of seat i event ≡ Some HistoryFull → ⊥
 unfolding limit_of
 never_full seat i event e =
-    never (nat_le 9223372036854775807 (slice_index_or i.shared.made seat 0)) (not (counts_frames i (transition i event))) (keeps_limits i (transition i event)) e
+    never (nat_le 9223372036854775807 (slice_index_or i.shared.made seat 0)) (not (counts_frames i event (transition i event))) (keeps_limits i event (transition i event)) e
 
 module _ (seat : ℕ) (i : Image) (old new : MemShelf) (e : Event) where
   abbrev heard : StoreReply

@@ -11,9 +11,10 @@ use Rattle.mpd_text.specs.declared.lines.quoting.WordsFault.{WordsFault}
 use Rattle.script_lines.specs.Cuts.{before, after}
 use Rattle.script_lines.specs.Lines.{LineData, ClientLine, StepLine, BadLine, by_head, script_line_of}
 use Rattle.script_lines.specs.Limits.{limit_named, greatest_of, within, number_within}
-use Rattle.script_lines.specs.Steps.{step_of, step_if_read, song_of, song_with, is_uri, limit_of, limit_with, limit_to, gone_of, gone_with, scanned_of, window_of, want_of, have_of, have_to, have_with, failed_of, failed_to, failed_with, mark_of, turn_as, turn_at, turn_of, turn_to, turn_told, turn_with, player_step_of}
+use Rattle.script_lines.specs.Steps.{step_of, step_if_read, song_of, song_with, is_uri, limit_of, limit_with, limit_to, gone_of, gone_with, scanned_of, window_of, in_first, in_named, job_step_of, mark_of, named_of, turn_as, turn_at, turn_of, turn_to, turn_told, turn_with, player_step_of}
 use Rattle.script_lines.specs.Tags.{is_tag, tags_of}
 use Rattle.script_lines.specs.declared.limit.LimitName.{LimitName}
+use Rattle.script_lines.specs.declared.step.JobStep.{JobStep}
 use Rattle.script_lines.specs.declared.step.Step.{Step}
 use Rattle.script_lines.specs.declared.step.Step.TheVariants.{Song, Limit}
 
@@ -72,35 +73,18 @@ scanned_no_limit (a ∷ more) found n e = cc
 abbrev SetsMore : Option Step → Type 0
 SetsMore step = (found : LimitName) (n : ℕ) → step ≡ Some (Limit found n) → 1 ≤ n
 
-want_no_limit : (words : List (List ℕ)) → SetsMore (want_of words)
-want_no_limit [] found n e = cc
-want_no_limit (a ∷ more) found n e = cc
+job_no_limit : (step : Option JobStep) → SetsMore (in_first step)
+job_no_limit None found n e = cc
+job_no_limit (Some step) found n e = cc
 
-have_to_no_limit : (job : ℕ) (count : Option ℕ) → SetsMore (have_to job count)
-have_to_no_limit job None found n e = cc
-have_to_no_limit job (Some count) found n e = cc
+in_no_limit : (name : List ℕ) (step : Option JobStep) → SetsMore (in_named name step)
+in_no_limit name None found n e = cc
+in_no_limit name (Some step) found n e = cc
 
-have_with_no_limit : (job : Option ℕ) (count : List ℕ) → SetsMore (have_with job count)
-have_with_no_limit None count found n e = cc
-have_with_no_limit (Some job) count found n e = have_to_no_limit job (number_of count) found n e
-
-have_no_limit : (words : List (List ℕ)) → SetsMore (have_of words)
-have_no_limit [] found n e = cc
-have_no_limit (a ∷ []) found n e = cc
-have_no_limit (a ∷ b ∷ []) found n e = have_with_no_limit (number_of a) b found n e
-have_no_limit (a ∷ b ∷ c ∷ more) found n e = cc
-
-failed_to_no_limit : (job : ℕ) (partner : Option Bool) → SetsMore (failed_to job partner)
-failed_to_no_limit job None found n e = cc
-failed_to_no_limit job (Some partner) found n e = cc
-
-failed_with_no_limit : (job : Option ℕ) (words : List (List ℕ)) → SetsMore (failed_with job words)
-failed_with_no_limit None words found n e = cc
-failed_with_no_limit (Some job) words found n e = failed_to_no_limit job (mark_of (codes "partner") words) found n e
-
-failed_no_limit : (words : List (List ℕ)) → SetsMore (failed_of words)
-failed_no_limit [] found n e = cc
-failed_no_limit (a ∷ more) found n e = failed_with_no_limit (number_of a) more found n e
+named_no_limit : (words : List (List ℕ)) → SetsMore (named_of words)
+named_no_limit [] found n e = cc
+named_no_limit (a ∷ []) found n e = cc
+named_no_limit (a ∷ b ∷ more) found n e = in_no_limit a (job_step_of b more) found n e
 
 turn_as_no_limit : (written discarded : ℕ) (failed : Option Bool) → SetsMore (turn_as written discarded failed)
 turn_as_no_limit written discarded None found n e = cc
@@ -135,32 +119,29 @@ window_no_limit : (words : List (List ℕ)) → SetsMore (window_of words)
 window_no_limit [] found n e = cc
 window_no_limit (a ∷ more) found n e = cc
 
-player_step_if : (z a b c d : Bool) (words : List (List ℕ))
-    → SetsMore (cond z (window_of words) (cond a (want_of words) (cond b (have_of words) (cond c (failed_of words) (cond d (turn_of words) None)))))
-player_step_if true a b c d words found n e = window_no_limit words found n e
-player_step_if false true b c d words found n e = want_no_limit words found n e
-player_step_if false false true c d words found n e = have_no_limit words found n e
-player_step_if false false false true d words found n e = failed_no_limit words found n e
-player_step_if false false false false true words found n e = turn_no_limit words found n e
-player_step_if false false false false false words found n e = cc
+player_step_if : (a b : Bool) (words : List (List ℕ)) (step : Option JobStep) → SetsMore (cond a (window_of words) (cond b (turn_of words) (in_first step)))
+player_step_if true b words step found n e = window_no_limit words found n e
+player_step_if false true words step found n e = turn_no_limit words found n e
+player_step_if false false words step found n e = job_no_limit step found n e
 
 player_step_no_limit : (word : List ℕ) (words : List (List ℕ)) → SetsMore (player_step_of word words)
 player_step_no_limit word words found n e =
-    player_step_if (bytes_eq word (codes "window")) (bytes_eq word (codes "want")) (bytes_eq word (codes "have")) (bytes_eq word (codes "failed"))
-    (bytes_eq word (codes "turn")) words found n e
+    player_step_if (bytes_eq word (codes "window")) (bytes_eq word (codes "turn")) words (job_step_of word words) found n e
 
-step_if : (a b c d : Bool) (word : List ℕ) (words : List (List ℕ))
-    → SetsMore (cond a (song_of words) (cond b (limit_of words) (cond c (gone_of words) (cond d (scanned_of words) (player_step_of word words)))))
-step_if true b c d word words found n e = songs_no_limit words found n e
-step_if false true c d word words found n e = limits_positive words found n e
-step_if false false true d word words found n e = gones_no_limit words found n e
-step_if false false false true word words found n e = scanned_no_limit words found n e
-step_if false false false false word words found n e = player_step_no_limit word words found n e
+step_if : (a b c d f : Bool) (word : List ℕ) (words : List (List ℕ))
+    → SetsMore (cond a (song_of words) (cond b (limit_of words) (cond c (gone_of words) (cond d (scanned_of words) (cond f (named_of words) (player_step_of word words))))))
+step_if true b c d f word words found n e = songs_no_limit words found n e
+step_if false true c d f word words found n e = limits_positive words found n e
+step_if false false true d f word words found n e = gones_no_limit words found n e
+step_if false false false true f word words found n e = scanned_no_limit words found n e
+step_if false false false false true word words found n e = named_no_limit words found n e
+step_if false false false false false word words found n e = player_step_no_limit word words found n e
 
 step_positive : (r : Result (List (List ℕ)) WordsFault) (found : LimitName) (n : ℕ) → step_if_read r ≡ Some (Limit found n) → 1 ≤ n
 step_positive (Err fault) found n e = cc
 step_positive (Ok []) found n e = cc
-step_positive (Ok (word ∷ words)) found n e = step_if (bytes_eq word (codes "song")) (bytes_eq word (codes "limit")) (bytes_eq word (codes "gone")) (bytes_eq word (codes "scanned")) word words found n e
+step_positive (Ok (word ∷ words)) found n e = step_if (bytes_eq word (codes "song")) (bytes_eq word (codes "limit")) (bytes_eq word (codes "gone")) (bytes_eq word (codes "scanned"))
+    (bytes_eq word (codes "in")) word words found n e
 
 -- a limit that a step sets is at least 1
 pub limit_at_least_one : (rest : List ℕ) (found : LimitName) (n : ℕ) → Some (Limit found n) ≡ step_of rest → 1 ≤ n

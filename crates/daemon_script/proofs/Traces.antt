@@ -1,6 +1,6 @@
 -- What commands read of a player, and its trace, agree.
 use Rattle.std.proofs.Common.{◌≡◌, ℕ, ◌≤◌, ◌==◌, Bool, true, false, List, [], ◌∷◌, ◌++◌, map, Option, None, Some, refl, sym, ap, ◌∙◌, arith, append_assoc, append-nil, subst, if◌then◌else◌}
-use Rattle.std.specs.Prelude.{is_some, nat_le, option_map, slice_index_or, ◌+◌, ◌||◌}
+use Rattle.std.specs.Prelude.{bytes_eq, is_some, nat_le, option_map, slice_index_or, ◌+◌, ◌||◌}
 use Rattle.std.specs.List.{list_any}
 use Rattle.mpd_text.specs.Songs.Song.{SongData}
 use Rattle.partition.specs.History.{replay}
@@ -9,7 +9,8 @@ use Rattle.idle_clients.specs.Clients.{client_of}
 use Rattle.partition.specs.Legal.{ReplaysWorlds}
 use Rattle.player_events.specs.Events.{with_store_reply}
 use Rattle.partition.specs.Step.{limit_of, next_image, told}
-use Rattle.partition.specs.World.{Trace, Listener, WorldTransition, client_in, image_of, trace_after_event, trace_from, trace_after, opening_trace}
+use Rattle.parts.specs.Parts.{known, named}
+use Rattle.partition.specs.World.{PartWorld, Trace, Listener, WorldTransition, part_in, client_in, image_of, trace_after_event, trace_from, trace_after, opening_trace}
 use Rattle.player_events.specs.declared.event.Event.{Event}
 use Rattle.partition.specs.declared.partition.PartitionFault.{PartitionFault}
 use Rattle.partition.specs.declared.partition.PartitionFault.TheVariants.{HistoryFull, CutsAtLimit, AtLimit, NoMemory}
@@ -19,7 +20,7 @@ use Rattle.player_state.specs.declared.state.Client.{Client}
 use Rattle.player_state.specs.declared.state.Library.{Library}
 use Rattle.partition.specs.declared.state.Limits.{Limits}
 use Rattle.partition.specs.declared.state.Setup.{Setup}
-use Rattle.daemon_script.specs.Kinds.{library_of, left_by, setup_of, window_in_room, EventKind, Traced, Shelved, heard, image_kind, images, trace_kind, traces, traced_after, told_at, seen}
+use Rattle.daemon_script.specs.Kinds.{library_of, left_by, setup_of, window_in_room, world_named, EventKind, Traced, Shelved, heard, image_kind, images, trace_kind, traces, traced_after, told_at, seen}
 use Rattle.daemon_script.specs.Output.{RunsAreTraced, seen_beside, seen_script}
 use Rattle.daemon_script.specs.Script.{ScriptData, opening_script}
 use Rattle.daemon_script.specs.Shelf.{heard_by, shelf_after}
@@ -30,6 +31,7 @@ use Rattle.daemon_script.proofs.Alike.{Agree, SamePlayer, SameScript, runs_same}
 record AgreeOfEvents {P Q : Type 0} (m : EventKind P) (n : EventKind Q) (R : P → Q → Type 0) : Type 0 where
   opens : (limits : Limits) (songs : List SongData) → 1 ≤ limits.max_version → R (m.opens limits songs) (n.opens limits songs)
   there : (p : P) (q : Q) (number : ℕ) → R p q → m.is_there number p ≡ n.is_there number q
+  place : (p : P) (q : Q) (name : List ℕ) → R p q → m.place_named name p ≡ n.place_named name q
   limit : (p : P) (q : Q) (event : Event) → R p q → m.limit p event ≡ n.limit q event
   after : (p : P) (q : Q) (event : Event) → R p q → R (m.after p event) (n.after q event)
   told : (p : P) (q : Q) (event : Event) → R p q → m.told p event ≡ n.told q event
@@ -69,6 +71,10 @@ among world_transitions number (k ∷ ks) =
     ] in
     cases (k.number == number)
 
+placed : (name : List ℕ) (worlds : List PartWorld) → named name (map known (map part_in worlds)) ≡ world_named name worlds
+placed name [] = refl
+placed name (p ∷ ps) = ap (λ (rest : Option ℕ). if bytes_eq p.name name then Some p.place else rest) (placed name ps)
+
 module _ (law : ReplaysWorlds) where
   opens : (limits : Limits) (songs : List SongData) → 1 ≤ limits.max_version → Shows (opening (setup_of limits) (library_of songs)) (record { trace = opening_trace (opening (setup_of limits) (library_of songs)); history = [] })
   opens limits songs above = ((law (setup_of limits) (library_of songs) [] above).0, record { setup = setup_of limits; library = library_of songs; above = above; is = refl })
@@ -103,6 +109,7 @@ module _ (law : ReplaysWorlds) where
   agree = record {
     opens = opens;
     there = λ i traced number shows. ap (λ (x : Image). is_some (client_of number x.clients)) shows.0 ∙ among traced.trace.world_transitions number traced.trace.world.clients;
+    place = λ i traced name shows. ap (λ (x : Image). named name (map known x.parts)) shows.0 ∙ placed name traced.trace.world.parts;
     limit = λ i traced event shows. ap (λ (x : Image). limit_of 0 x event) shows.0;
     after = λ i traced event shows. (ap (λ (x : Image). next_image 0 x event) shows.0 ∙ after_seen traced event shows.1, from_after traced event shows.1);
     told = λ i traced event shows. ap (λ (x : Image). told x event) shows.0 ∙ told_seen traced event;
@@ -135,6 +142,7 @@ module _ (law : ReplaysWorlds) where
   agree_beside = record {
     opens = λ limits songs above. record { shows = agree.opens limits songs above; shelf = refl; window = refl; most = refl };
     there = λ p q number same. agree.there p.player q.player number same.shows;
+    place = λ p q name same. agree.place p.player q.player name same.shows;
     full = λ p q same j. nat_le (same.most j) (same.window j);
     limit = λ p q event same. ap (λ (e : Event). limit_of 0 p.player e) (heard_same p q event same) ∙ agree.limit p.player q.player (heard trace_kind seen q event) same.shows;
     after = λ p q event same. record {

@@ -1,6 +1,6 @@
 -- Two kinds of player: one that has what commands read, and one that has its whole past. Beside each is a
 -- shelf in memory.
-use Rattle.std.specs.Prelude.{ℕ, ◌+◌, nat_le, slice_index_or, if◌then◌else◌, Bool, false, true, List, [], ◌∷◌, ◌++◌, Option, is_some, codes}
+use Rattle.std.specs.Prelude.{ℕ, ◌+◌, nat_le, slice_index_or, if◌then◌else◌, Bool, false, true, List, [], ◌∷◌, ◌++◌, map, Option, Some, None, is_some, bytes_eq, codes}
 use Rattle.mpd_text.specs.Songs.Song.{SongData}
 use Rattle.player_events.specs.Outcomes.{OutcomeData}
 use Rattle.partition.specs.Image.{Image, opening}
@@ -9,7 +9,8 @@ use Rattle.player_state.specs.Outputs.{OutputsData, no_outputs, with_output}
 use Rattle.player_state.specs.Scans.{never_scanned}
 use Rattle.player_events.specs.Events.{with_store_reply}
 use Rattle.partition.specs.Step.{limit_of, next_image, told}
-use Rattle.partition.specs.World.{Trace, WorldTransition, is_there, image_of, trace_after_event, opening_trace}
+use Rattle.parts.specs.Parts.{known, named}
+use Rattle.partition.specs.World.{PartWorld, Trace, WorldTransition, is_there, image_of, trace_after_event, opening_trace}
 use Rattle.player_events.specs.declared.event.Event.{Event}
 use Rattle.player_events.specs.declared.event.LogEntry.{LogEntry}
 use Rattle.transitions.specs.declared.reply.Next.TheVariants.{Goes}
@@ -35,12 +36,13 @@ one_output = with_output no_outputs (codes "out0") true
 abbrev pub setup_of : Limits → Setup
 setup_of limits = record { limits = limits; random_start = 0; outputs = one_output }
 
--- what events make of a player: it is opened over a library; whether a client is there, which limit an event
--- would pass, for which it is refused, what an event makes of the player and makes clients hear, and how many
--- events there were
+-- what events make of a player: it is opened over a library; whether a client is there, the number of the
+-- partition of a name, which limit an event would pass, for which it is refused, what an event makes of the
+-- player and makes clients hear, and how many events there were
 pub record EventKind (P : Type 0) : Type 0 where
   pub opens : Limits → List SongData → P
   pub is_there : ℕ → P → Bool
+  pub place_named : List ℕ → P → Option ℕ
   pub limit : P → Event → Option PartitionFault
   pub after : P → Event → P
   pub told : P → Event → OutcomeData
@@ -51,6 +53,7 @@ pub record EventKind (P : Type 0) : Type 0 where
 pub record PlayerKind (P : Type 0) : Type 0 where
   pub opens : Limits → List SongData → P
   pub is_there : ℕ → P → Bool
+  pub place_named : List ℕ → P → Option ℕ
   pub is_full : P → Bool
   pub limit : P → Event → Option PartitionFault
   pub after : P → Event → P
@@ -65,11 +68,17 @@ abbrev pub image_kind : EventKind Image
 image_kind = record {
   opens = λ limits songs. opening (setup_of limits) (library_of songs);
   is_there = λ number i. is_some (client_of number i.clients);
+  place_named = λ name i. named name (map known i.parts);
   limit = λ i event. limit_of 0 i event;
   after = λ i event. next_image 0 i event;
   told = λ i event. told i event;
   own = λ i. slice_index_or i.shared.made 0 0;
 }
+
+-- the number of the first partition of a name
+abbrev pub world_named : List ℕ → List PartWorld → Option ℕ
+world_named name [] = None
+world_named name (p ∷ ps) = if bytes_eq p.name name then Some p.place else world_named name ps
 
 -- a trace, and what happened in it
 pub record Traced : Type 0 where
@@ -96,6 +105,7 @@ abbrev pub trace_kind : EventKind Traced
 trace_kind = record {
   opens = λ limits songs. record { trace = opening_trace (opening (setup_of limits) (library_of songs)); history = [] };
   is_there = λ number traced. is_there number traced.trace.world;
+  place_named = λ name traced. world_named name traced.trace.world.parts;
   limit = λ traced event. limit_of 0 (seen traced) event;
   after = traced_after;
   told = λ traced event. told_at (traced_after traced event).trace.world_transitions;
@@ -133,6 +143,7 @@ module _ {P : Type 0} (kind : EventKind P) (read : P → Image) where
   beside_shelf = record {
     opens = λ limits songs. record { player = kind.opens limits songs; shelf = no_contents; window = 0; most = limits.history };
     is_there = λ number p. kind.is_there number p.player;
+    place_named = λ name p. kind.place_named name p.player;
     is_full = is_full;
     limit = λ p event. kind.limit p.player (heard p event);
     after = λ p event. record {

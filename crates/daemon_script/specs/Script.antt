@@ -17,7 +17,9 @@ use Rattle.script_lines.specs.Steps.{step_of}
 use Rattle.script_lines.specs.declared.limit.LimitName.{LimitName}
 use Rattle.script_lines.specs.declared.limit.LimitName.TheVariants.{MaxQueue, MaxVersion, MaxId, MaxCut, History, Everyday}
 use Rattle.script_lines.specs.declared.step.Step.{Step}
-use Rattle.script_lines.specs.declared.step.Step.TheVariants.{Song, Limit, Gone, Scanned, Want as WantStep, Have as HaveStep, Failed as FailedStep, Turn as TurnStep, Window}
+use Rattle.script_lines.specs.declared.step.Step.TheVariants.{Song, Limit, Gone, Scanned, Job, JobIn, Turn as TurnStep, Window}
+use Rattle.script_lines.specs.declared.step.JobStep.{JobStep}
+use Rattle.script_lines.specs.declared.step.JobStep.TheVariants.{Want as WantStep, Have as HaveStep, Failed as FailedStep}
 use Rattle.transitions.specs.Answers.{Answer, closes}
 use Rattle.player_events.specs.Outcomes.{OutcomeData}
 use Rattle.status_commands.specs.Status.{notice_text}
@@ -37,6 +39,7 @@ use Rattle.idle_clients.specs.declared.notices.Notice.{Notice}
 use Rattle.partition.specs.declared.partition.PartitionFault.{PartitionFault}
 use Rattle.partition.specs.declared.partition.PartitionFault.TheVariants.{HistoryFull, NoMemory}
 use Rattle.partition.specs.declared.state.Limits.{Limits}
+use Rattle.player_state.specs.Outputs.{all_off}
 use Rattle.transitions.specs.Shelves.{no_store_reply}
 use Rattle.daemon_script.specs.Kinds.{PlayerKind}
 use Rattle.script_reports.specs.Reports.{report_text, window_text}
@@ -254,6 +257,12 @@ alone_line number request = Line number Alone request no_store_reply
 abbrev pub scan_result : {P : Type 0} → ScriptData P → Event
 scan_result s = ScanResult (Some (in_byte_order s.songs)) 0
 
+-- the event of a step of the decoder in the partition of a number; no output's feeder owes frames
+abbrev pub job_event : ℕ → JobStep → Event
+job_event place WantStep = Want place all_off
+job_event place (HaveStep number frames) = Have place number frames
+job_event place (FailedStep number partner) = Failed place number partner
+
 module _ {P : Type 0} (kind : PlayerKind P) where
   -- why an event is refused, if it is, by what it found of memory
   abbrev pub refusal : P → Event → Found → Option PartitionFault
@@ -291,6 +300,18 @@ module _ {P : Type 0} (kind : PlayerKind P) where
   abbrev pub event_line : ScriptData P → Event → Memory → Shown P
   event_line s event memory = once_read s memory (applies s s.player event (found_then memory))
 
+  -- a step of the decoder in the partition of a name, once the player is there: one that no partition has is bad
+  abbrev pub applies_at : ScriptData P → Option ℕ → JobStep → Found → Shown P
+  applies_at s None step found = bad s
+  applies_at s (Some place) step found = applies s s.player (job_event place step) found
+
+  abbrev pub applies_in : ScriptData P → Option P → List ℕ → JobStep → Found → Shown P
+  applies_in s None name step found = bad s
+  applies_in s (Some player) name step found = applies_at s (kind.place_named name player) step found
+
+  abbrev pub named_line : ScriptData P → List ℕ → JobStep → Memory → Shown P
+  named_line s name step memory = once_read s memory (applies_in s s.player name step (found_then memory))
+
   -- what is told of the history, once the player is there
   abbrev pub shows_window : ScriptData P → Option P → Shown P
   shows_window s None = bad s
@@ -303,9 +324,8 @@ module _ {P : Type 0} (kind : PlayerKind P) where
   shown_step s (Some (Limit name n)) found = lowers s name n
   shown_step s (Some (Gone number)) found = sends_off s s.player number found
   shown_step s (Some Scanned) found = applies s s.player (scan_result s) found
-  shown_step s (Some WantStep) found = applies s s.player (Want false) found
-  shown_step s (Some (HaveStep number frames)) found = applies s s.player (Have number frames) found
-  shown_step s (Some (FailedStep number partner)) found = applies s s.player (Failed number partner) found
+  shown_step s (Some (Job step)) found = applies s s.player (job_event 0 step) found
+  shown_step s (Some (JobIn name step)) found = applies_in s s.player name step found
   shown_step s (Some (TurnStep written discarded failed)) found = applies s s.player (OutputTurn 0 written discarded failed) found
   shown_step s (Some Window) found = shows_window s s.player
 

@@ -72,6 +72,13 @@ impl Player {
         self.partition.has_client(number)
     }
 
+    /// The number of the partition of this name, if there is one.
+    pub(crate) fn place_named(&self, name: &str) -> Option<u8>
+        ensures { result ≡ images.place_named name.now self.now }
+    {
+        self.partition.place_named(name)
+    }
+
     /// Applies an event.
     pub(crate) fn apply(&mut self, event: Event) -> Result<Outcome, PartitionFault>
         ensures told { IfOk result (λ outcome. outcome ≡ images.told self.old event) }

@@ -6,7 +6,7 @@ ghost use Rattle.song_db.specs.Library.{in_byte_order, is_twice_named};
 ghost use Rattle.daemon_script.specs.Kinds.{Shelved, images, one_output as one_output_lem};
 ghost use Rattle.partition.specs.Image.{Image};
 ghost use Rattle.daemon_script.specs.Pieces.{found_by};
-ghost use Rattle.daemon_script.specs.Script.{no_lists as no_lists_lem, client_run, with_list, opening_script, shown_of, step_line, collect_line, gone_line, event_line, found_then, scan_result, lowers, shown_client, shows_window, ScriptData, refusal_text, has_uri as has_uri_lem};
+ghost use Rattle.daemon_script.specs.Script.{no_lists as no_lists_lem, client_run, with_list, opening_script, shown_of, step_line, collect_line, gone_line, event_line, found_then, job_event as job_event_lem, named_line, scan_result, lowers, shown_client, shows_window, ScriptData, refusal_text, has_uri as has_uri_lem};
 
 use crate::client_lines::{LineRun, push_fault, push_notices, run_line};
 use crate::memory::Memory;
@@ -17,7 +17,9 @@ use mpd_text::{Line, SharedText, Song, Tag};
 use partition::{Limits, PartitionFault, Setup};
 use player_events::Event;
 use player_state::{Library, Outputs, Scan};
-use script_lines::{LimitName, MAX_HISTORY, MAX_ID, MAX_QUEUE, MAX_VERSION, ScriptLine, Step};
+use script_lines::{
+    JobStep, LimitName, MAX_HISTORY, MAX_ID, MAX_QUEUE, MAX_VERSION, ScriptLine, Step,
+};
 use script_reports::{push_report, push_window};
 use song_db::{Db, DbFault, MAX_SONGS, Rate, SharedDb};
 use std::alloc::{AllocError, Global};
@@ -117,13 +119,8 @@ impl Script {
             Ok(Some(Step::Limit(name, n))) => self.lower(name, n, shown),
             Ok(Some(Step::Gone(number))) => self.send_off(number, shown),
             Ok(Some(Step::Scanned)) => self.end_scan(shown),
-            Ok(Some(Step::Want)) => self.happen(Event::Want(false), shown),
-            Ok(Some(Step::Have(number, frames))) => {
-                self.happen(Event::Have(u64::from(number), u64::from(frames)), shown)
-            }
-            Ok(Some(Step::Failed(number, partner))) => {
-                self.happen(Event::Failed(u64::from(number), partner), shown)
-            }
+            Ok(Some(Step::Job(step))) => self.happen(job_event(0, step), shown),
+            Ok(Some(Step::JobIn(name, step))) => self.happen_in(name.as_str(), step, shown),
             Ok(Some(Step::Turn(written, discarded, failed))) => {
                 let event = Event::OutputTurn(0, u64::from(written), u64::from(discarded), failed);
                 self.happen(event, shown)
@@ -216,6 +213,25 @@ impl Script {
             }
             Err(fault) => push_refusal(shown, fault),
         }
+    }
+
+    /// A step of the decoder in the partition of this name, once the player is there.
+    fn happen_in(
+        &mut self,
+        name: &str,
+        step: JobStep,
+        shown: &mut Vec<u8>,
+    ) -> Result<Memory, AllocError>
+        ensures script { IfOk result (Leaves (named_line images self.old name.now step) self.new) }
+        ensures text { IfOk result (PrintsBy (named_line images self.old name.now step) shown.old shown.new) }
+    {
+        let Some(player) = &self.player else {
+            return push_bad(shown);
+        };
+        let Some(place) = player.place_named(name) else {
+            return push_bad(shown);
+        };
+        self.happen(job_event(place, step), shown)
     }
 
     /// Appends what the history holds, once the player is there.
@@ -317,6 +333,17 @@ impl Script {
             outputs: one_output(self.alloc)?,
         };
         Player::open(self.alloc, setup, library)
+    }
+}
+
+/// The event of a step of the decoder in the partition of a number. No output's feeder owes frames.
+fn job_event(place: u8, step: JobStep) -> Event
+    ensures { result ≡ job_event_lem place step }
+{
+    match step {
+        JobStep::Want => Event::Want(place, [false; 8]),
+        JobStep::Have(number, frames) => Event::Have(place, u64::from(number), u64::from(frames)),
+        JobStep::Failed(number, partner) => Event::Failed(place, u64::from(number), partner),
     }
 }
 

@@ -15,7 +15,7 @@ use Rattle.idle_clients.specs.Clients.{is_other, notice_for, notice_to, notices_
 use Rattle.partition.specs.Image.{Image}
 use Rattle.partition.specs.Lent.{Records}
 use Rattle.player_events.specs.Events.{with_store_reply}
-use Rattle.partition.specs.Step.{mover, raised_by, told, transition}
+use Rattle.partition.specs.Step.{mover, raised_of, told, transition}
 
 one : (n : ℕ) (names : Option Subsystems) → length (notice_to n names) ≤ 1
 one n None = omega arith
@@ -39,14 +39,14 @@ fewer_stay n response ks =
     elim (closes response.answer.next) as (λ b. length (if b then filter (is_other n) ks else ks) ≤ length ks) [ true ↦ rest | false ↦ omega arith ]
 
 -- what an event tells those who wait
-pub told_notices : (i : Image) (e : Event) → (told i e).notices ≡ notices_after (mover e) (raised_by i.part i.shared.library (transition i e)) (transition i e).response i.clients
+pub told_notices : (i : Image) (e : Event) → (told i e).notices ≡ notices_after (mover e) (raised_of i e (transition i e)) (transition i e).response i.clients
 unfolding told
 told_notices i e = refl
 
 -- at most one for each client that is there
 pub few_notices : (i : Image) (e : Event) → length (told i e).notices ≤ length i.clients
 few_notices i e =
-    let raised : Client → Subsystems = raised_by i.part i.shared.library (transition i e) in
+    let raised : Client → Subsystems = raised_of i e (transition i e) in
     let after = staying (mover e) (transition i e).response i.clients in
     let many : length (told i e).notices ≡ length (flat_map (notice_for raised) after) = ap length (told_notices i e) in
     omega (arith, many, few_for raised after, fewer_stay (mover e) (transition i e).response i.clients)

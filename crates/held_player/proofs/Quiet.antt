@@ -1,23 +1,26 @@
 -- How many notices a command list gives: a client that is told waits no more, and in a list none begins to
 -- wait.
-use Rattle.std.proofs.Common.{◌≡◌, ℕ, zero, suc, ◌+◌, ◌≤◌, ◌==◌, Bool, true, false, ◌&&◌, List, [], ◌∷◌, length, map, take, Option, Some, None, is_some, refl, ap, ◌∙◌, length-append, arith, if◌then◌else◌}
+use Rattle.std.proofs.Common.{◌≡◌, ℕ, zero, suc, ◌+◌, ◌≤◌, ◌==◌, true, false, ◌&&◌, List, [], ◌∷◌, length, map, take, Option, Some, None, is_some, refl, ap, ◌∙◌, length-append, arith, if◌then◌else◌}
 use Rattle.std.specs.Prelude.{count_by, filter, not}
 use Rattle.std.specs.List.{flat_map}
 use Rattle.std.proofs.lemmas.List.Sums.{sum_by-append}
 use Rattle.command_lists.specs.declared.word.ListForm.{ListForm}
 use Rattle.idle_notes.specs.declared.sets.Subsystems.{Subsystems}
 use Rattle.idle_notes.specs.declared.pending.Pending.{Pending}
-use Rattle.idle_notes.specs.Notes.{due, fresh, noted}
+use Rattle.idle_notes.specs.Notes.{due, everything, fresh, noted}
 use Rattle.idle_notes.specs.Sets.{is_nonempty}
-use Rattle.mpd_command.specs.declared.name.Name.{Name}
 use Rattle.mpd_text.specs.declared.songs.song.TagName.{TagName}
+use Rattle.mpd_command.specs.declared.command.Command.{Command}
+use Rattle.mpd_command.specs.declared.command.Command.TheVariants as asked_for
+use Rattle.mpd_command.specs.declared.name.Name.{Name}
 use Rattle.mpd_command.specs.declared.request.Request.{Request}
 use Rattle.mpd_command.specs.declared.request.Request.TheVariants as asks
 use Rattle.shelf.specs.declared.faults.ShelfFault.{ShelfFault}
 use Rattle.player_events.specs.declared.event.Event.{Event}
 use Rattle.player_events.specs.declared.event.Event.TheVariants.{Line}
 use Rattle.transitions.specs.declared.reply.Move.{Move}
-use Rattle.transitions.specs.declared.reply.Move.TheVariants.{Stay, Wait, Learn, Resume, Join, Show}
+use Rattle.transitions.specs.declared.reply.Move.TheVariants.{Stay, Wait, Learn, Resume, Join, Show, Enter}
+use Rattle.transitions.specs.declared.asked.Asked.{Asked}
 use Rattle.transitions.specs.declared.asked.Stand.TheVariants.{InList}
 use Rattle.transitions.specs.declared.shelf_calls.StoreReply.{StoreReply}
 use Rattle.transitions.specs.declared.shelf_calls.Read.{Read}
@@ -26,50 +29,67 @@ use Rattle.player_state.specs.declared.state.Library.{Library}
 use Rattle.player_state.specs.declared.state.Part.{Part}
 use Rattle.player_events.specs.declared.event.LogEntry.{LogEntry}
 use Rattle.transitions.specs.Answers.{ResponseData, closes}
-use Rattle.idle_clients.specs.Clients.{clients_after, is_other, move_of, moved, notice_for, notice_to, notified, shown, staying, client_of}
+use Rattle.idle_clients.specs.Clients.{clients_after, entered, is_other, move_of, moved, notice_for, notice_to, notified, shown, staying}
 use Rattle.status_commands.specs.Status.{Wish, ToWait, ToGoOn, ToShow, wish_of}
-use Rattle.transitions.specs.Transitions.{CommandResult, TransitionData, departs}
-use Rattle.partition.specs.Image.{Image}
+use Rattle.transitions.specs.Transitions.{TransitionData, departs}
+use Rattle.parts.specs.Parts.{part_at}
+use Rattle.partition.specs.Image.{Image, Overview, overview}
 use Rattle.partition.specs.Lists.{Answered, entries_of}
 use Rattle.player_events.specs.Events.{ends_list}
 use Rattle.idle_clients.specs.Rooms.{is_waiting, room_for}
 use Rattle.transitions.specs.Shelves.{is_written}
-use Rattle.partition.specs.Step.{asked_by, result_of, ends_waiting, mover, next_image, once_written, raised_by, told, transition, transition_line, transition_of, transition_request, transition_wished, written_transition}
+use Rattle.partition.specs.Step.{asked_by, ends_waiting, mover, next_image, once_written, place_at, raised_of, speaker_in, told, transition, transition_line, transition_of, transition_request, transition_run, transition_there, transition_wished, written_transition}
+use Rattle.counted_player.proofs.Plans.{planned_is}
 use Rattle.idle_clients.proofs.Tells.{fewer_wait}
 use Rattle.held_player.specs.Lists.{notices_in}
 use Rattle.held_player.proofs.Few.{told_notices}
 
--- a move by which nobody begins to wait
-abbrev IsStill : Move → Type 0
-IsStill Stay = Unit {0}
-IsStill (Wait names) = ⊥
-IsStill Learn = ⊥
-IsStill Resume = ⊥
-IsStill Join = ⊥
-IsStill (Show tags) = Unit {0}
+-- a move by which no client begins to wait
+abbrev IsQuiet : Move → Type 0
+IsQuiet Stay = Unit {0}
+IsQuiet (Enter place) = Unit {0}
+IsQuiet (Show tags) = Unit {0}
+IsQuiet _ = ⊥
 
 abbrev Stays : TransitionData → Type 0
-Stays t = IsStill t.response.move
+Stays t = IsQuiet t.response.move
+
+run : (o : Overview) (asked : Asked) (part : Part) (library : Library) (read : Read) (command : Command) → Stays (transition_run o asked part library read command)
+run o asked part library read (asked_for.Status command) = tt
+run o asked part library read (asked_for.Options command) = tt
+run o asked part library read (asked_for.Playback command) = tt
+run o asked part library read (asked_for.Queue command) = tt
+run o asked part library read (asked_for.Playlists command) = tt
+run o asked part library read (asked_for.Database command) = tt
+run o asked part library read (asked_for.Stickers command) = tt
+run o asked part library read (asked_for.Connection command) = tt
+run o asked part library read (asked_for.Outputs command) = tt
+run o asked part library read (asked_for.Messages command) = tt
+run o asked part library read (asked_for.Partitions command) = planned_is Stays (λ r. tt) (λ asked crossing. tt) (λ asked place. tt) o.parts o.clients o.openings asked part.place command
+
+there : (o : Overview) (asked : Asked) (part : Option Part) (library : Library) (read : Read) (command : Command) → Stays (transition_there o asked part library read command)
+there o asked None library read command = tt
+there o asked (Some part) library read command = run o asked part library read command
 
 module _ (form : ListForm) (place : ℕ) where
-  wished : (name : Name) (client : Client) (command_result : CommandResult) (wish : Option Wish)
-      → Stays (transition_wished (asked_by client name (InList form place)) client command_result wish)
-  wished name client command_result (Some (ToWait names)) = tt
-  wished name client command_result (Some ToGoOn) = tt
-  wished name client command_result (Some (ToShow choice)) = tt
-  wished name client command_result None = tt
+  wished : (name : Name) (client : Client) (t : TransitionData) (wish : Option Wish) → Stays t → Stays (transition_wished (asked_by client name (InList form place)) client t wish)
+  wished name client t (Some (ToWait named)) e = tt
+  wished name client t (Some ToGoOn) e = tt
+  wished name client t (Some (ToShow choice)) e = tt
+  wished name client t None e = e
 
-  requested : (part : Part) (library : Library) (client : Client) (request : Request) (read : Read) → Stays (transition_request part library client (InList form place) request read)
-  requested part library client (asks.Run name command) read =
-      wished name client (result_of (asked_by client name (InList form place)) part library read command) (wish_of command)
-  requested part library client (asks.Refused ack) read = tt
+  requested : (o : Overview) (part : Option Part) (library : Library) (client : Client) (request : Request) (read : Read) → Stays (transition_request o part library client (InList form place) request read)
+  requested o part library client (asks.Run name command) read =
+      let asked : Asked = asked_by client name (InList form place) in
+      wished name client (transition_there o asked part library read command) (wish_of command) (there o asked part library read command)
+  requested o part library client (asks.Refused ack) read = tt
 
-  response : (part : Part) (library : Library) (client : Option Client) (request : Request) (read : Read) → Stays (transition_line part library client (InList form place) request read)
-  response part library None request read = tt
-  response part library (Some client) request read =
+  response : (o : Overview) (part : Option Part) (library : Library) (client : Option Client) (request : Request) (read : Read) → Stays (transition_line o part library client (InList form place) request read)
+  response o part library None request read = tt
+  response o part library (Some client) request read =
       elim (is_some client.pending.waiting && not (ends_waiting (InList form place) request))
-      as (λ b. Stays (if b then departs client.number else transition_request part library client (InList form place) request read))
-      [ true ↦ tt | false ↦ requested part library client request read ]
+      as (λ b. Stays (if b then departs client.number else transition_request o part library client (InList form place) request read))
+      [ true ↦ tt | false ↦ requested o part library client request read ]
 
   once : (request : Request) (refused : Option ShelfFault) (t : TransitionData) → Stays t → Stays (once_written (InList form place) request refused t)
   once request None t e = e
@@ -80,30 +100,30 @@ module _ (form : ListForm) (place : ℕ) where
       elim (is_written t.written) as (λ b. Stays (if b then once_written (InList form place) request refused t else t)) [ true ↦ once request refused t e | false ↦ e ]
 
   -- a command of a list makes its client neither wait nor go on
-  line_stays : (ended : Bool) (part : Part) (library : Library) (clients : List Client) (number : ℕ) (request : Request) (heard : StoreReply)
-      → Stays (transition_of ended part library clients (Line number (InList form place) request heard))
-  line_stays ended part library clients number request heard =
-      written request heard.refused (transition_line part library (client_of number clients) (InList form place) request heard.read)
-      (response part library (client_of number clients) request heard.read)
+  line_stays : (o : Overview) (part : Option Part) (library : Library) (client : Option Client) (number : ℕ) (request : Request) (heard : StoreReply)
+      → Stays (transition_of o part library client (Line number (InList form place) request heard))
+  line_stays o part library client number request heard =
+      written request heard.refused (transition_line o part library client (InList form place) request heard.read)
+      (response o part library client request heard.read)
 
 one_more : (client : Client) (clients : List Client) → count_by is_waiting (client ∷ clients) ≡ room_for client + count_by is_waiting clients
 one_more client clients =
     sum_by-append (λ (k : Client). if is_waiting k then 1 else 0) (client ∷ []) clients ∙ ap (λ n. n + count_by is_waiting clients) (omega arith)
 
 -- a client that is told waits no more
-one_less_at : (raised : Subsystems) (client : Client) (waiting : Option Subsystems) (changed : Subsystems)
-    → length (notice_for (λ k. raised) (record client { pending = record { waiting = waiting; changed = changed } }))
-    + room_for (notified (λ k. raised) (record client { pending = record { waiting = waiting; changed = changed } }))
-    ≤ room_for (record client { pending = record { waiting = waiting; changed = changed } })
-one_less_at raised client None changed = omega arith
-one_less_at raised client (Some names) changed =
+one_less_at : (raised : Subsystems) (number place : ℕ) (tags : List TagName) (waiting : Option Subsystems) (changed : Subsystems)
+    → length (notice_for (λ k. raised) (record { number = number; place = place; tags = tags; pending = record { waiting = waiting; changed = changed } }))
+    + room_for (notified (λ k. raised) (record { number = number; place = place; tags = tags; pending = record { waiting = waiting; changed = changed } }))
+    ≤ room_for (record { number = number; place = place; tags = tags; pending = record { waiting = waiting; changed = changed } })
+one_less_at raised number place tags None changed = omega arith
+one_less_at raised number place tags (Some names) changed =
     let p : Pending = noted raised (record { waiting = Some names; changed = changed }) in
     elim (is_nonempty (due p))
-    as (λ b. length (notice_to client.number (if b then Some (due p) else None)) + room_for (record client { pending = if b then fresh else p }) ≤ 1)
+    as (λ b. length (notice_to number (if b then Some (due p) else None)) + room_for (record { number = number; place = place; tags = tags; pending = if b then fresh else p }) ≤ 1)
     [ true ↦ omega arith | false ↦ omega arith ]
 
 one_less : (raised : Client → Subsystems) (client : Client) → length (notice_for raised client) + room_for (notified raised client) ≤ room_for client
-one_less raised client = one_less_at (raised client) client client.pending.waiting client.pending.changed
+one_less raised client = one_less_at (raised client) client.number client.place client.tags client.pending.waiting client.pending.changed
 
 all_less : (raised : Client → Subsystems) (clients : List Client)
     → length (flat_map (notice_for raised) clients) + count_by is_waiting (map (notified raised) clients) ≤ count_by is_waiting clients
@@ -116,32 +136,50 @@ all_less raised (k ∷ ks) =
     let long = length-append (notice_for raised k) (flat_map (notice_for raised) ks) in
     omega (arith, first, rest, before, after, long)
 
-as_many : (f : Client → Client) → ((k : Client) → room_for (f k) ≡ room_for k) → (clients : List Client) → count_by is_waiting (map f clients) ≡ count_by is_waiting clients
-as_many f same [] = refl
-as_many f same (k ∷ ks) =
-    let first = same k in
-    let rest = as_many f same ks in
+at_most : (n : ℕ) → n ≤ n
+at_most n = omega arith
+
+entered_less : (number place : ℕ) (client : Client) → room_for (entered number place client) ≤ room_for client
+entered_less number place client =
+    elim (client.number == number) as (λ b. room_for (if b then record client { place = place; pending = everything } else client) ≤ room_for client)
+    [ true ↦ omega arith | false ↦ at_most (room_for client) ]
+
+-- no client begins to wait where one goes to another partition
+all_entered : (number place : ℕ) (clients : List Client) → count_by is_waiting (map (entered number place) clients) ≤ count_by is_waiting clients
+all_entered number place [] = omega arith
+all_entered number place (k ∷ ks) =
+    let first = entered_less number place k in
+    let rest = all_entered number place ks in
     let before = one_more k ks in
-    let after = one_more (f k) (map f ks) in
+    let after = one_more (entered number place k) (map (entered number place) ks) in
     omega (arith, first, rest, before, after)
 
-shown_waits : (number : ℕ) (tags : List TagName) (k : Client) → room_for (shown number tags k) ≡ room_for k
-shown_waits number tags k = elim (k.number == number) as (λ b. room_for (if b then record k { tags = tags } else k) ≡ room_for k) [ true ↦ refl | false ↦ refl ]
+shown_less : (number : ℕ) (tags : List TagName) (client : Client) → room_for (shown number tags client) ≤ room_for client
+shown_less number tags client =
+    elim (client.number == number) as (λ b. room_for (if b then record client { tags = tags } else client) ≤ room_for client)
+    [ true ↦ at_most (room_for client) | false ↦ at_most (room_for client) ]
 
--- as many wait after a move by which nobody begins to
-moves_none : (number : ℕ) (move : Move) (clients : List Client) → IsStill move → count_by is_waiting (moved number move clients) ≡ count_by is_waiting clients
-moves_none number Stay clients still = refl
-moves_none number (Wait names) clients still = absurd still
-moves_none number Learn clients still = absurd still
-moves_none number Resume clients still = absurd still
-moves_none number Join clients still = absurd still
-moves_none number (Show tags) clients still = as_many (shown number tags) (shown_waits number tags) clients
+-- nor where one is shown other tags
+all_shown : (number : ℕ) (tags : List TagName) (clients : List Client) → count_by is_waiting (map (shown number tags) clients) ≤ count_by is_waiting clients
+all_shown number tags [] = omega arith
+all_shown number tags (k ∷ ks) =
+    let first = shown_less number tags k in
+    let rest = all_shown number tags ks in
+    let before = one_more k ks in
+    let after = one_more (shown number tags k) (map (shown number tags) ks) in
+    omega (arith, first, rest, before, after)
 
-stays_so : (number : ℕ) (response : ResponseData) (clients : List Client) → IsStill response.move
-    → count_by is_waiting (moved number (move_of response) clients) ≡ count_by is_waiting clients
-stays_so number response clients still =
-    elim (closes response.answer.next) as (λ b. count_by is_waiting (moved number (if b then Stay else response.move) clients) ≡ count_by is_waiting clients)
-    [ true ↦ refl | false ↦ moves_none number response.move clients still ]
+moved_less : (number : ℕ) (move : Move) (clients : List Client) → IsQuiet move → count_by is_waiting (moved number move clients) ≤ count_by is_waiting clients
+moved_less number Stay clients quiet = omega arith
+moved_less number (Enter place) clients quiet = all_entered number place clients
+moved_less number (Wait names) clients quiet = absurd quiet
+moved_less number Learn clients quiet = absurd quiet
+moved_less number Resume clients quiet = absurd quiet
+moved_less number Join clients quiet = absurd quiet
+moved_less number (Show tags) clients quiet = all_shown number tags clients
+
+quiet_so : (response : ResponseData) → IsQuiet response.move → IsQuiet (move_of response)
+quiet_so response quiet = elim (closes response.answer.next) as (λ b. IsQuiet (if b then Stay else response.move)) [ true ↦ tt | false ↦ quiet ]
 
 fewer_stay : (number : ℕ) (response : ResponseData) (clients : List Client) → count_by is_waiting (staying number response clients) ≤ count_by is_waiting clients
 fewer_stay number response clients =
@@ -149,22 +187,23 @@ fewer_stay number response clients =
     elim (closes response.answer.next) as (λ b. count_by is_waiting (if b then filter (is_other number) clients else clients) ≤ count_by is_waiting clients)
     [ true ↦ less | false ↦ omega arith ]
 
-next_clients : (seat : ℕ) (i : Image) (e : Event) → (next_image seat i e).clients ≡ clients_after (mover e) (raised_by i.part i.shared.library (transition i e)) (transition i e).response i.clients
+next_clients : (seat : ℕ) (i : Image) (e : Event) → (next_image seat i e).clients ≡ clients_after (mover e) (raised_of i e (transition i e)) (transition i e).response i.clients
 unfolding next_image
 next_clients seat i e = refl
 
 -- each notice of an event that makes no client wait ends a client's waiting
 told_less : (seat : ℕ) (i : Image) (e : Event) → Stays (transition i e)
     → length (told i e).notices + count_by is_waiting (next_image seat i e).clients ≤ count_by is_waiting i.clients
-told_less seat i e stay =
-    let raised : Client → Subsystems = raised_by i.part i.shared.library (transition i e) in
+told_less seat i e quiet =
+    let raised : Client → Subsystems = raised_of i e (transition i e) in
     let there : List Client = staying (mover e) (transition i e).response i.clients in
     let notices : length (told i e).notices ≡ length (flat_map (notice_for raised) there) = ap length (told_notices i e) in
-    let waiting : count_by is_waiting (next_image seat i e).clients ≡ count_by is_waiting (map (notified raised) there) =
-    ap (count_by is_waiting) (next_clients seat i e) ∙ stays_so (mover e) (transition i e).response (map (notified raised) there) stay in
+    let waiting : count_by is_waiting (next_image seat i e).clients ≡ count_by is_waiting (moved (mover e) (move_of (transition i e).response) (map (notified raised) there)) =
+    ap (count_by is_waiting) (next_clients seat i e) in
+    let went = moved_less (mover e) (move_of (transition i e).response) (map (notified raised) there) (quiet_so (transition i e).response quiet) in
     let less = all_less raised there in
     let fewer = fewer_stay (mover e) (transition i e).response i.clients in
-    omega (arith, notices, waiting, less, fewer)
+    omega (arith, notices, waiting, went, less, fewer)
 
 none_of : (n m : ℕ) → length (notices_in (map (λ (h : LogEntry). h.told) (take n []))) ≤ m
 none_of zero m = omega arith
@@ -179,7 +218,7 @@ few_entries seat client form (suc n) place i [] = omega arith
 few_entries seat client form (suc n) place i (a ∷ more) =
     let event : Event = Line client (InList form place) a.0 a.1 in
     let next : Image = next_image seat i event in
-    let less = told_less seat i event (line_stays form place i.shared.ended i.part i.shared.library i.clients client a.0 a.1) in
+    let less = told_less seat i event (line_stays form place (overview i) (part_at (place_at i event) i.parts) i.shared.library (speaker_in i.clients event) client a.0 a.1) in
     let rest : List LogEntry = if ends_list (told i event) then [] else entries_of seat next client form (place + 1) more in
     let few : length (notices_in (map (λ (h : LogEntry). h.told) (take n rest))) ≤ count_by is_waiting next.clients =
     elim (ends_list (told i event))

@@ -1,12 +1,12 @@
 -- What becomes of an event that is no line.
-use Rattle.std.proofs.Common.{◌≡◌, inl, inr, ℕ, ◌+◌, ◌<◌, ◌≤◌, ◌^◌, true, false, None, length, refl, ap, ◌∙◌, Bool, List, arith}
+use Rattle.std.proofs.Common.{◌≡◌, inl, inr, ℕ, ◌+◌, ◌<◌, ◌≤◌, ◌^◌, true, false, Option, None, Some, length, refl, ap, ◌∙◌, Bool, List, arith}
 use Rattle.std.specs.Prelude.{Result, Ok, Err, IfErr, IfOk, OnErr, OnOk, sum}
 use Rattle.player_events.specs.declared.event.Event.{Event}
 use Rattle.partition.specs.declared.partition.PartitionFault.{PartitionFault}
 use Rattle.player_events.specs.Outcomes.{OutcomeData}
 use Rattle.partition.specs.History.{Chronicle, joined_by}
-use Rattle.partition.specs.Image.{Image}
-use Rattle.partition.specs.Step.{limit_of, next_image, told, transition, transition_of}
+use Rattle.partition.specs.Image.{Image, Overview}
+use Rattle.partition.specs.Step.{failure, limit_of, next_image, told, transition, transition_of, want}
 use Rattle.partition.specs.Steps.{RefusesStep}
 use Rattle.player_events.specs.Events.{is_line}
 use Rattle.player_state.specs.Outputs.{FrameBooks}
@@ -28,17 +28,25 @@ news_steps (news.Comes client) = refl
 news_steps (news.Goes client) = refl
 news_steps news.AsksToScan = refl
 news_steps (news.Scanned songs second) = refl
-news_steps (news.Wants owes) = refl
-news_steps (news.Failed number partner) = refl
+news_steps (news.Wants place owes) = refl
+news_steps (news.Failed place number partner) = refl
 
-pub news_frameless : (ended : Bool) (part : Part) (library : Library) (clients : List Client) (piece : News) → is_frameless (transition_of ended part library clients (event_of piece)).effect ≡ true
-news_frameless ended part library clients (news.Comes client) = refl
-news_frameless ended part library clients (news.Goes client) = refl
-news_frameless ended part library clients news.AsksToScan = refl
-news_frameless ended part library clients (news.Scanned songs second) = refl
-news_frameless true part library clients (news.Wants owes) = refl
-news_frameless false part library clients (news.Wants owes) = refl
-news_frameless ended part library clients (news.Failed number partner) = refl
+want_frameless : (ended : Bool) (part : Option Part) (owes : List Bool) → is_frameless (want ended part owes).effect ≡ true
+want_frameless ended None owes = refl
+want_frameless true (Some part) owes = refl
+want_frameless false (Some part) owes = refl
+
+failure_frameless : (part : Option Part) (number : ℕ) (partner : Bool) → is_frameless (failure part number partner).effect ≡ true
+failure_frameless None number partner = refl
+failure_frameless (Some part) number partner = refl
+
+pub news_frameless : (o : Overview) (part : Option Part) (library : Library) (client : Option Client) (piece : News) → is_frameless (transition_of o part library client (event_of piece)).effect ≡ true
+news_frameless o part library client (news.Comes number) = refl
+news_frameless o part library client (news.Goes number) = refl
+news_frameless o part library client news.AsksToScan = refl
+news_frameless o part library client (news.Scanned songs second) = refl
+news_frameless o part library client (news.Wants place owes) = want_frameless o.ended part owes
+news_frameless o part library client (news.Failed place number partner) = failure_frameless part number partner
 
 -- there is room for its notices
 pub has_room_for : (i : Image) (event : Event) (r : Result OutcomeData PartitionFault) (waiting capacity : ℕ) → waiting + length i.clients ≤ capacity

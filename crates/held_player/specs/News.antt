@@ -13,8 +13,8 @@ event_of (news.Comes client) = Connect client
 event_of (news.Goes client) = Disconnect client
 event_of news.AsksToScan = ScanQuestion
 event_of (news.Scanned songs second) = ScanResult songs second
-event_of (news.Wants owes) = Want owes
-event_of (news.Failed number partner) = Failed number partner
+event_of (news.Wants place owes) = Want place owes
+event_of (news.Failed place number partner) = Failed place number partner
 
 -- the client that goes, if one goes
 abbrev pub gone_of : News → Option ℕ

@@ -155,22 +155,23 @@ pub(crate) fn hear_end<L: Ledgers>(
     take_step(counted, waiting, seat, Event::End)
 }
 
-/// Frames of a job were decoded. They are the books' of frames given, where they are not stale.
+/// Frames of a partition's job were decoded. They are the books' of frames given, where they are not stale.
 pub(crate) fn hear_frames<L: Ledgers>(
     counted: &mut Counted<L>,
     waiting: &mut Vec<Notice>,
     seat: &mut Seat<L>,
+    place: u8,
     number: u64,
     frames: u64,
 ) -> Result<Outcome, PartitionFault>
     ensures found { seat.old.number < 4 → own_in seat.old.number counted.old.present ≡ seat.old.made }
     ensures legal { IsPast counted.old }
-    ensures told { IfOk result (λ outcome. outcome ≡ told_of counted.old.present (Have number frames)) }
-    ensures player { IfOk result (Joins counted.old counted.new seat.old.number (Have number frames)) }
-    ensures within { OnOk result (limit_of seat.old.number counted.old.present (Have number frames) ≡ None) }
+    ensures told { IfOk result (λ outcome. outcome ≡ told_of counted.old.present (Have place number frames)) }
+    ensures player { IfOk result (Joins counted.old counted.new seat.old.number (Have place number frames)) }
+    ensures within { OnOk result (limit_of seat.old.number counted.old.present (Have place number frames) ≡ None) }
     ensures made { OnOk result (seat.new ≡ after_events seat.old 1) }
     ensures seat { OnErr result (seat.new ≡ seat.old) }
-    ensures refused { IfErr result (λ fault. IsRefusedFor counted.old seat.old.number (Have number frames) fault) }
+    ensures refused { IfErr result (λ fault. IsRefusedFor counted.old seat.old.number (Have place number frames) fault) }
     ensures unchanged { OnErr result (IsUnchangedOrFolded counted.old counted.new) }
     ensures same { OnErr result (counted.new.present.shared.books ≡ counted.old.present.shared.books) }
     ensures grown { sum counted.old.present.shared.books.decoded ≤ sum counted.new.present.shared.books.decoded }
@@ -180,7 +181,7 @@ pub(crate) fn hear_frames<L: Ledgers>(
     ensures waiting { waiting.new.items ≡ waiting.old.items }
     ensures room { IfOk result (λ outcome. vec_len waiting.new + length outcome.notices ≤ vec_capacity waiting.new) }
 {
-    let event = Event::Have(number, frames);
+    let event = Event::Have(place, number, frames);
     take_step(counted, waiting, seat, event)
 }
 

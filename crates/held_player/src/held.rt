@@ -95,11 +95,9 @@ impl<L: Ledgers> Held<L> {
     ghost use Rattle.partition.specs.Legal.{IsPast};
     ghost use Rattle.partition.specs.Step.{limit_of, told as told_of};
     ghost use Rattle.player_events.specs.declared.event.Event.TheVariants.{End};
-    ghost use Rattle.player_core.specs.declared.state.Playback.TheVariants.{Play};
     ghost use Rattle.held_player.specs.News.{event_of, kept_at};
     ghost use Rattle.counted_player.specs.Seats.{after_events};
-    ghost use Rattle.counted_player.specs.Counts.{IsFresh, own_in, song_of};
-    ghost use Rattle.song_queue.specs.State.{queue_of};
+    ghost use Rattle.counted_player.specs.Counts.{ArePlaces, IsFresh, any_plays, own_in, song_at};
     ghost use Rattle.held_player.specs.Waiting.{first_for, without_first, waiting_after};
 
     /// A player of which no seat made an event yet, with the four seats that callers are given.
@@ -329,9 +327,9 @@ impl<L: Ledgers> Held<L> {
         self.changes
     }
 
-    /// Whether a song is being played.
+    /// Whether a song is being played in some partition.
     pub fn plays(&self) -> bool
-        ensures { (result ≡ true) ↔ (self.now.player.present.part.player.playback ≡ Play) }
+        ensures { result ≡ any_plays self.now.player.present.parts }
     {
         self.counted.plays()
     }
@@ -350,12 +348,20 @@ impl<L: Ledgers> Held<L> {
         addressees(alloc, &self.waiting)
     }
 
-    /// The song of the entry of the present queue that has this id. It is no event.
-    pub fn song(&self, id: u32) -> Result<Option<SharedSong>, AllocError>
-        ensures song { IfOk result (λ song. song ≡ song_of id (queue_of self.now.player.present.part.queue)) }
+    /// Of sixteen numbers those of a partition. It is no event.
+    pub fn places(&self) -> [bool; 16]
+        ensures places { ArePlaces result self.now.player.present }
         ensures legal { IsPast self.now.player }
     {
-        self.counted.song(id)
+        self.counted.places()
+    }
+
+    /// The song of the entry that has this id in the present queue of the partition of a number. It is no event.
+    pub fn song(&self, place: u8, id: u32) -> Result<Option<SharedSong>, AllocError>
+        ensures song { IfOk result (λ song. song ≡ song_at place id self.now.player.present) }
+        ensures legal { IsPast self.now.player }
+    {
+        self.counted.song(place, id)
     }
 
     /// The client's waiting notice, which is taken out. It is no event and takes no memory.

@@ -16,10 +16,12 @@ pub enum News {
     AsksToScan,
     /// The library that a scan found; one that failed found none.
     Scanned(Option<SharedDb>, u64),
-    /// The decoder wants a job; whether a feeder still owes frames of an earlier one.
-    Wants(bool),
-    /// The song of a job could not be read, or where this is so, that of its partner in a fade.
-    Failed(u64, bool),
+    /// The decoder wants a job of the partition of this number; of which of eight outputs the feeder still owes
+    /// frames of an earlier one.
+    Wants(u8, [bool; 8]),
+    /// The song of a partition's job, of this number, could not be read, or where this is so, that of its
+    /// partner in a fade.
+    Failed(u8, u64, bool),
 }
 
 impl News {
@@ -42,8 +44,8 @@ impl News {
             News::Goes(client) => Event::Disconnect(client),
             News::AsksToScan => Event::ScanQuestion,
             News::Scanned(songs, second) => Event::ScanResult(songs, second),
-            News::Wants(owes) => Event::Want(owes),
-            News::Failed(number, partner) => Event::Failed(number, partner),
+            News::Wants(place, owes) => Event::Want(place, owes),
+            News::Failed(place, number, partner) => Event::Failed(place, number, partner),
         }
     }
 }

@@ -25,7 +25,7 @@ impl<L: Ledgers> Held<L> {
     ghost use Rattle.held_player.specs.Views.{IsRefusedFor, IsUnchangedOrFolded, GrowAsBooks, KeepsDecoded, KeepsFates, turn_of, JoinsFed, JoinsTurn, IsWithinLimits, IsTurnRefused};
     ghost use Rattle.counted_player.specs.Counts.{own_in};
 
-    /// Frames of a job were decoded. Where they are not stale, they are for the outputs that the report
+    /// Frames of a partition's job were decoded. Where they are not stale, they are for the outputs that the report
     /// names: their books and the share grow by them.
     ///
     /// # Errors
@@ -34,6 +34,7 @@ impl<L: Ledgers> Held<L> {
     pub fn have(
         &mut self,
         seat: &mut Seat<L>,
+        place: u8,
         number: u64,
         frames: u64,
         share: &mut Share<Decoded<L>>,
@@ -41,9 +42,9 @@ impl<L: Ledgers> Held<L> {
         requires { 0 < share.old.parts }
         ensures found { seat.old.number < 4 → own_in seat.old.number self.old.player.present ≡ seat.old.made }
         ensures legal { IsPast self.old.player }
-        ensures told { IfOk result (λ told. told ≡ told_of self.old.player.present (Have number frames)) }
-        ensures player { IfOk result (JoinsFed self.old self.new seat.old (Have number frames)) }
-        ensures within { OnOk result (limit_of seat.old.number self.old.player.present (Have number frames) ≡ None) }
+        ensures told { IfOk result (λ told. told ≡ told_of self.old.player.present (Have place number frames)) }
+        ensures player { IfOk result (JoinsFed self.old self.new seat.old (Have place number frames)) }
+        ensures within { OnOk result (limit_of seat.old.number self.old.player.present (Have place number frames) ≡ None) }
         ensures waiting { IfOk result (λ told. self.new.waiting ≡ self.old.waiting ++ told.notices) }
         ensures kept { OnErr result (self.new.waiting ≡ self.old.waiting) }
         ensures made { OnOk result (seat.new ≡ after_events seat.old 1) }
@@ -55,7 +56,7 @@ impl<L: Ledgers> Held<L> {
         ensures share { share.new.amount + sum self.old.books.decoded ≡ share.old.amount + sum self.new.books.decoded }
         ensures parts { share.new.parts ≡ share.old.parts }
         ensures same { OnErr result ((self.new.books ≡ self.old.books) × (share.new ≡ share.old)) }
-        ensures refused { IfErr result (IsRefusedFor self.old.player seat.old.number (Have number frames)) }
+        ensures refused { IfErr result (IsRefusedFor self.old.player seat.old.number (Have place number frames)) }
         ensures unchanged { OnErr result (IsUnchangedOrFolded self.old.player self.new.player) }
     {
         let Held {
@@ -67,7 +68,7 @@ impl<L: Ledgers> Held<L> {
             closed: _closed,
             changes,
         } = self;
-        let outcome = hear_frames(counted, waiting, seat, number, frames)?;
+        let outcome = hear_frames(counted, waiting, seat, place, number, frames)?;
         put_all(waiting, outcome.notices());
         let decoded = counted.decoded();
         books.decoded.raise_to(share, &decoded);

@@ -9,7 +9,7 @@ ghost use Rattle.held_player.specs.Lists.{StopsIn, TellsList};
 ghost use Rattle.held_player.specs.News.{event_of};
 ghost use Rattle.counted_player.specs.Seats.{after_events};
 ghost use Rattle.held_player.specs.Settling.{ClosesBooks};
-ghost use Rattle.counted_player.specs.Counts.{IsFresh, IsSongSomewhere};
+ghost use Rattle.counted_player.specs.Counts.{ArePlacesSomewhere, IsFresh, IsSongSomewhere};
 ghost use Rattle.held_player.specs.Views.{IsUnwritten, RefusesSomewhere, TellsSomewhere, AnswersClient, StopsClient, turn_of, FeedsShare};
 
 use command_lists::ListForm;
@@ -195,7 +195,7 @@ impl<L: Ledgers> House<L> {
         self.held.lock(rt).addressees(alloc)
     }
 
-    /// Frames of a job were decoded.
+    /// Frames of a partition's job were decoded.
     ///
     /// # Errors
     ///
@@ -204,14 +204,15 @@ impl<L: Ledgers> House<L> {
         &self,
         rt: &impl Wait,
         seat: &mut Seat<L>,
+        place: u8,
         number: u64,
         frames: u64,
         share: &mut Share<Decoded<L>>,
     ) -> Result<Reported, PartitionFault>
         requires { 0 < share.old.parts }
         ensures made { OnOk result (seat.new ≡ after_events seat.old 1) }
-        ensures refused { IfErr result (λ fault. RefusesSomewhere seat.old (Have number frames) fault) }
-        ensures somewhere { IfOk result (FeedsShare seat.old number frames share.old.amount share.new.amount) }
+        ensures refused { IfErr result (λ fault. RefusesSomewhere seat.old (Have place number frames) fault) }
+        ensures somewhere { IfOk result (FeedsShare seat.old place number frames share.old.amount share.new.amount) }
         ensures parts { share.new.parts ≡ share.old.parts }
         ensures fault { OnErr result ((seat.new ≡ seat.old) × (share.new ≡ share.old)) }
     {
@@ -219,7 +220,7 @@ impl<L: Ledgers> House<L> {
             let mut held = self.held.lock(rt);
             let before = held.changes();
             held.compact_if_large();
-            let told = held.have(seat, number, frames, share);
+            let told = held.have(seat, place, number, frames, share);
             (told, rung_since(&*held, before))
         };
         self.ring(rung);
@@ -292,11 +293,18 @@ impl<L: Ledgers> House<L> {
         ended
     }
 
-    /// The song of the entry of the present queue that has this id. It is no event.
-    pub fn song(&self, rt: &impl Wait, id: u32) -> Result<Option<SharedSong>, AllocError>
-        ensures { IfOk result (IsSongSomewhere id) }
+    /// Of sixteen numbers those of a partition. It is no event.
+    pub fn places(&self, rt: &impl Wait) -> [bool; 16]
+        ensures { ArePlacesSomewhere result }
     {
-        self.held.lock(rt).song(id)
+        self.held.lock(rt).places()
+    }
+
+    /// The song of the entry that has this id in the present queue of the partition of a number. It is no event.
+    pub fn song(&self, rt: &impl Wait, place: u8, id: u32) -> Result<Option<SharedSong>, AllocError>
+        ensures { IfOk result (IsSongSomewhere place id) }
+    {
+        self.held.lock(rt).song(place, id)
     }
 
     /// Whether the daemon has ended.
@@ -310,8 +318,8 @@ impl<L: Ledgers> House<L> {
     /// than the time that is given, and else a second. Answers how often it has changed by then.
     ///
     /// What changes is what a thread has something to do for
-    /// ([`Reported::changes`](held_player::Reported::changes)): whether and what is played, which outputs are
-    /// enabled, which scan runs, and the end. Frames in a ring are no change.
+    /// ([`Reported::changes`](held_player::Reported::changes)): which partitions there are, in each whether and
+    /// what is played and which outputs are enabled, which scan runs, and the end. Frames in a ring are no change.
     pub fn rest<R: Wait + Clock>(&self, rt: &R, seen: u64, while_playing: Duration) -> u64 {
         let plays = self.held.lock(rt).plays();
         let most = if plays {

@@ -114,7 +114,7 @@ fn song<L: Ledgers>(
     house: &House<L>,
     id: u32,
 ) -> Result<String, PartitionFault> {
-    match house.song(rt, id)? {
+    match house.song(rt, 0, id)? {
         Some(song) => Ok(format!(in alloc; "{}\n", song.song().uri())?),
         None => Ok(String::from_str(alloc, "no song\n")?),
     }
@@ -146,7 +146,7 @@ fn ends<L: Ledgers>(
     house.end(rt, seat)?;
     heard.push_str(ended(rt, house))?;
     heard.push_str(news(rt, alloc, house, seat, News::AsksToScan)?.as_str())?;
-    heard.push_str(news(rt, alloc, house, seat, News::Wants(false))?.as_str())?;
+    heard.push_str(news(rt, alloc, house, seat, News::Wants(0, [false; 8]))?.as_str())?;
     Ok(heard)
 }
 

@@ -66,7 +66,7 @@ fn wants_job<L: Ledgers>(
     house: &House<L>,
     seat: &mut Seat<L>,
 ) -> Result<String, PartitionFault> {
-    let told = house.notice(rt, seat, News::Wants(false))?;
+    let told = house.notice(rt, seat, News::Wants(0, [false; 8]))?;
     job_told(alloc, told.report())
 }
 
@@ -82,7 +82,7 @@ fn has<L: Ledgers>(
     requires { 0 < share.old.parts }
     ensures { share.new.parts ≡ share.old.parts }
 {
-    let told = house.have(rt, seat, number, 1024, share)?;
+    let told = house.have(rt, seat, 0, number, 1024, share)?;
     fed_told(alloc, told.report())
 }
 

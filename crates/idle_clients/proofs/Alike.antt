@@ -13,7 +13,7 @@ use Rattle.play_order.specs.declared.modes.Consume.TheVariants as consume_mode
 use Rattle.player_core.specs.declared.state.Playback.{Playback}
 use Rattle.player_core.specs.declared.state.Playback.TheVariants.{Stop, Play, Pause}
 use Rattle.idle_clients.specs.declared.fingerprint.Options.{Options}
-use Rattle.idle_clients.specs.Clients.{Playing, consume_number, id_number, playback_number, same_enabled, same_error, same_options, same_pair, same_pairs, same_playing, single_number}
+use Rattle.idle_clients.specs.Clients.{Playing, consume_number, id_number, playback_number, same_enabled, same_error, same_names, same_options, same_pair, same_pairs, same_playing, single_number}
 
 beq-one : (a b : Bool) → beq a b ≡ true → a ≡ b
 beq-one true true e = refl
@@ -117,6 +117,14 @@ same_options-refl a =
     and_from _ _ (beq-own a.modes.repeat)
     (and_from _ _ (beq-own a.modes.random)
     (and_from _ _ (number-own (single_number a.modes.single)) (and_from _ _ (number-own (consume_number a.modes.consume)) (number-own a.crossfade))))
+
+pub same_names-true : (a b : List (List ℕ)) → same_names a b ≡ true → a ≡ b
+unfolding same_names
+same_names-true a b e = pointwise-true bytes_eq (λ x y t. (bytes_eq-Decides x y).0 t) a b e
+
+pub same_names-refl : (a : List (List ℕ)) → same_names a a ≡ true
+unfolding same_names
+same_names-refl a = pointwise-refl bytes_eq (λ x. (bytes_eq-Decides x x).1 refl) a
 
 pub same_enabled-true : (a b : List Bool) → same_enabled a b ≡ true → a ≡ b
 unfolding same_enabled

@@ -3,4 +3,5 @@ pub mod Empty
 pub mod Listeners
 pub mod Quiet
 pub mod Rises
+pub mod Steps
 pub mod Tells

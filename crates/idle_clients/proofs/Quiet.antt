@@ -1,15 +1,18 @@
 -- Events that raise nothing for any client.
-use Rattle.std.proofs.Common.{◌≡◌, ◌↔◌, ℕ, ◌==◌, Bool, true, false, not, ◌&&◌, ◌||◌, List, [], ◌∷◌, refl, ap, sym, ◌∙◌}
+use Rattle.std.proofs.Common.{◌≡◌, ◌⊎◌, ◌↔◌, inl, inr, ℕ, suc, ◌==◌, Bool, true, false, not, ◌&&◌, ◌||◌, List, [], ◌∷◌, Option, Some, None, is_some, refl, ap, sym, ◌∙◌, arith, if◌then◌else◌}
 use Rattle.std.specs.Prelude.{IsTrue}
 use Rattle.std.specs.List.{list_any}
 use Rattle.std.proofs.lemmas.Bool.{eq-eqb, eqb-true}
 use Rattle.idle_notes.specs.declared.sets.Subsystems.{Subsystems}
 use Rattle.idle_notes.specs.Channels.{clients_with_messages, has_messages_beyond}
-use Rattle.idle_notes.specs.Sets.{is_nonempty}
+use Rattle.idle_notes.specs.Sets.{all, is_nonempty, none}
+use Rattle.parts.specs.Parts.{part_at}
 use Rattle.player_state.specs.declared.state.Client.{Client}
-use Rattle.idle_clients.specs.Clients.{has_messages, newcomer}
+use Rattle.player_state.specs.declared.state.Part.{Part}
+use Rattle.idle_clients.specs.declared.fingerprint.EnabledAt.{EnabledAt}
+use Rattle.idle_clients.specs.Clients.{has_messages, is_this, newcomer}
 use Rattle.idle_clients.specs.Settled.{nothing}
-use Rattle.idle_clients.specs.Fingerprint.{RaisedData, is_among, raised_in}
+use Rattle.idle_clients.specs.Fingerprint.{PartReadings, RaisedData, begins_beyond, begins_between, begins_in, enabled_at, has_beyond, has_messages_in, is_among, is_quiet, messages_begin, raised_in, switches, switches_elsewhere, switches_from}
 use Rattle.idle_clients.proofs.Listeners.{among_waiting}
 use Rattle.idle_clients.proofs.Empty.{is_none}
 
@@ -21,13 +24,17 @@ second_false : (a b : Bool) → (a || b) ≡ false → b ≡ false
 second_false true b e = cc
 second_false false b e = e
 
-later : (a b : Bool) → b ≡ true → (a || b) ≡ true
-later true b e = refl
-later false b e = e
-
 right_false : (a : Bool) → (a && false) ≡ false
 right_false true = refl
 right_false false = refl
+
+both : (a b : Bool) → (a && b) ≡ true → (a ≡ true) × (b ≡ true)
+both true b e = (refl, e)
+both false b e = cc
+
+is_not : (a : Bool) → not a ≡ true → a ≡ false
+is_not true e = cc
+is_not false e = refl
 
 -- what is true of none of some numbers is not true of one of them
 none_at : (p : ℕ → Bool) (number : ℕ) (ns : List ℕ) → is_among number ns ≡ true → list_any p ns ≡ false → p number ≡ false
@@ -40,6 +47,87 @@ none_at p number (n ∷ ns) e h =
     ] in
     cases (n == number) refl e
 
+-- a client for which no message waits that did not before hears of none
+unheard_in : (number : ℕ) (having : List ℕ) (part : Option Part) → has_beyond having part ≡ false → (not (is_among number having) && has_messages_in number part) ≡ false
+unheard_in number having None e = right_false (not (is_among number having))
+unheard_in number having (Some part) none_beyond =
+    let cases : (b : Bool) → has_messages number part.channels ≡ b → (not (is_among number having) && b) ≡ false =
+    λ b. elim b as (λ b. has_messages number part.channels ≡ b → (not (is_among number having) && b) ≡ false) [
+      | true ↦ λ e.
+          let there : is_among number (clients_with_messages part.channels) ≡ true = among_waiting number part.channels ∙ e in
+          ap (λ x. x && true) (none_at (λ n. not (is_among n having)) number (clients_with_messages part.channels) there none_beyond)
+      | false ↦ λ e. right_false (not (is_among number having))
+    ] in
+    cases (has_messages number part.channels) refl
+
+unheard : (number : ℕ) (before : Option PartReadings) (part : Option Part) → begins_beyond before part ≡ false → begins_between number before part ≡ false
+unheard number None part e = refl
+unheard number (Some before) part e = unheard_in number before.having part e
+
+-- where no output went or came in a partition of a number other than this, none did in the first one of another
+module _ (place own : ℕ) (apart : (place == own) ≡ false) (before : List EnabledAt) (parts : List Part) where
+  stands : (es : List EnabledAt) → list_any (λ (e : EnabledAt). not (e.place == own) && switches e.place before parts) es ≡ false
+      → (enabled_at place es ≡ None) ⊎ (switches place before parts ≡ false)
+  stands [] h = inl refl
+  stands (e ∷ es) h =
+      let first = first_false (not (e.place == own) && switches e.place before parts) (list_any (λ (x : EnabledAt). not (x.place == own) && switches x.place before parts) es) h in
+      let rest = second_false (not (e.place == own) && switches e.place before parts) (list_any (λ (x : EnabledAt). not (x.place == own) && switches x.place before parts) es) h in
+      let cases : (b : Bool) → (e.place == place) ≡ b → ((if b then Some e.enabled else enabled_at place es) ≡ None) ⊎ (switches place before parts ≡ false) =
+      λ b. elim b as (λ b. (e.place == place) ≡ b → ((if b then Some e.enabled else enabled_at place es) ≡ None) ⊎ (switches place before parts ≡ false)) [
+        | true ↦ λ t.
+            let is : e.place ≡ place = eqb-true e.place place t in
+            let same : (not (place == own) && switches place before parts) ≡ false = ap (λ n. not (n == own) && switches n before parts) (sym is) ∙ first in
+            inr (sym (ap (λ c. not c && switches place before parts) apart) ∙ same)
+        | false ↦ λ t. stands es rest
+      ] in
+      cases (e.place == place) refl
+
+  none_switches : list_any (λ (e : EnabledAt). not (e.place == own) && switches e.place before parts) before ≡ false → switches place before parts ≡ false
+  none_switches h = elim (stands before h) [ inl e ↦ ap (λ o. switches_from o (part_at place parts)) e | inr e ↦ e ]
+
+no_one : (goer : Option ℕ) (number : ℕ) → is_some goer ≡ false → is_this goer number ≡ false
+no_one None number e = refl
+no_one (Some this) number e = cc
+
+module _ (r : RaisedData) (quiet : is_quiet r ≡ true) where
+  goes : (not (is_some r.goer) ≡ true) × ((((not (is_nonempty (record r.own { message = false })) && not (messages_begin r)) && not (is_nonempty (record r.common { output = false }))) && not (switches_elsewhere r)) ≡ true)
+  goes = both _ _ quiet
+
+  still : (((not (is_nonempty (record r.own { message = false })) && not (messages_begin r)) && not (is_nonempty (record r.common { output = false }))) ≡ true) × (not (switches_elsewhere r) ≡ true)
+  still = both _ _ goes.1
+
+  inner : ((not (is_nonempty (record r.own { message = false })) && not (messages_begin r)) ≡ true) × (not (is_nonempty (record r.common { output = false })) ≡ true)
+  inner = both _ _ still.0
+
+  own_is : (not (is_nonempty (record r.own { message = false })) ≡ true) × (not (messages_begin r) ≡ true)
+  own_is = both _ _ inner.0
+
+  here : (number : ℕ) → record r.own { message = begins_in r number } ≡ none
+  here number =
+      ap (λ (b : Bool). record r.own { message = b }) (unheard number r.before.own (part_at r.before.place r.parts) (is_not _ own_is.1))
+      ∙ is_none (record r.own { message = false }) (is_not _ own_is.0)
+
+  elsewhere : (place : ℕ) → (place == r.before.place) ≡ false → record r.common { output = switches place r.before.enabled r.parts } ≡ none
+  elsewhere place apart =
+      ap (λ (b : Bool). record r.common { output = b }) (none_switches place r.before.place apart r.before.enabled r.parts (is_not _ still.1))
+      ∙ is_none (record r.common { output = false }) (is_not _ inner.1)
+
+  one : (client : Client) → raised_in r client ≡ none
+  one client =
+      let there : Bool → Subsystems = λ b.
+      if b then record r.own { message = begins_in r client.number } else record r.common { output = switches client.place r.before.enabled r.parts } in
+      let cases : (b : Bool) → (client.place == r.before.place) ≡ b → there b ≡ none =
+      λ b. elim b as (λ b. (client.place == r.before.place) ≡ b → there b ≡ none) [ true ↦ λ e. here client.number | false ↦ λ e. elsewhere client.place e ] in
+      ap (λ b. if b then all else there (client.place == r.before.place)) (no_one r.goer client.number (is_not _ goes.0)) ∙ cases (client.place == r.before.place) refl
+
+true_is : (b : Bool) → IsTrue b → b ≡ true
+true_is true t = refl
+true_is false t = cc
+
+later : (a b : Bool) → b ≡ true → (a || b) ≡ true
+later true b e = refl
+later false b e = e
+
 -- what is true of one of some numbers
 some_at : (p : ℕ → Bool) (ns : List ℕ) → list_any p ns ≡ true → (n : ℕ) × (is_among n ns ≡ true) × (p n ≡ true)
 some_at p [] e = cc
@@ -51,48 +139,100 @@ some_at p (n ∷ ns) e =
     ] in
     cases (p n) refl e
 
--- a client for which no message waits that did not before hears of none
-unheard : (r : RaisedData) (number : ℕ) → has_messages_beyond r.having r.channels ≡ false → (not (is_among number r.having) && has_messages number r.channels) ≡ false
-unheard r number none_beyond =
-    let cases : (b : Bool) → has_messages number r.channels ≡ b → (not (is_among number r.having) && b) ≡ false =
-    λ b. elim b as (λ b. has_messages number r.channels ≡ b → (not (is_among number r.having) && b) ≡ false) [
+-- where no client hears of a first message, none waits for others than those for which one waited
+none_beyond : (having : List ℕ) (part : Option Part) → ((number : ℕ) → (not (is_among number having) && has_messages_in number part) ≡ false) → has_beyond having part ≡ false
+none_beyond having None h = refl
+none_beyond having (Some part) h =
+    let cases : (b : Bool) → has_messages_beyond having part.channels ≡ b → b ≡ false =
+    λ b. elim b as (λ b. has_messages_beyond having part.channels ≡ b → b ≡ false) [
       | true ↦ λ e.
-          let there : is_among number (clients_with_messages r.channels) ≡ true = among_waiting number r.channels ∙ e in
-          ap (λ x. x && true) (none_at (λ n. not (is_among n r.having)) number (clients_with_messages r.channels) there none_beyond)
-      | false ↦ λ e. right_false (not (is_among number r.having))
-    ] in
-    cases (has_messages number r.channels) refl
-
-quiet_is : (r : RaisedData) → is_nonempty (record r.common { message = false }) ≡ false → has_messages_beyond r.having r.channels ≡ false → raised_in r ≡ nothing
-quiet_is r empty none_beyond = λ i client. (ap (λ (b : Bool). record r.common { message = b }) (unheard r client.number none_beyond) ∙ is_none (record r.common { message = false }) empty) i
-
-beyond_is : (r : RaisedData) → raised_in r ≡ nothing → has_messages_beyond r.having r.channels ≡ false
-beyond_is r none_raised =
-    let cases : (b : Bool) → has_messages_beyond r.having r.channels ≡ b → b ≡ false =
-    λ b. elim b as (λ b. has_messages_beyond r.having r.channels ≡ b → b ≡ false) [
-      | true ↦ λ e.
-          let one = some_at (λ n. not (is_among n r.having)) (clients_with_messages r.channels) e in
-          let has : has_messages one.0 r.channels ≡ true = sym (among_waiting one.0 r.channels) ∙ one.1 in
-          let heard : (not (is_among one.0 r.having) && has_messages one.0 r.channels) ≡ true = ap (λ x. x && has_messages one.0 r.channels) one.2 ∙ has in
-          let clash : true ≡ false = sym heard ∙ ap (λ (f : Client → Subsystems). (f (newcomer one.0)).message) none_raised in
+          let one = some_at (λ n. not (is_among n having)) (clients_with_messages part.channels) e in
+          let has : has_messages one.0 part.channels ≡ true = sym (among_waiting one.0 part.channels) ∙ one.1 in
+          let heard : (not (is_among one.0 having) && has_messages one.0 part.channels) ≡ true = ap (λ x. x && has_messages one.0 part.channels) one.2 ∙ has in
+          let clash : true ≡ false = sym heard ∙ h one.0 in
           cc
       | false ↦ λ e. refl
     ] in
-    cases (has_messages_beyond r.having r.channels) refl
+    cases (has_messages_beyond having part.channels) refl
 
-others_are : (r : RaisedData) → raised_in r ≡ nothing → is_nonempty (record r.common { message = false }) ≡ false
-others_are r none_raised = ap (λ (f : Client → Subsystems). is_nonempty (record (f (newcomer 0)) { message = false })) none_raised
+none_begin : (before : Option PartReadings) (part : Option Part) → ((number : ℕ) → begins_between number before part ≡ false) → begins_beyond before part ≡ false
+none_begin None part h = refl
+none_begin (Some before) part h = none_beyond before.having part h
+
+none_of : {A : Type 0} (p : A → Bool) (l : List A) → ((x : A) → p x ≡ false) → list_any p l ≡ false
+none_of p [] h = refl
+none_of p (x ∷ xs) h = ap (λ b. b || list_any p xs) (h x) ∙ none_of p xs h
+
+goes_nowhere : (goer : Option ℕ) → ((number : ℕ) → is_this goer number ≡ false) → is_some goer ≡ false
+goes_nowhere None h = refl
+goes_nowhere (Some this) h = let clash : true ≡ false = sym (eq-eqb this this refl) ∙ h this in cc
+
+next_apart : (place : ℕ) → (suc place == place) ≡ false
+next_apart place =
+    let cases : (b : Bool) → (suc place == place) ≡ b → b ≡ false =
+    λ b. elim b as (λ b. (suc place == place) ≡ b → b ≡ false)
+    [ true ↦ λ e. (let same = eqb-true (suc place) place e in absurd (omega (arith, same))) | false ↦ λ e. refl ] in
+    cases (suc place == place) refl
+
+-- where nothing is raised for any client, the test is true: each of its parts is seen by some client
+module _ (r : RaisedData) (none_raised : raised_in r ≡ nothing) where
+  abbrev there : Client → Subsystems
+  there client =
+      if client.place == r.before.place then record r.own { message = begins_in r client.number }
+      else record r.common { output = switches client.place r.before.enabled r.parts }
+
+  told : (client : Client) → raised_in r client ≡ none
+  told client = ap (λ (f : Client → Subsystems). f client) none_raised
+
+  not_this : (number : ℕ) → is_this r.goer number ≡ false
+  not_this number =
+      let cases : (b : Bool) → is_this r.goer number ≡ b → b ≡ false =
+      λ b. elim b as (λ b. is_this r.goer number ≡ b → b ≡ false) [
+        | true ↦ λ e. (let clash : true ≡ false = sym (ap (λ c. (if c then all else there (newcomer number)).message) e) ∙ ap (λ (s : Subsystems). s.message) (told (newcomer number)) in cc)
+        | false ↦ λ e. refl
+      ] in
+      cases (is_this r.goer number) refl
+
+  within : (client : Client) → there client ≡ none
+  within client = sym (ap (λ b. if b then all else there client) (not_this client.number)) ∙ told client
+
+  own_at : (number : ℕ) → record r.own { message = begins_in r number } ≡ none
+  own_at number =
+      sym (ap (λ b. if b then record r.own { message = begins_in r number } else record r.common { output = switches r.before.place r.before.enabled r.parts }) (eq-eqb r.before.place r.before.place refl))
+      ∙ within (record (newcomer number) { place = r.before.place })
+
+  common_at : (place : ℕ) → (place == r.before.place) ≡ false → record r.common { output = switches place r.before.enabled r.parts } ≡ none
+  common_at place apart =
+      sym (ap (λ b. if b then record r.own { message = begins_in r 0 } else record r.common { output = switches place r.before.enabled r.parts }) apart)
+      ∙ within (record (newcomer 0) { place = place })
+
+  none_own : is_nonempty (record r.own { message = false }) ≡ false
+  none_own = ap (λ (s : Subsystems). is_nonempty (record s { message = false })) (own_at 0)
+
+  none_messages : messages_begin r ≡ false
+  none_messages = none_begin r.before.own (part_at r.before.place r.parts) (λ number. ap (λ (s : Subsystems). s.message) (own_at number))
+
+  none_common : is_nonempty (record r.common { output = false }) ≡ false
+  none_common = ap (λ (s : Subsystems). is_nonempty (record s { output = false })) (common_at (suc r.before.place) (next_apart r.before.place))
+
+  one_switches : (e : EnabledAt) → (not (e.place == r.before.place) && switches e.place r.before.enabled r.parts) ≡ false
+  one_switches e =
+      let cases : (b : Bool) → (e.place == r.before.place) ≡ b → (not b && switches e.place r.before.enabled r.parts) ≡ false =
+      λ b. elim b as (λ b. (e.place == r.before.place) ≡ b → (not b && switches e.place r.before.enabled r.parts) ≡ false)
+      [ true ↦ λ t. refl | false ↦ λ t. ap (λ (s : Subsystems). s.output) (common_at e.place t) ] in
+      cases (e.place == r.before.place) refl
+
+  is_still : is_quiet r ≡ true
+  is_still =
+      rw (
+        goes_nowhere r.goer not_this,
+        none_own,
+        none_messages,
+        none_common,
+        none_of (λ (e : EnabledAt). not (e.place == r.before.place) && switches e.place r.before.enabled r.parts) r.before.enabled one_switches,
+      )
+      refl
 
 -- the test is true exactly where nothing is raised for any client
-pub is_quiet : (r : RaisedData) → IsTrue (not (is_nonempty (record r.common { message = false })) && not (has_messages_beyond r.having r.channels)) ↔ (raised_in r ≡ nothing)
-is_quiet r =
-    let Test : Bool → Bool → Type 0 = λ a b. IsTrue (not a && not b) in
-    let cases : (a b : Bool) → is_nonempty (record r.common { message = false }) ≡ a → has_messages_beyond r.having r.channels ≡ b → Test a b → raised_in r ≡ nothing =
-    λ a b. elim a as (λ a. is_nonempty (record r.common { message = false }) ≡ a → has_messages_beyond r.having r.channels ≡ b → Test a b → raised_in r ≡ nothing) [
-      | true ↦ λ e f t. cc
-      | false ↦ elim b as (λ b. is_nonempty (record r.common { message = false }) ≡ false → has_messages_beyond r.having r.channels ≡ b → Test false b → raised_in r ≡ nothing)
-          [ true ↦ λ e f t. cc | false ↦ λ e f t. quiet_is r e f ]
-    ] in (
-      cases (is_nonempty (record r.common { message = false })) (has_messages_beyond r.having r.channels) refl refl,
-      λ none_raised. rw (others_are r none_raised, beyond_is r none_raised) refl,
-    )
+pub quiet_nothing : (r : RaisedData) → IsTrue (is_quiet r) ↔ (raised_in r ≡ nothing)
+quiet_nothing r = (λ quiet. λ i client. one r (true_is (is_quiet r) quiet) client i, λ none_raised. rw (is_still r none_raised) refl)

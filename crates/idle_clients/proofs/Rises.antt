@@ -5,13 +5,13 @@ use Rattle.std.specs.List.{position_or_len}
 use Rattle.std.proofs.lemmas.Bool.Decides.{nat_tests}
 use Rattle.idle_notes.specs.declared.pending.Pending.{Pending}
 use Rattle.idle_notes.specs.declared.sets.Subsystems.{Subsystems}
-use Rattle.idle_notes.specs.Notes.{fresh, waits, cancelled}
+use Rattle.idle_notes.specs.Notes.{everything, fresh, waits, cancelled}
 use Rattle.transitions.specs.declared.reply.Move.{Move}
-use Rattle.transitions.specs.declared.reply.Move.TheVariants.{Stay, Wait, Learn, Resume, Join, Show}
+use Rattle.transitions.specs.declared.reply.Move.TheVariants.{Stay, Wait, Learn, Resume, Join, Show, Enter}
 use Rattle.player_state.specs.declared.state.Client.{Client}
 use Rattle.transitions.specs.Answers.{ResponseData, closes}
 use Rattle.mpd_text.specs.declared.songs.song.TagName.{TagName}
-use Rattle.idle_clients.specs.Clients.{notified, is_other, at, joined, moved, newcomer, shown, staying, move_of, clients_after, AllAbove, Rising}
+use Rattle.idle_clients.specs.Clients.{notified, is_other, at, entered, joined, moved, newcomer, shown, staying, move_of, clients_after, AllAbove, Rising}
 use Rattle.idle_clients.specs.Clients.{client_of}
 
 above_map : (f : Client → Client) → ((k : Client) → (f k).number ≡ k.number) → (n : ℕ) (ks : List Client) → AllAbove n ks → AllAbove n (map f ks)
@@ -95,6 +95,10 @@ at_keeps n f k = elim (k.number == n) as (λ b. (if b then record k { pending = 
 pub shown_keeps : (n : ℕ) (tags : List TagName) (k : Client) → (shown n tags k).number ≡ k.number
 shown_keeps n tags k = elim (k.number == n) as (λ b. (if b then record k { tags = tags } else k).number ≡ k.number) [ true ↦ refl | false ↦ refl ]
 
+pub entered_keeps : (n place : ℕ) (k : Client) → (entered n place k).number ≡ k.number
+entered_keeps n place k =
+    elim (k.number == n) as (λ b. (if b then record k { place = place; pending = everything } else k).number ≡ k.number) [ true ↦ refl | false ↦ refl ]
+
 rising_moved : (n : ℕ) (move : Move) (ks : List Client) → Rising ks → Rising (moved n move ks)
 rising_moved n Stay ks r = r
 rising_moved n (Wait names) ks r = rising_map (at n (waits names)) (at_keeps n (waits names)) ks r
@@ -102,6 +106,7 @@ rising_moved n Learn ks r = rising_map (at n (λ p. fresh)) (at_keeps n (λ p. f
 rising_moved n Resume ks r = rising_map (at n cancelled) (at_keeps n cancelled) ks r
 rising_moved n Join ks r = rising_joined n ks r
 rising_moved n (Show tags) ks r = rising_map (shown n tags) (shown_keeps n tags) ks r
+rising_moved n (Enter place) ks r = rising_map (entered n place) (entered_keeps n place) ks r
 
 pub rising_staying : (n : ℕ) (response : ResponseData) (ks : List Client) → Rising ks → Rising (staying n response ks)
 rising_staying n response ks r =

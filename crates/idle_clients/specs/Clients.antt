@@ -8,9 +8,9 @@ use Rattle.std.specs.declared.string.String.{String}
 use lib.Pointwise.{pointwise}
 use Rattle.idle_notes.specs.declared.pending.Pending.{Pending}
 use Rattle.idle_notes.specs.declared.sets.Subsystems.{Subsystems}
-use Rattle.idle_notes.specs.Sets.{none}
+use Rattle.idle_notes.specs.Sets.{all, none}
 use Rattle.idle_notes.specs.Channels.{MemberData, messages_of, pairs}
-use Rattle.idle_notes.specs.Notes.{fresh, noted, waits, cancelled, notice_of, settled}
+use Rattle.idle_notes.specs.Notes.{everything, fresh, noted, waits, cancelled, notice_of, settled}
 use Rattle.mpd_text.specs.Songs.Tags.{tag_names}
 use Rattle.mpd_text.specs.declared.songs.song.TagName.{TagName}
 use Rattle.song_queue.specs.declared.entry.Entry.{Entry}
@@ -24,7 +24,7 @@ use Rattle.player_core.specs.declared.state.Playback.{Playback}
 use Rattle.player_core.specs.declared.state.Playback.TheVariants.{Stop, Play, Pause}
 use Rattle.player_core.specs.Player.{PlayerState}
 use Rattle.transitions.specs.declared.reply.Move.{Move}
-use Rattle.transitions.specs.declared.reply.Move.TheVariants.{Stay, Wait, Learn, Resume, Join, Show}
+use Rattle.transitions.specs.declared.reply.Move.TheVariants.{Stay, Wait, Learn, Resume, Join, Show, Enter}
 use Rattle.idle_clients.specs.declared.notices.Notice.{Notice}
 use Rattle.player_state.specs.declared.state.Client.{Client}
 use Rattle.player_state.specs.declared.state.Library.{Library}
@@ -41,17 +41,39 @@ abbrev pub client_of : ℕ → List Client → Option Client
 client_of number [] = None
 client_of number (client ∷ clients) = if client.number == number then Some client else client_of number clients
 
--- the parts of a player that its subsystems speak of
+-- what subsystems speak of in one partition
 pub record Watched : Type 0 where
-  pub library : Library
+  pub place : ℕ
+  pub name : List ℕ
   pub queue : List Entry
   pub player : PlayerState
   pub volume : ℕ
   pub outputs : OutputsData
   pub channels : List MemberData
 
-abbrev pub watched_of : Part → Library → Watched
-watched_of part library = record { library = library; queue = queue_of part.queue; player = part.player; volume = part.volume; outputs = part.outputs; channels = part.channels }
+abbrev pub watched_of : Part → Watched
+watched_of part = record {
+  place = part.place;
+  name = part.name;
+  queue = queue_of part.queue;
+  player = part.player;
+  volume = part.volume;
+  outputs = part.outputs;
+  channels = part.channels;
+}
+
+-- what subsystems speak of: the songs and the scans, and the partitions
+pub record WatchedAll : Type 0 where
+  pub library : Library
+  pub parts : List Watched
+
+abbrev pub watched_all : Library → List Part → WatchedAll
+watched_all library parts = record { library = library; parts = map watched_of parts }
+
+-- the first partition of a number
+abbrev pub watched_at : ℕ → List Watched → Option Watched
+watched_at place [] = None
+watched_at place (w ∷ ws) = if w.place == place then Some w else watched_at place ws
 
 -- numbers by which states and modes are compared
 abbrev pub playback_number : Playback → ℕ
@@ -133,24 +155,62 @@ has_messages number channels = not (length (messages_of number channels) == 0)
 abbrev pub begins_to_have : ℕ → List MemberData → List MemberData → Bool
 begins_to_have number before after = not (has_messages number before) && has_messages number after
 
--- the subsystems whose parts differ before and after an event, for a client: the songs, whether a scan runs,
--- the stored playlists, the queue, what is played, the volume, which outputs are enabled, the modes and the
--- seconds of a fade, the stickers, who listens to which channel. A client hears of messages where it had none
--- waiting and has some
-abbrev pub raised : ShelfWrite → Watched → Watched → Client → Subsystems
-raised written before after client = record none {
+-- whether the same partitions are there, by their names
+unfoldable pub same_names : List (List ℕ) → List (List ℕ) → Bool
+same_names = pointwise bytes_eq
+
+abbrev pub names_of : List Watched → List (List ℕ)
+names_of ws = map (λ (w : Watched). w.name) ws
+
+-- the subsystems whose parts differ before and after an event, for every client: the songs, whether a scan runs,
+-- the stored playlists, the stickers, the names of the partitions
+abbrev pub raised_for_all : ShelfWrite → WatchedAll → WatchedAll → Subsystems
+raised_for_all written before after = record none {
   database = not (same_songs before.library.songs after.library.songs);
   update = differ before.library.scan.runs after.library.scan.runs;
   stored_playlist = changes_lists written;
+  sticker = changes_stickers written;
+  partition = not (same_names (names_of before.parts) (names_of after.parts));
+}
+
+-- and those whose parts differ in the partition where a client is: the queue, what is played, the volume, which
+-- outputs are enabled, the modes and the seconds of a fade, who listens to which channel. A client hears of
+-- messages where it had none waiting and has some
+abbrev pub raised_within : ℕ → Watched → Watched → Subsystems → Subsystems
+raised_within number before after common = record common {
   playlist = not (same_queue before.queue after.queue);
   player = not (same_playing (playing before.player) (playing after.player));
   mixer = not (nat_eq before.volume after.volume);
   output = not (same_enabled before.outputs.enabled after.outputs.enabled);
   options = not (same_options (options before.player) (options after.player));
-  sticker = changes_stickers written;
   subscription = not (same_pairs (pairs before.channels) (pairs after.channels));
-  message = begins_to_have client.number before.channels after.channels;
+  message = begins_to_have number before.channels after.channels;
 }
+
+-- nothing differs in a partition that was not there before, or is not there after
+abbrev pub raised_between : ℕ → Option Watched → Option Watched → Subsystems → Subsystems
+raised_between number (Some before) (Some after) common = raised_within number before after common
+raised_between number (Some before) None common = common
+raised_between number None after common = common
+
+-- what an event raises for a client that stays where it is
+abbrev pub raised_there : ShelfWrite → WatchedAll → WatchedAll → Client → Subsystems
+raised_there written before after client =
+    raised_between client.number (watched_at client.place before.parts) (watched_at client.place after.parts) (raised_for_all written before after)
+
+-- the client that goes to another partition by this move of its own, if it goes
+abbrev pub entering : ℕ → Move → Option ℕ
+entering number (Enter place) = Some number
+entering number _ = None
+
+abbrev pub is_this : Option ℕ → ℕ → Bool
+is_this None number = false
+is_this (Some this) number = this == number
+
+-- what an event raises for a client: everything for the one that goes to another partition, and else what
+-- differs before and after it
+abbrev pub raised : Option ℕ → ShelfWrite → WatchedAll → WatchedAll → Client → Subsystems
+raised goer written before after client = if is_this goer client.number then all else raised_there written before after client
 
 abbrev pub is_other : ℕ → Client → Bool
 is_other number client = not (client.number == number)
@@ -175,6 +235,11 @@ at number change client = if client.number == number then record client { pendin
 abbrev pub shown : ℕ → List TagName → Client → Client
 shown number tags client = if client.number == number then record client { tags = tags } else client
 
+-- the client of a number is in this partition from now on: everything is pending for it, whatever was, and it does
+-- not wait
+abbrev pub entered : ℕ → ℕ → Client → Client
+entered number place client = if client.number == number then record client { place = place; pending = everything } else client
+
 -- a client that comes: it is in the first partition and is shown all tags, and nothing is pending for it
 abbrev pub newcomer : ℕ → Client
 newcomer number = record { number = number; place = 0; tags = tag_names; pending = fresh }
@@ -192,6 +257,7 @@ moved number Learn clients = map (at number (λ p. fresh)) clients
 moved number Resume clients = map (at number cancelled) clients
 moved number Join clients = joined number clients
 moved number (Show tags) clients = map (shown number tags) clients
+moved number (Enter place) clients = map (entered number place) clients
 
 -- a client whose answer closes it is gone, and makes no move
 abbrev pub staying : ℕ → ResponseData → List Client → List Client

@@ -1,9 +1,9 @@
--- By which readings it is told whether a part of the player changed.
-use Rattle.std.specs.Prelude.{◌≡◌, ℕ, Bool, true, false, not, nat_eq, ◌&&◌, ◌==◌, List}
+-- By which readings it is told what an event changed.
+use Rattle.std.specs.Prelude.{◌≡◌, ℕ, Bool, true, false, not, nat_eq, ◌&&◌, ◌==◌, List, [], ◌∷◌, length, map, Option, Some, None, is_some, option_map, if◌then◌else◌}
 use Rattle.std.specs.List.{list_any}
-use Rattle.idle_notes.specs.Channels.{clients_with_messages, is_listening, listens, MemberData}
+use Rattle.idle_notes.specs.Channels.{clients_with_messages, has_messages_beyond, is_listening, listens, MemberData}
 use Rattle.idle_notes.specs.declared.sets.Subsystems.{Subsystems}
-use Rattle.idle_notes.specs.Sets.{none}
+use Rattle.idle_notes.specs.Sets.{all, is_nonempty, none}
 use Rattle.song_queue.specs.State.{differ}
 use Rattle.player_state.specs.declared.state.Client.{Client}
 use Rattle.player_state.specs.declared.effect.Effect.{Effect}
@@ -11,15 +11,18 @@ use Rattle.player_state.specs.declared.effect.Effect.TheVariants.{ByCommand}
 use Rattle.player_state.specs.declared.effect.CommandEffect.TheVariants.{Subscribes, Unsubscribes, Leaves}
 use Rattle.player_state.specs.declared.state.Library.{Library}
 use Rattle.player_state.specs.declared.state.Part.{Part}
+use Rattle.idle_clients.specs.declared.fingerprint.EnabledAt.{EnabledAt}
 use Rattle.idle_clients.specs.declared.fingerprint.Options.{Options}
+use Rattle.parts.specs.Parts.{part_at}
+use Rattle.parts.specs.declared.crossing.Crossing.{Crossing}
+use Rattle.parts.specs.declared.crossing.Crossing.TheVariants.{Brings}
 use Rattle.transitions.specs.declared.shelf_calls.ShelfWrite.{ShelfWrite}
 use Rattle.transitions.specs.Shelves.{changes_lists, changes_stickers}
-use Rattle.idle_clients.specs.Clients.{Playing, has_messages, options, playing, same_enabled, same_options, same_playing}
+use Rattle.idle_clients.specs.Clients.{Playing, has_messages, is_this, options, playing, same_enabled, same_options, same_playing}
 
--- whether a scan runs, the parity of the queue's changes, what is played, the volume, the outputs that are
+-- readings of one partition: the parity of the queue's changes, what is played, the volume, the outputs that are
 -- enabled, the modes, and the clients for which messages wait
-pub record FingerprintData : Type 0 where
-  pub scans : Bool
+pub record PartReadings : Type 0 where
   pub parity : Bool
   pub playing : Playing
   pub volume : ℕ
@@ -27,16 +30,58 @@ pub record FingerprintData : Type 0 where
   pub options : Options
   pub having : List ℕ
 
--- these readings together are a fingerprint
-abbrev pub fingerprint_from : Bool → Bool → Playing → ℕ → List Bool → Options → List ℕ → FingerprintData
-fingerprint_from scans parity playing volume enabled options having = record {
-  scans = scans;
+-- these together are the readings
+abbrev pub readings_from : Bool → Playing → ℕ → List Bool → Options → List ℕ → PartReadings
+readings_from parity playing volume enabled options having = record {
   parity = parity;
   playing = playing;
   volume = volume;
   enabled = enabled;
   options = options;
   having = having;
+}
+
+abbrev pub readings : Part → PartReadings
+readings part = record {
+  parity = part.queue.parity;
+  playing = playing part.player;
+  volume = part.volume;
+  enabled = part.outputs.enabled;
+  options = options part.player;
+  having = clients_with_messages part.channels;
+}
+
+-- readings before an event: whether a scan runs, how many partitions there are, the readings of the partition of
+-- the event, if it is there, and of all partitions which outputs are enabled, where an output goes from one to
+-- another
+pub record FingerprintData : Type 0 where
+  pub scans : Bool
+  pub count : ℕ
+  pub place : ℕ
+  pub own : Option PartReadings
+  pub enabled : List EnabledAt
+
+abbrev pub fingerprint_from : Bool → ℕ → ℕ → Option PartReadings → List EnabledAt → FingerprintData
+fingerprint_from scans count place own enabled = record { scans = scans; count = count; place = place; own = own; enabled = enabled }
+
+abbrev pub enabled_in : Part → EnabledAt
+enabled_in part = record { place = part.place; enabled = part.outputs.enabled }
+
+-- whether an output goes from one partition to another
+abbrev pub is_bringing : Crossing → Bool
+is_bringing (Brings output to) = true
+is_bringing _ = false
+
+abbrev pub enabled_before : Crossing → List Part → List EnabledAt
+enabled_before crossing parts = if is_bringing crossing then map enabled_in parts else []
+
+abbrev pub fingerprint : Crossing → ℕ → List Part → Library → FingerprintData
+fingerprint crossing place parts library = record {
+  scans = library.scan.runs;
+  count = length parts;
+  place = place;
+  own = option_map readings (part_at place parts);
+  enabled = enabled_before crossing parts;
 }
 
 -- whether an event makes other clients listen, or to other channels
@@ -46,58 +91,113 @@ changes_subscriptions channels (ByCommand (Unsubscribes client channel)) = liste
 changes_subscriptions channels (ByCommand (Leaves client)) = is_listening client channels
 changes_subscriptions channels _ = false
 
+-- the same of the clients of a partition, if it is there
+abbrev pub changes_listeners_in : Option Part → Effect → Bool
+changes_listeners_in None effect = false
+changes_listeners_in (Some part) effect = changes_subscriptions part.channels effect
+
 abbrev pub is_among : ℕ → List ℕ → Bool
 is_among number numbers = list_any (λ n. n == number) numbers
 
-abbrev pub fingerprint : Part → Library → FingerprintData
-fingerprint part library = record {
-  scans = library.scan.runs;
-  parity = part.queue.parity;
-  playing = playing part.player;
-  volume = part.volume;
-  enabled = part.outputs.enabled;
-  options = options part.player;
-  having = clients_with_messages part.channels;
-}
-
--- what an event raised: the same for all clients, but for messages, of which those hear for which none waited
--- before it
+-- What an event raised: for the client that goes to another partition everything; for the others in the event's
+-- partition the same for all, but for messages, of which those hear for which none waited before it; in the other
+-- partitions the same for all, but for outputs that went or came. It is told by the readings before the event and
+-- by the partitions now.
 pub record RaisedData : Type 0 where
+  pub goer : Option ℕ
   pub common : Subsystems
-  pub having : List ℕ
-  pub channels : List MemberData
+  pub own : Subsystems
+  pub before : FingerprintData
+  pub parts : List Part
+
+abbrev pub raised_from : Option ℕ → Subsystems → Subsystems → FingerprintData → List Part → RaisedData
+raised_from goer common own before parts = record { goer = goer; common = common; own = own; before = before; parts = parts }
+
+-- whether messages wait for a client in a partition, if that is there
+abbrev pub has_messages_in : ℕ → Option Part → Bool
+has_messages_in number None = false
+has_messages_in number (Some part) = has_messages number part.channels
+
+-- whether messages wait in it for others than these
+abbrev pub has_beyond : List ℕ → Option Part → Bool
+has_beyond having None = false
+has_beyond having (Some part) = has_messages_beyond having part.channels
+
+-- which outputs were enabled in the first partition of a number
+abbrev pub enabled_at : ℕ → List EnabledAt → Option (List Bool)
+enabled_at place [] = None
+enabled_at place (e ∷ es) = if e.place == place then Some e.enabled else enabled_at place es
+
+abbrev pub switches_from : Option (List Bool) → Option Part → Bool
+switches_from None part = false
+switches_from (Some before) None = false
+switches_from (Some before) (Some part) = not (same_enabled before part.outputs.enabled)
+
+-- whether other outputs are enabled in a partition now
+abbrev pub switches : ℕ → List EnabledAt → List Part → Bool
+switches place before parts = switches_from (enabled_at place before) (part_at place parts)
+
+-- whether the first message waits for a client in the event's partition
+abbrev pub begins_between : ℕ → Option PartReadings → Option Part → Bool
+begins_between number None part = false
+begins_between number (Some before) part = not (is_among number before.having) && has_messages_in number part
+
+abbrev pub begins_in : RaisedData → ℕ → Bool
+begins_in r number = begins_between number r.before.own (part_at r.before.place r.parts)
 
 -- what it raised for a client
 abbrev pub raised_in : RaisedData → Client → Subsystems
-raised_in r client = record r.common { message = not (is_among client.number r.having) && has_messages client.number r.channels }
+raised_in r client =
+    if is_this r.goer client.number then all
+    else (if client.place == r.before.place then record r.own { message = begins_in r client.number }
+    else record r.common { output = switches client.place r.before.enabled r.parts })
 
--- the subsystems but messages whose fingerprints differ; whether the songs do and who listens to which
--- channel, and what was written to the shelf, is known apart
-abbrev pub common_by_fingerprint : Bool → Bool → ShelfWrite → FingerprintData → FingerprintData → Subsystems
-common_by_fingerprint database subscription written before after = record none {
+-- whether messages wait in the event's partition for clients for which none waited
+abbrev pub begins_beyond : Option PartReadings → Option Part → Bool
+begins_beyond None part = false
+begins_beyond (Some before) part = has_beyond before.having part
+
+abbrev pub messages_begin : RaisedData → Bool
+messages_begin r = begins_beyond r.before.own (part_at r.before.place r.parts)
+
+-- in a partition other than the event's, outputs went or came
+abbrev pub switches_elsewhere : RaisedData → Bool
+switches_elsewhere r =
+    list_any (λ (e : EnabledAt). not (e.place == r.before.place) && switches e.place r.before.enabled r.parts) r.before.enabled
+
+-- nothing was raised for any client, by what is known of all of them together
+abbrev pub is_quiet : RaisedData → Bool
+is_quiet r =
+    not (is_some r.goer)
+    && (((not (is_nonempty (record r.own { message = false })) && not (messages_begin r)) && not (is_nonempty (record r.common { output = false })))
+    && not (switches_elsewhere r))
+
+-- the subsystems that are the same for all clients whose readings differ; whether the songs do, and what was
+-- written to the shelf, is known apart
+abbrev pub common_by_fingerprint : Bool → ShelfWrite → FingerprintData → List Part → Library → Subsystems
+common_by_fingerprint database written before parts library = record none {
   database = database;
-  update = differ before.scans after.scans;
+  update = differ before.scans library.scan.runs;
   stored_playlist = changes_lists written;
-  playlist = differ before.parity after.parity;
-  player = not (same_playing before.playing after.playing);
-  mixer = not (nat_eq before.volume after.volume);
-  output = not (same_enabled before.enabled after.enabled);
-  options = not (same_options before.options after.options);
   sticker = changes_stickers written;
-  subscription = subscription;
+  partition = not (nat_eq before.count (length parts));
 }
 
--- the same, by the fingerprint before and the player now
-abbrev pub common_by_player : Bool → Bool → ShelfWrite → FingerprintData → Part → Library → Subsystems
-common_by_player database subscription written before part library =
-    common_by_fingerprint database subscription written before (fingerprint part library)
+-- and those of the event's partition, messages aside; whether others listen to a channel is known apart
+abbrev pub own_by_readings : Bool → Option PartReadings → Option Part → Subsystems → Subsystems
+own_by_readings subscription (Some before) (Some part) common = record common {
+  playlist = differ before.parity part.queue.parity;
+  player = not (same_playing before.playing (playing part.player));
+  mixer = not (nat_eq before.volume part.volume);
+  output = not (same_enabled before.enabled part.outputs.enabled);
+  options = not (same_options before.options (options part.player));
+  subscription = subscription;
+}
+own_by_readings subscription (Some before) None common = common
+own_by_readings subscription None part common = common
 
--- what is raised for a client, by the fingerprints before and the player now
-abbrev pub told_by_fingerprint : Bool → Bool → ShelfWrite → FingerprintData → Part → Library → Client → Subsystems
-told_by_fingerprint database subscription written before part library client =
-    raised_in (record { common = common_by_player database subscription written before part library; having = before.having; channels = part.channels }) client
-
--- for each client it was raised what these tell
-abbrev pub RaisesWhatDiffers : RaisedData → Bool → Bool → ShelfWrite → FingerprintData → Part → Library → Type 0
-RaisesWhatDiffers raised database subscription written before part library =
-    raised_in raised ≡ told_by_fingerprint database subscription written before part library
+-- what is raised, by the readings before and the player now
+abbrev pub raised_by_fingerprint : Option ℕ → Bool → Bool → ShelfWrite → FingerprintData → List Part → Library → RaisedData
+raised_by_fingerprint goer database subscription written before parts library =
+    let common : Subsystems = common_by_fingerprint database written before parts library in
+    raised_from goer common (own_by_readings subscription before.own (part_at before.place parts) common) before parts

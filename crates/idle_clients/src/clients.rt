@@ -2,7 +2,7 @@
 ghost use Rattle.std.specs.Prelude.{◌≡◌, ◌++◌, ◌+◌, ◌≤◌, ◌<◌, nat_lt, length, map, filter, count_by, is_some, vec_len, vec_capacity};
 ghost use Rattle.std.specs.List.{flat_map, position_or_len};
 ghost use Rattle.idle_notes.specs.Notes.{fresh, waits, cancelled};
-ghost use Rattle.idle_clients.specs.Clients.{at as at_lem, notified, is_other, joined, moved, newcomer as newcomer_lem, notice_for, shown as shown_lem};
+ghost use Rattle.idle_clients.specs.Clients.{at as at_lem, entered as entered_lem, notified, is_other, joined, moved, newcomer as newcomer_lem, notice_for, shown as shown_lem};
 ghost use Rattle.idle_clients.specs.Clients.{client_of};
 ghost use Rattle.idle_clients.specs.Fingerprint.{raised_in};
 ghost use Rattle.idle_clients.specs.Rooms.{is_waiting, listed, room_for, room_in};
@@ -101,6 +101,7 @@ pub fn make_move(clients: &mut Vec<Client>, number: u32, moves: Move)
         Move::Resume => resume(clients, number),
         Move::Join => join(clients, number),
         Move::Show(tags) => show(clients, number, tags),
+        Move::Enter(place) => enter(clients, number, place),
     }
 }
 
@@ -191,6 +192,30 @@ fn shown(client: Client, number: u32, tags: TagSet) -> Client
             place: client.place,
             tags,
             pending: client.pending,
+        }
+    } else {
+        client
+    }
+}
+
+fn enter(clients: &mut [Client], number: u32, place: u8)
+    ensures { clients.new ≡ map (entered_lem number place) clients.old }
+{
+    for client in clients.iter_mut() {
+        *client = entered(*client, number, place);
+    }
+}
+
+/// The client, in this partition, and with everything pending, where it is the one of the number.
+fn entered(client: Client, number: u32, place: u8) -> Client
+    ensures { result ≡ entered_lem number place client }
+{
+    if client.number == number {
+        Client {
+            number,
+            place,
+            tags: client.tags,
+            pending: Pending::everything(),
         }
     } else {
         client

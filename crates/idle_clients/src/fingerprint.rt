@@ -1,12 +1,13 @@
-//! What tells, before an event and after it, whether a part of the player changed.
-ghost use Rattle.idle_notes.specs.Sets.{is_nonempty};
-ghost use Rattle.std.specs.Prelude.{◌≡◌, ◌↔◌, ◌&&◌, not, IfOk, IsTrue};
+//! What tells, before an event and after it, what it changed.
+ghost use Rattle.std.specs.Prelude.{◌≡◌, ◌↔◌, ◌&&◌, not, map, IfOk, IsTrue};
 ghost use Rattle.std.specs.Option.{option_copied};
-ghost use Rattle.idle_clients.specs.Clients.{bytes_of, consume_number as consume_number_lem, id_number as id_number_lem, options as options_lem, playback_number as playback_number_lem, playing as playing_lem, same_enabled as same_enabled_lem, same_error as same_error_lem, same_playing as same_playing_lem, same_options as same_options_lem, single_number as single_number_lem};
+ghost use Rattle.idle_clients.specs.Clients.{bytes_of, consume_number as consume_number_lem, id_number as id_number_lem, is_this as is_this_lem, options as options_lem, playback_number as playback_number_lem, playing as playing_lem, same_enabled as same_enabled_lem, same_error as same_error_lem, same_playing as same_playing_lem, same_options as same_options_lem, single_number as single_number_lem};
 ghost use Rattle.idle_clients.specs.Settled.{nothing};
-ghost use Rattle.idle_clients.specs.Fingerprint.{RaisesWhatDiffers, changes_subscriptions as changes_subscriptions_lem, common_by_player, is_among as is_among_lem, raised_in, fingerprint};
+ghost use Rattle.idle_clients.specs.Fingerprint.{changes_subscriptions as changes_subscriptions_lem, common_by_fingerprint, begins_in, enabled_at as enabled_at_lem, enabled_before as enabled_before_lem, enabled_in as enabled_in_lem, fingerprint, has_beyond as has_beyond_lem, has_messages_in, is_among as is_among_lem, is_bringing as is_bringing_lem, is_quiet as is_quiet_lem, messages_begin as messages_begin_lem, own_by_readings, raised_by_fingerprint, raised_in, readings, switches as switches_lem, switches_elsewhere as switches_elsewhere_lem};
+ghost use Rattle.parts.specs.Parts.{part_at};
 
 use idle_notes::{Channels, Subsystems};
+use parts::{Crossing, Parts};
 use play_order::{Consume, Modes, Single};
 use player_core::{Playback, Player};
 use player_state::{Client, CommandEffect, Effect, Library, Part};
@@ -14,9 +15,40 @@ use std::alloc::{AllocError, Global};
 use std::marker::Model;
 use transitions::ShelfWrite;
 
-/// What tells whether a part of the player changed: readings of it before an event.
+/// Readings before an event, by which it is told afterwards what the event changed: of what is common to all
+/// partitions, of the partition of the event, if it is there, and of all partitions which outputs are enabled,
+/// where an output goes from one to another.
 pub struct Fingerprint {
     scans: bool,
+    count: usize,
+    place: u8,
+    own: Option<Readings>,
+    enabled: Vec<EnabledAt>,
+}
+
+// Written out, so that a proof goes through one call where it lets one go (docs/DECISIONS.md).
+impl Drop for Fingerprint {
+    fn drop(self) {
+        let Fingerprint {
+            scans: _,
+            count: _,
+            place: _,
+            own: _,
+            enabled: _,
+        } = self;
+    }
+}
+
+impl Model for Fingerprint {
+    ghost use Rattle.idle_clients.specs.Fingerprint.{FingerprintData, fingerprint_from};
+
+    ghost Value = { FingerprintData };
+
+    ghost view = { λ s. fingerprint_from s.scans s.count s.place s.own s.enabled.items };
+}
+
+/// Readings of one partition.
+struct Readings {
     parity: bool,
     playing: PlayingFingerprint,
     volume: u8,
@@ -27,10 +59,9 @@ pub struct Fingerprint {
 }
 
 // Written out, so that a proof goes through one call where it lets one go (docs/DECISIONS.md).
-impl Drop for Fingerprint {
+impl Drop for Readings {
     fn drop(self) {
-        let Fingerprint {
-            scans: _,
+        let Readings {
             parity: _,
             playing: _,
             volume: _,
@@ -41,12 +72,19 @@ impl Drop for Fingerprint {
     }
 }
 
-impl Model for Fingerprint {
-    ghost use Rattle.idle_clients.specs.Fingerprint.{FingerprintData, fingerprint_from};
+impl Model for Readings {
+    ghost use Rattle.idle_clients.specs.Fingerprint.{PartReadings, readings_from};
 
-    ghost Value = { FingerprintData };
+    ghost Value = { PartReadings };
 
-    ghost view = { λ s. fingerprint_from s.scans s.parity s.playing s.volume s.enabled s.options s.having.items };
+    ghost view = { λ s. readings_from s.parity s.playing s.volume s.enabled s.options s.having.items };
+}
+
+/// Which outputs are enabled in the partition of a number.
+#[derive(Clone, Copy, Debug, PartialEq, Eq)]
+pub struct EnabledAt {
+    pub place: u8,
+    pub enabled: [bool; 8],
 }
 
 /// What tells whether what is played changed.
@@ -75,11 +113,82 @@ pub struct Options {
 }
 
 impl Fingerprint {
-    pub fn of(alloc: Global, part: &Part, library: &Library) -> Result<Fingerprint, AllocError>
-        ensures { IfOk result (λ read. read ≡ fingerprint part.now library.now) }
+    /// The readings before an event of the partition of a number, by which this passes between partitions.
+    pub fn of(
+        alloc: Global,
+        crossing: &Crossing,
+        place: u8,
+        parts: &Parts,
+        library: &Library,
+    ) -> Result<Fingerprint, AllocError>
+        ensures { IfOk result (λ read. read ≡ fingerprint crossing.now place parts.now library.now) }
     {
+        let own = match parts.at(place) {
+            Some(part) => Some(Readings::of(alloc, part)?),
+            None => None,
+        };
         Ok(Fingerprint {
             scans: library.scan.running().is_some(),
+            count: parts.len(),
+            place,
+            own,
+            enabled: enabled_before(alloc, crossing, parts)?,
+        })
+    }
+
+    /// What an event raised, where this client goes to another partition by it, the songs and the
+    /// subscriptions differ or not, and this is written to the shelf.
+    pub fn changed<'a>(
+        &'a self,
+        goer: Option<u32>,
+        database: bool,
+        subscription: bool,
+        written: &ShelfWrite,
+        parts: &'a Parts,
+        library: &Library,
+    ) -> Raised<'a>
+        ensures { result ≡ raised_by_fingerprint goer database subscription written.now self.now parts.now library.now }
+    {
+        let common = self.changed_for_all(database, written, parts, library);
+        Raised {
+            goer,
+            common,
+            own: own_changes(
+                subscription,
+                self.own.as_ref(),
+                parts.at(self.place),
+                common,
+            ),
+            before: self,
+            parts,
+        }
+    }
+
+    fn changed_for_all(
+        &self,
+        database: bool,
+        written: &ShelfWrite,
+        parts: &Parts,
+        library: &Library,
+    ) -> Subsystems
+        ensures { result ≡ common_by_fingerprint database written.now self.now parts.now library.now }
+    {
+        Subsystems {
+            database,
+            update: self.scans != library.scan.running().is_some(),
+            stored_playlist: written.changes_lists(),
+            sticker: written.changes_stickers(),
+            partition: self.count != parts.len(),
+            ..Subsystems::none()
+        }
+    }
+}
+
+impl Readings {
+    fn of(alloc: Global, part: &Part) -> Result<Readings, AllocError>
+        ensures { IfOk result (λ read. read ≡ readings part.now) }
+    {
+        Ok(Readings {
             parity: part.queue.parity(),
             playing: PlayingFingerprint::of(alloc, &part.player)?,
             volume: part.volume.percent(),
@@ -88,67 +197,89 @@ impl Fingerprint {
             having: part.channels.clients_with_messages(alloc)?,
         })
     }
+}
 
-    /// The subsystems whose parts differ now, where the songs and the subscriptions do or not, and this is
-    /// written to the shelf.
-    pub fn changed<'a>(
-        &'a self,
-        database: bool,
-        subscription: bool,
-        written: &ShelfWrite,
-        part: &'a Part,
-        library: &Library,
-    ) -> Raised<'a>
-        ensures { RaisesWhatDiffers result database subscription written.now self.now part.now library.now }
-    {
-        Raised {
-            common: self.changed_for_all(database, subscription, written, part, library),
-            having: &self.having,
-            channels: &part.channels,
-        }
-    }
-
-    fn changed_for_all(
-        &self,
-        database: bool,
-        subscription: bool,
-        written: &ShelfWrite,
-        part: &Part,
-        library: &Library,
-    ) -> Subsystems
-        ensures { result ≡ common_by_player database subscription written.now self.now part.now library.now }
-    {
-        Subsystems {
-            database,
-            update: self.scans != library.scan.running().is_some(),
-            stored_playlist: written.changes_lists(),
-            playlist: self.parity != part.queue.parity(),
-            player: !self.playing.are_of(&part.player),
-            mixer: self.volume != part.volume.percent(),
-            output: !same_enabled(&self.enabled, &part.outputs.enabled()),
-            options: !same_options(self.options, options_of(&part.player)),
-            sticker: written.changes_stickers(),
+/// What all hear, and what differs in the event's partition, if it was there before and is there now.
+fn own_changes(
+    subscription: bool,
+    before: Option<&Readings>,
+    part: Option<&Part>,
+    common: Subsystems,
+) -> Subsystems
+    ensures { result ≡ own_by_readings subscription (option_copied before.entry) (option_copied part.entry) common }
+{
+    match (before, part) {
+        (Some(before), Some(part)) => Subsystems {
+            playlist: before.parity != part.queue.parity(),
+            player: !before.playing.are_of(&part.player),
+            mixer: before.volume != part.volume.percent(),
+            output: !same_enabled(&before.enabled, &part.outputs.enabled()),
+            options: !same_options(before.options, options_of(&part.player)),
             subscription,
-            ..Subsystems::none()
-        }
+            ..common
+        },
+        _ => common,
     }
 }
 
-/// What an event raised: the same for all clients, but for messages.
+/// Of all partitions which outputs are enabled, where an output goes from one to another.
+fn enabled_before(
+    alloc: Global,
+    crossing: &Crossing,
+    parts: &Parts,
+) -> Result<Vec<EnabledAt>, AllocError>
+    ensures { IfOk result (λ list. list.items ≡ enabled_before_lem crossing.now parts.now) }
+{
+    if is_bringing(crossing) {
+        return list_enabled(alloc, parts.items());
+    }
+    Ok(Vec::new(alloc))
+}
+
+fn is_bringing(crossing: &Crossing) -> bool
+    ensures { result ≡ is_bringing_lem crossing.now }
+{
+    matches!(crossing, Crossing::Brings(_, _))
+}
+
+fn list_enabled(alloc: Global, parts: &[Part]) -> Result<Vec<EnabledAt>, AllocError>
+    ensures { IfOk result (λ list. list.items ≡ map enabled_in_lem parts.now) }
+{
+    let mut list = Vec::with_capacity(alloc, parts.len())?;
+    for part in parts {
+        list.push(enabled_in(part))?;
+    }
+    Ok(list)
+}
+
+fn enabled_in(part: &Part) -> EnabledAt
+    ensures { result ≡ enabled_in_lem part.now }
+{
+    EnabledAt {
+        place: part.place,
+        enabled: part.outputs.enabled(),
+    }
+}
+
+/// What an event raised.
 #[derive(Drop)]
 pub struct Raised<'a> {
+    /// The client that goes to another partition by it.
+    goer: Option<u32>,
+    /// For all.
     common: Subsystems,
-    /// The clients for which messages waited before it.
-    having: &'a [u32],
-    channels: &'a Channels,
+    /// For those in the event's partition, messages aside.
+    own: Subsystems,
+    before: &'a Fingerprint,
+    parts: &'a Parts,
 }
 
 impl<'a> Model for Raised<'a> {
-    ghost use Rattle.idle_clients.specs.Fingerprint.{RaisedData};
+    ghost use Rattle.idle_clients.specs.Fingerprint.{RaisedData, raised_from};
 
     ghost Value = { RaisedData };
 
-    ghost view = { λ r. record { common = r.common; having = r.having.now; channels = r.channels.now } };
+    ghost view = { λ r. raised_from r.goer r.common r.own r.before.now r.parts.now };
 }
 
 impl<'a> Raised<'a> {
@@ -156,30 +287,131 @@ impl<'a> Raised<'a> {
     pub(crate) fn for_client(&self, client: &Client) -> Subsystems
         ensures { result ≡ raised_in self.now client.now }
     {
+        if is_this(self.goer, client.number) {
+            return Subsystems::all();
+        }
+        let before = self.before;
+        if client.place == before.place {
+            return Subsystems {
+                message: self.begins_to_have(client.number),
+                ..self.own
+            };
+        }
         Subsystems {
-            message: !is_among(client.number, self.having)
-                && self.channels.has_messages(client.number),
+            output: switches(client.place, &before.enabled, self.parts),
             ..self.common
         }
     }
 
-    /// Whether it raised nothing for any client.
-    #[tactic(auto, using(crate::proofs::Quiet::is_quiet))]
-    pub fn is_nothing(&self) -> bool
-        ensures { IsTrue result ↔ (raised_in self.now ≡ nothing) }
+    /// Whether the first message waits for a client in the event's partition.
+    fn begins_to_have(&self, number: u32) -> bool
+        ensures { result ≡ begins_in self.now number }
     {
-        let others = Subsystems {
+        let before = self.before;
+        let part = self.parts.at(before.place);
+        match &before.own {
+            Some(own) => !is_among(number, &own.having) && has_messages(part, number),
+            None => false,
+        }
+    }
+
+    /// Whether it raised nothing for any client.
+    #[tactic(auto, using(crate::proofs::Quiet::quiet_nothing))]
+    pub fn is_nothing(&self) -> bool
+        ensures quiet { result ≡ is_quiet_lem self.now }
+        ensures nothing { IsTrue result ↔ (raised_in self.now ≡ nothing) }
+    {
+        self.is_quiet()
+    }
+
+    fn is_quiet(&self) -> bool
+        ensures { result ≡ is_quiet_lem self.now }
+    {
+        if self.goer.is_some() {
+            return false;
+        }
+        let own = Subsystems {
             message: false,
+            ..self.own
+        };
+        let common = Subsystems {
+            output: false,
             ..self.common
         };
-        is_neither(others, self.channels.has_messages_beyond(self.having))
+        own.is_empty() && !self.messages_begin() && common.is_empty() && !self.switches_elsewhere()
+    }
+
+    /// Whether messages wait in the event's partition for clients for which none waited.
+    fn messages_begin(&self) -> bool
+        ensures { result ≡ messages_begin_lem self.now }
+    {
+        let before = self.before;
+        let part = self.parts.at(before.place);
+        match &before.own {
+            Some(own) => has_beyond(part, &own.having),
+            None => false,
+        }
+    }
+
+    /// Whether outputs went or came in a partition other than the event's.
+    fn switches_elsewhere(&self) -> bool
+        ensures { result ≡ switches_elsewhere_lem self.now }
+    {
+        let before = self.before;
+        before.enabled.iter().any(|at| {
+            at.place != before.place && switches(at.place, &before.enabled, self.parts)
+        })
     }
 }
 
-fn is_neither(others: Subsystems, messages: bool) -> bool
-    ensures { result ≡ (not (is_nonempty others) && not messages) }
+fn is_this(goer: Option<u32>, number: u32) -> bool
+    ensures { result ≡ is_this_lem goer number }
 {
-    others.is_empty() && !messages
+    match goer {
+        Some(this) => this == number,
+        None => false,
+    }
+}
+
+/// Whether messages wait for a client in a partition, if that is there.
+fn has_messages(part: Option<&Part>, number: u32) -> bool
+    ensures { result ≡ has_messages_in number (option_copied part.entry) }
+{
+    match part {
+        Some(part) => part.channels.has_messages(number),
+        None => false,
+    }
+}
+
+fn has_beyond(part: Option<&Part>, having: &[u32]) -> bool
+    ensures { result ≡ has_beyond_lem having.now (option_copied part.entry) }
+{
+    match part {
+        Some(part) => part.channels.has_messages_beyond(having),
+        None => false,
+    }
+}
+
+/// Whether other outputs are enabled in a partition now.
+fn switches(place: u8, before: &[EnabledAt], parts: &Parts) -> bool
+    ensures { result ≡ switches_lem place before.now parts.now }
+{
+    match (enabled_at(place, before), parts.at(place)) {
+        (Some(enabled), Some(part)) => !same_enabled(&enabled, &part.outputs.enabled()),
+        _ => false,
+    }
+}
+
+/// Which outputs were enabled in the first partition of a number.
+fn enabled_at(place: u8, before: &[EnabledAt]) -> Option<[bool; 8]>
+    ensures { result ≡ enabled_at_lem place before.now }
+{
+    for at in before {
+        if at.place == place {
+            return Some(at.enabled);
+        }
+    }
+    None
 }
 
 /// Whether an event makes other clients listen, or to other channels.

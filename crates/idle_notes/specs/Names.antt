@@ -5,7 +5,7 @@ use Rattle.std.specs.Str.{bytes_eq}
 use Rattle.mpd_text.specs.Answers.Answer.{pair_line}
 use Rattle.idle_notes.specs.declared.sets.Subsystems.{Subsystems}
 use Rattle.idle_notes.specs.declared.subsystem.Subsystem.{Subsystem}
-use Rattle.idle_notes.specs.declared.subsystem.Subsystem.TheVariants.{Database, Update, StoredPlaylist, Playlist, Player, Mixer, Output, Options, Sticker, Subscription, Message}
+use Rattle.idle_notes.specs.declared.subsystem.Subsystem.TheVariants.{Database, Update, StoredPlaylist, Playlist, Player, Mixer, Output, Options, Sticker, Subscription, Message, Partition}
 use Rattle.idle_notes.specs.Sets.{has}
 
 abbrev pub text_of : Subsystem → List ℕ
@@ -20,10 +20,11 @@ text_of Options = codes "options"
 text_of Sticker = codes "sticker"
 text_of Subscription = codes "subscription"
 text_of Message = codes "message"
+text_of Partition = codes "partition"
 
 -- all subsystems, in the order in which a notice names them
 abbrev pub all_subsystems : List Subsystem
-all_subsystems = Database ∷ Update ∷ StoredPlaylist ∷ Playlist ∷ Player ∷ Mixer ∷ Output ∷ Options ∷ Sticker ∷ Subscription ∷ Message ∷ []
+all_subsystems = Database ∷ Update ∷ StoredPlaylist ∷ Playlist ∷ Player ∷ Mixer ∷ Output ∷ Options ∷ Sticker ∷ Subscription ∷ Message ∷ Partition ∷ []
 
 -- the subsystem of a name
 unfoldable pub subsystem_of : List ℕ → Option Subsystem

@@ -3,11 +3,15 @@
 use Rattle.std.specs.Prelude.{Option, Some, None, if◌then◌else◌}
 use Rattle.idle_notes.specs.declared.pending.Pending.{Pending}
 use Rattle.idle_notes.specs.declared.sets.Subsystems.{Subsystems}
-use Rattle.idle_notes.specs.Sets.{none, union, meet, is_nonempty}
+use Rattle.idle_notes.specs.Sets.{none, all, union, meet, is_nonempty}
 
 -- nothing is pending, and the client does not wait
 abbrev pub fresh : Pending
 fresh = record { waiting = None; changed = none }
+
+-- everything is pending, and the client does not wait
+abbrev pub everything : Pending
+everything = record { waiting = None; changed = all }
 
 -- what was raised joins what changed
 abbrev pub noted : Subsystems → Pending → Pending

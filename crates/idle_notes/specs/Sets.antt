@@ -2,7 +2,7 @@
 use Rattle.std.specs.Prelude.{Bool, true, false, ◌||◌, ◌&&◌}
 use Rattle.idle_notes.specs.declared.sets.Subsystems.{Subsystems}
 use Rattle.idle_notes.specs.declared.subsystem.Subsystem.{Subsystem}
-use Rattle.idle_notes.specs.declared.subsystem.Subsystem.TheVariants.{Database, Update, StoredPlaylist, Playlist, Player, Mixer, Output, Options, Sticker, Subscription, Message}
+use Rattle.idle_notes.specs.declared.subsystem.Subsystem.TheVariants.{Database, Update, StoredPlaylist, Playlist, Player, Mixer, Output, Options, Sticker, Subscription, Message, Partition}
 
 -- whether a set has a subsystem
 abbrev pub has : Subsystems → Subsystem → Bool
@@ -17,6 +17,7 @@ has s Options = s.options
 has s Sticker = s.sticker
 has s Subscription = s.subscription
 has s Message = s.message
+has s Partition = s.partition
 
 -- the set that has each subsystem, or none
 abbrev pub each_alike : Bool → Subsystems
@@ -32,13 +33,14 @@ each_alike held = record {
   sticker = held;
   subscription = held;
   message = held;
+  partition = held;
 }
 
 abbrev pub none : Subsystems
-none = record { database = false; update = false; stored_playlist = false; playlist = false; player = false; mixer = false; output = false; options = false; sticker = false; subscription = false; message = false }
+none = record { database = false; update = false; stored_playlist = false; playlist = false; player = false; mixer = false; output = false; options = false; sticker = false; subscription = false; message = false; partition = false }
 
 abbrev pub all : Subsystems
-all = record { database = true; update = true; stored_playlist = true; playlist = true; player = true; mixer = true; output = true; options = true; sticker = true; subscription = true; message = true }
+all = record { database = true; update = true; stored_playlist = true; playlist = true; player = true; mixer = true; output = true; options = true; sticker = true; subscription = true; message = true; partition = true }
 
 abbrev pub union : Subsystems → Subsystems → Subsystems
 union s t = record {
@@ -53,6 +55,7 @@ union s t = record {
   sticker = s.sticker || t.sticker;
   subscription = s.subscription || t.subscription;
   message = s.message || t.message;
+  partition = s.partition || t.partition;
 }
 
 abbrev pub meet : Subsystems → Subsystems → Subsystems
@@ -68,6 +71,7 @@ meet s t = record {
   sticker = s.sticker && t.sticker;
   subscription = s.subscription && t.subscription;
   message = s.message && t.message;
+  partition = s.partition && t.partition;
 }
 
 -- the set with one more
@@ -83,6 +87,7 @@ with_one s Options = record s { options = true }
 with_one s Sticker = record s { sticker = true }
 with_one s Subscription = record s { subscription = true }
 with_one s Message = record s { message = true }
+with_one s Partition = record s { partition = true }
 
 abbrev pub is_nonempty : Subsystems → Bool
-is_nonempty s = s.database || s.update || s.stored_playlist || s.playlist || s.player || s.mixer || s.output || s.options || s.sticker || s.subscription || s.message
+is_nonempty s = s.database || s.update || s.stored_playlist || s.playlist || s.player || s.mixer || s.output || s.options || s.sticker || s.subscription || s.message || s.partition

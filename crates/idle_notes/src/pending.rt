@@ -1,6 +1,6 @@
 //! What is pending for one client.
 ghost use Rattle.std.specs.Prelude.{◌≡◌, is_some};
-ghost use Rattle.idle_notes.specs.Notes.{fresh, noted, waits, cancelled, notice_of, settled};
+ghost use Rattle.idle_notes.specs.Notes.{everything, fresh, noted, waits, cancelled, notice_of, settled};
 
 use crate::sets::Subsystems;
 
@@ -20,6 +20,16 @@ impl Pending {
         Pending {
             waiting: None,
             changed: Subsystems::none(),
+        }
+    }
+
+    /// What is pending for a client to which all is new: everything changed, and it does not wait.
+    pub fn everything() -> Pending
+        ensures { result ≡ everything }
+    {
+        Pending {
+            waiting: None,
+            changed: Subsystems::all(),
         }
     }
 

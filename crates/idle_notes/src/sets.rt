@@ -22,6 +22,7 @@ pub struct Subsystems {
     pub sticker: bool,
     pub subscription: bool,
     pub message: bool,
+    pub partition: bool,
 }
 
 impl Subsystems {
@@ -54,6 +55,7 @@ impl Subsystems {
             sticker: held,
             subscription: held,
             message: held,
+            partition: held,
         }
     }
 
@@ -73,6 +75,7 @@ impl Subsystems {
             sticker: self.sticker | other.sticker,
             subscription: self.subscription | other.subscription,
             message: self.message | other.message,
+            partition: self.partition | other.partition,
         }
     }
 
@@ -92,6 +95,7 @@ impl Subsystems {
             sticker: self.sticker & other.sticker,
             subscription: self.subscription & other.subscription,
             message: self.message & other.message,
+            partition: self.partition & other.partition,
         }
     }
 
@@ -112,6 +116,7 @@ impl Subsystems {
             Subsystem::Sticker => set.sticker = true,
             Subsystem::Subscription => set.subscription = true,
             Subsystem::Message => set.message = true,
+            Subsystem::Partition => set.partition = true,
         }
         set
     }
@@ -132,6 +137,7 @@ impl Subsystems {
             Subsystem::Sticker => self.sticker,
             Subsystem::Subscription => self.subscription,
             Subsystem::Message => self.message,
+            Subsystem::Partition => self.partition,
         }
     }
 
@@ -149,7 +155,8 @@ impl Subsystems {
             | self.options
             | self.sticker
             | self.subscription
-            | self.message)
+            | self.message
+            | self.partition)
     }
 
     /// Writes the lines `changed: SUBSYSTEM` of a notice, in the order of [`SUBSYSTEMS`].

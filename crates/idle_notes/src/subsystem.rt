@@ -27,10 +27,12 @@ pub enum Subsystem {
     Subscription,
     /// The messages that wait for a client.
     Message,
+    /// Which partitions there are.
+    Partition,
 }
 
 /// All subsystems, in the order of a notice.
-pub const SUBSYSTEMS: [Subsystem; 11] = [
+pub const SUBSYSTEMS: [Subsystem; 12] = [
     Subsystem::Database,
     Subsystem::Update,
     Subsystem::StoredPlaylist,
@@ -42,6 +44,7 @@ pub const SUBSYSTEMS: [Subsystem; 11] = [
     Subsystem::Sticker,
     Subsystem::Subscription,
     Subsystem::Message,
+    Subsystem::Partition,
 ];
 
 impl Subsystem {
@@ -72,6 +75,7 @@ impl Subsystem {
             Subsystem::Sticker => "sticker",
             Subsystem::Subscription => "subscription",
             Subsystem::Message => "message",
+            Subsystem::Partition => "partition",
         }
     }
 }

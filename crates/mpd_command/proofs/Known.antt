@@ -10,14 +10,15 @@ use Rattle.std.specs.Cmp.{first_so, second_so}
 use Rattle.std.proofs.lemmas.List.{length-map}
 use Rattle.std.proofs.lemmas.Slice.Eq.{bytes_eq-Decides}
 use Rattle.mpd_command.specs.Names.{all_names, everyday_names, is_added_name, is_there, letter_of, name_of, starts, text_of}
-use Rattle.mpd_command.specs.Connection.{rows as connection_rows}
-use Rattle.mpd_command.specs.Database.{rows as database_rows}
+use Rattle.mpd_command.specs.Connection.{rows as connection_rows, rows_from_notcommands}
+use Rattle.mpd_command.specs.Database.{rows as database_rows, rows_from_listall, rows_from_rescan}
 use Rattle.mpd_command.specs.Messages.{rows as messages_rows}
-use Rattle.mpd_command.specs.Options.{rows as options_rows}
+use Rattle.mpd_command.specs.Options.{rows as options_rows, rows_from_replay_gain_mode}
 use Rattle.mpd_command.specs.Outputs.{rows as outputs_rows}
-use Rattle.mpd_command.specs.Playback.{rows as playback_rows}
-use Rattle.mpd_command.specs.Playlists.{rows as playlists_rows}
-use Rattle.mpd_command.specs.Queue.{rows as queue_rows}
+use Rattle.mpd_command.specs.Partitions.{rows as partitions_rows}
+use Rattle.mpd_command.specs.Playback.{rows as playback_rows, rows_from_seek}
+use Rattle.mpd_command.specs.Playlists.{rows as playlists_rows, rows_from_playlistadd}
+use Rattle.mpd_command.specs.Queue.{rows as queue_rows, rows_from_playlist, rows_from_prio}
 use Rattle.mpd_command.specs.Status.{rows as status_rows}
 use Rattle.mpd_command.specs.Stickers.{rows as stickers_rows}
 use Rattle.mpd_command.specs.declared.command_set.CommandSet.{CommandSet}
@@ -45,11 +46,11 @@ stand-at heads (name ∷ names) place (suc i) all low =
     subst (StandsAt heads (get_or names i [])) same (stand-at heads names (place + 1) i (second_so _ _ all) (omega arith))
 
 all-stand : stand starts 0 all_names ≡ true
-unfolding all_names connection_rows database_rows messages_rows options_rows outputs_rows playback_rows playlists_rows queue_rows status_rows stickers_rows starts
+unfolding all_names connection_rows rows_from_notcommands database_rows rows_from_listall rows_from_rescan messages_rows options_rows rows_from_replay_gain_mode outputs_rows partitions_rows playback_rows rows_from_seek playlists_rows rows_from_playlistadd queue_rows rows_from_playlist rows_from_prio status_rows stickers_rows starts
 all-stand = refl
 
 starts-fit : list_all (λ start. leb start (length all_names)) starts ≡ true
-unfolding all_names connection_rows database_rows messages_rows options_rows outputs_rows playback_rows playlists_rows queue_rows status_rows stickers_rows starts
+unfolding all_names connection_rows rows_from_notcommands database_rows rows_from_listall rows_from_rescan messages_rows options_rows rows_from_replay_gain_mode outputs_rows partitions_rows playback_rows rows_from_seek playlists_rows rows_from_playlistadd queue_rows rows_from_playlist rows_from_prio status_rows stickers_rows starts
 starts-fit = refl
 
 at-most : (heads : List ℕ) (most i : ℕ) → list_all (λ start. leb start most) heads ≡ true → get_or heads i 0 ≤ most
@@ -104,7 +105,7 @@ text-of_word word name same = same_word _ _ (position-Some (λ other. bytes_eq o
 
 -- each name that the everyday profile adds is one of all names
 added-named : list_all (λ name. is_some (position (λ other. bytes_eq other name) all_names)) everyday_names ≡ true
-unfolding all_names connection_rows database_rows messages_rows options_rows outputs_rows playback_rows playlists_rows queue_rows status_rows stickers_rows
+unfolding all_names connection_rows rows_from_notcommands database_rows rows_from_listall rows_from_rescan messages_rows options_rows rows_from_replay_gain_mode outputs_rows partitions_rows playback_rows rows_from_seek playlists_rows rows_from_playlistadd queue_rows rows_from_playlist rows_from_prio status_rows stickers_rows
 added-named = refl
 
 each-added : (test : List ℕ → Bool) (names : List (List ℕ)) (word : List ℕ) → list_all test names ≡ true → list_any (λ name. bytes_eq name word) names ≡ true → test word ≡ true

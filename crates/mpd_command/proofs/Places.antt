@@ -1,5 +1,5 @@
 -- Places in a list of texts, and in the list of what they say.
-use Rattle.std.proofs.Common.{◌≡◌, ℕ, ◌+◌, ◌-◌, ◌<◌, ◌≤◌, nat_lt, Bool, true, false, not, cond, List, [], ◌∷◌, length, get_or, map, take, drop, Option, Some, None, refl, ap, sym, subst, ◌∙◌, inl, inr, Bor, arith}
+use Rattle.std.proofs.Common.{◌≡◌, ℕ, ◌+◌, ◌-◌, ◌<◌, ◌≤◌, nat_lt, Bool, true, false, not, cond, List, [], ◌∷◌, length, get_or, map, take, drop, Some, None, refl, ap, sym, ◌∙◌, inl, inr, Bor, arith}
 use Rattle.std.specs.Str.{bytes_eq}
 use Rattle.std.specs.List.{position, position_or_len, prefix_len, slice_range}
 use Rattle.std.specs.Option.{option_map}

@@ -26,6 +26,15 @@ tags_chosen true (choice ∷ names) = tag_choice choice names
 tags_chosen true [] = none_of connection.TagTypes []
 tags_chosen false words = none_of connection.TagTypes words
 
+-- the rows from `notcommands` on
+unfoldable pub rows_from_notcommands : CommandSet → List (Row ConnectionCommand)
+rows_from_notcommands set =
+    (codes "notcommands", none (connection.NotCommands set))
+    ∷ (codes "ping", none connection.Ping)
+    ∷ (codes "tagtypes", tags_chosen set.everyday)
+    ∷ (codes "urlhandlers", none connection.UrlHandlers)
+    ∷ []
+
 -- `commands` and `notcommands` show which commands there are
 unfoldable pub rows : CommandSet → List (Row ConnectionCommand)
 rows set =
@@ -34,8 +43,4 @@ rows set =
     ∷ (codes "decoders", none connection.Decoders)
     ∷ (codes "kill", none connection.Kill)
     ∷ (codes "listmounts", none connection.ListMounts)
-    ∷ (codes "notcommands", none (connection.NotCommands set))
-    ∷ (codes "ping", none connection.Ping)
-    ∷ (codes "tagtypes", tags_chosen set.everyday)
-    ∷ (codes "urlhandlers", none connection.UrlHandlers)
-    ∷ []
+    ∷ rows_from_notcommands set

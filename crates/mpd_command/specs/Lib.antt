@@ -4,6 +4,7 @@ pub mod Database
 pub mod Messages
 pub mod Options
 pub mod Outputs
+pub mod Partitions
 pub mod Playback
 pub mod Playlists
 pub mod Queue

@@ -11,6 +11,7 @@ use Rattle.mpd_command.specs.Database.{rows as database_rows}
 use Rattle.mpd_command.specs.Messages.{rows as messages_rows}
 use Rattle.mpd_command.specs.Options.{rows as options_rows}
 use Rattle.mpd_command.specs.Outputs.{rows as outputs_rows}
+use Rattle.mpd_command.specs.Partitions.{rows as partitions_rows}
 use Rattle.mpd_command.specs.Playback.{rows as playback_rows}
 use Rattle.mpd_command.specs.Playlists.{rows as playlists_rows}
 use Rattle.mpd_command.specs.Queue.{rows as queue_rows}
@@ -39,7 +40,8 @@ fewest = record { kill = false; everyday = false }
 unfoldable pub all_names : List (List ℕ)
 all_names =
     sorted (names_of (status_rows fewest) ++ names_of options_rows ++ names_of (playback_rows fewest) ++ names_of (queue_rows fewest) ++ names_of (playlists_rows fewest)
-    ++ names_of (database_rows fewest) ++ names_of stickers_rows ++ names_of (connection_rows fewest) ++ names_of outputs_rows ++ names_of messages_rows)
+    ++ names_of (database_rows fewest) ++ names_of stickers_rows ++ names_of (connection_rows fewest) ++ names_of outputs_rows ++ names_of messages_rows
+    ++ names_of partitions_rows)
 
 -- the names of the commands that the everyday profile adds, in their byte order
 abbrev pub everyday_names : List (List ℕ)

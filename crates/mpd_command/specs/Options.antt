@@ -6,6 +6,16 @@ use Rattle.mpd_command.specs.Tables.{Row, none, one}
 use Rattle.mpd_command.specs.declared.options.OptionCommand.{OptionCommand}
 use Rattle.mpd_command.specs.declared.options.OptionCommand.TheVariants as options
 
+-- the rows from `replay_gain_mode` on
+unfoldable pub rows_from_replay_gain_mode : List (Row OptionCommand)
+rows_from_replay_gain_mode =
+    (codes "replay_gain_mode", one off_of options.SetReplayGain)
+    ∷ (codes "replay_gain_status", none options.ReplayGainStatus)
+    ∷ (codes "setvol", one volume_of options.SetVol)
+    ∷ (codes "single", one song_mode_of options.Single)
+    ∷ (codes "volume", one volume_change_of options.ChangeVolume)
+    ∷ []
+
 unfoldable pub rows : List (Row OptionCommand)
 rows =
     (codes "consume", one song_mode_of options.Consume)
@@ -13,9 +23,4 @@ rows =
     ∷ (codes "getvol", none options.GetVol)
     ∷ (codes "random", one switch_of options.Random)
     ∷ (codes "repeat", one switch_of options.Repeat)
-    ∷ (codes "replay_gain_mode", one off_of options.SetReplayGain)
-    ∷ (codes "replay_gain_status", none options.ReplayGainStatus)
-    ∷ (codes "setvol", one volume_of options.SetVol)
-    ∷ (codes "single", one song_mode_of options.Single)
-    ∷ (codes "volume", one volume_change_of options.ChangeVolume)
-    ∷ []
+    ∷ rows_from_replay_gain_mode

@@ -14,6 +14,15 @@ use Rattle.mpd_command.specs.declared.playback.PlaybackCommand.TheVariants as pl
 abbrev pub number : Bool → List (List ℕ) → Result (Option ℕ) Misread
 number everyday words = if everyday then number_or_none_of words else perhaps_of number_of words
 
+-- the rows from `seek` on
+unfoldable pub rows_from_seek : List (Row PlaybackCommand)
+rows_from_seek =
+    (codes "seek", two number_of millis_of playback.Seek)
+    ∷ (codes "seekcur", one seeking_of playback.SeekCur)
+    ∷ (codes "seekid", two number_of millis_of playback.SeekId)
+    ∷ (codes "stop", none playback.Stop)
+    ∷ []
+
 unfoldable pub rows : CommandSet → List (Row PlaybackCommand)
 rows set =
     (codes "next", none playback.Next)
@@ -21,8 +30,4 @@ rows set =
     ∷ (codes "play", λ words. map_ok playback.Play (number set.everyday words))
     ∷ (codes "playid", λ words. map_ok playback.PlayId (number set.everyday words))
     ∷ (codes "previous", none playback.Previous)
-    ∷ (codes "seek", two number_of millis_of playback.Seek)
-    ∷ (codes "seekcur", one seeking_of playback.SeekCur)
-    ∷ (codes "seekid", two number_of millis_of playback.SeekId)
-    ∷ (codes "stop", none playback.Stop)
-    ∷ []
+    ∷ rows_from_seek

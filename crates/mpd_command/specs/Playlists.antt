@@ -21,13 +21,10 @@ list_range_place_of everyday words =
 abbrev pub list_range_place : {A : Type 0} → Bool → (List ℕ → Option Range → Option Place → A) → Arguments A
 list_range_place everyday f words = map_ok (λ p. f p.0 p.1 p.2) (list_range_place_of everyday words)
 
-unfoldable pub rows : CommandSet → List (Row PlaylistCommand)
-rows set =
-    (codes "listplaylist", one any_text playlists.ListPlaylist)
-    ∷ (codes "listplaylistinfo", one any_text playlists.ListPlaylistInfo)
-    ∷ (codes "listplaylists", none playlists.ListPlaylists)
-    ∷ (codes "load", list_range_place set.everyday playlists.Load)
-    ∷ (codes "playlistadd", two any_text uri_of playlists.PlaylistAdd)
+-- the rows from `playlistadd` on
+unfoldable pub rows_from_playlistadd : List (Row PlaylistCommand)
+rows_from_playlistadd =
+    (codes "playlistadd", two any_text uri_of playlists.PlaylistAdd)
     ∷ (codes "playlistclear", one any_text playlists.PlaylistClear)
     ∷ (codes "playlistdelete", two any_text number_of playlists.PlaylistDelete)
     ∷ (codes "playlistmove", three any_text number_of number_of playlists.PlaylistMove)
@@ -35,3 +32,11 @@ rows set =
     ∷ (codes "rm", one any_text playlists.Rm)
     ∷ (codes "save", one any_text playlists.Save)
     ∷ []
+
+unfoldable pub rows : CommandSet → List (Row PlaylistCommand)
+rows set =
+    (codes "listplaylist", one any_text playlists.ListPlaylist)
+    ∷ (codes "listplaylistinfo", one any_text playlists.ListPlaylistInfo)
+    ∷ (codes "listplaylists", none playlists.ListPlaylists)
+    ∷ (codes "load", list_range_place set.everyday playlists.Load)
+    ∷ rows_from_playlistadd

@@ -21,6 +21,28 @@ uri_perhaps_place_of everyday words =
 abbrev pub uri_perhaps_place : {A : Type 0} → Bool → (Uri → Option Place → A) → Arguments A
 uri_perhaps_place everyday f words = map_ok (λ p. f p.0 p.1) (uri_perhaps_place_of everyday words)
 
+-- the rows from `prio` on
+unfoldable pub rows_from_prio : List (Row QueueCommand)
+rows_from_prio =
+    (codes "prio", one_many byte_of range_of queue.Prio)
+    ∷ (codes "prioid", one_many byte_of number_of queue.PrioId)
+    ∷ (codes "shuffle", perhaps range_of queue.Shuffle)
+    ∷ (codes "swap", two number_of number_of queue.Swap)
+    ∷ (codes "swapid", two number_of number_of queue.SwapId)
+    ∷ []
+
+-- the rows from `playlist` on
+unfoldable pub rows_from_playlist : List (Row QueueCommand)
+rows_from_playlist =
+    (codes "playlist", none queue.Playlist)
+    ∷ (codes "playlistfind", filter Equals queue.PlaylistFind)
+    ∷ (codes "playlistid", perhaps number_of queue.PlaylistId)
+    ∷ (codes "playlistinfo", perhaps range_of queue.PlaylistInfo)
+    ∷ (codes "playlistsearch", filter Contains queue.PlaylistSearch)
+    ∷ (codes "plchanges", one_perhaps number_of range_of queue.PlChanges)
+    ∷ (codes "plchangesposid", one_perhaps number_of range_of queue.PlChangesPosId)
+    ∷ rows_from_prio
+
 unfoldable pub rows : CommandSet → List (Row QueueCommand)
 rows set =
     (codes "add", uri_perhaps_place set.everyday queue.Add)
@@ -30,16 +52,4 @@ rows set =
     ∷ (codes "deleteid", one number_of queue.DeleteId)
     ∷ (codes "move", two range_of number_of queue.Move)
     ∷ (codes "moveid", two number_of number_of queue.MoveId)
-    ∷ (codes "playlist", none queue.Playlist)
-    ∷ (codes "playlistfind", filter Equals queue.PlaylistFind)
-    ∷ (codes "playlistid", perhaps number_of queue.PlaylistId)
-    ∷ (codes "playlistinfo", perhaps range_of queue.PlaylistInfo)
-    ∷ (codes "playlistsearch", filter Contains queue.PlaylistSearch)
-    ∷ (codes "plchanges", one_perhaps number_of range_of queue.PlChanges)
-    ∷ (codes "plchangesposid", one_perhaps number_of range_of queue.PlChangesPosId)
-    ∷ (codes "prio", one_many byte_of range_of queue.Prio)
-    ∷ (codes "prioid", one_many byte_of number_of queue.PrioId)
-    ∷ (codes "shuffle", perhaps range_of queue.Shuffle)
-    ∷ (codes "swap", two number_of number_of queue.Swap)
-    ∷ (codes "swapid", two number_of number_of queue.SwapId)
-    ∷ []
+    ∷ rows_from_playlist

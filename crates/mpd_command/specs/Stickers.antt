@@ -54,10 +54,18 @@ abbrev pub list_of : List (List ℕ) → Result StickerCommand Misread
 list_of (kind ∷ uri ∷ []) = map_ok ListStickers (target_of kind uri)
 list_of _ = Err WrongNumber
 
+-- TYPE URI NAME
+abbrev pub find_any_of : List ℕ → List ℕ → List ℕ → Result StickerCommand Misread
+find_any_of kind uri name = map_ok (λ target. Find target name None) (target_of kind uri)
+
+-- TYPE URI NAME OP VALUE
+abbrev pub find_compared_of : List ℕ → List ℕ → List ℕ → List ℕ → List ℕ → Result StickerCommand Misread
+find_compared_of kind uri name operator value = map_ok (λ p. Find p.0 name (Some p.1)) (both (target_of kind uri) (comparison_of operator value))
+
 -- TYPE URI NAME [OP VALUE]
 abbrev pub find_of : List (List ℕ) → Result StickerCommand Misread
-find_of (kind ∷ uri ∷ name ∷ []) = map_ok (λ target. Find target name None) (target_of kind uri)
-find_of (kind ∷ uri ∷ name ∷ operator ∷ value ∷ []) = map_ok (λ p. Find p.0 name (Some p.1)) (both (target_of kind uri) (comparison_of operator value))
+find_of (kind ∷ uri ∷ name ∷ []) = find_any_of kind uri name
+find_of (kind ∷ uri ∷ name ∷ operator ∷ value ∷ []) = find_compared_of kind uri name operator value
 find_of _ = Err WrongNumber
 
 -- another first word, where 2 to 5 words after it are as many as some first word takes

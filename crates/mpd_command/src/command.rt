@@ -1,7 +1,7 @@
 //! All commands, by their groups.
 ghost use Rattle.std.specs.Prelude.{string_bytes, map};
 ghost use Rattle.command_arguments.specs.Readers.{Gives};
-ghost use Rattle.mpd_command.specs.Commands.{command_of};
+ghost use Rattle.mpd_command.specs.Commands.{command_of, from_options, from_stickers};
 
 use crate::command_set::CommandSet;
 use crate::connection::{self, ConnectionCommand};
@@ -9,6 +9,7 @@ use crate::database::{self, DatabaseCommand};
 use crate::messages::{self, MessageCommand};
 use crate::options::{self, OptionCommand};
 use crate::outputs::{self, OutputCommand};
+use crate::partitions::{self, PartitionCommand};
 use crate::playback::{self, PlaybackCommand};
 use crate::playlists::{self, PlaylistCommand};
 use crate::queue::{self, QueueCommand};
@@ -18,7 +19,6 @@ use command_arguments::Misread;
 use std::alloc::Global;
 
 /// A command with its arguments, in the groups of the MPD protocol's Command reference.
-#[derive(Drop)]
 pub enum Command {
     Status(StatusCommand),
     Options(OptionCommand),
@@ -30,6 +30,26 @@ pub enum Command {
     Connection(ConnectionCommand),
     Outputs(OutputCommand),
     Messages(MessageCommand),
+    Partitions(PartitionCommand),
+}
+
+// Written out, so that a proof goes through one call where it lets one go (docs/DECISIONS.md).
+impl Drop for Command {
+    fn drop(self) {
+        match self {
+            Command::Status(_)
+            | Command::Options(_)
+            | Command::Playback(_)
+            | Command::Queue(_)
+            | Command::Playlists(_)
+            | Command::Database(_)
+            | Command::Stickers(_)
+            | Command::Connection(_)
+            | Command::Outputs(_)
+            | Command::Messages(_)
+            | Command::Partitions(_) => {}
+        }
+    }
 }
 
 /// The command of a name and the words after it; none where no group has the name. Which commands there are
@@ -55,6 +75,18 @@ pub(crate) fn read(
     if let Some(command) = queue::read(alloc, set, word, words)? {
         return Ok(Some(Command::Queue(command)));
     }
+    read_from_options(alloc, set, word, words)
+}
+
+/// The same in the groups from the options on.
+fn read_from_options(
+    alloc: Global,
+    set: CommandSet,
+    word: &str,
+    words: &[String],
+) -> Result<Option<Command>, Misread>
+    ensures { Gives result (from_options set word.now (map string_bytes words.now)) }
+{
     if let Some(command) = options::read(alloc, word, words)? {
         return Ok(Some(Command::Options(command)));
     }
@@ -64,11 +96,28 @@ pub(crate) fn read(
     if let Some(command) = playlists::read(alloc, set, word, words)? {
         return Ok(Some(Command::Playlists(command)));
     }
+    read_from_stickers(alloc, word, words)
+}
+
+/// The same in the groups from the stickers on.
+fn read_from_stickers(
+    alloc: Global,
+    word: &str,
+    words: &[String],
+) -> Result<Option<Command>, Misread>
+    ensures { Gives result (from_stickers word.now (map string_bytes words.now)) }
+{
     if let Some(command) = sticker::read(alloc, word, words)? {
         return Ok(Some(Command::Stickers(command)));
     }
     if let Some(command) = outputs::read(alloc, word, words)? {
         return Ok(Some(Command::Outputs(command)));
     }
-    Ok(messages::read(alloc, word, words)?.map(Command::Messages))
+    if let Some(command) = messages::read(alloc, word, words)? {
+        return Ok(Some(Command::Messages(command)));
+    }
+    match partitions::read(alloc, word, words)? {
+        Some(command) => Ok(Some(Command::Partitions(command))),
+        None => Ok(None),
+    }
 }

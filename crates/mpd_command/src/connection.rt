@@ -3,7 +3,7 @@
 ghost use Rattle.std.specs.Prelude.{string_bytes, map};
 ghost use Rattle.command_arguments.specs.Readers.{Gives};
 ghost use Rattle.mpd_command.specs.Tables.{found};
-ghost use Rattle.mpd_command.specs.Connection.{rows, tags_chosen, tag_choice as tag_choice_lem};
+ghost use Rattle.mpd_command.specs.Connection.{rows, rows_from_notcommands, tags_chosen, tag_choice as tag_choice_lem};
 
 use crate::command_set::CommandSet;
 use command_arguments::{Misread, none, some};
@@ -12,7 +12,6 @@ use mpd_text::{Sequence, Text};
 use std::alloc::Global;
 
 /// A command of the connection.
-#[derive(Drop)]
 pub enum ConnectionCommand {
     /// `close`: ends the connection.
     Close,
@@ -42,6 +41,27 @@ pub enum ConnectionCommand {
     UrlHandlers,
 }
 
+// Written out, so that a proof goes through one call where it lets one go (docs/DECISIONS.md).
+impl Drop for ConnectionCommand {
+    fn drop(self) {
+        match self {
+            ConnectionCommand::Close
+            | ConnectionCommand::Commands(_)
+            | ConnectionCommand::Decoders
+            | ConnectionCommand::Kill
+            | ConnectionCommand::ListMounts
+            | ConnectionCommand::NotCommands(_)
+            | ConnectionCommand::Ping
+            | ConnectionCommand::TagTypes
+            | ConnectionCommand::AllTags
+            | ConnectionCommand::NoTags
+            | ConnectionCommand::WithoutTags(_)
+            | ConnectionCommand::WithTags(_)
+            | ConnectionCommand::UrlHandlers => {}
+        }
+    }
+}
+
 /// The rows: what the words after each name are read as. `commands` and `notcommands` show which commands
 /// there are.
 #[rattlefmt::skip]
@@ -55,6 +75,17 @@ pub(crate) fn read(alloc: Global, set: CommandSet, word: &str, words: &[String])
         "decoders" => none(words, ConnectionCommand::Decoders)?,
         "kill" => none(words, ConnectionCommand::Kill)?,
         "listmounts" => none(words, ConnectionCommand::ListMounts)?,
+        _ => return read_from_notcommands(alloc, set, word, words),
+    }))
+}
+
+/// The same of the rows from `notcommands` on.
+#[rattlefmt::skip]
+#[tactic(auto, unfolding(crate::specs::Connection::rows_from_notcommands))]
+fn read_from_notcommands(alloc: Global, set: CommandSet, word: &str, words: &[String]) -> Result<Option<ConnectionCommand>, Misread>
+    ensures { Gives result (found (rows_from_notcommands set) word.now (map string_bytes words.now)) }
+{
+    Ok(Some(match word {
         "notcommands" => none(words, ConnectionCommand::NotCommands(set))?,
         "ping" => none(words, ConnectionCommand::Ping)?,
         "tagtypes" => choose_tags(alloc, set.everyday, words)?,

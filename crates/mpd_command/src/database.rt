@@ -2,7 +2,7 @@
 ghost use Rattle.std.specs.Prelude.{◌≡◌, string_bytes, map};
 ghost use Rattle.command_arguments.specs.Readers.{Gives};
 ghost use Rattle.mpd_command.specs.Tables.{found};
-ghost use Rattle.mpd_command.specs.Database.{rows};
+ghost use Rattle.mpd_command.specs.Database.{rows, rows_from_listall, rows_from_rescan};
 
 use crate::command_set::CommandSet;
 use command_arguments::{Misread, Place, Uri, one, perhaps, two};
@@ -14,7 +14,6 @@ use selections::{
 use std::alloc::Global;
 
 /// A command of the library.
-#[derive(Drop)]
 pub enum DatabaseCommand {
     /// `albumart URI OFFSET`: a picture that lies beside a song: there is none.
     AlbumArt(Uri, u32),
@@ -54,6 +53,29 @@ pub enum DatabaseCommand {
     Update(Option<Uri>),
 }
 
+// Written out, so that a proof goes through one call where it lets one go (docs/DECISIONS.md).
+impl Drop for DatabaseCommand {
+    fn drop(self) {
+        match self {
+            DatabaseCommand::AlbumArt(_, _)
+            | DatabaseCommand::Count(_)
+            | DatabaseCommand::Find(_)
+            | DatabaseCommand::FindAdd(_, _)
+            | DatabaseCommand::List(_)
+            | DatabaseCommand::ListAll(_, _)
+            | DatabaseCommand::ListAllInfo(_)
+            | DatabaseCommand::LsInfo(_, _)
+            | DatabaseCommand::ReadComments(_)
+            | DatabaseCommand::ReadPicture(_, _)
+            | DatabaseCommand::Rescan(_)
+            | DatabaseCommand::Search(_)
+            | DatabaseCommand::SearchAdd(_, _)
+            | DatabaseCommand::SearchAddPl(_, _)
+            | DatabaseCommand::Update(_) => {}
+        }
+    }
+}
+
 /// The rows: what the words after each name are read as.
 #[rattlefmt::skip]
 #[tactic(auto, unfolding(crate::specs::Database::rows))]
@@ -66,11 +88,33 @@ pub(crate) fn read(alloc: Global, set: CommandSet, word: &str, words: &[String])
         "find" => DatabaseCommand::Find(selection(alloc, set.everyday, words, Test::Equals)?),
         "findadd" => { let (selection, place) = placed_selection(alloc, set.everyday, words, Test::Equals)?; DatabaseCommand::FindAdd(selection, place) }
         "list" => DatabaseCommand::List(grouping(alloc, set.everyday, words)?),
+        _ => return read_from_listall(alloc, set, word, words),
+    }))
+}
+
+/// The same of the rows from `listall` on.
+#[rattlefmt::skip]
+#[tactic(auto, unfolding(crate::specs::Database::rows_from_listall))]
+fn read_from_listall(alloc: Global, set: CommandSet, word: &str, words: &[String]) -> Result<Option<DatabaseCommand>, Misread>
+    ensures { Gives result (found (rows_from_listall set) word.now (map string_bytes words.now)) }
+{
+    Ok(Some(match word {
         "listall" => DatabaseCommand::ListAll(perhaps(alloc, words)?, set.everyday),
         "listallinfo" => DatabaseCommand::ListAllInfo(perhaps(alloc, words)?),
         "lsinfo" => DatabaseCommand::LsInfo(perhaps(alloc, words)?, set.everyday),
         "readcomments" => DatabaseCommand::ReadComments(one(alloc, words)?),
         "readpicture" => { let (uri, offset) = two(alloc, words)?; DatabaseCommand::ReadPicture(uri, offset) }
+        _ => return read_from_rescan(alloc, set, word, words),
+    }))
+}
+
+/// The same of the rows from `rescan` on.
+#[rattlefmt::skip]
+#[tactic(auto, unfolding(crate::specs::Database::rows_from_rescan))]
+fn read_from_rescan(alloc: Global, set: CommandSet, word: &str, words: &[String]) -> Result<Option<DatabaseCommand>, Misread>
+    ensures { Gives result (found (rows_from_rescan set) word.now (map string_bytes words.now)) }
+{
+    Ok(Some(match word {
         "rescan" => DatabaseCommand::Rescan(perhaps(alloc, words)?),
         "search" => DatabaseCommand::Search(selection(alloc, set.everyday, words, Test::Contains)?),
         "searchadd" => { let (selection, place) = placed_selection(alloc, set.everyday, words, Test::Contains)?; DatabaseCommand::SearchAdd(selection, place) }

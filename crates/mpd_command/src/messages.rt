@@ -9,7 +9,6 @@ use mpd_text::Text;
 use std::alloc::Global;
 
 /// A command by which clients send each other messages.
-#[derive(Drop)]
 pub enum MessageCommand {
     /// `channels`: the channels that have a subscriber.
     Channels,
@@ -21,6 +20,19 @@ pub enum MessageCommand {
     Subscribe(Text),
     /// `unsubscribe CHANNEL`: the client reads a channel no more.
     Unsubscribe(Text),
+}
+
+// Written out, so that a proof goes through one call where it lets one go (docs/DECISIONS.md).
+impl Drop for MessageCommand {
+    fn drop(self) {
+        match self {
+            MessageCommand::Channels
+            | MessageCommand::ReadMessages
+            | MessageCommand::SendMessage(_, _)
+            | MessageCommand::Subscribe(_)
+            | MessageCommand::Unsubscribe(_) => {}
+        }
+    }
 }
 
 /// The rows: what the words after each name are read as.

@@ -30,11 +30,12 @@ macro_rules! commands {
 const COMMANDS: Commands = commands! {
     "add": BASE, "addid": BASE, "albumart": ADDED, "channels": BASE, "clear": BASE, "clearerror": BASE,
     "close": BASE, "commands": BASE, "consume": BASE, "count": BASE, "crossfade": BASE,
-    "currentsong": BASE, "decoders": ADDED, "delete": BASE, "deleteid": BASE, "disableoutput": BASE,
-    "enableoutput": BASE, "find": BASE, "findadd": BASE, "getvol": BASE, "idle": BASE, "kill": BASE,
-    "list": BASE, "listall": BASE, "listallinfo": ADDED, "listmounts": ADDED, "listplaylist": BASE,
-    "listplaylistinfo": BASE, "listplaylists": BASE, "load": BASE, "lsinfo": BASE, "move": BASE,
-    "moveid": BASE, "next": BASE, "noidle": BASE, "notcommands": BASE, "outputs": BASE, "pause": BASE,
+    "currentsong": BASE, "decoders": ADDED, "delete": BASE, "deleteid": BASE, "delpartition": BASE,
+    "disableoutput": BASE, "enableoutput": BASE, "find": BASE, "findadd": BASE, "getvol": BASE,
+    "idle": BASE, "kill": BASE, "list": BASE, "listall": BASE, "listallinfo": ADDED, "listmounts": ADDED,
+    "listpartitions": BASE, "listplaylist": BASE, "listplaylistinfo": BASE, "listplaylists": BASE,
+    "load": BASE, "lsinfo": BASE, "move": BASE, "moveid": BASE, "moveoutput": BASE, "newpartition": BASE,
+    "next": BASE, "noidle": BASE, "notcommands": BASE, "outputs": BASE, "partition": BASE, "pause": BASE,
     "ping": BASE, "play": BASE, "playid": BASE, "playlist": ADDED, "playlistadd": BASE,
     "playlistclear": BASE, "playlistdelete": BASE, "playlistfind": ADDED, "playlistid": BASE,
     "playlistinfo": BASE, "playlistmove": BASE, "playlistsearch": ADDED, "plchanges": BASE,
@@ -42,20 +43,20 @@ const COMMANDS: Commands = commands! {
     "readcomments": ADDED, "readmessages": BASE, "readpicture": ADDED, "rename": BASE, "repeat": BASE,
     "replay_gain_mode": ADDED, "replay_gain_status": ADDED, "rescan": BASE, "rm": BASE, "save": BASE,
     "search": BASE, "searchadd": BASE, "searchaddpl": ADDED, "seek": BASE, "seekcur": BASE,
-    "seekid": BASE, "sendmessage": BASE, "setvol": BASE, "shuffle": BASE, "single": BASE,
-    "stats": ADDED, "status": BASE, "sticker": BASE, "stop": BASE, "subscribe": BASE, "swap": BASE,
-    "swapid": BASE, "tagtypes": BASE, "toggleoutput": BASE, "unsubscribe": BASE, "update": BASE,
-    "urlhandlers": ADDED, "volume": ADDED,
+    "seekid": BASE, "sendmessage": BASE, "setvol": BASE, "shuffle": BASE, "single": BASE, "stats": ADDED,
+    "status": BASE, "sticker": BASE, "stop": BASE, "subscribe": BASE, "swap": BASE, "swapid": BASE,
+    "tagtypes": BASE, "toggleoutput": BASE, "unsubscribe": BASE, "update": BASE, "urlhandlers": ADDED,
+    "volume": ADDED,
 };
 
 /// How many names come before each letter, from `a` on, and before the character after `z`.
 #[rattlefmt::skip]
 const STARTS: &[usize] = &[
-    0, 3, 3, 12, 16, 17, 19, 20, 20, 21, 21, 22, 31, 33, 36, 37, 55, 55, 65, 83, 85, 88, 89, 89, 89, 89, 89,
+    0, 3, 3, 12, 17, 18, 20, 21, 21, 22, 22, 23, 33, 36, 40, 41, 60, 60, 70, 88, 90, 93, 94, 94, 94, 94, 94,
 ];
 
 /// The names of all commands, in their byte order (MPD protocol reference, Command reference).
-#[tactic(auto, unfolding(crate::specs::Names::all_names, crate::specs::Connection::rows, crate::specs::Database::rows, crate::specs::Messages::rows, crate::specs::Options::rows, crate::specs::Outputs::rows, crate::specs::Playback::rows, crate::specs::Playlists::rows, crate::specs::Queue::rows, crate::specs::Status::rows, crate::specs::Stickers::rows,))]
+#[tactic(auto, unfolding(crate::specs::Names::all_names, crate::specs::Connection::rows, crate::specs::Connection::rows_from_notcommands, crate::specs::Database::rows, crate::specs::Database::rows_from_listall, crate::specs::Database::rows_from_rescan, crate::specs::Messages::rows, crate::specs::Options::rows, crate::specs::Options::rows_from_replay_gain_mode, crate::specs::Outputs::rows, crate::specs::Partitions::rows, crate::specs::Playback::rows, crate::specs::Playback::rows_from_seek, crate::specs::Playlists::rows, crate::specs::Playlists::rows_from_playlistadd, crate::specs::Queue::rows, crate::specs::Queue::rows_from_playlist, crate::specs::Queue::rows_from_prio, crate::specs::Status::rows, crate::specs::Stickers::rows,))]
 pub fn names() -> &'static [&'static str]
     ensures { map (λ name. name.now) result.now ≡ all_names }
 {
@@ -63,7 +64,7 @@ pub fn names() -> &'static [&'static str]
 }
 
 /// Whether the everyday profile adds the command of each name.
-#[tactic(auto, unfolding(crate::specs::Names::all_names, crate::specs::Connection::rows, crate::specs::Database::rows, crate::specs::Messages::rows, crate::specs::Options::rows, crate::specs::Outputs::rows, crate::specs::Playback::rows, crate::specs::Playlists::rows, crate::specs::Queue::rows, crate::specs::Status::rows, crate::specs::Stickers::rows,))]
+#[tactic(auto, unfolding(crate::specs::Names::all_names, crate::specs::Connection::rows, crate::specs::Connection::rows_from_notcommands, crate::specs::Database::rows, crate::specs::Database::rows_from_listall, crate::specs::Database::rows_from_rescan, crate::specs::Messages::rows, crate::specs::Options::rows, crate::specs::Options::rows_from_replay_gain_mode, crate::specs::Outputs::rows, crate::specs::Partitions::rows, crate::specs::Playback::rows, crate::specs::Playback::rows_from_seek, crate::specs::Playlists::rows, crate::specs::Playlists::rows_from_playlistadd, crate::specs::Queue::rows, crate::specs::Queue::rows_from_playlist, crate::specs::Queue::rows_from_prio, crate::specs::Status::rows, crate::specs::Stickers::rows,))]
 fn added() -> &'static [bool]
     ensures { result.now ≡ map is_added_name all_names }
 {
@@ -71,7 +72,7 @@ fn added() -> &'static [bool]
 }
 
 /// How many names come before each letter, from `a` on, and before the character after `z`.
-#[tactic(auto, unfolding(crate::specs::Names::starts, crate::specs::Names::all_names, crate::specs::Connection::rows, crate::specs::Database::rows, crate::specs::Messages::rows, crate::specs::Options::rows, crate::specs::Outputs::rows, crate::specs::Playback::rows, crate::specs::Playlists::rows, crate::specs::Queue::rows, crate::specs::Status::rows, crate::specs::Stickers::rows,))]
+#[tactic(auto, unfolding(crate::specs::Names::starts, crate::specs::Names::all_names, crate::specs::Connection::rows, crate::specs::Connection::rows_from_notcommands, crate::specs::Database::rows, crate::specs::Database::rows_from_listall, crate::specs::Database::rows_from_rescan, crate::specs::Messages::rows, crate::specs::Options::rows, crate::specs::Options::rows_from_replay_gain_mode, crate::specs::Outputs::rows, crate::specs::Partitions::rows, crate::specs::Playback::rows, crate::specs::Playback::rows_from_seek, crate::specs::Playlists::rows, crate::specs::Playlists::rows_from_playlistadd, crate::specs::Queue::rows, crate::specs::Queue::rows_from_playlist, crate::specs::Queue::rows_from_prio, crate::specs::Status::rows, crate::specs::Stickers::rows,))]
 fn starts() -> &'static [usize]
     ensures { result.now ≡ starts_lem }
 {

@@ -2,7 +2,7 @@
 ghost use Rattle.std.specs.Prelude.{string_bytes, map};
 ghost use Rattle.command_arguments.specs.Readers.{Gives};
 ghost use Rattle.mpd_command.specs.Tables.{found};
-ghost use Rattle.mpd_command.specs.Options.{rows};
+ghost use Rattle.mpd_command.specs.Options.{rows, rows_from_replay_gain_mode};
 
 use command_arguments::{
     FadeSeconds, Misread, ReplayGain, SongMode, Volume, VolumeChange, none, one,
@@ -46,6 +46,17 @@ pub(crate) fn read(alloc: Global, word: &str, words: &[String]) -> Result<Option
         "getvol" => none(words, OptionCommand::GetVol)?,
         "random" => OptionCommand::Random(one(alloc, words)?),
         "repeat" => OptionCommand::Repeat(one(alloc, words)?),
+        _ => return read_from_replay_gain_mode(alloc, word, words),
+    }))
+}
+
+/// The same of the rows from `replay_gain_mode` on.
+#[rattlefmt::skip]
+#[tactic(auto, unfolding(crate::specs::Options::rows_from_replay_gain_mode))]
+fn read_from_replay_gain_mode(alloc: Global, word: &str, words: &[String]) -> Result<Option<OptionCommand>, Misread>
+    ensures { Gives result (found rows_from_replay_gain_mode word.now (map string_bytes words.now)) }
+{
+    Ok(Some(match word {
         "replay_gain_mode" => OptionCommand::SetReplayGain(one(alloc, words)?),
         "replay_gain_status" => none(words, OptionCommand::ReplayGainStatus)?,
         "setvol" => OptionCommand::SetVol(one(alloc, words)?),

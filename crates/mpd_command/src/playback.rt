@@ -2,7 +2,7 @@
 ghost use Rattle.std.specs.Prelude.{string_bytes, map};
 ghost use Rattle.command_arguments.specs.Readers.{Gives};
 ghost use Rattle.mpd_command.specs.Tables.{found};
-ghost use Rattle.mpd_command.specs.Playback.{number as number_lem, rows};
+ghost use Rattle.mpd_command.specs.Playback.{number as number_lem, rows, rows_from_seek};
 
 use crate::command_set::CommandSet;
 use command_arguments::{Misread, Seeking, none, number_or_none, one, perhaps, two};
@@ -44,6 +44,17 @@ pub(crate) fn read(alloc: Global, set: CommandSet, word: &str, words: &[String])
         "play" => PlaybackCommand::Play(number(alloc, set.everyday, words)?),
         "playid" => PlaybackCommand::PlayId(number(alloc, set.everyday, words)?),
         "previous" => none(words, PlaybackCommand::Previous)?,
+        _ => return read_from_seek(alloc, word, words),
+    }))
+}
+
+/// The same of the rows from `seek` on.
+#[rattlefmt::skip]
+#[tactic(auto, unfolding(crate::specs::Playback::rows_from_seek))]
+fn read_from_seek(alloc: Global, word: &str, words: &[String]) -> Result<Option<PlaybackCommand>, Misread>
+    ensures { Gives result (found rows_from_seek word.now (map string_bytes words.now)) }
+{
+    Ok(Some(match word {
         "seek" => { let (place, time) = two(alloc, words)?; PlaybackCommand::Seek(place, time) }
         "seekcur" => PlaybackCommand::SeekCur(one(alloc, words)?),
         "seekid" => { let (id, time) = two(alloc, words)?; PlaybackCommand::SeekId(id, time) }

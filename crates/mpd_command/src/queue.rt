@@ -2,7 +2,7 @@
 ghost use Rattle.std.specs.Prelude.{string_bytes, map};
 ghost use Rattle.command_arguments.specs.Readers.{Gives};
 ghost use Rattle.mpd_command.specs.Tables.{found};
-ghost use Rattle.mpd_command.specs.Queue.{rows, uri_perhaps_place_of};
+ghost use Rattle.mpd_command.specs.Queue.{rows, rows_from_playlist, rows_from_prio, uri_perhaps_place_of};
 
 use crate::command_set::CommandSet;
 use command_arguments::{
@@ -13,7 +13,6 @@ use mpd_text::{Range, Sequence};
 use std::alloc::Global;
 
 /// A command of the queue.
-#[derive(Drop)]
 pub enum QueueCommand {
     /// `add URI`: puts a song of the library, or all songs under a folder, at the end of the queue; in the
     /// everyday profile `add URI [POSITION]`, at its end or at a place.
@@ -58,6 +57,33 @@ pub enum QueueCommand {
     SwapId(u32, u32),
 }
 
+// Written out, so that a proof goes through one call where it lets one go (docs/DECISIONS.md).
+impl Drop for QueueCommand {
+    fn drop(self) {
+        match self {
+            QueueCommand::Add(_, _)
+            | QueueCommand::AddId(_, _)
+            | QueueCommand::Clear
+            | QueueCommand::Delete(_)
+            | QueueCommand::DeleteId(_)
+            | QueueCommand::Move(_, _)
+            | QueueCommand::MoveId(_, _)
+            | QueueCommand::Playlist
+            | QueueCommand::PlaylistFind(_)
+            | QueueCommand::PlaylistId(_)
+            | QueueCommand::PlaylistInfo(_)
+            | QueueCommand::PlaylistSearch(_)
+            | QueueCommand::PlChanges(_, _)
+            | QueueCommand::PlChangesPosId(_, _)
+            | QueueCommand::Prio(_, _)
+            | QueueCommand::PrioId(_, _)
+            | QueueCommand::Shuffle(_)
+            | QueueCommand::Swap(_, _)
+            | QueueCommand::SwapId(_, _) => {}
+        }
+    }
+}
+
 /// The rows: what the words after each name are read as.
 #[rattlefmt::skip]
 #[tactic(auto, unfolding(crate::specs::Queue::rows))]
@@ -72,6 +98,17 @@ pub(crate) fn read(alloc: Global, set: CommandSet, word: &str, words: &[String])
         "deleteid" => QueueCommand::DeleteId(one(alloc, words)?),
         "move" => { let (range, to) = two(alloc, words)?; QueueCommand::Move(range, to) }
         "moveid" => { let (id, to) = two(alloc, words)?; QueueCommand::MoveId(id, to) }
+        _ => return read_from_playlist(alloc, word, words),
+    }))
+}
+
+/// The same of the rows from `playlist` on.
+#[rattlefmt::skip]
+#[tactic(auto, unfolding(crate::specs::Queue::rows_from_playlist))]
+fn read_from_playlist(alloc: Global, word: &str, words: &[String]) -> Result<Option<QueueCommand>, Misread>
+    ensures { Gives result (found rows_from_playlist word.now (map string_bytes words.now)) }
+{
+    Ok(Some(match word {
         "playlist" => none(words, QueueCommand::Playlist)?,
         "playlistfind" => QueueCommand::PlaylistFind(filter(alloc, Vocabulary::Known, words, Test::Equals)?),
         "playlistid" => QueueCommand::PlaylistId(perhaps(alloc, words)?),
@@ -79,6 +116,17 @@ pub(crate) fn read(alloc: Global, set: CommandSet, word: &str, words: &[String])
         "playlistsearch" => QueueCommand::PlaylistSearch(filter(alloc, Vocabulary::Known, words, Test::Contains)?),
         "plchanges" => { let (version, range) = one_perhaps(alloc, words)?; QueueCommand::PlChanges(version, range) }
         "plchangesposid" => { let (version, range) = one_perhaps(alloc, words)?; QueueCommand::PlChangesPosId(version, range) }
+        _ => return read_from_prio(alloc, word, words),
+    }))
+}
+
+/// The same of the rows from `prio` on.
+#[rattlefmt::skip]
+#[tactic(auto, unfolding(crate::specs::Queue::rows_from_prio))]
+fn read_from_prio(alloc: Global, word: &str, words: &[String]) -> Result<Option<QueueCommand>, Misread>
+    ensures { Gives result (found rows_from_prio word.now (map string_bytes words.now)) }
+{
+    Ok(Some(match word {
         "prio" => { let (priority, ranges) = one_many(alloc, words)?; QueueCommand::Prio(priority, ranges) }
         "prioid" => { let (priority, ids) = one_many(alloc, words)?; QueueCommand::PrioId(priority, ids) }
         "shuffle" => QueueCommand::Shuffle(perhaps(alloc, words)?),

@@ -1,6 +1,6 @@
 //! What is asked of stickers: the words after `sticker`.
 ghost use Rattle.std.specs.Prelude.{string_bytes, map};
-ghost use Rattle.mpd_command.specs.Stickers.{rows, sticker_of, other_of, get_of, set_of, delete_of, list_of, find_of, target_of, operator_of, comparison_of};
+ghost use Rattle.mpd_command.specs.Stickers.{rows, sticker_of, other_of, get_of, set_of, delete_of, list_of, find_of, find_any_of, find_compared_of, target_of, operator_of, comparison_of};
 ghost use Rattle.command_arguments.specs.Readers.{Gives};
 ghost use Rattle.mpd_command.specs.Tables.{found};
 
@@ -17,7 +17,6 @@ pub enum Target {
 }
 
 /// What is asked of stickers (MPD protocol reference, Stickers).
-#[derive(Drop)]
 pub enum StickerCommand {
     /// `sticker get song|playlist URI NAME`: the value of the sticker that has a name.
     Get(Target, Text),
@@ -31,6 +30,19 @@ pub enum StickerCommand {
     /// `sticker find song|playlist URI NAME [=|<|> VALUE]`: the songs under a folder, or the stored
     /// playlists, that have a sticker with a name, of any value or of one that compares so.
     Find(Target, Text, Option<Comparison>),
+}
+
+// Written out, so that a proof goes through one call where it lets one go (docs/DECISIONS.md).
+impl Drop for StickerCommand {
+    fn drop(self) {
+        match self {
+            StickerCommand::Get(_, _)
+            | StickerCommand::Set(_, _, _)
+            | StickerCommand::Delete(_, _)
+            | StickerCommand::List(_)
+            | StickerCommand::Find(_, _, _) => {}
+        }
+    }
 }
 
 /// What the value of a sticker has to be: equal to this one, less or greater.
@@ -159,19 +171,45 @@ fn find(alloc: Global, words: &[String]) -> Result<StickerCommand, Misread>
     ensures { Gives result (find_of (map string_bytes words.now)) }
 {
     match words {
-        [kind, uri, name] => {
-            let target = read_target(alloc, kind.as_str(), uri.as_str())?;
-            let name = Text::new(alloc, name.as_str())?;
-            Ok(StickerCommand::Find(target, name, None))
-        }
-        [kind, uri, name, operator, value] => {
-            let target = read_target(alloc, kind.as_str(), uri.as_str())?;
-            let name = Text::new(alloc, name.as_str())?;
-            let comparison = compared(alloc, operator.as_str(), value.as_str())?;
-            Ok(StickerCommand::Find(target, name, Some(comparison)))
-        }
+        [kind, uri, name] => find_any(alloc, kind.as_str(), uri.as_str(), name.as_str()),
+        [kind, uri, name, operator, value] => find_compared(
+            alloc,
+            kind.as_str(),
+            uri.as_str(),
+            name.as_str(),
+            operator.as_str(),
+            value.as_str(),
+        ),
         _ => Err(Misread::WrongNumber),
     }
+}
+
+/// Those that have a sticker of this name.
+fn find_any(alloc: Global, kind: &str, uri: &str, name: &str) -> Result<StickerCommand, Misread>
+    ensures { Gives result (find_any_of kind.now uri.now name.now) }
+{
+    Ok(StickerCommand::Find(
+        read_target(alloc, kind, uri)?,
+        Text::new(alloc, name)?,
+        None,
+    ))
+}
+
+/// Those whose sticker of this name compares so.
+fn find_compared(
+    alloc: Global,
+    kind: &str,
+    uri: &str,
+    name: &str,
+    operator: &str,
+    value: &str,
+) -> Result<StickerCommand, Misread>
+    ensures { Gives result (find_compared_of kind.now uri.now name.now operator.now value.now) }
+{
+    let target = read_target(alloc, kind, uri)?;
+    let name = Text::new(alloc, name)?;
+    let comparison = compared(alloc, operator, value)?;
+    Ok(StickerCommand::Find(target, name, Some(comparison)))
 }
 
 /// The target of a type and a URI.

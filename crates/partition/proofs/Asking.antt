@@ -4,7 +4,7 @@ use Rattle.std.specs.Prelude.{insert}
 use Rattle.std.specs.List.{list_any, position_or_len}
 use Rattle.std.proofs.lemmas.Bool.{eqb-true}
 use Rattle.idle_notes.specs.declared.sets.Subsystems.{Subsystems}
-use Rattle.idle_notes.specs.Notes.{fresh, waits, cancelled, noted, notice_of, due}
+use Rattle.idle_notes.specs.Notes.{everything, fresh, waits, cancelled, noted, notice_of, due}
 use Rattle.mpd_text.specs.declared.songs.song.TagName.{TagName}
 use Rattle.idle_notes.specs.Sets.{is_nonempty}
 use Rattle.player_state.specs.declared.state.Library.{Library}
@@ -19,7 +19,7 @@ use Rattle.player_events.specs.declared.event.Event.TheVariants.{Connect, Discon
 use Rattle.player_state.specs.declared.effect.AudioStep.TheVariants.{Settles}
 use Rattle.player_state.specs.Outputs.{is_output}
 use Rattle.transitions.specs.declared.reply.Move.{Move}
-use Rattle.transitions.specs.declared.reply.Move.TheVariants.{Stay, Wait, Learn, Resume, Join, Show}
+use Rattle.transitions.specs.declared.reply.Move.TheVariants.{Stay, Wait, Learn, Resume, Join, Show, Enter}
 use Rattle.transitions.specs.declared.asked.Stand.{Stand}
 use Rattle.transitions.specs.declared.asked.Stand.TheVariants.{Alone, InList}
 use Rattle.player_state.specs.declared.state.Client.{Client}
@@ -28,14 +28,35 @@ use Rattle.transitions.specs.Answers.{Answer, ResponseData, refused_by_shelf, re
 use Rattle.transitions.specs.Shelves.{is_written}
 use Rattle.transitions.specs.declared.shelf_calls.StoreReply.{StoreReply}
 use Rattle.shelf.specs.declared.faults.ShelfFault.{ShelfFault}
-use Rattle.idle_clients.specs.Clients.{notified, at, moved, move_of, newcomer, shown}
+use Rattle.idle_clients.specs.Clients.{entered, notified, at, moved, move_of, newcomer, shown}
 use Rattle.status_commands.specs.Connection.{choice_of}
 use Rattle.status_commands.specs.Status.{Wish, ToWait, ToGoOn, ToShow, idles, resumes, wish_of}
 use Rattle.transitions.specs.Transitions.{TransitionData}
 use Rattle.idle_clients.specs.Clients.{client_of}
-use Rattle.partition.specs.Step.{absent, asked_by, result_of, ends_by, greeting, once_written, transition_of, transition_line, transition_wished, written_transition}
+use Rattle.partition.specs.Image.{Overview}
+use Rattle.partition.specs.Step.{absent, asked_by, ends_by, failure, greeting, have, once_written, output_turn, response_to_new, speaker_in, transition_of, transition_line, transition_run, transition_there, transition_wished, want, written_transition}
+use Rattle.mpd_command.specs.declared.partitions.PartitionCommand.{PartitionCommand}
+use Rattle.mpd_command.specs.declared.partitions.PartitionCommand.TheVariants.{DelPartition, ListPartitions, MoveOutput, NewPartition, Partition}
+use Rattle.mpd_text.specs.declared.answers.answer.ErrorNumber.TheVariants.{Argument, Exist, System}
+use Rattle.parts.specs.Openings.{OpeningsData}
+use Rattle.parts.specs.Parts.{Known, free_place, holder, named}
+use Rattle.parts.specs.declared.crossing.Crossing.TheVariants.{Closes, Brings}
+use Rattle.partition_commands.specs.Partitions.{Seated, begins, brings, by_name, done, ends, goes, is_partition_name, is_used, lines_of_names, moves, names_in, output_named, planned, refused}
+use Rattle.transitions.specs.CommandResults.{bad_name, shows}
+use Rattle.transitions.specs.declared.asked.Asked.{Asked}
+use Rattle.transitions.specs.declared.shelf_calls.Read.{Read}
+use Rattle.status_commands.specs.Connection.{result_of as connection_result}
+use Rattle.library_commands.specs.Database.{result_of as database_result}
+use Rattle.status_commands.specs.Options.{result_of as options_result}
+use Rattle.queue_commands.specs.Playback.{result_of as playback_result}
+use Rattle.status_commands.specs.Outputs.{result_of as outputs_result}
+use Rattle.queue_commands.specs.Queue.{result_of as queue_result}
+use Rattle.status_commands.specs.Messages.{result_of as messages_result}
+use Rattle.library_commands.specs.Playlists.{result_of as playlists_result}
+use Rattle.library_commands.specs.Stickers.{result_of as stickers_result}
+use Rattle.status_commands.specs.Status.{result_of as status_result}
 use Rattle.player_events.specs.Events.{name_of}
-use Rattle.transitions.specs.Transitions.{acts, departs, quiet}
+use Rattle.transitions.specs.Transitions.{acts, crosses, departs, enters, quiet, transition_by}
 use Rattle.partition.specs.World.{is_learning}
 use Rattle.partition.specs.Notices.{IsIn}
 use Rattle.partition.proofs.Members.{of_map}
@@ -49,6 +70,7 @@ Quiet Learn = ⊥
 Quiet Resume = Unit {0}
 Quiet Join = Unit {0}
 Quiet (Show tags) = Unit {0}
+Quiet (Enter place) = Unit {0}
 
 pub quiet_unheard : (move : Move) → Quiet move → is_learning move ≡ true → ⊥
 quiet_unheard Stay q e = cc
@@ -57,6 +79,7 @@ quiet_unheard Learn q e = q
 quiet_unheard Resume q e = cc
 quiet_unheard Join q e = cc
 quiet_unheard (Show tags) q e = cc
+quiet_unheard (Enter place) q e = cc
 
 pub quiet_unwaiting : (move : Move) (names : Subsystems) → Quiet move → move ≡ Wait names → ⊥
 quiet_unwaiting Stay names q e = cc
@@ -65,6 +88,7 @@ quiet_unwaiting Learn names q e = q
 quiet_unwaiting Resume names q e = cc
 quiet_unwaiting Join names q e = cc
 quiet_unwaiting (Show tags) names q e = cc
+quiet_unwaiting (Enter place) names q e = cc
 
 -- an answer to a client that makes no move
 quiet_stays : (answer : Answer) → Quiet (move_of (stays answer))
@@ -122,7 +146,66 @@ wish_is _ named e = cc
 abbrev pub transition_idle : Client → Subsystems → TransitionData
 transition_idle client named = quiet (idles named (notice_of (waits named client.pending)))
 
-module _ (part : Part) (library : Library) (heard : StoreReply) (clients : List Client) (number : ℕ) (k : Client) (is_there : client_of number clients ≡ Some k) where
+-- a command of partitions makes a client go at most
+quiet_named : (asked : Asked) (name : List ℕ) (t : TransitionData) → Quiet (move_of t.response) → Quiet (move_of (by_name asked name t).response)
+quiet_named asked name t q = quiet_if (is_partition_name name) t (transition_by (bad_name asked name)) q (quiet_stays (bad_name asked name).answer)
+
+quiet_goes : (asked : Asked) (own : ℕ) (found : Option ℕ) → Quiet (move_of (goes asked own found).response)
+quiet_goes asked own None = tt
+quiet_goes asked own (Some to) = quiet_if (to == own) (done asked) (enters asked to) tt tt
+
+quiet_begins : (fs : List Known) (openings : OpeningsData) (asked : Asked) (name : List ℕ) (place : Option ℕ) → Quiet (move_of (begins fs openings asked name place).response)
+quiet_begins fs openings asked name None = tt
+quiet_begins fs openings asked name (Some place) = tt
+
+quiet_ends : (fs : List Known) (ks : List Seated) (asked : Asked) (found : Option ℕ) → Quiet (move_of (ends fs ks asked found).response)
+quiet_ends fs ks asked None = tt
+quiet_ends fs ks asked (Some place) =
+    let used : TransitionData = refused asked System (codes "partition is in use") in
+    let closes_it : TransitionData = crosses asked (Closes place) in
+    quiet_if (place == 0) (refused asked Argument (codes "partition is the default")) (if is_used fs ks place then used else closes_it) tt
+    (quiet_if (is_used fs ks place) used closes_it tt tt)
+
+quiet_brings : (asked : Asked) (output own : ℕ) (found : Option ℕ) → Quiet (move_of (brings asked output own found).response)
+quiet_brings asked output own None = tt
+quiet_brings asked output own (Some place) = quiet_if (place == own) (done asked) (crosses asked (Brings output own)) tt tt
+
+quiet_moves : (fs : List Known) (asked : Asked) (own : ℕ) (found : Option ℕ) → Quiet (move_of (moves fs asked own found).response)
+quiet_moves fs asked own None = tt
+quiet_moves fs asked own (Some output) = quiet_brings asked output own (holder output fs)
+
+quiet_planned : (fs : List Known) (ks : List Seated) (openings : OpeningsData) (asked : Asked) (own : ℕ) (command : PartitionCommand)
+    → Quiet (move_of (planned fs ks openings asked own command).response)
+unfolding planned
+quiet_planned fs ks openings asked own (DelPartition name) = quiet_named asked name (ends fs ks asked (named name fs)) (quiet_ends fs ks asked (named name fs))
+quiet_planned fs ks openings asked own ListPartitions = quiet_stays (shows asked (lines_of_names (names_in fs))).answer
+quiet_planned fs ks openings asked own (MoveOutput name) = quiet_moves fs asked own (output_named name fs)
+quiet_planned fs ks openings asked own (NewPartition name) =
+    let place : Option ℕ = if nat_le 16 (length fs) then None else free_place fs in
+    let exists : TransitionData = refused asked Exist (codes "partition exists") in
+    let new : TransitionData = begins fs openings asked name place in
+    quiet_named asked name (if is_some (named name fs) then exists else new) (quiet_if (is_some (named name fs)) exists new tt (quiet_begins fs openings asked name place))
+quiet_planned fs ks openings asked own (Partition name) = quiet_named asked name (goes asked own (named name fs)) (quiet_goes asked own (named name fs))
+
+-- every command that is run, but for the wishes, makes a client go at most
+quiet_run : (o : Overview) (asked : Asked) (part : Part) (library : Library) (read : Read) (command : Command) → Quiet (move_of (transition_run o asked part library read command).response)
+quiet_run o asked part library read (command_group.Status command) = quiet_stays (status_result asked part library command).answer
+quiet_run o asked part library read (command_group.Options command) = quiet_stays (options_result asked part command).answer
+quiet_run o asked part library read (command_group.Playback command) = quiet_stays (playback_result asked part library command).answer
+quiet_run o asked part library read (command_group.Queue command) = quiet_stays (queue_result asked part library command).answer
+quiet_run o asked part library read (command_group.Playlists command) = quiet_stays (playlists_result asked part library read command).answer
+quiet_run o asked part library read (command_group.Database command) = quiet_stays (database_result asked part library read command).answer
+quiet_run o asked part library read (command_group.Stickers command) = quiet_stays (stickers_result asked library read command).answer
+quiet_run o asked part library read (command_group.Connection command) = quiet_stays (connection_result asked command).answer
+quiet_run o asked part library read (command_group.Outputs command) = quiet_stays (outputs_result asked part command).answer
+quiet_run o asked part library read (command_group.Messages command) = quiet_stays (messages_result asked part command).answer
+quiet_run o asked part library read (command_group.Partitions command) = quiet_planned o.parts o.clients o.openings asked part.place command
+
+quiet_there : (o : Overview) (asked : Asked) (part : Option Part) (library : Library) (read : Read) (command : Command) → Quiet (move_of (transition_there o asked part library read command).response)
+quiet_there o asked None library read command = tt
+quiet_there o asked (Some part) library read command = quiet_run o asked part library read command
+
+module _ (o : Overview) (part : Option Part) (library : Library) (heard : StoreReply) (clients : List Client) (number : ℕ) (k : Client) (is_there : client_of number clients ≡ Some k) where
   -- a line of a client that is there: it is closed, or this is done
   abbrev line : Bool → TransitionData → TransitionData
   line ends done = if is_some k.pending.waiting && not ends then departs k.number else done
@@ -132,7 +215,7 @@ module _ (part : Part) (library : Library) (heard : StoreReply) (clients : List 
 
   module _ (name : Name) (command : Command) where
     abbrev run : Stand → Option Wish → TransitionData
-    run stand wish = transition_wished (asked_by k name stand) k (result_of (asked_by k name stand) part library heard.read command) wish
+    run stand wish = transition_wished (asked_by k name stand) k (transition_there o (asked_by k name stand) part library heard.read command) wish
 
     abbrev Kind : Stand → Option Wish → Type 0
     Kind stand wish = Quiet (move_of (line (ends_by stand wish) (run stand wish)).response) ⊎ IsAsking clients (Line number stand (Run name command) heard)
@@ -150,7 +233,7 @@ module _ (part : Part) (library : Library) (heard : StoreReply) (clients : List 
     shows_quietly stand choice = quiet_shown (succeeds stand (codes "")) (choice k.tags)
 
     kind_of_wish : (stand : Stand) (wish : Option Wish) → wish_of command ≡ wish → Kind stand wish
-    kind_of_wish stand None e = inl (quiet_line (ends_by stand None) (run stand None) (quiet_stays (result_of (asked_by k name stand) part library heard.read command).answer))
+    kind_of_wish stand None e = inl (quiet_line (ends_by stand None) (run stand None) (quiet_there o (asked_by k name stand) part library heard.read command))
     kind_of_wish Alone (Some (ToWait named)) e = asking named e
     kind_of_wish Alone (Some ToGoOn) e = inl (quiet_line true (run Alone (Some ToGoOn)) (quiet_resumes k))
     kind_of_wish Alone (Some (ToShow choice)) e = inl (quiet_line false (run Alone (Some (ToShow choice))) (shows_quietly Alone choice))
@@ -159,33 +242,50 @@ module _ (part : Part) (library : Library) (heard : StoreReply) (clients : List 
     kind_of_wish (InList form place) (Some (ToShow choice)) e =
         inl (quiet_line false (run (InList form place) (Some (ToShow choice))) (shows_quietly (InList form place) choice))
 
-  kind_of_line : (stand : Stand) (request : Request) → Quiet (move_of (transition_line part library (Some k) stand request heard.read).response) ⊎ IsAsking clients (Line number stand request heard)
+  kind_of_line : (stand : Stand) (request : Request) → Quiet (move_of (transition_line o part library (Some k) stand request heard.read).response) ⊎ IsAsking clients (Line number stand request heard)
   kind_of_line Alone (Run name command) = kind_of_wish name command Alone (wish_of command) refl
   kind_of_line (InList form place) (Run name command) = kind_of_wish name command (InList form place) (wish_of command) refl
   kind_of_line Alone (Refused ack) = inl (quiet_line false (quiet (stays (refuses Alone ack.command ack.number ack.text))) tt)
   kind_of_line (InList form place) (Refused ack) = inl (quiet_line false (quiet (stays (refuses (InList form place) ack.command ack.number ack.text))) tt)
 
+quiet_turn : (part : Option Part) (output written discarded : ℕ) (failed : Bool) → Quiet (move_of (output_turn part output (Settles output written discarded failed)).response)
+quiet_turn None output written discarded failed = tt
+quiet_turn (Some part) output written discarded failed = quiet_if (is_output part.outputs output) (acts (Settles output written discarded failed)) absent tt tt
+
+quiet_want : (ended : Bool) (part : Option Part) (owes : List Bool) → Quiet (move_of (want ended part owes).response)
+quiet_want ended None owes = tt
+quiet_want ended (Some part) owes = tt
+
+quiet_have : (ended : Bool) (part : Option Part) (number frames : ℕ) → Quiet (move_of (have ended part number frames).response)
+quiet_have ended None number frames = tt
+quiet_have ended (Some part) number frames = tt
+
+quiet_failure : (part : Option Part) (number : ℕ) (partner : Bool) → Quiet (move_of (failure part number partner).response)
+quiet_failure None number partner = tt
+quiet_failure (Some part) number partner = tt
+
+quiet_new : (clients : List Seated) (client : Option Client) → Quiet (move_of (response_to_new clients client))
+quiet_new clients None = quiet_response (nat_le 64 (length clients)) (stays shut) greeting tt tt
+quiet_new clients (Some client) = tt
+
 -- each event makes a quiet move, or is `idle`
-pub kind_of : (ended : Bool) (part : Part) (library : Library) (clients : List Client) (event : Event)
-    → Quiet (move_of (transition_of ended part library clients event).response) ⊎ IsAsking clients event
-kind_of ended part library clients (Connect number) =
-    let full : Bool = nat_le 64 (length clients) in
-    inl (quiet_response (is_some (client_of number clients)) (stays (tells (codes ""))) (if full then stays shut else greeting) tt (quiet_response full (stays shut) greeting tt tt))
-kind_of ended part library clients (Disconnect number) = inl tt
-kind_of ended part library clients ScanQuestion = inl tt
-kind_of ended part library clients (ScanResult songs second) = inl tt
-kind_of ended part library clients (Want owes) = inl tt
-kind_of ended part library clients (Have number frames) = inl tt
-kind_of ended part library clients (Failed number partner) = inl tt
-kind_of ended part library clients End = inl tt
-kind_of ended part library clients (OutputTurn output written discarded failed) =
-    inl (quiet_if (is_output part.outputs output) (acts (Settles output written discarded failed)) absent tt tt)
-kind_of ended part library clients (Line number stand request heard) =
-    let cases : (o : Option Client) → client_of number clients ≡ o → Quiet (move_of (transition_line part library o stand request heard.read).response) ⊎ IsAsking clients (Line number stand request heard) =
-    λ o. elim o as (λ o. client_of number clients ≡ o → Quiet (move_of (transition_line part library o stand request heard.read).response) ⊎ IsAsking clients (Line number stand request heard))
-    [ None ↦ λ e. inl tt | Some k ↦ λ e. kind_of_line part library heard clients number k e stand request ] in
+pub kind_of : (o : Overview) (part : Option Part) (library : Library) (clients : List Client) (event : Event)
+    → Quiet (move_of (transition_of o part library (speaker_in clients event) event).response) ⊎ IsAsking clients event
+kind_of o part library clients (Connect number) = inl (quiet_new o.clients (client_of number clients))
+kind_of o part library clients (Disconnect number) = inl tt
+kind_of o part library clients ScanQuestion = inl tt
+kind_of o part library clients (ScanResult songs second) = inl tt
+kind_of o part library clients (Want place owes) = inl (quiet_want o.ended part owes)
+kind_of o part library clients (Have place number frames) = inl (quiet_have o.ended part number frames)
+kind_of o part library clients (Failed place number partner) = inl (quiet_failure part number partner)
+kind_of o part library clients End = inl tt
+kind_of o part library clients (OutputTurn output written discarded failed) = inl (quiet_turn part output written discarded failed)
+kind_of o part library clients (Line number stand request heard) =
+    let Kind : Option Client → Type 0 = λ c. Quiet (move_of (transition_line o part library c stand request heard.read).response) ⊎ IsAsking clients (Line number stand request heard) in
+    let cases : (c : Option Client) → client_of number clients ≡ c → Kind c =
+    λ c. elim c as (λ c. client_of number clients ≡ c → Kind c) [ None ↦ λ e. inl tt | Some k ↦ λ e. kind_of_line o part library heard clients number k e stand request ] in
     elim (cases (client_of number clients) refl) [
-      | inl q ↦ inl (quiet_written stand request heard.refused (transition_line part library (client_of number clients) stand request heard.read) q)
+      | inl q ↦ inl (quiet_written stand request heard.refused (transition_line o part library (client_of number clients) stand request heard.read) q)
       | inr a ↦ inr a
     ]
 
@@ -239,6 +339,9 @@ module _ (n : ℕ) (r : Client → Subsystems) where
   does_some (Show tags) k named e =
       elim (k.number == n) as (λ b. (if b then record k { tags = tags } else k).pending.waiting ≡ Some named → (k.pending.waiting ≡ Some named) ⊎ ((Show tags ≡ Wait named) × (k.number ≡ n)))
       [ true ↦ λ h. inl h | false ↦ λ h. inl h ] e
+  does_some (Enter place) k named e =
+      elim (k.number == n) as (λ b. (if b then record k { place = place; pending = everything } else k).pending.waiting ≡ Some named → (k.pending.waiting ≡ Some named) ⊎ ((Enter place ≡ Wait named) × (k.number ≡ n)))
+      [ true ↦ λ h. cc | false ↦ λ h. inl h ] e
 
   of_insert : (k new : Client) (xs : List Client) (place : ℕ) → IsIn k (insert xs place new) → IsIn k xs ⊎ (new ≡ k)
   of_insert k new [] zero (inl e) = inr e
@@ -258,6 +361,7 @@ module _ (n : ℕ) (r : Client → Subsystems) where
   of_moved Learn k ks named e w = of_map (at n (λ p. fresh)) k ks e
   of_moved Resume k ks named e w = of_map (at n cancelled) k ks e
   of_moved (Show tags) k ks named e w = of_map (shown n tags) k ks e
+  of_moved (Enter place) k ks named e w = of_map (entered n place) k ks e
   of_moved Join k ks named e w =
       let place : ℕ = position_or_len (λ c. nat_lt n c.number) ks in
       let new : Client = newcomer n in

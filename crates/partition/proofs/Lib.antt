@@ -10,6 +10,7 @@ pub mod Traces
 pub mod Members
 pub mod WorldTransitions
 pub mod Notified
+pub mod Opened
 pub mod Parts
 pub mod Pending
 pub mod Raised

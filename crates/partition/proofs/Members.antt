@@ -4,7 +4,7 @@ use Rattle.std.specs.Prelude.{filter, insert}
 use Rattle.std.specs.List.{flat_map, list_any}
 use Rattle.idle_notes.specs.declared.sets.Subsystems.{Subsystems}
 use Rattle.idle_notes.specs.declared.subsystem.Subsystem.{Subsystem}
-use Rattle.idle_notes.specs.declared.subsystem.Subsystem.TheVariants.{Database, Update, StoredPlaylist, Playlist, Player, Mixer, Output, Options, Sticker, Subscription, Message}
+use Rattle.idle_notes.specs.declared.subsystem.Subsystem.TheVariants.{Database, Update, StoredPlaylist, Playlist, Player, Mixer, Output, Options, Sticker, Subscription, Message, Partition}
 use Rattle.idle_notes.specs.Sets.{meet, has, is_nonempty}
 use Rattle.partition.specs.Notices.{IsIn}
 
@@ -93,6 +93,7 @@ same_sets s t e =
       sticker = bit Sticker i;
       subscription = bit Subscription i;
       message = bit Message i;
+      partition = bit Partition i;
     }
 
 pub has_meet : (s t : Subsystems) (x : Subsystem) → has (meet s t) x ≡ (has s x && has t x)
@@ -107,6 +108,7 @@ has_meet s t Options = refl
 has_meet s t Sticker = refl
 has_meet s t Subscription = refl
 has_meet s t Message = refl
+has_meet s t Partition = refl
 
 module _ (X : Type 0) where
   pick : (a b : Bool) → (a ≡ true → X) → (b ≡ true → X) → (a || b) ≡ true → X
@@ -117,7 +119,7 @@ module _ (X : Type 0) where
 pub has_some : (s : Subsystems) → is_nonempty s ≡ true → (x : Subsystem) × (has s x ≡ true)
 has_some s =
     let X : Type 0 = (x : Subsystem) × (has s x ≡ true) in
-    pick X _ _ (pick X _ _ (pick X _ _ (pick X _ _ (pick X _ _ (pick X _ _ (pick X _ _ (pick X _ _ (pick X _ _ (pick X _ _ (λ e. (Database, e)) (λ e. (Update, e))) (λ e. (StoredPlaylist, e))) (λ e. (Playlist, e))) (λ e. (Player, e))) (λ e. (Mixer, e))) (λ e. (Output, e))) (λ e. (Options, e))) (λ e. (Sticker, e))) (λ e. (Subscription, e))) (λ e. (Message, e))
+    pick X _ _ (pick X _ _ (pick X _ _ (pick X _ _ (pick X _ _ (pick X _ _ (pick X _ _ (pick X _ _ (pick X _ _ (pick X _ _ (pick X _ _ (λ e. (Database, e)) (λ e. (Update, e))) (λ e. (StoredPlaylist, e))) (λ e. (Playlist, e))) (λ e. (Player, e))) (λ e. (Mixer, e))) (λ e. (Output, e))) (λ e. (Options, e))) (λ e. (Sticker, e))) (λ e. (Subscription, e))) (λ e. (Message, e))) (λ e. (Partition, e))
 
 r : (a b : Bool) → b ≡ true → (a || b) ≡ true
 r true b e = refl
@@ -128,14 +130,15 @@ l true b e = refl
 l false b e = cc
 
 pub is_some : (s : Subsystems) (x : Subsystem) → has s x ≡ true → is_nonempty s ≡ true
-is_some s Database e = l _ _ (l _ _ (l _ _ (l _ _ (l _ _ (l _ _ (l _ _ (l _ _ (l _ _ (l _ _ e)))))))))
-is_some s Update e = l _ _ (l _ _ (l _ _ (l _ _ (l _ _ (l _ _ (l _ _ (l _ _ (l _ _ (r _ _ e)))))))))
-is_some s StoredPlaylist e = l _ _ (l _ _ (l _ _ (l _ _ (l _ _ (l _ _ (l _ _ (l _ _ (r _ _ e))))))))
-is_some s Playlist e = l _ _ (l _ _ (l _ _ (l _ _ (l _ _ (l _ _ (l _ _ (r _ _ e)))))))
-is_some s Player e = l _ _ (l _ _ (l _ _ (l _ _ (l _ _ (l _ _ (r _ _ e))))))
-is_some s Mixer e = l _ _ (l _ _ (l _ _ (l _ _ (l _ _ (r _ _ e)))))
-is_some s Output e = l _ _ (l _ _ (l _ _ (l _ _ (r _ _ e))))
-is_some s Options e = l _ _ (l _ _ (l _ _ (r _ _ e)))
-is_some s Sticker e = l _ _ (l _ _ (r _ _ e))
-is_some s Subscription e = l _ _ (r _ _ e)
-is_some s Message e = r _ _ e
+is_some s Database e = l _ _ (l _ _ (l _ _ (l _ _ (l _ _ (l _ _ (l _ _ (l _ _ (l _ _ (l _ _ (l _ _ e))))))))))
+is_some s Update e = l _ _ (l _ _ (l _ _ (l _ _ (l _ _ (l _ _ (l _ _ (l _ _ (l _ _ (l _ _ (r _ _ e))))))))))
+is_some s StoredPlaylist e = l _ _ (l _ _ (l _ _ (l _ _ (l _ _ (l _ _ (l _ _ (l _ _ (l _ _ (r _ _ e)))))))))
+is_some s Playlist e = l _ _ (l _ _ (l _ _ (l _ _ (l _ _ (l _ _ (l _ _ (l _ _ (r _ _ e))))))))
+is_some s Player e = l _ _ (l _ _ (l _ _ (l _ _ (l _ _ (l _ _ (l _ _ (r _ _ e)))))))
+is_some s Mixer e = l _ _ (l _ _ (l _ _ (l _ _ (l _ _ (l _ _ (r _ _ e))))))
+is_some s Output e = l _ _ (l _ _ (l _ _ (l _ _ (l _ _ (r _ _ e)))))
+is_some s Options e = l _ _ (l _ _ (l _ _ (l _ _ (r _ _ e))))
+is_some s Sticker e = l _ _ (l _ _ (l _ _ (r _ _ e)))
+is_some s Subscription e = l _ _ (l _ _ (r _ _ e))
+is_some s Message e = l _ _ (r _ _ e)
+is_some s Partition e = r _ _ e

@@ -6,17 +6,17 @@ use Rattle.std.proofs.lemmas.Bool.Decides.{nat_tests}
 use Rattle.std.proofs.lemmas.List.Folds.{list_any-append}
 use Rattle.idle_notes.specs.declared.pending.Pending.{Pending}
 use Rattle.idle_notes.specs.declared.sets.Subsystems.{Subsystems}
-use Rattle.idle_notes.specs.Sets.{none, union, is_nonempty}
-use Rattle.idle_notes.specs.Notes.{fresh, noted, waits, cancelled, due}
+use Rattle.idle_notes.specs.Sets.{all, none, union, is_nonempty}
+use Rattle.idle_notes.specs.Notes.{everything, fresh, noted, waits, cancelled, due}
 use Rattle.transitions.specs.declared.reply.Move.{Move}
-use Rattle.transitions.specs.declared.reply.Move.TheVariants.{Stay, Wait, Learn, Resume, Join, Show}
+use Rattle.transitions.specs.declared.reply.Move.TheVariants.{Stay, Wait, Learn, Resume, Join, Show, Enter}
 use Rattle.idle_clients.specs.declared.notices.Notice.{Notice}
 use Rattle.player_state.specs.declared.state.Client.{Client}
 use Rattle.mpd_text.specs.declared.songs.song.TagName.{TagName}
-use Rattle.idle_clients.specs.Clients.{notified, is_other, at, joined, moved, newcomer, notice_to, notice_for, shown, AllAbove, Rising}
+use Rattle.idle_clients.specs.Clients.{entered, notified, is_other, at, joined, moved, newcomer, notice_to, notice_for, shown, AllAbove, Rising}
 use Rattle.idle_clients.specs.Clients.{client_of}
 use Rattle.partition.specs.World.{is_learning}
-use Rattle.idle_clients.proofs.Rises.{at_keeps, rising_filter, shown_keeps}
+use Rattle.idle_clients.proofs.Rises.{at_keeps, entered_keeps, rising_filter, shown_keeps}
 
 -- each client has this
 abbrev pub Each : (Client → Type 0) → List Client → Type 0
@@ -88,6 +88,30 @@ flagged flag k = record k { pending = record k.pending { changed = flag k.number
 pub unchanged : (flag : ℕ → Subsystems) (k : Client) → flag k.number ≡ k.pending.changed → flagged flag k ≡ k
 unchanged flag k e = ap (λ (s : Subsystems). record k { pending = record k.pending { changed = s } }) e
 
+-- who goes to another partition does not wait, and everything is raised for it
+abbrev pub MayGo : (Client → Subsystems) → ℕ → Client → Type 0
+MayGo raised speaker k = (k.number == speaker) ≡ true → (k.pending.waiting ≡ None) × (raised k ≡ all)
+
+or_true : (b : Bool) → (b || true) ≡ true
+or_true true = refl
+or_true false = refl
+
+union_all : (s : Subsystems) → union s all ≡ all
+union_all s = λ i. record {
+  database = or_true s.database i;
+  update = or_true s.update i;
+  stored_playlist = or_true s.stored_playlist i;
+  playlist = or_true s.playlist i;
+  player = or_true s.player i;
+  mixer = or_true s.mixer i;
+  output = or_true s.output i;
+  options = or_true s.options i;
+  sticker = or_true s.sticker i;
+  subscription = or_true s.subscription i;
+  message = or_true s.message i;
+  partition = or_true s.partition i;
+}
+
 module _ (raised : Client → Subsystems) (by_number flag after : ℕ → Subsystems) (there : ℕ → Bool) (speaker : ℕ) where
   -- what a client's flags are after an event that raises this, by which it begins anew or not
   abbrev grown_by : Subsystems → ℕ → Bool → Subsystems
@@ -157,6 +181,22 @@ module _ (raised : Client → Subsystems) (by_number flag after : ℕ → Subsys
   shown_flags tags k =
       elim (k.number == speaker) as (λ b. (if b then record k { tags = tags } else k).pending.changed ≡ k.pending.changed) [ true ↦ refl | false ↦ refl ]
 
+  entered_flags : (place : ℕ) (k : Client) → k.pending.changed ≡ flag k.number → MayGo raised speaker k
+      → grown_by (raised k) k.number (told raised k || ((k.number == speaker) && false)) ≡ (entered speaker place (notified raised k)).pending.changed
+  entered_flags place k e goes =
+      let heard : Client = notified raised k in
+      let cases : (b : Bool) → (k.number == speaker) ≡ b
+      → grown_by (raised k) k.number (told raised k || (b && false)) ≡ (if b then record heard { place = place; pending = everything } else heard).pending.changed =
+      λ b. elim b as (λ b. (k.number == speaker) ≡ b
+      → grown_by (raised k) k.number (told raised k || (b && false)) ≡ (if b then record heard { place = place; pending = everything } else heard).pending.changed) [
+        | true ↦ λ t.
+            let free = goes t in
+            let unheard : told raised k ≡ false = ap (λ (w : Option Subsystems). is_nonempty (due (noted (raised k) (record k.pending { waiting = w })))) free.0 in
+            ap (λ b. grown_by (raised k) k.number (b || false)) unheard ∙ ap (λ (r : Subsystems). union (flag k.number) r) free.1 ∙ union_all (flag k.number)
+        | false ↦ λ t. quiet (told raised k) false (raised k) (flag k.number) k.pending e
+      ] in
+      cases (k.number == speaker) refl
+
   identical : (P : Client → Type 0) (xs : List Client) → Each P (map (λ k. k) xs) → Each P xs
   identical P [] e = tt
   identical P (x ∷ xs) e = (e.0, identical P xs e.1)
@@ -187,6 +227,21 @@ module _ (raised : Client → Subsystems) (by_number flag after : ℕ → Subsys
         each_unchanged (at speaker (λ p. fresh)) true ks is (same_number (λ p. fresh))
         (λ k e. told_now (told raised k) (k.number == speaker) (raised k) (flag k.number) k.pending e ∙ cleared (notified raised k)) ks right names
 
+    -- each of some, of which one may go to another partition
+    each_entered : (place : ℕ) → ((n : ℕ) → after n ≡ grown n (anew ks false n)) → (xs : List Client) → Each Right xs → Each (MayGo raised speaker) xs
+        → Each (λ x. named raised x.number ks ≡ told raised x) xs → Each (λ k. flagged after k ≡ k) (map (entered speaker place) (map (notified raised) xs))
+    each_entered place is [] rights goes name = tt
+    each_entered place is (x ∷ xs) rights goes name = (
+      unchanged after (entered speaker place (notified raised x))
+          (ap after (entered_keeps speaker place (notified raised x)) ∙ after_there false ks is x rights.0 name.0
+          ∙ ap (λ (r : Subsystems). grown_by r x.number (told raised x || ((x.number == speaker) && false))) (sym rights.0.2) ∙ entered_flags place x rights.0.1 goes.0),
+      each_entered place is xs rights.1 goes.1 name.1,
+    )
+
+    pub enters : (place : ℕ) → ((n : ℕ) → after n ≡ grown n (anew ks false n)) → Each (MayGo raised speaker) ks
+        → Each (λ k. flagged after k ≡ k) (map (entered speaker place) (map (notified raised) ks))
+    enters place is goes = each_entered place is ks right goes names
+
     each_insert : (P : Client → Type 0) (xs : List Client) (i : ℕ) (x : Client) → Each P xs → P x → Each P (insert xs i x)
     each_insert P [] zero x e p = (p, tt)
     each_insert P [] (suc i) x e p = (p, tt)
@@ -210,22 +265,23 @@ module _ (raised : Client → Subsystems) (by_number flag after : ℕ → Subsys
         cases (client_of speaker heard) refl
 
   -- whatever move the client makes
-  pub each_stands : (ks : List Client) → Rising ks → Each Right ks → (move : Move)
+  pub each_stands : (ks : List Client) → Rising ks → Each Right ks → (move : Move) → ((place : ℕ) → move ≡ Enter place → Each (MayGo raised speaker) ks)
       → ((n : ℕ) → after n ≡ grown n (anew ks (is_learning move) n))
       → (client_of speaker (map (notified raised) ks) ≡ None → there speaker ≡ false)
       → Each (λ k. flagged after k ≡ k) (moved speaker move (map (notified raised) ks))
-  each_stands ks rising right Stay is absent = stays ks rising right is
-  each_stands ks rising right (Wait names) is absent = keeps_flags ks rising right (waits names) (λ p. refl) is
-  each_stands ks rising right Learn is absent = clears ks rising right is
-  each_stands ks rising right Resume is absent = keeps_flags ks rising right cancelled (λ p. refl) is
-  each_stands ks rising right Join is absent = joins ks rising right is absent
-  each_stands ks rising right (Show tags) is absent = shows_tags ks rising right tags is
+  each_stands ks rising right Stay goes is absent = stays ks rising right is
+  each_stands ks rising right (Wait names) goes is absent = keeps_flags ks rising right (waits names) (λ p. refl) is
+  each_stands ks rising right Learn goes is absent = clears ks rising right is
+  each_stands ks rising right Resume goes is absent = keeps_flags ks rising right cancelled (λ p. refl) is
+  each_stands ks rising right Join goes is absent = joins ks rising right is absent
+  each_stands ks rising right (Show tags) goes is absent = shows_tags ks rising right tags is
+  each_stands ks rising right (Enter place) goes is absent = enters ks rising right place is (goes place refl)
 
   -- of a client that is closed, or makes a move
-  pub all_stand : (ks : List Client) → Rising ks → Each Right ks → (closed : Bool) (move : Move)
+  pub all_stand : (ks : List Client) → Rising ks → Each Right ks → (closed : Bool) (move : Move) → ((place : ℕ) → (if closed then Stay else move) ≡ Enter place → Each (MayGo raised speaker) ks)
       → ((n : ℕ) → after n ≡ grown n (anew (if closed then filter (is_other speaker) ks else ks) (is_learning (if closed then Stay else move)) n))
       → (client_of speaker (map (notified raised) ks) ≡ None → there speaker ≡ false)
       → Each (λ k. flagged after k ≡ k) (moved speaker (if closed then Stay else move) (map (notified raised) (if closed then filter (is_other speaker) ks else ks)))
-  all_stand ks rising right true move is absent =
+  all_stand ks rising right true move goes is absent =
       stays (filter (is_other speaker) ks) (rising_filter (is_other speaker) ks rising) (each_filter Right (is_other speaker) ks right) is
-  all_stand ks rising right false move is absent = each_stands ks rising right move is absent
+  all_stand ks rising right false move goes is absent = each_stands ks rising right move goes is absent

@@ -1,10 +1,11 @@
 -- What an event raises is what differs between the worlds.
-use Rattle.std.proofs.Common.{arith, ◌≡◌, ◌≢◌, ◌↔◌, ◌+◌, ◌==◌, if◌then◌else◌, ◌&&◌, ◌||◌, ℕ, Bool, true, false, not, nat_eq, List, [], ◌∷◌, length, Option, Some, None, refl, ap, sym, ◌∙◌}
+use Rattle.std.proofs.Common.{arith, ◌≡◌, ◌≢◌, ◌↔◌, ◌⊎◌, inl, inr, ◌≤◌, ◌+◌, ◌==◌, if◌then◌else◌, ◌&&◌, ◌||◌, ℕ, suc, nat_lt, Bool, true, false, not, nat_eq, List, [], ◌∷◌, ◌++◌, length, map, filter, Option, Some, None, option_map, refl, ap, sym, subst, ◌∙◌}
 use Rattle.std.specs.Prelude.{slice_get}
 use Rattle.std.proofs.lemmas.Bool.{eq-eqb, eqb-true}
 use Rattle.idle_notes.specs.declared.subsystem.Subsystem.{Subsystem}
-use Rattle.idle_notes.specs.declared.subsystem.Subsystem.TheVariants.{Database, Update, StoredPlaylist, Playlist, Player, Mixer, Output, Options, Sticker, Subscription, Message}
-use Rattle.idle_notes.specs.Sets.{has}
+use Rattle.idle_notes.specs.declared.subsystem.Subsystem.TheVariants.{Database, Update, StoredPlaylist, Playlist, Player, Mixer, Output, Options, Sticker, Subscription, Message, Partition}
+use Rattle.idle_notes.specs.Sets.{all, has}
+use Rattle.idle_notes.specs.declared.sets.Subsystems.{Subsystems}
 use Rattle.song_queue.specs.declared.entry.Entry.{Entry}
 use Rattle.song_queue.specs.Entries.{same_queue}
 use Rattle.song_queue.specs.declared.edit.Edit.{Edit}
@@ -30,18 +31,23 @@ use Rattle.player_events.specs.declared.event.Event.{Event}
 use Rattle.idle_clients.specs.declared.notices.Notice.{Notice}
 use Rattle.player_state.specs.declared.report.Report.{Report}
 use Rattle.player_state.specs.declared.state.Part.{Part}
-use Rattle.player_state.specs.Outputs.{OutputsData, any_enabled, broken}
+use Rattle.player_state.specs.Outputs.{OutputsData, any_enabled, broken, brought, is_output, released}
+use Rattle.player_state.specs.declared.outputs.Carried.{Carried}
+use Rattle.parts.specs.Parts.{carried_in, known, once_more, outputs_moved}
+use Rattle.parts.specs.declared.crossing.Crossing.{Crossing}
+use Rattle.parts.specs.declared.crossing.Crossing.TheVariants.{Stays, Opens, Closes, Brings}
 use Rattle.player_core.specs.declared.state.Job.{Job}
 use Rattle.player_state.specs.Effects.{Change, ByEdit, ByStep, asked_for, change_of, entries, outputs_after, played_entry, player_after, player_edited, sought_entry, wanted}
 use Rattle.partition.specs.Image.{Image}
 use Rattle.transitions.specs.Transitions.{TransitionData}
 use Rattle.player_state.specs.Scans.{is_last}
 use Rattle.player_state.proofs.Songs.{same_songs-refl, same_songs-true}
-use Rattle.idle_clients.proofs.Alike.{more_than_none, same_pairs-refl, same_pairs-true, same_enabled-refl, same_enabled-true, same_options-refl, same_options-true, same_playing-refl, same_playing-true}
-use Rattle.idle_clients.specs.Clients.{options, playing, same_enabled, same_pairs, same_options, same_playing}
+use Rattle.idle_clients.proofs.Alike.{more_than_none, same_names-refl, same_names-true, same_pairs-refl, same_pairs-true, same_enabled-refl, same_enabled-true, same_options-refl, same_options-true, same_playing-refl, same_playing-true}
+use Rattle.idle_clients.specs.Clients.{Watched, is_this, names_of, options, playing, raised_between, raised_for_all, raised_within, same_enabled, same_names, same_pairs, same_options, same_playing, watched_at}
 use Rattle.player_state.specs.Libraries.{library_after, same_songs, songs_after}
-use Rattle.partition.specs.World.{PartWorld, World, WorldTransition, Differs, past_after, raised_at, world_after_transition}
-use Rattle.partition.specs.Notices.{AgreeButForUnwatched}
+use Rattle.partition.specs.Step.{goer, mover, place_at}
+use Rattle.partition.specs.World.{PartWorld, World, WorldTransition, Differs, DiffersAt, DiffersBetween, DiffersForAll, DiffersWithin, names_in, part_in, part_world_after, parts_changed, past_after, place_of, raised_at, unplayed, watched_by, watched_in, world_after_transition, world_at, world_moved_output, worlds_moved}
+use Rattle.partition.specs.Notices.{AgreeButForUnwatched, AgreesButForUnwatched, AllAgree, NoneDiffers}
 
 -- a test that answers true only of two that are one, and of each with itself
 tells : {A : Type 0} (same : A → A → Bool) → ((a : A) → same a a ≡ true) → ((a b : A) → same a b ≡ true → a ≡ b) → (a b : A)
@@ -99,19 +105,104 @@ begins-tells (m ∷ ms) (n ∷ ns) = (
   λ p. (let clash : m ∷ ms ≡ [] = p.0 in cc),
 )
 
--- by the parts of the worlds before and after a transition
+-- the names of partitions, by what the subsystems speak of
+names_watched : (ps : List PartWorld) → names_of (map watched_by ps) ≡ map (λ (p : PartWorld). p.name) ps
+names_watched [] = refl
+names_watched (p ∷ ps) = ap (λ (l : List (List ℕ)). p.name ∷ l) (names_watched ps)
+
+watched_found : (place : ℕ) (ps : List PartWorld) → watched_at place (map watched_by ps) ≡ option_map watched_by (world_at place ps)
+watched_found place [] = refl
+watched_found place (p ∷ ps) =
+    elim (p.place == place) as (λ b. (if b then Some (watched_by p) else watched_at place (map watched_by ps)) ≡ option_map watched_by (if b then Some p else world_at place ps))
+    [ true ↦ refl | false ↦ watched_found place ps ]
+
+-- a part of all, of one partition, or of neither
+for_all : {A D : Type 0} → A ↔ D → A ↔ (D ⊎ ⊥)
+for_all i = (λ a. inl (i.0 a), λ s. elim s [ inl d ↦ i.1 d | inr w ↦ absurd w ])
+
+within : {A W : Type 0} → A ↔ W → A ↔ (⊥ ⊎ W)
+within i = (λ a. inr (i.0 a), λ s. elim s [ inl d ↦ absurd d | inr w ↦ i.1 w ])
+
+neither : (false ≡ true) ↔ (⊥ ⊎ ⊥)
+neither = (λ e. cc, λ s. elim s [ inl d ↦ absurd d | inr w ↦ absurd w ])
+
+module _ (number : ℕ) (m : WorldTransition) where
+  abbrev common : Subsystems
+  common = raised_for_all m.transition.written (watched_in m.before) (watched_in m.after)
+
+  partitions_tell : (not (same_names (names_of (map watched_by m.before.parts)) (names_of (map watched_by m.after.parts))) ≡ true) ↔ (names_in m.before ≢ names_in m.after)
+  partitions_tell =
+      let told = tells same_names same_names-refl same_names-true (names_of (map watched_by m.before.parts)) (names_of (map watched_by m.after.parts)) in (
+        λ e same. told.0 e (names_watched m.before.parts ∙ same ∙ sym (names_watched m.after.parts)),
+        λ apart. told.1 (λ same. apart (sym (names_watched m.before.parts) ∙ same ∙ names_watched m.after.parts)),
+      )
+
+  all_differ : (x : Subsystem) → (has common x ≡ true) ↔ (DiffersForAll x m ⊎ ⊥)
+  all_differ Database = for_all (tells same_songs same_songs-refl same_songs-true m.before.library.songs m.after.library.songs)
+  all_differ Update = for_all (differs-tells m.before.library.scan.runs m.after.library.scan.runs)
+  all_differ StoredPlaylist = for_all (λ e. e, λ e. e)
+  all_differ Playlist = neither
+  all_differ Player = neither
+  all_differ Mixer = neither
+  all_differ Output = neither
+  all_differ Options = neither
+  all_differ Sticker = for_all (λ e. e, λ e. e)
+  all_differ Subscription = neither
+  all_differ Message = neither
+  all_differ Partition = for_all partitions_tell
+
+  both_differ : (before after : PartWorld) (x : Subsystem) → (has (raised_within number (watched_by before) (watched_by after) common) x ≡ true) ↔ (DiffersForAll x m ⊎ DiffersWithin number x before after)
+  both_differ before after Database = all_differ Database
+  both_differ before after Update = all_differ Update
+  both_differ before after StoredPlaylist = all_differ StoredPlaylist
+  both_differ before after Playlist = within (tells same_queue same_queue-refl same_queue-true (present before.past) (present after.past))
+  both_differ before after Player = within (tells same_playing same_playing-refl same_playing-true (playing before.player) (playing after.player))
+  both_differ before after Mixer = within (tells nat_eq (λ a. eq-eqb a a refl) eqb-true before.volume after.volume)
+  both_differ before after Output = within (tells same_enabled same_enabled-refl same_enabled-true before.outputs.enabled after.outputs.enabled)
+  both_differ before after Options = within (tells same_options same_options-refl same_options-true (options before.player) (options after.player))
+  both_differ before after Sticker = all_differ Sticker
+  both_differ before after Subscription = within (tells same_pairs same_pairs-refl same_pairs-true (pairs before.channels) (pairs after.channels))
+  both_differ before after Message = within (begins-tells (messages_of number before.channels) (messages_of number after.channels))
+  both_differ before after Partition = all_differ Partition
+
+  between_differ : (before after : Option PartWorld) (x : Subsystem)
+      → (has (raised_between number (option_map watched_by before) (option_map watched_by after) common) x ≡ true) ↔ (DiffersForAll x m ⊎ DiffersBetween number x before after)
+  between_differ (Some before) (Some after) x = both_differ before after x
+  between_differ (Some before) None x = all_differ x
+  between_differ None after x = all_differ x
+
+  there_differ : (place : ℕ) (x : Subsystem)
+      → (has (raised_between number (watched_at place (map watched_by m.before.parts)) (watched_at place (map watched_by m.after.parts)) common) x ≡ true) ↔ DiffersAt number place x m
+  there_differ place x =
+      subst (λ (a : Option Watched). (has (raised_between number (watched_at place (map watched_by m.before.parts)) a common) x ≡ true) ↔ DiffersAt number place x m) (sym (watched_found place m.after.parts))
+      (subst (λ (b : Option Watched). (has (raised_between number b (option_map watched_by (world_at place m.after.parts)) common) x ≡ true) ↔ DiffersAt number place x m) (sym (watched_found place m.before.parts))
+      (between_differ (world_at place m.before.parts) (world_at place m.after.parts) x))
+
+has_all : (x : Subsystem) → has all x ≡ true
+has_all Database = refl
+has_all Update = refl
+has_all StoredPlaylist = refl
+has_all Playlist = refl
+has_all Player = refl
+has_all Mixer = refl
+has_all Output = refl
+has_all Options = refl
+has_all Sticker = refl
+has_all Subscription = refl
+has_all Message = refl
+has_all Partition = refl
+
+-- by the worlds before and after a transition
 pub raised_differ : (number : ℕ) (m : WorldTransition) (x : Subsystem) → (has (raised_at number m) x ≡ true) ↔ Differs number x m
-raised_differ number m Database = tells same_songs same_songs-refl same_songs-true m.before.library.songs m.after.library.songs
-raised_differ number m Update = differs-tells m.before.library.scan.runs m.after.library.scan.runs
-raised_differ number m StoredPlaylist = (λ e. e, λ e. e)
-raised_differ number m Playlist = tells same_queue same_queue-refl same_queue-true (present m.before.part.past) (present m.after.part.past)
-raised_differ number m Player = tells same_playing same_playing-refl same_playing-true (playing m.before.part.player) (playing m.after.part.player)
-raised_differ number m Mixer = tells nat_eq (λ a. eq-eqb a a refl) eqb-true m.before.part.volume m.after.part.volume
-raised_differ number m Output = tells same_enabled same_enabled-refl same_enabled-true m.before.part.outputs.enabled m.after.part.outputs.enabled
-raised_differ number m Options = tells same_options same_options-refl same_options-true (options m.before.part.player) (options m.after.part.player)
-raised_differ number m Sticker = (λ e. e, λ e. e)
-raised_differ number m Subscription = tells same_pairs same_pairs-refl same_pairs-true (pairs m.before.part.channels) (pairs m.after.part.channels)
-raised_differ number m Message = begins-tells (messages_of number m.before.part.channels) (messages_of number m.after.part.channels)
+raised_differ number m x =
+    let place : ℕ = place_of number m.before.clients in
+    let there : Subsystems = raised_between number (watched_at place (map watched_by m.before.parts)) (watched_at place (map watched_by m.after.parts)) (common number m) in
+    let goes : Bool = is_this (goer (mover m.event) m.transition.response) number in
+    let Goal : Bool → Type 0 = λ b. (has (if b then all else there) x ≡ true) ↔ ((b ≡ true) ⊎ DiffersAt number place x m) in
+    elim goes as Goal [
+      | true ↦ (λ e. inl refl, λ s. has_all x)
+      | false ↦ (let differs = there_differ number m place x in (λ e. inr (differs.0 e), λ s. elim s [ inl e ↦ cc | inr d ↦ differs.1 d ]))
+    ]
 
 same_left : (past : List (List Entry)) (left : List Entry) → present past ≡ present (after_event past left) → after_event past left ≡ past
 same_left past left e =
@@ -140,20 +231,17 @@ same_library library (End found second) songs runs =
     ap (λ (b : Bool). if b then library.updated else second) (ap (same_songs library.songs) (sym songs) ∙ same_songs-refl library.songs) in
     λ i. record library { songs = sym songs i; scan = record library.scan { runs = sym runs i }; updated = updated i }
 
--- the names of outputs stay, where they are, and how often each was moved
-abbrev StaysThere : OutputsData → OutputsData → Type 0
-StaysThere before after = (after.names ≡ before.names) × (after.here ≡ before.here) × (after.moves ≡ before.moves)
+-- the names of outputs stay
+asked_there : (job : Option Job) (outputs : OutputsData) → (asked_for job outputs).names ≡ outputs.names
+asked_there None outputs = refl
+asked_there (Some job) outputs = refl
 
-asked_there : (job : Option Job) (outputs : OutputsData) → StaysThere outputs (asked_for job outputs)
-asked_there None outputs = (refl, refl, refl)
-asked_there (Some job) outputs = (refl, refl, refl)
-
-same_there : (rate : ℕ) (part : Part) (effect : Effect) → StaysThere part.outputs (outputs_after rate part effect)
-same_there rate part (ByCommand (Switches output on)) = (refl, refl, refl)
+same_there : (rate : ℕ) (part : Part) (effect : Effect) → (outputs_after rate part effect).names ≡ part.outputs.names
+same_there rate part (ByCommand (Switches output on)) = refl
 same_there rate part (ByAudio (Wants owes)) = asked_there (wanted rate part owes).job part.outputs
 same_there rate part (ByAudio (Settles output written discarded failed)) =
-    elim failed as (λ b. StaysThere part.outputs (if b then broken part.outputs output else part.outputs)) [ true ↦ (refl, refl, refl) | false ↦ (refl, refl, refl) ]
-same_there rate part _ = (refl, refl, refl)
+    elim failed as (λ b. (if b then broken part.outputs output else part.outputs).names ≡ part.outputs.names) [ true ↦ refl | false ↦ refl ]
+same_there rate part _ = refl
 
 -- a step of the player leaves the greatest number
 module _ (p : PlayerState) where
@@ -206,61 +294,176 @@ same_limit rate part (ByCommand (Sends channel text)) = refl
 same_limit rate part (ByCommand (ReadsMessages client)) = refl
 same_limit rate part (ByCommand (Leaves client)) = refl
 
--- where no part differs nothing differs but what no subsystem speaks of
-pub agree : (before : World) (i : Image) (event : Event) (t : TransitionData) (notices : List Notice) (report : Report) → i.part.player ≡ before.part.player → i.part.outputs ≡ before.part.outputs
-    → ((number : ℕ) (x : Subsystem) → Differs number x (record { before = before; event = event; transition = t; notices = notices; report = report; after = world_after_transition before i event t }) → ⊥)
-    → AgreeButForUnwatched before (world_after_transition before i event t)
-agree before i event t notices report same_player same_outputs none =
-    let world : World = world_after_transition before i event t in
-    let was : PartWorld = before.part in
-    let after : PartWorld = world.part in
-    let change : Change = change_of before.library.rate i.part t.effect in
-    let songs : before.library.songs ≡ world.library.songs = decides same_songs same_songs-true same_songs-refl before.library.songs world.library.songs (none 0 Database) in
-    let runs : before.library.scan.runs ≡ world.library.scan.runs = modes_of before.library.scan.runs world.library.scan.runs (none 0 Update) in
-    let library : world.library ≡ before.library = same_library before.library t.scan songs runs in
-    let queue : present was.past ≡ present after.past = decides same_queue same_queue-true same_queue-refl (present was.past) (present after.past) (none 0 Playlist) in
-    let past : after.past ≡ was.past = same_past was.past change queue in
+-- what an event can leave of a partition: its number, its name, its limits and the names of the outputs stay, and
+-- its past is as it was where the present queue is
+record Comes (before after : PartWorld) : Type 0 where
+  place : after.place ≡ before.place
+  name : after.name ≡ before.name
+  limits : after.limits ≡ before.limits
+  past : present before.past ≡ present after.past → after.past ≡ before.past
+  limit : after.player.max_cut ≡ before.player.max_cut
+  names : after.outputs.names ≡ before.outputs.names
+
+comes_same : (p : PartWorld) → Comes p p
+comes_same p = record { place = refl; name = refl; limits = refl; past = λ e. refl; limit = refl; names = refl }
+
+comes_after : (rate : ℕ) (p : PartWorld) (effect : Effect) → Comes p (part_world_after rate (part_in p) p effect)
+comes_after rate p effect = record {
+  place = refl;
+  name = refl;
+  limits = refl;
+  past = same_past p.past (change_of rate (part_in p) effect);
+  limit = same_limit rate (part_in p) effect;
+  names = same_there rate (part_in p) effect;
+}
+
+-- a move of an output leaves the names
+moved_names : (output : ℕ) (comes : Bool) (c : Carried) (outputs : OutputsData) → (outputs_moved output comes c outputs).names ≡ outputs.names
+moved_names output true c outputs =
+    elim (is_output outputs output) as (λ b. (if b then outputs else brought outputs output (once_more c)).names ≡ outputs.names) [ true ↦ refl | false ↦ refl ]
+moved_names output false c outputs =
+    elim (is_output outputs output) as (λ b. (if b then released outputs output else outputs).names ≡ outputs.names) [ true ↦ refl | false ↦ refl ]
+
+comes_moved : (output to : ℕ) (c : Option Carried) (p q : PartWorld) → Comes p q → Comes p (world_moved_output output to c q)
+comes_moved output to None p q comes = comes
+comes_moved output to (Some c) p q comes = record {
+  place = comes.place;
+  name = comes.name;
+  limits = comes.limits;
+  past = comes.past;
+  limit = comes.limit;
+  names = moved_names output (q.place == to) c q.outputs ∙ comes.names;
+}
+
+-- each of some comes from the one at its place
+abbrev AllCome : List PartWorld → List PartWorld → Type 0
+AllCome [] [] = Unit {0}
+AllCome [] (q ∷ qs) = ⊥
+AllCome (p ∷ ps) [] = ⊥
+AllCome (p ∷ ps) (q ∷ qs) = Comes p q × AllCome ps qs
+
+all_same : (ps : List PartWorld) → AllCome ps ps
+all_same [] = tt
+all_same (p ∷ ps) = (comes_same p, all_same ps)
+
+all_changed : (rate place : ℕ) (effect : Effect) (ps : List PartWorld) → AllCome ps (parts_changed rate place effect ps)
+all_changed rate place effect [] = tt
+all_changed rate place effect (p ∷ ps) =
+    elim (p.place == place) as (λ b. AllCome (p ∷ ps) (if b then part_world_after rate (part_in p) p effect ∷ ps else p ∷ parts_changed rate place effect ps))
+    [ true ↦ (comes_after rate p effect, all_same ps) | false ↦ (comes_same p, all_changed rate place effect ps) ]
+
+all_moved : (output to : ℕ) (c : Option Carried) (ps qs : List PartWorld) → AllCome ps qs → AllCome ps (map (world_moved_output output to c) qs)
+all_moved output to c [] [] come = tt
+all_moved output to c [] (q ∷ qs) come = absurd come
+all_moved output to c (p ∷ ps) [] come = absurd come
+all_moved output to c (p ∷ ps) (q ∷ qs) come = (comes_moved output to c p q come.0, all_moved output to c ps qs come.1)
+
+as_many : (ps qs : List PartWorld) → AllCome ps qs → length qs ≡ length ps
+as_many [] [] come = refl
+as_many [] (q ∷ qs) come = absurd come
+as_many (p ∷ ps) [] come = absurd come
+as_many (p ∷ ps) (q ∷ qs) come = ap suc (as_many ps qs come.1)
+
+pub map_length : {A B : Type 0} (f : A → B) (xs : List A) → length (map f xs) ≡ length xs
+map_length f [] = refl
+map_length f (x ∷ xs) = ap suc (map_length f xs)
+
+pub added_length : {A : Type 0} (xs : List A) (y : A) → length (xs ++ y ∷ []) ≡ suc (length xs)
+added_length [] y = refl
+added_length (x ∷ xs) y = ap suc (added_length xs y)
+
+kept_length : {A : Type 0} (f : A → Bool) (xs : List A) → length (filter f xs) ≤ length xs
+kept_length f [] = omega arith
+kept_length f (x ∷ xs) =
+    let less : length (filter f xs) ≤ length xs = kept_length f xs in
+    elim (f x) as (λ b. length (if b then x ∷ filter f xs else filter f xs) ≤ length (x ∷ xs)) [ true ↦ omega (arith, less) | false ↦ omega (arith, less) ]
+
+-- a filter that leaves as many leaves all
+pub kept_all : {A : Type 0} (f : A → Bool) (xs : List A) → length (filter f xs) ≡ length xs → filter f xs ≡ xs
+kept_all f [] e = refl
+kept_all f (x ∷ xs) e =
+    let less : length (filter f xs) ≤ length xs = kept_length f xs in
+    elim (f x) as (λ b. length (if b then x ∷ filter f xs else filter f xs) ≡ length (x ∷ xs) → (if b then x ∷ filter f xs else filter f xs) ≡ x ∷ xs) [
+      | true ↦ λ h. ap (λ l. x ∷ l) (kept_all f xs (omega (arith, h)))
+      | false ↦ λ h. absurd (omega (arith, less, h))
+    ] e
+
+-- where the names stay, no partition comes or goes
+all_come : (c : Crossing) (ps qs : List PartWorld) → AllCome ps qs → length (worlds_moved c qs) ≡ length ps → AllCome ps (worlds_moved c qs)
+all_come Stays ps qs come as_long = come
+all_come (Opens new) ps qs come as_long =
+    let many : length qs ≡ length ps = as_many ps qs come in
+    let more : length (qs ++ unplayed new ∷ []) ≡ suc (length qs) = added_length qs (unplayed new) in
+    elim (nat_lt (length qs) 16) as (λ b. length (if b then qs ++ unplayed new ∷ [] else qs) ≡ length ps → AllCome ps (if b then qs ++ unplayed new ∷ [] else qs))
+    [ true ↦ λ e. absurd (omega (arith, many, more, e)) | false ↦ λ e. come ] as_long
+all_come (Closes gone) ps qs come as_long =
+    let left : filter (λ (p : PartWorld). not (p.place == gone)) qs ≡ qs = kept_all (λ (p : PartWorld). not (p.place == gone)) qs (as_long ∙ sym (as_many ps qs come)) in
+    subst (AllCome ps) (sym left) come
+all_come (Brings output to) ps qs come as_long = all_moved output to (carried_in output to (map known (map part_in qs))) ps qs come
+
+-- where no part of a partition differs nothing of it differs but what no subsystem speaks of
+agree_one : (was after : PartWorld) → Comes was after → ((number : ℕ) (x : Subsystem) → DiffersWithin number x was after → ⊥) → AgreesButForUnwatched was after
+agree_one was after comes none =
+    let past : after.past ≡ was.past = comes.past (decides same_queue same_queue-true same_queue-refl (present was.past) (present after.past) (none 0 Playlist)) in
     let played : playing after.player ≡ playing was.player =
     sym (decides same_playing same_playing-true same_playing-refl (playing was.player) (playing after.player) (none 0 Player)) in
     let set : options after.player ≡ options was.player =
     sym (decides same_options same_options-true same_options-refl (options was.player) (options after.player) (none 0 Options)) in
-    let limit : after.player.max_cut ≡ was.player.max_cut = same_limit before.library.rate i.part t.effect ∙ ap (λ (p : PlayerState). p.max_cut) same_player in
     let volume : after.volume ≡ was.volume = sym (decides nat_eq eqb-true (λ a. eq-eqb a a refl) was.volume after.volume (none 0 Mixer)) in
     let enabled : after.outputs.enabled ≡ was.outputs.enabled =
     sym (decides same_enabled same_enabled-true same_enabled-refl was.outputs.enabled after.outputs.enabled (none 0 Output)) in
-    let there = same_there before.library.rate i.part t.effect in
-    let names : after.outputs.names ≡ was.outputs.names = there.0 ∙ ap (λ (o : OutputsData). o.names) same_outputs in
-    let here : after.outputs.here ≡ was.outputs.here = there.1 ∙ ap (λ (o : OutputsData). o.here) same_outputs in
-    let moves : after.outputs.moves ≡ was.outputs.moves = there.2 ∙ ap (λ (o : OutputsData). o.moves) same_outputs in
     let listening : pairs was.channels ≡ pairs after.channels = decides same_pairs same_pairs-true same_pairs-refl (pairs was.channels) (pairs after.channels) (none 0 Subscription) in (
-      λ j. record { part = after; library = library j; clients = world.clients; ended = world.ended },
-      (
-        λ j. record {
-          place = was.place;
-          name = was.name;
-          past = past j;
-          limits = was.limits;
-          player = record {
-            modes = (set j).modes;
-            round = after.player.round;
-            crossfade = (set j).crossfade;
-            playback = (played j).playback;
-            current = (played j).current;
-            place = after.player.place;
-            starts = (played j).starts;
-            cuts = (played j).cuts;
-            error = (played j).error;
-            jobs = after.player.jobs;
-            job = after.player.job;
-            fade = after.player.fade;
-            gave_up = after.player.gave_up;
-            max_cut = limit j;
-          };
-          volume = volume j;
-          outputs = record { names = names j; here = here j; enabled = enabled j; failed = after.outputs.failed; moves = moves j; asked = after.outputs.asked };
-          channels = after.channels;
-          played = after.played;
-        },
-        listening,
-      ),
+      λ j. record {
+        place = comes.place j;
+        name = comes.name j;
+        past = past j;
+        limits = comes.limits j;
+        player = record {
+          modes = (set j).modes;
+          round = after.player.round;
+          crossfade = (set j).crossfade;
+          playback = (played j).playback;
+          current = (played j).current;
+          place = after.player.place;
+          starts = (played j).starts;
+          cuts = (played j).cuts;
+          error = (played j).error;
+          jobs = after.player.jobs;
+          job = after.player.job;
+          fade = after.player.fade;
+          gave_up = after.player.gave_up;
+          max_cut = comes.limit j;
+        };
+        volume = volume j;
+        outputs = record { names = comes.names j; here = after.outputs.here; enabled = enabled j; failed = after.outputs.failed; moves = after.outputs.moves; asked = after.outputs.asked };
+        channels = after.channels;
+        played = after.played;
+      },
+      listening,
+    )
+
+agree_all : (ps qs : List PartWorld) → AllCome ps qs → NoneDiffers ps qs → AllAgree ps qs
+agree_all [] [] come none = tt
+agree_all [] (q ∷ qs) come none = absurd come
+agree_all (p ∷ ps) [] come none = absurd come
+agree_all (p ∷ ps) (q ∷ qs) come none = (agree_one p q come.0 none.0, agree_all ps qs come.1 none.1)
+
+-- where no part differs nothing differs but what no subsystem speaks of
+pub agree : (before : World) (i : Image) (event : Event) (t : TransitionData) (notices : List Notice) (report : Report)
+    → ((x : Subsystem) → DiffersForAll x (record { before = before; event = event; transition = t; notices = notices; report = report; after = world_after_transition before i event t }) → ⊥)
+    → NoneDiffers before.parts (world_after_transition before i event t).parts
+    → AgreeButForUnwatched before (world_after_transition before i event t)
+agree before i event t notices report none none_within =
+    let world : World = world_after_transition before i event t in
+    let songs : before.library.songs ≡ world.library.songs = decides same_songs same_songs-true same_songs-refl before.library.songs world.library.songs (none Database) in
+    let runs : before.library.scan.runs ≡ world.library.scan.runs = modes_of before.library.scan.runs world.library.scan.runs (none Update) in
+    let library : world.library ≡ before.library = same_library before.library t.scan songs runs in
+    let names : names_in before ≡ names_in world = decides same_names same_names-true same_names-refl (names_in before) (names_in world) (none Partition) in
+    let as_long : length world.parts ≡ length before.parts =
+    sym (map_length (λ (p : PartWorld). p.name) world.parts) ∙ ap length (sym names) ∙ map_length (λ (p : PartWorld). p.name) before.parts in
+    let changed : List PartWorld = parts_changed before.library.rate (place_at i event) t.effect before.parts in
+    let come : AllCome before.parts world.parts =
+    all_come t.crossing before.parts changed (all_changed before.library.rate (place_at i event) t.effect before.parts) as_long in (
+      λ j. record { parts = world.parts; library = library j; clients = world.clients; ended = world.ended; openings = before.openings },
+      agree_all before.parts world.parts come none_within,
     )

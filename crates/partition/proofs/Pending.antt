@@ -4,7 +4,7 @@ use Rattle.std.specs.Prelude.{take_while}
 use Rattle.std.specs.List.{prefix_len}
 use Rattle.idle_notes.specs.declared.sets.Subsystems.{Subsystems}
 use Rattle.idle_notes.specs.declared.subsystem.Subsystem.{Subsystem}
-use Rattle.idle_notes.specs.declared.subsystem.Subsystem.TheVariants.{Database, Update, StoredPlaylist, Playlist, Player, Mixer, Output, Options, Sticker, Subscription, Message}
+use Rattle.idle_notes.specs.declared.subsystem.Subsystem.TheVariants.{Database, Update, StoredPlaylist, Playlist, Player, Mixer, Output, Options, Sticker, Subscription, Message, Partition}
 use Rattle.idle_notes.specs.Sets.{none, union, has}
 use Rattle.partition.specs.Legal.{ReadsPending}
 use Rattle.partition.proofs.Parts.{raised_differ}
@@ -22,6 +22,7 @@ has_union s t Options = refl
 has_union s t Sticker = refl
 has_union s t Subscription = refl
 has_union s t Message = refl
+has_union s t Partition = refl
 
 pub has_none : (x : Subsystem) → has none x ≡ false
 has_none Database = refl
@@ -35,6 +36,7 @@ has_none Options = refl
 has_none Sticker = refl
 has_none Subscription = refl
 has_none Message = refl
+has_none Partition = refl
 
 first_more : (n : ℕ) → 1 + n ≡ suc n
 first_more n = omega arith

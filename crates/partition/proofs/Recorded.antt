@@ -20,7 +20,7 @@ abbrev IsFree : ℕ → Image → Type 0
 IsFree seat i = nat_le 9223372036854775807 (slice_index_or i.shared.made seat 0) ≡ false
 
 -- what refuses a transition is the limit that its event would pass, or want of memory
-pub may_refuse : (seat : ℕ) (i : Image) (e : Event) (fault : PartitionFault) → IsFree seat i → RefusesTransition i (transition i e) fault → MayRefuse (limit_of seat i e) fault
+pub may_refuse : (seat : ℕ) (i : Image) (e : Event) (fault : PartitionFault) → IsFree seat i → RefusesTransition i e (transition i e) fault → MayRefuse (limit_of seat i e) fault
 unfolding limit_of
 may_refuse seat i e AtLimit free refused = rw (free, refused) (inl refl)
 may_refuse seat i e CutsAtLimit free refused = rw (free, refused.0, refused.1) (inl refl)
@@ -28,7 +28,7 @@ may_refuse seat i e NoMemory free refused = may_want (limit_of seat i e)
 may_refuse seat i e HistoryFull free refused = absurd refused
 
 -- an event that passes no limit
-pub is_within : (seat : ℕ) (i : Image) (e : Event) → IsFree seat i → counts_frames i (transition i e) ≡ true → keeps_limits i (transition i e) ≡ true → limit_of seat i e ≡ None
+pub is_within : (seat : ℕ) (i : Image) (e : Event) → IsFree seat i → counts_frames i e (transition i e) ≡ true → keeps_limits i e (transition i e) ≡ true → limit_of seat i e ≡ None
 unfolding limit_of
 is_within seat i e free counts keeps = rw (free, counts, keeps) refl
 
@@ -48,11 +48,11 @@ pub next_before : (seat : ℕ) (found before after : Image) (e : Event) → foun
 next_before seat found before after e same is = is_next seat found after e is ∙ ap (λ (i : Image). next_image seat i e) same
 
 pub within_before : (seat : ℕ) (found before : Image) (e : Event) → found ≡ before → IsFree seat found
-    → counts_frames found (transition found e) ≡ true → keeps_limits found (transition found e) ≡ true → limit_of seat before e ≡ None
+    → counts_frames found e (transition found e) ≡ true → keeps_limits found e (transition found e) ≡ true → limit_of seat before e ≡ None
 within_before seat found before e same free counts keeps = ap (λ (i : Image). limit_of seat i e) (sym same) ∙ is_within seat found e free counts keeps
 
 pub may_refuse_before : (seat : ℕ) (found before : Image) (e : Event) (fault : PartitionFault) → found ≡ before → IsFree seat found
-    → RefusesTransition found (transition found e) fault → MayRefuse (limit_of seat before e) fault
+    → RefusesTransition found e (transition found e) fault → MayRefuse (limit_of seat before e) fault
 may_refuse_before seat found before e fault same free refused =
     subst (λ (i : Image). MayRefuse (limit_of seat i e) fault) same (may_refuse seat found e fault free refused)
 
@@ -62,7 +62,7 @@ module _ {S : Type 0} (standing : S → Standing) (failed : S → S → Call →
       → heard ≡ with_store_reply event (store_reply_at heard)
       → later ≡ history ++ record { seat = seat; event = heard; told = outcome } ∷ []
       → outcome ≡ told_by before heard (transition before heard) → after ≡ counted seat (after_transition before heard (transition before heard))
-      → IsFree seat before → counts_frames before (transition before heard) ≡ true → keeps_limits before (transition before heard) ≡ true
+      → IsFree seat before → counts_frames before heard (transition before heard) ≡ true → keeps_limits before heard (transition before heard) ≡ true
       → Serves standing failed old new (question before event) (writing before event (store_reply_at heard)) (store_reply_at heard)
       → Records standing failed before after history later old new seat event outcome
   records before after history later old new seat event heard outcome heard_is window told_is after_is free counts keeps serves = record {
@@ -75,7 +75,7 @@ module _ {S : Type 0} (standing : S → Standing) (failed : S → S → Call →
   }
 
   pub refuses : (i : Image) (old new : S) (seat : ℕ) (event heard : Event) (fault : PartitionFault)
-      → heard ≡ with_store_reply event (store_reply_at heard) → IsFree seat i → RefusesTransition i (transition i heard) fault
+      → heard ≡ with_store_reply event (store_reply_at heard) → IsFree seat i → RefusesTransition i heard (transition i heard) fault
       → (fault ≡ NoMemory) ⊎ Serves standing failed old new (question i event) (writing i event (store_reply_at heard)) (store_reply_at heard)
       → LeavesUnchanged standing failed old new → IsRefused standing failed i old new seat event fault
   refuses i old new seat event heard fault heard_is free refused cause unchanged = record {
@@ -90,7 +90,7 @@ module _ {S : Type 0} (standing : S → Standing) (failed : S → S → Call →
       → found ≡ before → heard ≡ with_store_reply event (store_reply_at heard)
       → later ≡ history ++ record { seat = seat; event = heard; told = outcome } ∷ []
       → outcome ≡ told_by found heard (transition found heard) → after ≡ counted seat (after_transition found heard (transition found heard))
-      → IsFree seat found → counts_frames found (transition found heard) ≡ true → keeps_limits found (transition found heard) ≡ true
+      → IsFree seat found → counts_frames found heard (transition found heard) ≡ true → keeps_limits found heard (transition found heard) ≡ true
       → Serves standing failed old new (question found event) (writing found event (store_reply_at heard)) (store_reply_at heard)
       → Records standing failed before after history later old new seat event outcome
   records_before found before after history later old new seat event heard outcome same heard_is window told_is after_is free counts keeps serves =
@@ -98,7 +98,7 @@ module _ {S : Type 0} (standing : S → Standing) (failed : S → S → Call →
       (records found after history later old new seat event heard outcome heard_is window told_is after_is free counts keeps serves)
 
   pub refuses_before : (found before : Image) (old new : S) (seat : ℕ) (event heard : Event) (fault : PartitionFault)
-      → found ≡ before → heard ≡ with_store_reply event (store_reply_at heard) → IsFree seat found → RefusesTransition found (transition found heard) fault
+      → found ≡ before → heard ≡ with_store_reply event (store_reply_at heard) → IsFree seat found → RefusesTransition found heard (transition found heard) fault
       → (fault ≡ NoMemory) ⊎ Serves standing failed old new (question found event) (writing found event (store_reply_at heard)) (store_reply_at heard)
       → LeavesUnchanged standing failed old new → IsRefused standing failed before old new seat event fault
   refuses_before found before old new seat event heard fault same heard_is free refused cause unchanged =

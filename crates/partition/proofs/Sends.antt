@@ -1,12 +1,12 @@
 -- Which clients are sent a notice, and what becomes of each.
-use Rattle.std.proofs.Common.{◌≡◌, ◌≢◌, ◌⊎◌, inl, inr, ℕ, ◌<◌, ◌==◌, Bool, true, false, not, ◌&&◌, Option, List, [], ◌∷◌, ◌++◌, Some, None, is_some, map, refl, ap, sym, subst, ◌∙◌, arith, if◌then◌else◌}
+use Rattle.std.proofs.Common.{◌≡◌, ◌≢◌, ◌⊎◌, inl, inr, ℕ, ◌<◌, ◌==◌, Bool, true, false, not, ◌&&◌, Option, List, [], ◌∷◌, ◌++◌, Some, None, is_some, unwrap_or, map, refl, ap, sym, subst, ◌∙◌, arith, if◌then◌else◌}
 use Rattle.std.specs.Prelude.{filter, insert, nat_lt}
 use Rattle.std.specs.List.{flat_map, position_or_len}
 use Rattle.std.proofs.lemmas.Bool.{eq-eqb, eqb-true, ne_eqb}
 use Rattle.std.proofs.lemmas.Bool.Decides.{nat_tests}
 use Rattle.idle_notes.specs.declared.sets.Subsystems.{Subsystems}
 use Rattle.idle_notes.specs.Sets.{is_nonempty}
-use Rattle.idle_notes.specs.Notes.{fresh, noted, waits, cancelled, due}
+use Rattle.idle_notes.specs.Notes.{everything, fresh, noted, waits, cancelled, due}
 use Rattle.player_state.specs.declared.state.Library.{Library}
 use Rattle.mpd_command.specs.declared.command.Command.{Command}
 use Rattle.mpd_command.specs.declared.name.Name.{Name}
@@ -20,25 +20,25 @@ use Rattle.player_events.specs.declared.event.Event.TheVariants.{Connect, Discon
 use Rattle.player_state.specs.declared.effect.AudioStep.TheVariants.{Settles}
 use Rattle.player_state.specs.Outputs.{is_output}
 use Rattle.transitions.specs.declared.reply.Move.{Move}
-use Rattle.transitions.specs.declared.reply.Move.TheVariants.{Stay, Wait, Learn, Resume, Join, Show}
+use Rattle.transitions.specs.declared.reply.Move.TheVariants.{Stay, Wait, Learn, Resume, Join, Show, Enter}
 use Rattle.idle_clients.specs.declared.notices.Notice.{Notice}
 use Rattle.player_state.specs.declared.state.Client.{Client}
 use Rattle.player_state.specs.declared.state.Part.{Part}
-use Rattle.transitions.specs.Answers.{ResponseData, refused_by_shelf, stays, closes}
+use Rattle.transitions.specs.Answers.{Answer, ResponseData, refused_by_shelf, stays, closes}
 use Rattle.status_commands.specs.Status.{Wish, ToWait, ToGoOn, ToShow, wish_of}
-use Rattle.idle_clients.specs.Clients.{notified, is_other, at, moved, newcomer, notice_to, notice_for, notices_after, clients_after, shown, staying, move_of, AllAbove, Rising}
+use Rattle.idle_clients.specs.Clients.{entered, notified, is_other, at, moved, newcomer, notice_to, notice_for, notices_after, clients_after, shown, staying, move_of, AllAbove, Rising}
 use Rattle.transitions.specs.Transitions.{TransitionData}
 use Rattle.idle_clients.specs.Clients.{client_of}
-use Rattle.partition.specs.Step.{absent, asked_by, result_of, ends_by, once_written, transition_of, transition_line, transition_wished, written_transition, speaker, mover}
+use Rattle.partition.specs.Image.{Overview}
+use Rattle.partition.specs.Step.{absent, asked_by, ends_by, failure, have, once_written, output_turn, transition_of, transition_line, transition_there, transition_wished, want, written_transition, client_among, speaker, speaker_in, mover}
 use Rattle.player_events.specs.Events.{name_of}
 use Rattle.transitions.specs.Transitions.{acts, departs, no_response}
 use Rattle.transitions.specs.Shelves.{is_written}
 use Rattle.transitions.specs.declared.shelf_calls.Read.{Read}
 use Rattle.shelf.specs.declared.faults.ShelfFault.{ShelfFault}
-use Rattle.shelf.specs.declared.faults.ShelfFault.TheVariants.{NoSuchList, Exists, BadName, NoSticker, StoreFault, NoMemory}
 use Rattle.partition.specs.Notices.{IsIn, AllBeyond, NoticesRise}
 use Rattle.partition.proofs.Members.{in_filter, of_filter, in_insert, in_map, of_map, in_flat_map, of_flat_map}
-use Rattle.idle_clients.proofs.Rises.{at_keeps, shown_keeps}
+use Rattle.idle_clients.proofs.Rises.{at_keeps, entered_keeps, shown_keeps}
 
 above_in : (n : ℕ) (k : Client) (ks : List Client) → AllAbove n ks → IsIn k ks → n < k.number
 above_in n k [] a e = absurd e
@@ -56,74 +56,149 @@ found k (c ∷ cs) r (inr e) =
     let other : (c.number == k.number) ≡ false = grind (arith, nat_tests) in
     rw other (found k cs r.1 e)
 
--- what the shelf refuses makes no client wait
-refusal_moves : (stand : Stand) (name : Option Name) (fault : ShelfFault) (names : Subsystems) → move_of (stays (refused_by_shelf stand name fault)) ≡ Wait names → ⊥
-refusal_moves stand name NoSuchList names h = cc
-refusal_moves stand name Exists names h = cc
-refusal_moves stand name BadName names h = cc
-refusal_moves stand name NoSticker names h = cc
-refusal_moves stand name StoreFault names h = cc
-refusal_moves stand name NoMemory names h = cc
+-- a move of a client that waits: none, or it waits no more
+abbrev pub Rests : Move → Type 0
+Rests Stay = Unit {0}
+Rests (Wait names) = ⊥
+Rests Learn = ⊥
+Rests Resume = Unit {0}
+Rests Join = ⊥
+Rests (Show tags) = ⊥
+Rests (Enter place) = ⊥
 
-module _ (part : Part) (library : Library) (read : Read) (k : Client) (named names : Subsystems) where
+rests_stays : (answer : Answer) → Rests (move_of (stays answer))
+rests_stays answer = elim (closes answer.next) as (λ b. Rests (if b then Stay else Stay)) [ true ↦ tt | false ↦ tt ]
+
+module _ (o : Overview) (part : Option Part) (library : Library) (read : Read) (k : Client) (named : Subsystems) where
   abbrev Moves : Asked → Command → Option Wish → Type 0
   Moves asked command wish =
-      move_of (if is_some k.pending.waiting && not (ends_by asked.stand wish) then departs k.number else transition_wished asked k (result_of asked part library read command) wish).response
-      ≡ Wait names
+      Rests (move_of (if is_some k.pending.waiting && not (ends_by asked.stand wish) then departs k.number else transition_wished asked k (transition_there o asked part library read command) wish).response)
 
-  wish_moves : (name : Name) (stand : Stand) (command : Command) (wish : Option Wish) → k.pending.waiting ≡ Some named
-      → Moves (asked_by k name stand) command wish → ⊥
-  wish_moves name Alone command None w m = (let n = rw w at m in cc)
-  wish_moves name Alone command (Some (ToWait more)) w m = (let n = rw w at m in cc)
-  wish_moves name Alone command (Some ToGoOn) w m = (let n = rw w at m in cc)
-  wish_moves name Alone command (Some (ToShow choice)) w m = (let n = rw w at m in cc)
-  wish_moves name (InList form place) command wish w m = (let n = rw w at m in cc)
+  wish_moves : (name : Name) (stand : Stand) (command : Command) (wish : Option Wish) → k.pending.waiting ≡ Some named → Moves (asked_by k name stand) command wish
+  wish_moves name Alone command None w = rw w tt
+  wish_moves name Alone command (Some (ToWait more)) w = rw w tt
+  wish_moves name Alone command (Some ToGoOn) w = rw w tt
+  wish_moves name Alone command (Some (ToShow choice)) w = rw w tt
+  wish_moves name (InList form place) command wish w = rw w tt
 
-  line_moves : (stand : Stand) (request : Request) → k.pending.waiting ≡ Some named → move_of (transition_line part library (Some k) stand request read).response ≡ Wait names → ⊥
-  line_moves stand (Run name command) w m = wish_moves name stand command (wish_of command) w m
-  line_moves stand (Refused ack) w m = (let n = rw w at m in cc)
+  line_moves : (stand : Stand) (request : Request) → k.pending.waiting ≡ Some named → Rests (move_of (transition_line o part library (Some k) stand request read).response)
+  line_moves stand (Run name command) w = wish_moves name stand command (wish_of command) w
+  line_moves stand (Refused ack) w = rw w tt
 
--- a transition that writes to the shelf makes no client wait but as it would else
-written_moves : (stand : Stand) (request : Request) (refused : Option ShelfFault) (t : TransitionData) (names : Subsystems) → (move_of t.response ≡ Wait names → ⊥)
-    → move_of (written_transition stand request refused t).response ≡ Wait names → ⊥
-written_moves stand request refused t names free =
-    elim (is_written t.written) as (λ b. move_of (if b then once_written stand request refused t else t).response ≡ Wait names → ⊥) [
-      | true ↦ elim refused as (λ r. move_of (once_written stand request r t).response ≡ Wait names → ⊥) [ None ↦ free | Some fault ↦ λ h. refusal_moves stand (name_of request) fault names h ]
-      | false ↦ free
+-- a transition that writes to the shelf makes no other move than it would else
+written_moves : (stand : Stand) (request : Request) (refused : Option ShelfFault) (t : TransitionData) → Rests (move_of t.response) → Rests (move_of (written_transition stand request refused t).response)
+written_moves stand request refused t rests =
+    elim (is_written t.written) as (λ b. Rests (move_of (if b then once_written stand request refused t else t).response)) [
+      | true ↦ elim refused as (λ r. Rests (move_of (once_written stand request r t).response)) [ None ↦ rests | Some fault ↦ rests_stays (refused_by_shelf stand (name_of request) fault) ]
+      | false ↦ rests
     ]
 
--- a client that waits does not begin to wait
-pub waiter_moves : (ended : Bool) (part : Part) (library : Library) (ks : List Client) (event : Event) (k : Client) (named names : Subsystems)
-    → client_of (mover event) ks ≡ Some k → k.pending.waiting ≡ Some named → move_of (transition_of ended part library ks event).response ≡ Wait names → ⊥
-waiter_moves ended part library ks (Connect number) k named names e w m = (let n = rw e at m in cc)
-waiter_moves ended part library ks (Disconnect number) k named names e w m = cc
-waiter_moves ended part library ks ScanQuestion k named names e w m = cc
-waiter_moves ended part library ks (ScanResult songs second) k named names e w m = cc
-waiter_moves ended part library ks (Want owes) k named names e w m = cc
-waiter_moves ended part library ks (Have number frames) k named names e w m = cc
-waiter_moves ended part library ks (Failed number partner) k named names e w m = cc
-waiter_moves ended part library ks End k named names e w m = cc
-waiter_moves ended part library ks (OutputTurn output written discarded failed) k named names e w m =
-    elim (is_output part.outputs output) as (λ b. move_of (if b then acts (Settles output written discarded failed) else absent).response ≡ Wait names → ⊥)
-    [ true ↦ λ h. cc | false ↦ λ h. cc ] m
-waiter_moves ended part library ks (Line number stand request heard) k named names e w m =
-    written_moves stand request heard.refused (transition_line part library (client_of number ks) stand request heard.read) names
-    (λ h. line_moves part library heard.read k named names stand request w (rw e at h)) m
+rests_if : (b : Bool) (x y : TransitionData) → Rests (move_of x.response) → Rests (move_of y.response) → Rests (move_of (if b then x else y).response)
+rests_if true x y p q = p
+rests_if false x y p q = q
+
+-- a client that waits makes no move but to wait no more
+module _ (o : Overview) (part : Option Part) (library : Library) (k : Client) (named : Subsystems) (waits_named : k.pending.waiting ≡ Some named) where
+  rests_turn : (part : Option Part) (output written discarded : ℕ) (failed : Bool) → Rests (move_of (output_turn part output (Settles output written discarded failed)).response)
+  rests_turn None output written discarded failed = tt
+  rests_turn (Some part) output written discarded failed =
+      rests_if (is_output part.outputs output) (acts (Settles output written discarded failed)) absent tt tt
+
+  rests_want : (part : Option Part) (owes : List Bool) → Rests (move_of (want o.ended part owes).response)
+  rests_want None owes = tt
+  rests_want (Some part) owes = tt
+
+  rests_have : (part : Option Part) (number frames : ℕ) → Rests (move_of (have o.ended part number frames).response)
+  rests_have None number frames = tt
+  rests_have (Some part) number frames = tt
+
+  rests_failure : (part : Option Part) (number : ℕ) (partner : Bool) → Rests (move_of (failure part number partner).response)
+  rests_failure None number partner = tt
+  rests_failure (Some part) number partner = tt
+
+  pub waiter_rests : (event : Event) (client : Option Client) → client ≡ Some k → Rests (move_of (transition_of o part library client event).response)
+  waiter_rests (Connect number) client e = rw e tt
+  waiter_rests (Disconnect number) client e = tt
+  waiter_rests ScanQuestion client e = tt
+  waiter_rests (ScanResult songs second) client e = tt
+  waiter_rests (Want place owes) client e = rests_want part owes
+  waiter_rests (Have place number frames) client e = rests_have part number frames
+  waiter_rests (Failed place number partner) client e = rests_failure part number partner
+  waiter_rests End client e = tt
+  waiter_rests (OutputTurn output written discarded failed) client e = rests_turn part output written discarded failed
+  waiter_rests (Line number stand request heard) client e =
+      written_moves stand request heard.refused (transition_line o part library client stand request heard.read)
+      (subst (λ (c : Option Client). Rests (move_of (transition_line o part library c stand request heard.read).response)) (sym e) (line_moves o part library heard.read k named stand request waits_named))
+
+-- so it does not begin to wait
+pub rests_unwaiting : (move : Move) (names : Subsystems) → Rests move → move ≡ Wait names → ⊥
+rests_unwaiting Stay names rests e = cc
+rests_unwaiting Resume names rests e = cc
+rests_unwaiting _ names rests e = rests
+
+-- nor goes to another partition
+pub rests_here : (move : Move) (place : ℕ) → Rests move → move ≡ Enter place → ⊥
+rests_here Stay place rests e = cc
+rests_here Resume place rests e = cc
+rests_here _ place rests e = rests
+
+-- the turn of an output is nobody's
+turn_unsaid : (part : Option Part) (output written discarded : ℕ) (failed : Bool) → (output_turn part output (Settles output written discarded failed)).response ≡ no_response
+turn_unsaid None output written discarded failed = refl
+turn_unsaid (Some part) output written discarded failed =
+    elim (is_output part.outputs output) as (λ b. (if b then acts (Settles output written discarded failed) else absent).response ≡ no_response) [ true ↦ refl | false ↦ refl ]
+
+want_unsaid : (ended : Bool) (part : Option Part) (owes : List Bool) → (want ended part owes).response ≡ no_response
+want_unsaid ended None owes = refl
+want_unsaid ended (Some part) owes = refl
+
+have_unsaid : (ended : Bool) (part : Option Part) (number frames : ℕ) → (have ended part number frames).response ≡ no_response
+have_unsaid ended None number frames = refl
+have_unsaid ended (Some part) number frames = refl
+
+failure_unsaid : (part : Option Part) (number : ℕ) (partner : Bool) → (failure part number partner).response ≡ no_response
+failure_unsaid None number partner = refl
+failure_unsaid (Some part) number partner = refl
 
 -- an event of another speaker is of another client, or of no client: then nothing is said
-pub is_other_speaker : (ended : Bool) (part : Part) (library : Library) (ks : List Client) (event : Event) (number : ℕ) → speaker event ≢ Some number
-    → ((number == mover event) ≡ false) ⊎ ((transition_of ended part library ks event).response ≡ no_response)
-is_other_speaker ended part library ks (Connect c) number ne = inl (ne_eqb number c (λ e. ne (ap Some (sym e))))
-is_other_speaker ended part library ks (Disconnect c) number ne = inl (ne_eqb number c (λ e. ne (ap Some (sym e))))
-is_other_speaker ended part library ks (Line c stand request heard) number ne = inl (ne_eqb number c (λ e. ne (ap Some (sym e))))
-is_other_speaker ended part library ks ScanQuestion number ne = inr refl
-is_other_speaker ended part library ks (ScanResult songs second) number ne = inr refl
-is_other_speaker ended part library ks (Want owes) number ne = inr refl
-is_other_speaker ended part library ks (Have job frames) number ne = inr refl
-is_other_speaker ended part library ks (Failed job partner) number ne = inr refl
-is_other_speaker ended part library ks End number ne = inr refl
-is_other_speaker ended part library ks (OutputTurn output written discarded failed) number ne =
-    inr (elim (is_output part.outputs output) as (λ b. (if b then acts (Settles output written discarded failed) else absent).response ≡ no_response) [ true ↦ refl | false ↦ refl ])
+pub is_other_speaker : (o : Overview) (part : Option Part) (library : Library) (client : Option Client) (event : Event) (number : ℕ) → speaker event ≢ Some number
+    → ((number == mover event) ≡ false) ⊎ ((transition_of o part library client event).response ≡ no_response)
+is_other_speaker o part library client (Connect c) number ne = inl (ne_eqb number c (λ e. ne (ap Some (sym e))))
+is_other_speaker o part library client (Disconnect c) number ne = inl (ne_eqb number c (λ e. ne (ap Some (sym e))))
+is_other_speaker o part library client (Line c stand request heard) number ne = inl (ne_eqb number c (λ e. ne (ap Some (sym e))))
+is_other_speaker o part library client ScanQuestion number ne = inr refl
+is_other_speaker o part library client (ScanResult songs second) number ne = inr refl
+is_other_speaker o part library client (Want place owes) number ne = inr (want_unsaid o.ended part owes)
+is_other_speaker o part library client (Have place job frames) number ne = inr (have_unsaid o.ended part job frames)
+is_other_speaker o part library client (Failed place job partner) number ne = inr (failure_unsaid part job partner)
+is_other_speaker o part library client End number ne = inr refl
+is_other_speaker o part library client (OutputTurn output written discarded failed) number ne = inr (turn_unsaid part output written discarded failed)
+
+-- an event that comes from no client is answered by its report alone
+unsaid : (o : Overview) (part : Option Part) (library : Library) (client : Option Client) (event : Event) → speaker event ≡ None
+    → (transition_of o part library client event).response ≡ no_response
+unsaid o part library client (Connect c) e = cc
+unsaid o part library client (Disconnect c) e = cc
+unsaid o part library client (Line c stand request heard) e = cc
+unsaid o part library client ScanQuestion e = refl
+unsaid o part library client (ScanResult songs second) e = refl
+unsaid o part library client (Want place owes) e = want_unsaid o.ended part owes
+unsaid o part library client (Have place job frames) e = have_unsaid o.ended part job frames
+unsaid o part library client (Failed place job partner) e = failure_unsaid part job partner
+unsaid o part library client End e = refl
+unsaid o part library client (OutputTurn output written discarded failed) e = turn_unsaid part output written discarded failed
+
+-- the client that makes a move by an event is the one that it comes from
+pub speaks : (clients : List Client) (event : Event) (k : Client) (move : Move) → (Stay ≡ move → ⊥) → client_of (mover event) clients ≡ Some k
+    → (o : Overview) (part : Option Part) (library : Library) → move_of (transition_of o part library (speaker_in clients event) event).response ≡ move
+    → speaker_in clients event ≡ Some k
+speaks clients event k move moves is o part library goes =
+    let cases : (s : Option ℕ) → speaker event ≡ s → client_of (unwrap_or s 0) clients ≡ Some k → client_among s clients ≡ Some k =
+    λ s. elim s as (λ s. speaker event ≡ s → client_of (unwrap_or s 0) clients ≡ Some k → client_among s clients ≡ Some k) [
+      | Some number ↦ λ e f. f
+      | None ↦ λ e f. absurd (moves (sym (ap move_of (unsaid o part library (speaker_in clients event) event e)) ∙ goes))
+    ] in
+    cases (speaker event) refl is
 
 module _ (n : ℕ) (r : Client → Subsystems) where
   -- what of a client's named set changed
@@ -166,6 +241,7 @@ module _ (n : ℕ) (r : Client → Subsystems) where
   does Resume k = at n cancelled k
   does Join k = k
   does (Show tags) k = shown n tags k
+  does (Enter place) k = entered n place k
 
   pub does_keeps : (move : Move) (k : Client) → (does move k).number ≡ k.number
   does_keeps Stay k = refl
@@ -174,6 +250,7 @@ module _ (n : ℕ) (r : Client → Subsystems) where
   does_keeps Resume k = at_keeps n cancelled k
   does_keeps Join k = refl
   does_keeps (Show tags) k = shown_keeps n tags k
+  does_keeps (Enter place) k = entered_keeps n place k
 
   pub does_other : (move : Move) (k : Client) → (k.number == n) ≡ false → does move k ≡ k
   does_other Stay k e = refl
@@ -182,6 +259,7 @@ module _ (n : ℕ) (r : Client → Subsystems) where
   does_other Resume k e = rw e refl
   does_other Join k e = refl
   does_other (Show tags) k e = rw e refl
+  does_other (Enter place) k e = rw e refl
 
   -- a client that does not wait goes on so, unless it is the one that begins to wait
   pub does_none : (move : Move) (k : Client) → k.pending.waiting ≡ None → ((names : Subsystems) → move ≡ Wait names → k.number ≡ n → ⊥)
@@ -199,6 +277,8 @@ module _ (n : ℕ) (r : Client → Subsystems) where
   does_none Join k w free = w
   does_none (Show tags) k w free =
       elim (k.number == n) as (λ b. (if b then record k { tags = tags } else k).pending.waiting ≡ None) [ true ↦ w | false ↦ w ]
+  does_none (Enter place) k w free =
+      elim (k.number == n) as (λ b. (if b then record k { place = place; pending = everything } else k).pending.waiting ≡ None) [ true ↦ refl | false ↦ w ]
 
   pub does_wait : (names : Subsystems) (k : Client) → k.number ≡ n → (does (Wait names) k).pending.waiting ≡ Some names
   does_wait names k e = (let same : (k.number == n) ≡ true = eq-eqb k.number n e in rw same refl)
@@ -213,6 +293,7 @@ module _ (n : ℕ) (r : Client → Subsystems) where
       elim (is_some (client_of n ks)) as (λ b. IsIn k (if b then ks else insert ks place (newcomer n)))
       [ true ↦ e | false ↦ in_insert k ks place (newcomer n) e ]
   moved_in (Show tags) k ks e = in_map (shown n tags) k ks e
+  moved_in (Enter place) k ks e = in_map (entered n place) k ks e
 
   -- a client that does not wait goes on so as it hears, and one that is told waits no more
   pub notified_none : (k : Client) → k.pending.waiting ≡ None → (notified r k).pending.waiting ≡ None

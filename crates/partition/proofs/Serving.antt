@@ -33,9 +33,9 @@ unrefused (Disconnect number) read = refl
 unrefused (Line number stand request heard) read = refl
 unrefused ScanQuestion read = refl
 unrefused (ScanResult songs second) read = refl
-unrefused (Want owes) read = refl
-unrefused (Have number frames) read = refl
-unrefused (Failed number partner) read = refl
+unrefused (Want place owes) read = refl
+unrefused (Have place number frames) read = refl
+unrefused (Failed place number partner) read = refl
 unrefused (OutputTurn output written discarded failed) read = refl
 unrefused End read = refl
 
@@ -66,9 +66,9 @@ module _ {S : Type 0} (standing : S → Standing) (failed : S → S → Call →
   asked_by old between (Line number stand request heard) read r turns = turns
   asked_by old between ScanQuestion read r turns = dropped (standing old) (standing between) (is_read read) turns
   asked_by old between (ScanResult songs second) read r turns = dropped (standing old) (standing between) (is_read read) turns
-  asked_by old between (Want owes) read r turns = dropped (standing old) (standing between) (is_read read) turns
-  asked_by old between (Have number frames) read r turns = dropped (standing old) (standing between) (is_read read) turns
-  asked_by old between (Failed number partner) read r turns = dropped (standing old) (standing between) (is_read read) turns
+  asked_by old between (Want place owes) read r turns = dropped (standing old) (standing between) (is_read read) turns
+  asked_by old between (Have place number frames) read r turns = dropped (standing old) (standing between) (is_read read) turns
+  asked_by old between (Failed place number partner) read r turns = dropped (standing old) (standing between) (is_read read) turns
   asked_by old between (OutputTurn output written discarded failed) read r turns = dropped (standing old) (standing between) (is_read read) turns
   asked_by old between End read r turns = dropped (standing old) (standing between) (is_read read) turns
 
@@ -82,9 +82,9 @@ module _ {S : Type 0} (standing : S → Standing) (failed : S → S → Call →
   read_by i old between (Line number stand request heard) read r reads = reads
   read_by i old between ScanQuestion read r reads = λ trusted. refl
   read_by i old between (ScanResult songs second) read r reads = λ trusted. refl
-  read_by i old between (Want owes) read r reads = λ trusted. refl
-  read_by i old between (Have number frames) read r reads = λ trusted. refl
-  read_by i old between (Failed number partner) read r reads = λ trusted. refl
+  read_by i old between (Want place owes) read r reads = λ trusted. refl
+  read_by i old between (Have place number frames) read r reads = λ trusted. refl
+  read_by i old between (Failed place number partner) read r reads = λ trusted. refl
   read_by i old between (OutputTurn output written discarded failed) read r reads = λ trusted. refl
   read_by i old between End read r reads = λ trusted. refl
 
@@ -96,9 +96,9 @@ module _ {S : Type 0} (standing : S → Standing) (failed : S → S → Call →
   writes_by i (Line number stand request heard) read r = refl
   writes_by i ScanQuestion read r = refl
   writes_by i (ScanResult songs second) read r = refl
-  writes_by i (Want owes) read r = refl
-  writes_by i (Have number frames) read r = refl
-  writes_by i (Failed number partner) read r = refl
+  writes_by i (Want place owes) read r = refl
+  writes_by i (Have place number frames) read r = refl
+  writes_by i (Failed place number partner) read r = refl
   writes_by i (OutputTurn output written discarded failed) read r = refl
   writes_by i End read r = refl
 

@@ -7,21 +7,19 @@ use Rattle.std.proofs.lemmas.Bool.{eq-eqb, eqb-true}
 use Rattle.idle_notes.specs.declared.pending.Pending.{Pending}
 use Rattle.idle_notes.specs.declared.sets.Subsystems.{Subsystems}
 use Rattle.idle_notes.specs.Sets.{none, union, meet, is_nonempty}
-use Rattle.idle_notes.specs.Notes.{fresh, noted, waits, cancelled, due, settled, notice_of}
+use Rattle.idle_notes.specs.Notes.{everything, fresh, noted, waits, cancelled, due, settled, notice_of}
 use Rattle.player_state.specs.declared.state.Library.{Library}
-use Rattle.song_queue.proofs.Same.{same_queue-refl}
-use Rattle.song_queue.specs.State.{queue_of}
 use Rattle.mpd_command.specs.declared.request.Request.TheVariants.{Run}
 use Rattle.transitions.specs.declared.asked.Asked.{Asked}
 use Rattle.player_events.specs.declared.event.Event.{Event}
 use Rattle.transitions.specs.declared.asked.Stand.TheVariants.{Alone}
 use Rattle.player_events.specs.declared.event.LogEntry.{LogEntry}
 use Rattle.transitions.specs.declared.reply.Move.{Move}
-use Rattle.transitions.specs.declared.reply.Move.TheVariants.{Stay, Wait, Learn, Resume, Join, Show}
+use Rattle.transitions.specs.declared.reply.Move.TheVariants.{Stay, Wait, Learn, Resume, Join, Show, Enter}
 use Rattle.player_state.specs.declared.state.Client.{Client}
 use Rattle.player_state.specs.declared.state.Part.{Part}
-use Rattle.transitions.specs.Answers.{ResponseData}
-use Rattle.idle_clients.specs.Clients.{has_messages, notified, notice_for, notice_to, is_other, at, joined, moved, newcomer, shown, staying, move_of, clients_after, options, playing, Rising}
+use Rattle.transitions.specs.Answers.{ResponseData, closes}
+use Rattle.idle_clients.specs.Clients.{entered, entering, names_of, notified, notice_for, notice_to, is_other, at, joined, moved, newcomer, raised, raised_for_all, raised_there, shown, staying, move_of, clients_after, same_names, watched_all, watched_at, watched_of, Rising}
 use Rattle.mpd_text.specs.declared.songs.song.TagName.{TagName}
 use Rattle.status_commands.specs.Status.{Wish, idles}
 use Rattle.partition.specs.History.{replay}
@@ -42,11 +40,19 @@ use Rattle.idle_clients.specs.Settled.{IsSettled, AllSettled, HasRoom, nothing}
 use Rattle.transitions.specs.Shelves.{is_written}
 use Rattle.transitions.specs.declared.shelf_calls.ShelfWrite.{ShelfWrite}
 use Rattle.transitions.specs.declared.shelf_calls.ShelfWrite.TheVariants.{Nothing as Unwritten, Put, Create, Rename, Remove, SetSticker, DeleteSticker, DeleteStickers}
-use Rattle.idle_notes.specs.Channels.{pairs}
 use Rattle.idle_clients.proofs.Alike.{same_pairs-refl}
-use Rattle.partition.specs.Step.{asked_by, transition, transition_of, transition_line, transition_wished, result_of, ends_by, mover, raised_by, next_image, written_transition}
+use Rattle.partition.specs.Applying.{GoesNowhere, RaisesNothing}
+use Rattle.partition.specs.Image.{overview}
+use Rattle.partition.specs.Step.{asked_by, ends_by, goer, mover, place_at, raised_by, raised_of, speaker_in, transition, transition_line, transition_of, transition_there, transition_wished, next_image, written_transition}
+use Rattle.parts.specs.Parts.{part_at}
+use Rattle.parts.specs.declared.crossing.Crossing.{Crossing}
+use Rattle.parts.specs.declared.crossing.Crossing.TheVariants.{Stays}
+use Rattle.partition.proofs.Raised.{same_between}
+use Rattle.partition.proofs.Written.{rests_changed}
+use Rattle.song_queue.specs.State.{differ}
+use Rattle.player_state.specs.Libraries.{same_songs}
 use Rattle.transitions.specs.Transitions.{departs, quiet}
-use Rattle.idle_clients.proofs.Alike.{same_enabled-refl, same_options-refl, same_playing-refl}
+use Rattle.idle_clients.proofs.Alike.{same_names-refl}
 use Rattle.partition.proofs.Asking.{quiet_unwaiting, IsAsking, kind_of, transition_idle}
 use Rattle.partition.proofs.Raised.{differ-self}
 use Rattle.idle_clients.proofs.Rises.{rising_after}
@@ -70,24 +76,7 @@ union_none s = λ i. record {
   sticker = or_false s.sticker i;
   subscription = or_false s.subscription i;
   message = or_false s.message i;
-}
-
-begins-own : (h : Bool) → (not h && h) ≡ false
-begins-own true = refl
-begins-own false = refl
-
-rest_raises : (part : Part) (library : Library) (response : ResponseData) (report : Report)
-    → raised_by part library (record { effect = ByCommand Rests; scan = StayScan; written = Unwritten; response = response; report = report }) ≡ nothing
-rest_raises part library response report = λ i client. record none {
-  database = not (same_songs-refl library.songs i);
-  update = differ-self library.scan.runs i;
-  playlist = not (same_queue-refl (queue_of part.queue) i);
-  player = not (same_playing-refl (playing part.player) i);
-  mixer = not (eq-eqb part.volume part.volume refl i);
-  output = not (same_enabled-refl part.outputs.enabled i);
-  options = not (same_options-refl (options part.player) i);
-  subscription = not (same_pairs-refl (pairs part.channels) i);
-  message = begins-own (has_messages client.number part.channels) i;
+  partition = or_false s.partition i;
 }
 
 pub unwritten : (w : ShelfWrite) → is_written w ≡ false → w ≡ Unwritten
@@ -100,16 +89,39 @@ unwritten (SetSticker kind target name value changes) e = cc
 unwritten (DeleteSticker kind target name) e = cc
 unwritten (DeleteStickers kind target) e = cc
 
--- what leaves the part and the scans as they are raises nothing
-pub same_raises : (part : Part) (library : Library) (t : TransitionData) → t.scan ≡ StayScan → t.effect ≡ (ByCommand Rests) → is_written t.written ≡ false → raised_by part library t ≡ nothing
-same_raises part library t scan effect written =
-    ap (λ (d : Effect). raised_by part library (record t { effect = d })) effect
-    ∙ ap (λ (m : ScanMove). raised_by part library (record t { effect = ByCommand Rests; scan = m })) scan
-    ∙ ap (λ (w : ShelfWrite). raised_by part library (record t { effect = ByCommand Rests; scan = StayScan; written = w })) (unwritten t.written written)
-    ∙ rest_raises part library t.response t.report
+-- a client that goes nowhere
+stays_put : (number : ℕ) (response : ResponseData) → GoesNowhere response.move → goer number response ≡ None
+stays_put number response nowhere =
+    elim (closes response.answer.next) as (λ b. entering number (if b then Stay else response.move) ≡ None) [ true ↦ refl | false ↦ nowhere number ]
 
-pub quiet_raises : (part : Part) (library : Library) (response : ResponseData) → raised_by part library (quiet response) ≡ nothing
-quiet_raises part library response = rest_raises part library response Nothing
+-- what leaves the partitions and the scans as they are, and lets no client go, raises nothing
+rest_raises : (number place : ℕ) (parts : List Part) (library : Library) (response : ResponseData) (report : Report) → goer number response ≡ None
+    → raised_by number place parts library (record { effect = ByCommand Rests; scan = StayScan; written = Unwritten; response = response; report = report; crossing = Stays }) ≡ nothing
+rest_raises number place parts library response report nobody =
+    let common_is : raised_for_all Unwritten (watched_all library parts) (watched_all library parts) ≡ none =
+    λ i. record none {
+      database = not (same_songs-refl library.songs i);
+      update = differ-self library.scan.runs i;
+      partition = not (same_names-refl (names_of (map watched_of parts)) i);
+    } in
+    let there : (client : Client) → raised_there Unwritten (watched_all library parts) (watched_all library parts) client ≡ none =
+    λ client.
+    same_between client.number (not (same_songs library.songs library.songs)) (differ library.scan.runs library.scan.runs) false false (not (same_names (names_of (map watched_of parts)) (names_of (map watched_of parts))))
+    (watched_at client.place (map watched_of parts)) ∙ common_is in
+    ap (λ (ps : List Part). raised (goer number response) Unwritten (watched_all library parts) (watched_all library ps)) (rests_changed library.rate place parts)
+    ∙ ap (λ (g : Option ℕ). raised g Unwritten (watched_all library parts) (watched_all library parts)) nobody
+    ∙ (λ i client. there client i)
+
+pub same_raises : (t : TransitionData) → t.scan ≡ StayScan → t.effect ≡ (ByCommand Rests) → t.crossing ≡ Stays → GoesNowhere t.response.move → is_written t.written ≡ false → RaisesNothing t
+same_raises t scan effect crossing nowhere written = λ number place parts library.
+    ap (λ (d : Effect). raised_by number place parts library (record t { effect = d })) effect
+    ∙ ap (λ (m : ScanMove). raised_by number place parts library (record t { effect = ByCommand Rests; scan = m })) scan
+    ∙ ap (λ (c : Crossing). raised_by number place parts library (record t { effect = ByCommand Rests; scan = StayScan; crossing = c })) crossing
+    ∙ ap (λ (w : ShelfWrite). raised_by number place parts library (record t { effect = ByCommand Rests; scan = StayScan; crossing = Stays; written = w })) (unwritten t.written written)
+    ∙ rest_raises number place parts library t.response t.report (stays_put number t.response nowhere)
+
+pub quiet_raises : (i : Image) (event : Event) (response : ResponseData) → goer (mover event) response ≡ None → raised_of i event (quiet response) ≡ nothing
+quiet_raises i event response nobody = rest_raises (mover event) (place_at i event) i.parts i.shared.library response Nothing nobody
 
 -- a client that heard is settled
 notified_settled : (r : Client → Subsystems) (k : Client) → IsSettled (notified r k)
@@ -146,6 +158,10 @@ shown_settled : (n : ℕ) (tags : List TagName) (k : Client) → IsSettled k →
 shown_settled n tags k one =
     elim (k.number == n) as (λ b. is_nonempty (due (if b then record k { tags = tags } else k).pending) ≡ false) [ true ↦ one | false ↦ one ]
 
+entered_settled : (n place : ℕ) (k : Client) → IsSettled k → IsSettled (entered n place k)
+entered_settled n place k one =
+    elim (k.number == n) as (λ b. is_nonempty (due (if b then record k { place = place; pending = everything } else k).pending) ≡ false) [ true ↦ refl | false ↦ one ]
+
 settled_joined : (n : ℕ) (ks : List Client) → AllSettled ks → AllSettled (joined n ks)
 settled_joined n ks all =
     let place : ℕ = position_or_len (λ c. nat_lt n c.number) ks in
@@ -161,6 +177,7 @@ settled_moved n Learn ks waiting all = settled_map (at n (λ p. fresh)) (at_sett
 settled_moved n Resume ks waiting all = settled_map (at n cancelled) (at_settled n cancelled (λ p. refl)) ks all
 settled_moved n Join ks waiting all = settled_joined n ks all
 settled_moved n (Show tags) ks waiting all = settled_map (shown n tags) (shown_settled n tags) ks all
+settled_moved n (Enter place) ks waiting all = settled_map (entered n place) (entered_settled n place) ks all
 
 -- a client for which nothing of a set is pending may wait for it, once it has heard of nothing
 nothing_due : (p : Pending) (named : Subsystems) → is_nonempty (meet p.changed named) ≡ false → is_nonempty (meet (settled (noted none p)).changed named) ≡ false
@@ -186,23 +203,27 @@ all_in : (f g : Client → Client) (ks : List Client) → ((k : Client) → IsIn
 all_in f g [] each = tt
 all_in f g (k ∷ ks) each = (each k (inl refl), all_in f g ks (λ c among. each c (inr among)))
 
-module _ (ended : Bool) (part : Part) (library : Library) (ks : List Client) (event : Event) (rising : Rising ks) where
+module _ (i : Image) (event : Event) (rising : Rising i.clients) where
+  abbrev ks : List Client
+  ks = i.clients
+
   abbrev t : TransitionData
-  t = transition_of ended part library ks event
+  t = transition i event
+
+  abbrev part : Option Part
+  part = part_at (place_at i event) i.parts
 
   -- the clients once one of them waits, after the transition by which it does
   abbrev Waiting : ℕ → Subsystems → TransitionData → Type 0
-  Waiting n names u = AllSettled (map (at n (waits names)) (map (notified (raised_by part library u)) (staying n u.response ks)))
-
-  abbrev asked_at : IsAsking ks event → Asked
-  asked_at a = asked_by a.client a.name Alone
+  Waiting n names u = AllSettled (map (at n (waits names)) (map (notified (raised_of i event u)) (staying n u.response ks)))
 
   idle_is : (a : IsAsking ks event) → t ≡ transition_idle a.client a.named
   idle_is a =
       let once : TransitionData → TransitionData = λ u. written_transition Alone (Run a.name a.command) a.heard.refused u in
-      ap (transition_of ended part library ks) a.is
-      ∙ ap (λ (o : Option Client). once (transition_line part library o Alone (Run a.name a.command) a.heard.read)) a.found
-      ∙ ap (λ (o : Option Wish). once (if is_some a.client.pending.waiting && not (ends_by Alone o) then departs a.client.number else transition_wished (asked_at a) a.client (result_of (asked_at a) part library a.heard.read a.command) o)) a.wish
+      let asked : Asked = asked_by a.client a.name Alone in
+      ap (transition_of (overview i) part i.shared.library (speaker_in ks event)) a.is
+      ∙ ap (λ (o : Option Client). once (transition_line (overview i) part i.shared.library o Alone (Run a.name a.command) a.heard.read)) (ap (speaker_in ks) a.is ∙ a.found)
+      ∙ ap (λ (o : Option Wish). once (if is_some a.client.pending.waiting && not (ends_by Alone o) then departs a.client.number else transition_wished asked a.client (transition_there (overview i) asked part i.shared.library a.heard.read a.command) o)) a.wish
       ∙ ap (λ (w : Option Subsystems). once (if is_some w && true then departs a.client.number else transition_idle a.client a.named)) a.free
 
   -- a client waits only where nothing of what it names is pending for it
@@ -220,23 +241,23 @@ module _ (ended : Bool) (part : Part) (library : Library) (ks : List Client) (ev
             let each : AllSettled (map (at a.number (waits a.named)) (map (notified nothing) ks)) =
             all_in (at a.number (waits a.named)) (notified nothing) ks (one_waits a.number a.named a.client ks rising a.found e) in
             let heard : Waiting a.number a.named (answers false) =
-            subst (λ (r : Client → Subsystems). AllSettled (map (at a.number (waits a.named)) (map (notified r) ks))) (sym (quiet_raises part library (idles a.named None))) each in
+            subst (λ (r : Client → Subsystems). AllSettled (map (at a.number (waits a.named)) (map (notified r) ks))) (sym (quiet_raises i event (idles a.named None) refl)) each in
             subst (Waiting (mover event) names) (sym is)
             (subst (λ (x : ℕ). Waiting x names (answers false)) number (subst (λ (s : Subsystems). Waiting a.number s (answers false)) same heard))
       ] in
       cases (is_nonempty d) refl (idle_is a)
 
-  pub settled_after : AllSettled (clients_after (mover event) (raised_by part library t) t.response ks)
+  pub settled_after : AllSettled (clients_after (mover event) (raised_of i event t) t.response ks)
   settled_after =
-      settled_moved (mover event) (move_of t.response) (map (notified (raised_by part library t)) (staying (mover event) t.response ks))
-      (λ names moves. elim (kind_of ended part library ks event) [ inl quiet ↦ absurd (quiet_unwaiting (move_of t.response) names quiet moves) | inr a ↦ asked a names moves ])
-      (all_notified (raised_by part library t) (staying (mover event) t.response ks))
+      settled_moved (mover event) (move_of t.response) (map (notified (raised_of i event t)) (staying (mover event) t.response ks))
+      (λ names moves. elim (kind_of (overview i) part i.shared.library ks event) [ inl quiet ↦ absurd (quiet_unwaiting (move_of t.response) names quiet moves) | inr a ↦ asked a names moves ])
+      (all_notified (raised_of i event t) (staying (mover event) t.response ks))
 
 next_settled : (seat : ℕ) (i : Image) (event : Event) → Rising i.clients → Rising (next_image seat i event).clients × AllSettled (next_image seat i event).clients
 unfolding next_image
 next_settled seat i event rising =
     let t : TransitionData = transition i event in
-    (rising_after (mover event) (raised_by i.part i.shared.library t) t.response i.clients rising, settled_after i.shared.ended i.part i.shared.library i.clients event rising)
+    (rising_after (mover event) (raised_of i event t) t.response i.clients rising, settled_after i event rising)
 
 -- over every history
 pub replay_settled : (hs : List LogEntry) (i : Image) → Rising i.clients → AllSettled i.clients → AllSettled (replay i hs).clients

@@ -8,22 +8,25 @@ use Rattle.idle_notes.specs.declared.subsystem.Subsystem.{Subsystem}
 use Rattle.idle_notes.specs.Sets.{none, union, has}
 use Rattle.player_events.specs.declared.event.LogEntry.{LogEntry}
 use Rattle.player_state.specs.declared.state.Client.{Client}
-use Rattle.idle_clients.specs.Clients.{notified, AllAbove, Rising}
+use Rattle.idle_clients.specs.Clients.{Watched, newcomer, notified, raised, watched_of, AllAbove, Rising}
 use Rattle.transitions.specs.Answers.{closes}
 use Rattle.partition.specs.History.{replay}
 use Rattle.partition.specs.Image.{Image}
-use Rattle.transitions.specs.Transitions.{TransitionData}
+use Rattle.transitions.specs.Transitions.{TransitionData, parts_after}
 use Rattle.idle_clients.specs.Clients.{client_of}
 use Rattle.player_state.specs.Outputs.{FrameBooks, books_after}
-use Rattle.partition.specs.Since.{world_of, world_transition_at, world_transitions_from, flags_of, kept_for, IsPendingSince, HasPendingSince, books_since}
-use Rattle.partition.specs.Step.{transition, mover, raised_by, after_transition, next_image, told}
-use Rattle.transitions.specs.Transitions.{report_of}
-use Rattle.partition.specs.World.{WorldTransition, raised_at, is_there, begins_anew, books_of, listener_of, NeverAnew}
+use Rattle.partition.specs.Since.{shown_part, world_of, world_transition_at, world_transitions_from, flags_of, kept_for, IsPendingSince, HasPendingSince, books_since}
+use Rattle.partition.specs.Step.{goer, transition, mover, place_at, raised_of, report_at, after_transition, next_image, told}
+use Rattle.player_state.specs.declared.state.Part.{Part}
+use Rattle.player_state.specs.Libraries.{library_after}
+use Rattle.partition.specs.Notices.{IsIn}
+use Rattle.partition.specs.World.{WorldTransition, raised_at, raised_for, is_there, begins_anew, books_of, listener_of, place_of, watched_by, NeverAnew}
 use Rattle.partition.proofs.Notified.{Each, flagged, all_stand}
 use Rattle.partition.proofs.Parts.{raised_differ}
 use Rattle.partition.proofs.Pending.{has_union, has_none, either, or_right, or_left, longer}
 use Rattle.idle_clients.proofs.Rises.{rising_after}
-use Rattle.partition.proofs.Worlds.{each, same_first, or_more}
+use Rattle.partition.proofs.Sends.{found}
+use Rattle.partition.proofs.Worlds.{each, may_go, same_first, or_more}
 
 module _ (base : Image) where
   -- what is pending for a client, as a union
@@ -123,6 +126,33 @@ kept : (base : Image) (ks : List Client) → Each (λ x. client_of x.number base
 kept base [] e = tt
 kept base (k ∷ ks) e = (sym (ap flags_of e.0), kept base ks e.1)
 
+-- what subsystems speak of in the world that an image shows is what they speak of in it
+watched_shown : (ps : List Part) → map watched_by (map shown_part ps) ≡ map watched_of ps
+watched_shown [] = refl
+watched_shown (p ∷ ps) = ap (λ (l : List Watched). watched_of p ∷ l) (watched_shown ps)
+
+-- where a client is that is found by its number
+place_shown : (n : ℕ) (k : Client) (ks : List Client) → client_of n ks ≡ Some k → place_of n (map listener_of ks) ≡ k.place
+place_shown n k [] e = cc
+place_shown n k (c ∷ cs) e =
+    let cases : (b : Bool) → (c.number == n) ≡ b → (if b then Some c else client_of n cs) ≡ Some k → (if b then c.place else place_of n (map listener_of cs)) ≡ k.place =
+    λ b. elim b as (λ b. (c.number == n) ≡ b → (if b then Some c else client_of n cs) ≡ Some k → (if b then c.place else place_of n (map listener_of cs)) ≡ k.place) [
+      | true ↦ λ t h. (let same : c ≡ k = cc in ap (λ (x : Client). x.place) same)
+      | false ↦ λ t h. place_shown n k cs h
+    ] in
+    cases (c.number == n) refl e
+
+-- what an event raises for a client of an image is what it raises for the one of its number in the worlds shown
+raised_so : (i : Image) (h : LogEntry) → Rising i.clients → (k : Client) → IsIn k i.clients → raised_of i h.event (transition i h.event) k ≡ raised_at k.number (world_transition_at i h)
+unfolding next_image
+raised_so i h rising k among_them =
+    let t : TransitionData = transition i h.event in
+    let place : place_of k.number (map listener_of i.clients) ≡ k.place = place_shown k.number k i.clients (found k i.clients rising among_them) in
+    let after : List Part = parts_after i.shared.library.rate (place_at i h.event) t i.parts in
+    (λ j. raised (goer (mover h.event) t.response) t.written (record { library = i.shared.library; parts = sym (watched_shown i.parts) j })
+    (record { library = library_after i.shared.library t.scan; parts = sym (watched_shown after) j }) k)
+    ∙ ap (λ (p : ℕ). raised_for (world_transition_at i h) (record (newcomer k.number) { place = p })) (sym place)
+
 module _ (base : Image) where
   -- clients are in the order of their numbers, their flags are what is pending since the base, and the frames
   -- are summed since
@@ -133,7 +163,7 @@ module _ (base : Image) where
   unfolding next_image told
   step i ms h right =
       let t : TransitionData = transition i h.event in
-      let r : Client → Subsystems = raised_by i.part i.shared.library t in
+      let r : Client → Subsystems = raised_of i h.event t in
       let m : WorldTransition = world_transition_at i h in
       let flag : ℕ → Subsystems = λ n. since base n ms in
       let after : ℕ → Subsystems = λ n. since base n (m ∷ ms) in (
@@ -142,9 +172,9 @@ module _ (base : Image) where
           unflagged after (after_transition i h.event t).clients
               (all_stand r (λ n. raised_at n m) flag after (λ n. is_there n (world_of i)) (mover h.event) i.clients right.0
               (all_three (λ k. among k.number i.clients ≡ true) (λ k. k.pending.changed ≡ flag k.number) (λ k. r k ≡ raised_at k.number m) i.clients (all_among i.clients) right.1.0
-              (each (λ k. r k ≡ raised_at k.number m) (λ k. refl) i.clients))
-              (closes t.response.answer.next) t.response.move (λ n. refl) (absent r (mover h.event) i.clients)),
-          ap (λ (b : FrameBooks). books_after b t.effect (report_of i.part i.shared.library t)) right.1.1,
+              (each (λ k. r k ≡ raised_at k.number m) i.clients (raised_so i h right.0)))
+              (closes t.response.answer.next) t.response.move (may_go i h.event right.0) (λ n. refl) (absent r (mover h.event) i.clients)),
+          ap (λ (b : FrameBooks). books_after b t.effect (report_at i h.event t)) right.1.1,
         ),
       )
 

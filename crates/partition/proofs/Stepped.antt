@@ -28,9 +28,9 @@ asks_nothing i (Connect number) step = refl
 asks_nothing i (Disconnect number) step = refl
 asks_nothing i ScanQuestion step = refl
 asks_nothing i (ScanResult songs second) step = refl
-asks_nothing i (Want owes) step = refl
-asks_nothing i (Have number frames) step = refl
-asks_nothing i (Failed number partner) step = refl
+asks_nothing i (Want place owes) step = refl
+asks_nothing i (Have place number frames) step = refl
+asks_nothing i (Failed place number partner) step = refl
 asks_nothing i (OutputTurn output written discarded failed) step = refl
 asks_nothing i End step = refl
 
@@ -47,7 +47,7 @@ module _ (before after : Chronicle) (seat : ℕ) (event : Event) where
     uncalled_serves i =
         serves_unwritten standing failed i event event Nothing s s (uncalled (standing s) (standing s).maps)
         (λ trusted. rw (asks_nothing i event step) refl)
-        (ap (λ (e : Event). is_written (transition i e).written) (hears_nothing event (heard_read Nothing) step) ∙ writes_nothing i.part i.shared.library i.clients i.shared.ended event step)
+        (ap (λ (e : Event). is_written (transition i e).written) (hears_nothing event (heard_read Nothing) step) ∙ writes_nothing i event step)
         (sym (hears_nothing event (heard_read Nothing) step))
 
     pub step_records : (r : Result OutcomeData PartitionFault) → IfOk r (λ outcome. outcome ≡ told before.present event) → Joins r → OnOk r (limit_of seat before.present event ≡ None)

@@ -1,5 +1,5 @@
 -- Events that are no line: they hear nothing, ask nothing and write nothing.
-use Rattle.std.proofs.Common.{◌≡◌, Bool, true, false, List, None, refl, if◌then◌else◌}
+use Rattle.std.proofs.Common.{◌≡◌, ℕ, Bool, true, false, List, Option, Some, None, refl, if◌then◌else◌}
 use Rattle.player_state.specs.declared.effect.AudioStep.TheVariants.{Settles}
 use Rattle.player_events.specs.declared.event.Event.{Event}
 use Rattle.player_events.specs.declared.event.Event.TheVariants.{Connect, Disconnect, Line, ScanQuestion, ScanResult, Want, Have, Failed, OutputTurn, End}
@@ -10,7 +10,9 @@ use Rattle.player_state.specs.declared.state.Part.{Part}
 use Rattle.player_state.specs.Outputs.{is_output}
 use Rattle.transitions.specs.Shelves.{is_written}
 use Rattle.transitions.specs.Transitions.{acts}
-use Rattle.partition.specs.Step.{absent, transition_of}
+use Rattle.parts.specs.Parts.{part_at}
+use Rattle.partition.specs.Image.{Image, Overview, overview}
+use Rattle.partition.specs.Step.{absent, failure, have, output_turn, place_at, speaker_in, transition, transition_of, want}
 use Rattle.player_events.specs.Events.{store_reply_at, with_store_reply}
 use Rattle.player_events.specs.Events.{is_line}
 
@@ -21,9 +23,9 @@ hears_nothing (Connect number) heard step = refl
 hears_nothing (Disconnect number) heard step = refl
 hears_nothing ScanQuestion heard step = refl
 hears_nothing (ScanResult songs second) heard step = refl
-hears_nothing (Want owes) heard step = refl
-hears_nothing (Have number frames) heard step = refl
-hears_nothing (Failed number partner) heard step = refl
+hears_nothing (Want place owes) heard step = refl
+hears_nothing (Have place number frames) heard step = refl
+hears_nothing (Failed place number partner) heard step = refl
 hears_nothing (OutputTurn output written discarded failed) heard step = refl
 hears_nothing End heard step = refl
 
@@ -34,25 +36,42 @@ is_unrefused (Connect number) step = refl
 is_unrefused (Disconnect number) step = refl
 is_unrefused ScanQuestion step = refl
 is_unrefused (ScanResult songs second) step = refl
-is_unrefused (Want owes) step = refl
-is_unrefused (Have number frames) step = refl
-is_unrefused (Failed number partner) step = refl
+is_unrefused (Want place owes) step = refl
+is_unrefused (Have place number frames) step = refl
+is_unrefused (Failed place number partner) step = refl
 is_unrefused (OutputTurn output written discarded failed) step = refl
 is_unrefused End step = refl
 
-module _ (part : Part) (library : Library) (ks : List Client) where
-  -- it writes nothing
-  pub writes_nothing : (ended : Bool) (event : Event) → is_line event ≡ false → is_written (transition_of ended part library ks event).written ≡ false
-  writes_nothing ended (Line number stand request before) step = cc
-  writes_nothing ended (Connect number) step = refl
-  writes_nothing ended (Disconnect number) step = refl
-  writes_nothing ended ScanQuestion step = refl
-  writes_nothing ended (ScanResult songs second) step = refl
-  writes_nothing true (Want owes) step = refl
-  writes_nothing false (Want owes) step = refl
-  writes_nothing true (Have number frames) step = refl
-  writes_nothing false (Have number frames) step = refl
-  writes_nothing ended (Failed number partner) step = refl
-  writes_nothing ended (OutputTurn output written discarded failed) step =
-      elim (is_output part.outputs output) as (λ b. is_written (if b then acts (Settles output written discarded failed) else absent).written ≡ false) [ true ↦ refl | false ↦ refl ]
-  writes_nothing ended End step = refl
+turn_writes : (part : Option Part) (output written discarded : ℕ) (failed : Bool) → is_written (output_turn part output (Settles output written discarded failed)).written ≡ false
+turn_writes None output written discarded failed = refl
+turn_writes (Some part) output written discarded failed =
+    elim (is_output part.outputs output) as (λ b. is_written (if b then acts (Settles output written discarded failed) else absent).written ≡ false) [ true ↦ refl | false ↦ refl ]
+
+want_writes : (ended : Bool) (part : Option Part) (owes : List Bool) → is_written (want ended part owes).written ≡ false
+want_writes ended None owes = refl
+want_writes ended (Some part) owes = refl
+
+have_writes : (ended : Bool) (part : Option Part) (number frames : ℕ) → is_written (have ended part number frames).written ≡ false
+have_writes ended None number frames = refl
+have_writes ended (Some part) number frames = refl
+
+failure_writes : (part : Option Part) (number : ℕ) (partner : Bool) → is_written (failure part number partner).written ≡ false
+failure_writes None number partner = refl
+failure_writes (Some part) number partner = refl
+
+-- it writes nothing
+pub steps_write_nothing : (o : Overview) (part : Option Part) (library : Library) (client : Option Client) (event : Event) → is_line event ≡ false
+    → is_written (transition_of o part library client event).written ≡ false
+steps_write_nothing o part library client (Line number stand request before) step = cc
+steps_write_nothing o part library client (Connect number) step = refl
+steps_write_nothing o part library client (Disconnect number) step = refl
+steps_write_nothing o part library client ScanQuestion step = refl
+steps_write_nothing o part library client (ScanResult songs second) step = refl
+steps_write_nothing o part library client (Want place owes) step = want_writes o.ended part owes
+steps_write_nothing o part library client (Have place number frames) step = have_writes o.ended part number frames
+steps_write_nothing o part library client (Failed place number partner) step = failure_writes part number partner
+steps_write_nothing o part library client (OutputTurn output written discarded failed) step = turn_writes part output written discarded failed
+steps_write_nothing o part library client End step = refl
+
+pub writes_nothing : (i : Image) (event : Event) → is_line event ≡ false → is_written (transition i event).written ≡ false
+writes_nothing i event step = steps_write_nothing (overview i) (part_at (place_at i event) i.parts) i.shared.library (speaker_in i.clients event) event step

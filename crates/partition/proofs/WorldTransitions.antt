@@ -1,17 +1,15 @@
 -- What the transitions of a trace raise, and whom they tell.
-use Rattle.std.proofs.Common.{◌≡◌, ◌≢◌, ◌↔◌, ◌⊎◌, inl, inr, ℕ, ◌<◌, ◌≤◌, ◌==◌, Bool, true, false, not, ◌&&◌, ◌||◌, List, [], ◌∷◌, ◌++◌, length, map, Option, Some, None, refl, ap, sym, subst, ◌∙◌, codes}
+use Rattle.std.proofs.Common.{◌≡◌, ◌≢◌, ◌↔◌, ◌⊎◌, inl, inr, ℕ, ◌<◌, ◌≤◌, ◌==◌, Bool, true, false, not, ◌&&◌, ◌||◌, List, [], ◌∷◌, ◌++◌, length, map, Option, Some, None, refl, ap, sym, subst, ◌∙◌, codes, if◌then◌else◌}
 use Rattle.std.specs.List.{list_any}
 use Rattle.std.proofs.lemmas.Bool.{eq-eqb, eqb-true}
 use Rattle.idle_notes.specs.declared.sets.Subsystems.{Subsystems}
 use Rattle.idle_notes.specs.declared.subsystem.Subsystem.{Subsystem}
-use Rattle.idle_notes.specs.declared.subsystem.Subsystem.TheVariants.{Database, Update, StoredPlaylist, Playlist, Player, Mixer, Output, Options, Sticker, Subscription, Message}
+use Rattle.idle_notes.specs.declared.subsystem.Subsystem.TheVariants.{Database, Update, StoredPlaylist, Playlist, Player, Mixer, Output, Options, Sticker, Subscription, Message, Partition}
 use Rattle.idle_notes.specs.Names.{changed_lines}
 use Rattle.mpd_text.specs.declared.songs.song.TagName.{TagName}
 use Rattle.idle_notes.specs.Notes.{waits, notice_of}
 use Rattle.idle_notes.specs.Sets.{union, meet, has, is_nonempty}
-use Rattle.idle_notes.specs.Channels.{messages_of, pairs}
 use Rattle.transitions.specs.Shelves.{changes_lists, changes_stickers}
-use Rattle.song_queue.specs.Past.{present}
 use Rattle.mpd_command.specs.declared.command.Command.{Command}
 use Rattle.mpd_command.specs.declared.command.Command.TheVariants as command_group
 use Rattle.mpd_command.specs.declared.status.StatusCommand.TheVariants as status_command
@@ -26,24 +24,28 @@ use Rattle.transitions.specs.declared.reply.Next.TheVariants.{Goes, Waits}
 use Rattle.idle_clients.specs.declared.notices.Notice.{Notice}
 use Rattle.player_state.specs.declared.state.Client.{Client}
 use Rattle.transitions.specs.Answers.{ResponseData, closes}
-use Rattle.idle_clients.specs.Clients.{notified, move_of, options, playing, Rising}
+use Rattle.idle_clients.specs.Clients.{is_this, notified, move_of, Rising}
 use Rattle.status_commands.specs.Status.{idles}
-use Rattle.player_state.specs.Effects.{Change, change_of, channels_after, outputs_after, player_after, volume_after}
 use Rattle.partition.specs.Image.{Image}
 use Rattle.transitions.specs.Transitions.{TransitionData}
 use Rattle.idle_clients.specs.Clients.{client_of}
 use Rattle.player_state.specs.Libraries.{library_after}
-use Rattle.partition.specs.Step.{transition, transition_of, transition_line, written_transition, speaker, mover, raised_by, after_transition, told_by}
-use Rattle.transitions.specs.Transitions.{report_of}
-use Rattle.partition.specs.World.{Listener, WorldTransition, Trace, Differs, IsPending, raised_at, is_there, is_learning, is_told, begins_anew, pending_for, client_in, listener_of, image_of, past_after, world_after_transition}
+use Rattle.partition.specs.Image.{overview}
+use Rattle.partition.specs.Step.{goer, transition, transition_of, transition_line, written_transition, place_at, raised_of, report_at, speaker, speaker_in, mover, after_transition, told_by}
+use Rattle.parts.specs.Parts.{part_at}
+use Rattle.player_state.specs.declared.effect.CommandEffect.TheVariants.{Rests}
+use Rattle.player_state.specs.declared.effect.Effect.TheVariants.{ByCommand}
+use Rattle.player_state.specs.declared.state.Part.{Part}
+use Rattle.mpd_command.specs.declared.request.Request.{Request}
+use Rattle.partition.specs.World.{Listener, PartWorld, WorldTransition, Trace, Differs, DiffersBetween, DiffersForAll, DiffersWithin, IsPending, raised_at, is_there, is_learning, is_told, begins_anew, part_in, part_world_after, parts_changed, pending_for, place_of, client_in, listener_of, image_of, world_at, worlds_moved, world_after_transition}
 use Rattle.partition.specs.Notices.{Raises, IsIn, Listens, WaitsFor, HasChanged, Meets, HasNews, IsSent, IsClear, Asks, IsToldNews, Tells}
 use Rattle.partition.proofs.Asking.{wish_is, transition_idle, Quiet, quiet_unheard, quiet_unwaiting, IsAsking, kind_of, is_found, of_any, notified_some, does_some, of_moved}
 use Rattle.partition.proofs.Members.{in_map, of_map, any_in, same_sets, has_meet, has_some, is_some}
 use Rattle.partition.proofs.Parts.{raised_differ, agree}
 use Rattle.partition.proofs.Pending.{has_union, has_none, pending_more, reads_pending}
 use Rattle.idle_clients.proofs.Rises.{rising_staying}
-use Rattle.partition.proofs.Sends.{found, news, waiter_moves, notices_rise, does, does_keeps, does_other, does_none, does_wait, notified_none, told_none, untold_waits, is_other_speaker, of_sent, is_sent, kept, kept_was, others_kept, open_kept, lands, there_kept}
-use Rattle.partition.proofs.Worlds.{raised_by_number}
+use Rattle.partition.proofs.Sends.{found, news, rests_unwaiting, speaks, waiter_rests, notices_rise, does, does_keeps, does_other, does_none, does_wait, notified_none, told_none, untold_waits, is_other_speaker, of_sent, is_sent, kept, kept_was, others_kept, open_kept, lands, there_kept}
+use Rattle.partition.proofs.Worlds.{AllBegun, raised_by_number}
 
 both : (a b : Bool) → a ≡ true → b ≡ true → (a && b) ≡ true
 both true b e f = f
@@ -73,14 +75,42 @@ anew : (there : Bool) (a b : Bool) → (a ≡ true) ⊎ (b ≡ true) → (not th
 anew false a b e = refl
 anew true a b e = one_of a b e
 
+-- what nothing happens to is as it was
+rests_one : (rate : ℕ) (p : PartWorld) → part_world_after rate (part_in p) p (ByCommand Rests) ≡ p
+rests_one rate p = refl
+
+rests_same : (rate place : ℕ) (ps : List PartWorld) → parts_changed rate place (ByCommand Rests) ps ≡ ps
+rests_same rate place [] = refl
+rests_same rate place (p ∷ ps) =
+    elim (p.place == place) as (λ b. (if b then part_world_after rate (part_in p) p (ByCommand Rests) ∷ ps else p ∷ parts_changed rate place (ByCommand Rests) ps) ≡ p ∷ ps)
+    [ true ↦ ap (λ (q : PartWorld). q ∷ ps) (rests_one rate p) | false ↦ ap (λ (l : List PartWorld). p ∷ l) (rests_same rate place ps) ]
+
+none_within : (number : ℕ) (x : Subsystem) (p : PartWorld) → DiffersWithin number x p p → ⊥
+none_within number Playlist p e = e refl
+none_within number Player p e = e refl
+none_within number Mixer p e = e refl
+none_within number Output p e = e refl
+none_within number Options p e = e refl
+none_within number Subscription p e = e refl
+none_within number Message p e = e.1 e.0
+none_within number Database p e = e
+none_within number Update p e = e
+none_within number StoredPlaylist p e = e
+none_within number Sticker p e = e
+none_within number Partition p e = e
+
+none_between : (number : ℕ) (x : Subsystem) (o : Option PartWorld) → DiffersBetween number x o o → ⊥
+none_between number x None e = e
+none_between number x (Some p) e = none_within number x p e
+
 -- the transition of an event in a trace
 abbrev pub world_transition_of : Trace → List LogEntry → Event → WorldTransition
 world_transition_of trace done event =
     let i : Image = image_of trace done in
     let t : TransitionData = transition i event in
-    record { before = trace.world; event = event; transition = t; notices = (told_by i event t).notices; report = report_of i.part i.shared.library t; after = world_after_transition trace.world i event t }
+    record { before = trace.world; event = event; transition = t; notices = (told_by i event t).notices; report = report_at i event t; after = world_after_transition trace.world i event t }
 
-module _ (trace : Trace) (done : List LogEntry) (event : Event) (above : 1 ≤ trace.world.part.limits.max_version) (some : 0 < length trace.world.part.past)
+module _ (trace : Trace) (done : List LogEntry) (event : Event) (above : 1 ≤ trace.world.openings.greatest.max_version) (begun : AllBegun trace.world.parts)
     (rising : Rising (image_of trace done).clients) where
   abbrev i : Image
   i = image_of trace done
@@ -89,7 +119,7 @@ module _ (trace : Trace) (done : List LogEntry) (event : Event) (above : 1 ≤ t
   t = transition i event
 
   abbrev r : Client → Subsystems
-  r = raised_by i.part i.shared.library t
+  r = raised_of i event t
 
   abbrev ms : List WorldTransition
   ms = trace.world_transitions
@@ -100,15 +130,15 @@ module _ (trace : Trace) (done : List LogEntry) (event : Event) (above : 1 ≤ t
   abbrev m : WorldTransition
   m = world_transition_of trace done event
 
-  abbrev change : Change
-  change = change_of i.shared.library.rate i.part t.effect
+  abbrev part : Option Part
+  part = part_at (place_at i event) i.parts
 
   -- what is raised for a client is what is raised for the one of its number
-  by_number : (k : Client) → r k ≡ raised_at k.number m
-  by_number k = raised_by_number trace done event above some rising k
+  by_number : (k : Client) → IsIn k i.clients → r k ≡ raised_at k.number m
+  by_number k among_them = raised_by_number trace done event above begun rising k among_them
 
   pub raises : Raises m
-  raises = record { each = λ number x. raised_differ number m x; all = λ none. agree trace.world i event t m.notices m.report refl refl none }
+  raises = record { each = λ number x. raised_differ number m x; all = λ none none_within. agree trace.world i event t m.notices m.report none none_within }
 
   differs : (number : ℕ) (x : Subsystem) → (has (raised_at number m) x ≡ true) ↔ Differs number x m
   differs number x = raised_differ number m x
@@ -154,9 +184,10 @@ module _ (trace : Trace) (done : List LogEntry) (event : Event) (above : 1 ≤ t
   listed number waiting e = in_map (client_in ms) (record { number = number; place = e.0; tags = e.1; waiting = waiting }) trace.world.clients e.2
 
   -- what a client that waits is told, by its number
-  news_is : (number place : ℕ) (tags : List TagName) (named : Subsystems) → news n r (client number place tags (Some named)) ≡ news_of number named
-  news_is number place tags named =
-      ap (λ (s : Subsystems). meet (union (pending_for number ms) s) named) (by_number (client number place tags (Some named)))
+  news_is : (number place : ℕ) (tags : List TagName) (named : Subsystems) → IsIn (client number place tags (Some named)) i.clients
+      → news n r (client number place tags (Some named)) ≡ news_of number named
+  news_is number place tags named among_them =
+      ap (λ (s : Subsystems). meet (union (pending_for number ms) s) named) (by_number (client number place tags (Some named)) among_them)
 
   -- where a client is after the event
   after_of : (k : Client) (number : ℕ) (waiting : Option Subsystems) → IsIn k (kept n r t.response i.clients) → k.number ≡ number
@@ -178,7 +209,7 @@ module _ (trace : Trace) (done : List LogEntry) (event : Event) (above : 1 ≤ t
   from_listener number place tags None e k full = (let clash : false ≡ true = full in cc)
   from_listener number place tags (Some named) e k full =
       let own : Client = client number place tags (Some named) in
-      let is : news n r own ≡ news_of number named = news_is number place tags named in
+      let is : news n r own ≡ news_of number named = news_is number place tags named (listed number (Some named) (place, tags, e)) in
       record {
         named = named;
         waited = (place, tags, e);
@@ -207,8 +238,14 @@ module _ (trace : Trace) (done : List LogEntry) (event : Event) (above : 1 ≤ t
       let stays : IsIn k (kept n r t.response i.clients) =
       there_kept n r t.response i.clients k after.0 was after.1 (ap (λ (l : Listener). l.number) after.2) in
       let is = meets_is number told.named names told.meets in
-      let news_are : news n r k ≡ news_of number told.named = news_is number told.waited.0 told.waited.1 told.named in
+      let news_are : news n r k ≡ news_of number told.named = news_is number told.waited.0 told.waited.1 told.named was in
       subst (λ (s : Subsystems). IsSent number s m) (news_are ∙ sym is.0) (is_sent n r t.response i.clients k stays (ap is_nonempty news_are ∙ is.1))
+
+  -- a client that waits does not begin to wait by its own event, nor by one that comes from no client
+  unwaiting : (own : Client) (named more : Subsystems) → client_of n i.clients ≡ Some own → own.pending.waiting ≡ Some named → move_of t.response ≡ Wait more → ⊥
+  unwaiting own named more found_it waits_named moves =
+      let spoken : speaker_in i.clients event ≡ Some own = speaks i.clients event own (Wait more) (λ e. cc) found_it (overview i) part i.shared.library moves in
+      rests_unwaiting (move_of t.response) more (waiter_rests (overview i) part i.shared.library own named waits_named event (speaker_in i.clients event) spoken) moves
 
   sent_clear : (number : ℕ) (names : Subsystems) → IsSent number names m → IsClear number m ms
   sent_clear number names e =
@@ -220,8 +257,7 @@ module _ (trace : Trace) (done : List LogEntry) (event : Event) (above : 1 ≤ t
       let waited : client_of number i.clients ≡ Some own = found own i.clients rising was in
       let free : (more : Subsystems) → move_of t.response ≡ Wait more → k.number ≡ n → ⊥ =
       λ more moves same.
-      waiter_moves i.shared.ended i.part i.shared.library i.clients event own told.named more
-      (ap (λ (x : ℕ). client_of x i.clients) (sym same ∙ s.3) ∙ waited) refl moves in
+      unwaiting own told.named more (ap (λ (x : ℕ). client_of x i.clients) (sym same ∙ s.3) ∙ waited) refl moves in
       record {
         waits = after_of k number None s.1 s.3 (does_none n r (move_of t.response) (notified r k) (told_none n r k s.2) free);
         pending = nothing_pending number m ms
@@ -248,7 +284,7 @@ module _ (trace : Trace) (done : List LogEntry) (event : Event) (above : 1 ≤ t
       → WaitsFor number named m.after
   on number named other waited unsent =
       let k : Client = client_of_this number (Some named) waited in
-      elim (is_other_speaker i.shared.ended i.part i.shared.library i.clients event number other) [
+      elim (is_other_speaker (overview i) part i.shared.library (speaker_in i.clients event) event number other) [
         | inl apart ↦ still number waited.0 waited.1 named unsent (others_kept n r t.response i.clients k (listed number (Some named) waited) apart)
             (does_other n r (move_of t.response) (notified r k) apart)
         | inr unsaid ↦ still number waited.0 waited.1 named unsent (open_kept n r t.response i.clients k (listed number (Some named) waited) (ap (λ (s : ResponseData). closes s.answer.next) unsaid))
@@ -263,26 +299,55 @@ module _ (trace : Trace) (done : List LogEntry) (event : Event) (above : 1 ≤ t
     abbrev d : Subsystems
     d = meet (pending_for number ms) named
 
+    abbrev request : Request
+    request = Run asks.name (command_group.Status (status_command.Idle named))
+
+    there : client_of number i.clients ≡ Some k
+    there = found k i.clients rising (listed number None asks.free)
+
+    spoken : speaker_in i.clients event ≡ Some k
+    spoken = ap (speaker_in i.clients) asks.event ∙ there
+
     transition_is : t ≡ transition_idle k named
     transition_is =
-        ap (transition_of i.shared.ended i.part i.shared.library i.clients) asks.event
-        ∙ ap (λ (o : Option Client). written_transition Alone (Run asks.name (command_group.Status (status_command.Idle named))) asks.heard.refused (transition_line i.part i.shared.library o Alone (Run asks.name (command_group.Status (status_command.Idle named))) asks.heard.read)) (found k i.clients rising (listed number None asks.free))
+        ap (transition_of (overview i) part i.shared.library (speaker_in i.clients event)) asks.event
+        ∙ ap (λ (o : Option Client). written_transition Alone request asks.heard.refused (transition_line (overview i) part i.shared.library o Alone request asks.heard.read)) spoken
 
-    pub speaks : n ≡ number
-    speaks = ap mover asks.event
+    pub speaks_for : n ≡ number
+    speaks_for = ap mover asks.event
+
+    -- it goes nowhere, and no partition changes
+    goes_nowhere : (o : Option Subsystems) → notice_of (waits named k.pending) ≡ o → goer n t.response ≡ None
+    goes_nowhere None e = ap (λ (u : TransitionData). goer n u.response) transition_is ∙ ap (λ (o : Option Subsystems). goer n (idles named o)) e
+    goes_nowhere (Some more) e = ap (λ (u : TransitionData). goer n u.response) transition_is ∙ ap (λ (o : Option Subsystems). goer n (idles named o)) e
+
+    parts_stay : m.after.parts ≡ trace.world.parts
+    parts_stay =
+        ap (λ (u : TransitionData). worlds_moved u.crossing (parts_changed trace.world.library.rate (place_at i event) u.effect trace.world.parts)) transition_is
+        ∙ rests_same trace.world.library.rate (place_at i event) trace.world.parts
+
+    none_for_all : (x : Subsystem) → DiffersForAll x m → ⊥
+    none_for_all Database e = e (ap (λ (u : TransitionData). (library_after trace.world.library u.scan).songs) (sym transition_is))
+    none_for_all Update e = e (ap (λ (u : TransitionData). (library_after trace.world.library u.scan).scan.runs) (sym transition_is))
+    none_for_all StoredPlaylist e = (let clash : true ≡ false = sym e ∙ ap (λ (u : TransitionData). changes_lists u.written) transition_is in cc)
+    none_for_all Sticker e = (let clash : true ≡ false = sym e ∙ ap (λ (u : TransitionData). changes_stickers u.written) transition_is in cc)
+    none_for_all Partition e = e (ap (λ (ps : List PartWorld). map (λ (p : PartWorld). p.name) ps) (sym parts_stay))
+    none_for_all Playlist e = e
+    none_for_all Player e = e
+    none_for_all Mixer e = e
+    none_for_all Output e = e
+    none_for_all Options e = e
+    none_for_all Subscription e = e
+    none_for_all Message e = e
 
     same_parts : (x : Subsystem) → Differs number x m → ⊥
-    same_parts Database e = e (ap (λ (u : TransitionData). (library_after trace.world.library u.scan).songs) (sym transition_is))
-    same_parts Update e = e (ap (λ (u : TransitionData). (library_after trace.world.library u.scan).scan.runs) (sym transition_is))
-    same_parts StoredPlaylist e = (let clash : true ≡ false = sym e ∙ ap (λ (u : TransitionData). changes_lists u.written) transition_is in cc)
-    same_parts Playlist e = e (ap (λ (u : TransitionData). present (past_after trace.world.part.past (change_of i.shared.library.rate i.part u.effect))) (sym transition_is))
-    same_parts Player e = e (ap (λ (u : TransitionData). playing (player_after i.shared.library.rate i.part u.effect)) (sym transition_is))
-    same_parts Mixer e = e (ap (λ (u : TransitionData). volume_after trace.world.part.volume u.effect) (sym transition_is))
-    same_parts Output e = e (ap (λ (u : TransitionData). (outputs_after i.shared.library.rate i.part u.effect).enabled) (sym transition_is))
-    same_parts Options e = e (ap (λ (u : TransitionData). options (player_after i.shared.library.rate i.part u.effect)) (sym transition_is))
-    same_parts Sticker e = (let clash : true ≡ false = sym e ∙ ap (λ (u : TransitionData). changes_stickers u.written) transition_is in cc)
-    same_parts Subscription e = e (ap (λ (u : TransitionData). pairs (channels_after trace.world.part.channels u.effect)) (sym transition_is))
-    same_parts Message e = e.1 (ap (λ (u : TransitionData). messages_of number (channels_after trace.world.part.channels u.effect)) transition_is ∙ e.0)
+    same_parts x (inl goes) =
+        (let clash : false ≡ true = sym (ap (λ (g : Option ℕ). is_this g number) (goes_nowhere (notice_of (waits named k.pending)) refl)) ∙ goes in cc)
+    same_parts x (inr (inl e)) = none_for_all x e
+    same_parts x (inr (inr e)) =
+        let place : ℕ = place_of number trace.world.clients in
+        none_between number x (world_at place trace.world.parts)
+        (subst (λ (ps : List PartWorld). DiffersBetween number x (world_at place trace.world.parts) (world_at place ps)) parts_stay e)
 
     asked : (x : Subsystem) → (has d x ≡ true) ↔ ((has named x ≡ true) × HasChanged number x m ms)
     asked x =
@@ -317,7 +382,7 @@ module _ (trace : Trace) (done : List LogEntry) (event : Event) (above : 1 ≤ t
             waits = after_of k number None (stays goes) refl (does_none n r (move_of t.response) (notified r k) heard_none free);
             pending = nothing_pending number m ms
                 (anew (is_there number trace.world) (list_any (λ (x : Notice). x.client == number) m.notices) ((number == n) && is_learning (move_of t.response))
-                (inr (both _ _ (eq-eqb number n (sym speaks)) (ap is_learning moves))));
+                (inr (both _ _ (eq-eqb number n (sym speaks_for)) (ap is_learning moves))));
           },
         )
 
@@ -335,7 +400,7 @@ module _ (trace : Trace) (done : List LogEntry) (event : Event) (above : 1 ≤ t
         let goes : closes t.response.answer.next ≡ false = ap (λ (s : ResponseData). closes s.answer.next) response in (
           ap (λ (s : ResponseData). s.answer) response,
           after_of k number (Some named) (stays goes) refl
-              (ap (λ (v : Move). (does n r v (notified r k)).pending.waiting) moves ∙ does_wait n r named (notified r k) (sym speaks)),
+              (ap (λ (v : Move). (does n r v (notified r k)).pending.waiting) moves ∙ does_wait n r named (notified r k) (sym speaks_for)),
         )
 
     pub is_full : (move_of t.response ≡ Wait named → ⊥) → Meets number named d m ms
@@ -357,7 +422,7 @@ module _ (trace : Trace) (done : List LogEntry) (event : Event) (above : 1 ≤ t
         cases (is_nonempty d) refl
 
   kind : Quiet (move_of t.response) ⊎ IsAsking i.clients event
-  kind = kind_of i.shared.ended i.part i.shared.library i.clients event
+  kind = kind_of (overview i) part i.shared.library i.clients event
 
   asks_of : (a : IsAsking i.clients event) → Asks a.number a.named m
   asks_of a =
@@ -382,7 +447,7 @@ module _ (trace : Trace) (done : List LogEntry) (event : Event) (above : 1 ≤ t
               | inl quiet ↦ absurd (quiet_unheard (move_of t.response) quiet p.1)
               | inr a ↦
                   (let asks : Asks a.number a.named m = asks_of a in
-                  let same : a.number ≡ number = sym (speaks a.number a.named asks) ∙ sym (eqb-true number n p.0) in
+                  let same : a.number ≡ number = sym (speaks_for a.number a.named asks) ∙ sym (eqb-true number n p.0) in
                   let not_waiting : move_of t.response ≡ Wait a.named → ⊥ = λ w. (let clash : true ≡ false = sym p.1 ∙ ap is_learning w in cc) in
                   subst (λ (x : ℕ). IsToldNews x m ms) same
                   (inr (a.named, meet (pending_for a.number ms) a.named, asks, is_full a.number a.named asks not_waiting)))
@@ -411,7 +476,7 @@ module _ (trace : Trace) (done : List LogEntry) (event : Event) (above : 1 ≤ t
           | inr a ↦
               (let asks : Asks a.number a.named m = asks_of a in
               let names : a.named ≡ named = wait_names a.number a.named asks named w.0 in
-              let same : a.number ≡ number = sym (speaks a.number a.named asks) ∙ sym w.1 ∙ c_number in
+              let same : a.number ≡ number = sym (speaks_for a.number a.named asks) ∙ sym w.1 ∙ c_number in
               inr (subst (λ (x : ℕ). Asks x named m) same (subst (λ (s : Subsystems). Asks a.number s m) names asks)))
         ]
       ]

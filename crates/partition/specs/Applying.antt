@@ -1,16 +1,25 @@
 -- What the application of an event leaves of a player's state and tells: as its transition says.
-use Rattle.std.specs.Prelude.{◌≡◌, ◌∷◌, ◌++◌, ◌-◌, ◌^◌, [], min, true, ℕ, List, Result, IfOk}
+use Rattle.std.specs.Prelude.{◌≡◌, ◌∷◌, ◌++◌, ◌-◌, ◌^◌, [], min, true, ℕ, List, Option, Some, None, Result, IfOk}
 use Rattle.std.specs.List.{flat_map}
 use Rattle.idle_clients.specs.declared.notices.Notice.{Notice}
 use Rattle.idle_clients.specs.declared.notices.Notices.{Notices}
-use Rattle.idle_clients.specs.Clients.{clients_after, notice_for, notices_after}
-use Rattle.idle_clients.specs.Fingerprint.{RaisedData, raised_in}
+use Rattle.idle_clients.specs.Clients.{clients_after, entering, notice_for, notices_after}
+use Rattle.idle_clients.specs.Fingerprint.{FingerprintData, RaisedData, fingerprint, raised_in}
 use Rattle.idle_clients.specs.Rooms.{listed, room_in}
-use Rattle.idle_clients.specs.Settled.{HasRoom}
-use Rattle.partition.specs.Image.{Image, image_of_state}
-use Rattle.partition.specs.Refusals.{RefusesTransition}
+use Rattle.idle_clients.specs.Settled.{HasRoom, nothing}
+use Rattle.partition.specs.Image.{Image, image_of_state, overview}
+use Rattle.partition.specs.Refusals.{RefusesFrames, RefusesTransition}
+use Rattle.idle_notes.specs.declared.sets.Subsystems.{Subsystems}
+use Rattle.mpd_command.specs.declared.command.Command.{Command}
+use Rattle.mpd_command.specs.declared.name.Name.{Name}
+use Rattle.mpd_command.specs.declared.request.Request.{Request}
+use Rattle.parts.specs.Parts.{FitsIn, part_at}
+use Rattle.parts.specs.declared.crossing.Crossing.{Crossing}
+use Rattle.transitions.specs.declared.asked.Asked.{Asked}
+use Rattle.transitions.specs.declared.asked.Stand.{Stand}
+use Rattle.transitions.specs.declared.shelf_calls.Read.{Read}
 use Rattle.partition.specs.Steps.{entry}
-use Rattle.partition.specs.Step.{after_transition, counts_frames, keeps_limits, raised_by, told_by, transition}
+use Rattle.partition.specs.Step.{after_transition, books_by, counts_frames, keeps_limits, place_at, raised_by, report_at, told_by, transition, transition_command, transition_line, transition_request, transition_run, transition_there}
 use Rattle.partition.specs.declared.partition.PartitionFault.{PartitionFault}
 use Rattle.partition.specs.declared.state.State.{State}
 use Rattle.player_events.specs.Events.{store_reply_at, with_store_reply}
@@ -18,13 +27,16 @@ use Rattle.player_events.specs.Sizes.{event_bytes}
 use Rattle.player_events.specs.Outcomes.{OutcomeData}
 use Rattle.player_events.specs.declared.event.Event.{Event}
 use Rattle.player_events.specs.declared.event.LogEntry.{LogEntry}
+use Rattle.player_state.specs.declared.effect.Effect.{Effect}
 use Rattle.player_state.specs.declared.report.Report.{Report}
+use Rattle.player_state.specs.Outputs.{FrameBooks}
 use Rattle.player_state.specs.declared.state.Client.{Client}
 use Rattle.player_state.specs.declared.state.Library.{Library}
 use Rattle.player_state.specs.declared.state.Part.{Part}
 use Rattle.transitions.specs.Answers.{Answer, ResponseData}
 use Rattle.transitions.specs.Shelves.{is_written}
-use Rattle.transitions.specs.Transitions.{TransitionData, quiet, report_of}
+use Rattle.transitions.specs.Transitions.{IsOfCommand, TransitionData, quiet}
+use Rattle.transitions.specs.declared.reply.Move.{Move}
 use Rattle.transitions.specs.declared.transition.Telling.{Telling}
 
 -- a result is this value, unless it is an error
@@ -40,8 +52,8 @@ abbrev pub IsImageAfter : State → Event → TransitionData → State → Type 
 IsImageAfter state event t new = image_of_state new ≡ after_transition (image_of_state state) event t
 
 -- the report of a transition, and the notices that it makes
-abbrev pub report_by : State → TransitionData → Report
-report_by state t = report_of state.part state.library t
+abbrev pub report_by : State → Event → TransitionData → Report
+report_by state event t = report_at (image_of_state state) event t
 
 abbrev pub notices_by : State → Event → TransitionData → List Notice
 notices_by state event t = (told_by (image_of_state state) event t).notices
@@ -50,21 +62,65 @@ notices_by state event t = (told_by (image_of_state state) event t).notices
 abbrev pub answer_to : State → Event → Answer
 answer_to state event = (transition (image_of_state state) event).response.answer
 
+-- what a state's daemon makes of a line of a client that is in a partition, if both are there
+abbrev pub line_in : State → Option Part → Option Client → Stand → Request → Read → TransitionData
+line_in state part client stand request read = transition_line (overview (image_of_state state)) part state.library client stand request read
+
+-- of a request of it
+abbrev pub request_in : State → Option Part → Client → Stand → Request → Read → TransitionData
+request_in state part client stand request read = transition_request (overview (image_of_state state)) part state.library client stand request read
+
+-- and of a command
+abbrev pub command_in : State → Option Part → Client → Name → Stand → Command → Read → TransitionData
+command_in state part client name stand command read = transition_command (overview (image_of_state state)) part state.library client name stand command read
+
+-- one that is no wish, if its partition is there
+abbrev pub asked_in : State → Option Part → Asked → Read → Command → TransitionData
+asked_in state part asked read command = transition_there (overview (image_of_state state)) asked part state.library read command
+
+-- where it is
+abbrev pub run_in : State → Part → Asked → Read → Command → TransitionData
+run_in state part asked read command = transition_run (overview (image_of_state state)) asked part state.library read command
+
+-- the readings of a state before an event of a partition
+abbrev pub readings_in : State → Crossing → ℕ → FingerprintData
+readings_in state crossing place = fingerprint crossing place state.parts state.library
+
+-- what a transition of an event of a partition raises in a state
+abbrev pub raised_in_state : State → ℕ → ℕ → TransitionData → Client → Subsystems
+raised_in_state state number place t = raised_by number place state.parts state.library t
+
+-- its frames could not be counted any more, or there was no memory for what it needs
+abbrev pub RefusesFramesIn : State → ℕ → TransitionData → PartitionFault → Type 0
+RefusesFramesIn state place t fault = RefusesFrames state.books place state.parts state.library t fault
+
+-- the queue and the channels of the partition of a number can take what a transition does to it
+abbrev pub FitsAt : State → ℕ → TransitionData → Type 0
+FitsAt state place t = FitsIn (part_at place state.parts) t.effect
+
+-- only a partition that is there is decoded and played
+abbrev pub ActsWithin : Option Part → Effect → Type 0
+ActsWithin None effect = IsOfCommand effect
+ActsWithin (Some part) effect = Unit {0}
+
+abbrev pub ActsAt : State → ℕ → TransitionData → Type 0
+ActsAt state place t = ActsWithin (part_at place state.parts) t.effect
+
 -- what an event makes clients hear
 abbrev pub telling_of : State → Event → OutcomeData
 telling_of state event = told_by (image_of_state state) event (transition (image_of_state state) event)
 
 -- a transition passes no limit: its frames can be counted, and its numbers are not above theirs
-abbrev pub PassesNoLimit : State → TransitionData → Type 0
-PassesNoLimit state t = (counts_frames (image_of_state state) t ≡ true) × (keeps_limits (image_of_state state) t ≡ true)
+abbrev pub PassesNoLimit : State → Event → TransitionData → Type 0
+PassesNoLimit state event t = (counts_frames (image_of_state state) event t ≡ true) × (keeps_limits (image_of_state state) event t ≡ true)
 
 -- the same of the transition of an event
 abbrev pub IsWithinLimits : State → Event → Type 0
-IsWithinLimits state event = PassesNoLimit state (transition (image_of_state state) event)
+IsWithinLimits state event = PassesNoLimit state event (transition (image_of_state state) event)
 
 -- why an event may be refused
 abbrev pub RefusesEvent : State → Event → PartitionFault → Type 0
-RefusesEvent state event fault = RefusesTransition (image_of_state state) (transition (image_of_state state) event) fault
+RefusesEvent state event fault = RefusesTransition (image_of_state state) event (transition (image_of_state state) event) fault
 
 -- of an event nothing changes but that the shelf refused what it was to write, or did not
 abbrev pub HearsRefusal : Event → Event → Type 0
@@ -86,9 +142,25 @@ AddsEntry old new seat event told = new ≡ old ++ entry seat event told ∷ []
 abbrev pub outcome_with : Telling → Notices → OutcomeData
 outcome_with telling notices = record { answer = telling.response.answer; notices = listed notices; report = telling.report }
 
--- notices have room for all that a transition raises
-abbrev pub HasRoomFor : Part → Library → TransitionData → List Client → Notices → Type 0
-HasRoomFor part library t clients notices = HasRoom (raised_by part library t) clients (room_in notices)
+-- notices have room for all that a transition of an event of a partition raises
+abbrev pub HasRoomIn : State → ℕ → ℕ → TransitionData → Notices → Type 0
+HasRoomIn state number place t notices = HasRoom (raised_by number place state.parts state.library t) state.clients.items (room_in notices)
+
+-- the frames of the outputs after it
+abbrev pub books_in : State → ℕ → TransitionData → FrameBooks
+books_in state place t = books_by state.books place state.parts state.library t
+
+-- no client goes to another partition by this move
+abbrev pub GoesNowhere : Move → Type 0
+GoesNowhere move = (number : ℕ) → entering number move ≡ None
+
+-- whatever state it finds, and whoever asks
+abbrev pub RaisesNothing : TransitionData → Type 0
+RaisesNothing t = (number place : ℕ) (parts : List Part) (library : Library) → raised_by number place parts library t ≡ nothing
+
+-- the partition that an event of a state happens in
+abbrev pub place_in_state : State → Event → ℕ
+place_in_state state event = place_at (image_of_state state) event
 
 -- the clients once they were told of what was raised, and the event's own client has done what it does
 abbrev pub clients_told : ℕ → RaisedData → ResponseData → List Client → List Client

@@ -6,6 +6,7 @@ use Rattle.song_queue.specs.State.{queue_of}
 use Rattle.player_events.specs.declared.event.LogEntry.{LogEntry}
 use Rattle.player_state.specs.declared.state.Client.{Client}
 use Rattle.player_state.specs.declared.state.Library.{Library}
+use Rattle.player_state.specs.declared.state.Part.{Part}
 use Rattle.partition.specs.declared.state.Setup.{Setup}
 use Rattle.idle_clients.specs.Clients.{Rising}
 use Rattle.partition.specs.History.{Chronicle, HistoryStep, replay, AreTold, AreToldBy, after_all, begun, events_among}
@@ -17,6 +18,10 @@ use Rattle.partition.specs.World.{WorldTransition, IsPending, pending_for, image
 -- the flags of a client are its pending set by the transitions
 abbrev pub HasPending : List WorldTransition → Client → Type 0
 HasPending world_transitions client = (subsystem : Subsystem) → (has client.pending.changed subsystem ≡ true) ↔ IsPending client.number subsystem world_transitions
+
+-- the ids of a partition's queue are distinct
+abbrev pub HasDistinctIds : Part → Type 0
+HasDistinctIds part = AllPairs (λ e f. e.id ≢ f.id) (queue_of part.queue)
 
 -- An image is what can be read of the trace after a history, so each slot's stamp and mark are those of all
 -- past queues, each output's frames are summed over all events, and each seat's count is that of all its
@@ -49,7 +54,7 @@ pub record IsPast (c : Chronicle) : Type 0 where
   pub books : c.present.shared.books ≡ books_of_all c
   pub few : length c.window ≤ c.limit
   pub room : 1 ≤ c.limit
-  pub distinct : AllPairs (λ e f. e.id ≢ f.id) (queue_of c.present.part.queue)
+  pub distinct : All HasDistinctIds c.present.parts
 
 -- over every list of events, with folds between any two: the present state is what it would be without the
 -- folds, and the window leads there from the base

@@ -22,37 +22,53 @@ use Rattle.player_core.specs.Player.{PlayerState}
 use Rattle.player_events.specs.Outcomes.{OutcomeData}
 use Rattle.transitions.specs.declared.shelf_calls.StoreReply.{StoreReply}
 use Rattle.partition.specs.Step.{speaker}
-use Rattle.partition.specs.World.{PartWorld, World, WorldTransition, Differs, IsPending, is_told, raised_at}
+use Rattle.partition.specs.World.{PartWorld, World, WorldTransition, Differs, DiffersForAll, DiffersWithin, IsPending, is_told, raised_at}
 
 -- a player's order and its decoder's work, of which no subsystem speaks: the random round, the place in the
 -- song, the jobs and the fade
 abbrev pub with_order_of : PlayerState → PlayerState → PlayerState
 with_order_of p other = record p { round = other.round; place = other.place; jobs = other.jobs; job = other.job; fade = other.fade; gave_up = other.gave_up }
 
--- what a partition owns is the same but for the order of play and the decoder's work, which outputs have failed
--- and which the last job is for, the messages that wait, and how many frames were decoded
+-- what a partition owns is the same but for the order of play and the decoder's work, which outputs that are off
+-- are in it, how often they were moved, which have failed and which the last job is for, the messages that wait,
+-- and how many frames were decoded
 abbrev pub AgreesButForUnwatched : PartWorld → PartWorld → Type 0
 AgreesButForUnwatched before after =
     (after ≡ record before {
       player = with_order_of before.player after.player;
-      outputs = record before.outputs { failed = after.outputs.failed; asked = after.outputs.asked };
+      outputs = record after.outputs { names = before.outputs.names; enabled = before.outputs.enabled };
       channels = after.channels;
       played = after.played;
     })
     × (pairs before.channels ≡ pairs after.channels)
 
--- two worlds are one but for that, for who is there, who waits and which tags each is shown, and for whether the
--- daemon has ended
+-- each of some partitions agrees so with the one at its place of others
+abbrev pub AllAgree : List PartWorld → List PartWorld → Type 0
+AllAgree [] [] = Unit {0}
+AllAgree [] (after ∷ afters) = ⊥
+AllAgree (before ∷ befores) [] = ⊥
+AllAgree (before ∷ befores) (after ∷ afters) = AgreesButForUnwatched before after × AllAgree befores afters
+
+-- two worlds are one but for that, for who is there, who waits, which tags each is shown and in which partition
+-- each is, and for whether the daemon has ended
 abbrev pub AgreeButForUnwatched : World → World → Type 0
 AgreeButForUnwatched before after =
-    (after ≡ record before { part = after.part; clients = after.clients; ended = after.ended }) × AgreesButForUnwatched before.part after.part
+    (after ≡ record before { parts = after.parts; clients = after.clients; ended = after.ended }) × AllAgree before.parts after.parts
 
--- A subsystem is raised for a client exactly where its part differs. Where no part differs the worlds agree
--- in all but what no subsystem speaks of, so that whatever else an event changes has a part that speaks of
--- it.
+-- nothing that a subsystem speaks of differs between any partition and the one at its place
+abbrev pub NoneDiffers : List PartWorld → List PartWorld → Type 0
+NoneDiffers (before ∷ befores) (after ∷ afters) =
+    ((number : ℕ) (subsystem : Subsystem) → DiffersWithin number subsystem before after → ⊥) × NoneDiffers befores afters
+NoneDiffers _ _ = Unit {0}
+
+-- A subsystem is raised for a client exactly where it goes to another partition, or the part of the subsystem
+-- differs where it is. Where no part differs, neither of those of all nor of those of any partition, whether a
+-- client is in it or not, the worlds agree in all but what no subsystem speaks of, so that whatever else an event
+-- changes has a part that speaks of it.
 pub record Raises (world_transition : WorldTransition) : Type 0 where
   pub each : (number : ℕ) (subsystem : Subsystem) → (has (raised_at number world_transition) subsystem ≡ true) ↔ Differs number subsystem world_transition
-  pub all : ((number : ℕ) (subsystem : Subsystem) → Differs number subsystem world_transition → ⊥) → AgreeButForUnwatched world_transition.before world_transition.after
+  pub all : ((subsystem : Subsystem) → DiffersForAll subsystem world_transition → ⊥) → NoneDiffers world_transition.before.parts world_transition.after.parts
+      → AgreeButForUnwatched world_transition.before world_transition.after
 
 -- it is one of these
 abbrev pub IsIn : {A : Type 0} → A → List A → Type 0

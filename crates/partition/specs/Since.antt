@@ -11,17 +11,22 @@ use Rattle.partition.specs.History.{Chronicle}
 use Rattle.partition.specs.Image.{Image}
 use Rattle.idle_clients.specs.Clients.{client_of}
 use Rattle.player_state.specs.Outputs.{FrameBooks, decoded_by, discarded_by, written_by}
-use Rattle.partition.specs.Step.{next_image, told_by, transition}
-use Rattle.transitions.specs.Transitions.{report_of}
-use Rattle.partition.specs.World.{World, WorldTransition, NeverAnew, IsPending, listener_of, part_world_of}
+use Rattle.partition.specs.Step.{next_image, report_at, told_by, transition}
+use Rattle.player_state.specs.declared.state.Part.{Part}
+use Rattle.partition.specs.World.{PartWorld, World, WorldTransition, NeverAnew, IsPending, listener_of, part_world_of}
 
--- the world that an image shows: of its past only the present queue
+-- what a partition owns, with its present queue alone as its past
+abbrev pub shown_part : Part → PartWorld
+shown_part part = part_world_of (queue_of part.queue ∷ []) part
+
+-- the world that an image shows: of the pasts only the present queues
 abbrev pub world_of : Image → World
 world_of i = record {
-  part = part_world_of (queue_of i.part.queue ∷ []) i.part;
+  parts = map shown_part i.parts;
   library = i.shared.library;
   clients = map listener_of i.clients;
   ended = i.shared.ended;
+  openings = i.shared.openings;
 }
 
 -- the transition of an event after an image
@@ -31,7 +36,7 @@ world_transition_at i h = record {
   event = h.event;
   transition = transition i h.event;
   notices = (told_by i h.event (transition i h.event)).notices;
-  report = report_of i.part i.shared.library (transition i h.event);
+  report = report_at i h.event (transition i h.event);
   after = world_of (next_image h.seat i h.event);
 }
 

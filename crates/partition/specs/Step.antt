@@ -1,5 +1,5 @@
--- What an event does to a player, and what it makes clients hear.
-use Rattle.std.specs.Prelude.{ℕ, Bool, true, false, not, ◌&&◌, ◌||◌, List, Option, Some, None, is_some, unwrap_or, length, nat_le, slice_index_or, codes, if◌then◌else◌}
+-- What an event does to a daemon, and what it makes clients hear.
+use Rattle.std.specs.Prelude.{ℕ, Bool, true, false, not, ◌&&◌, ◌||◌, List, map, Option, Some, None, is_some, unwrap_or, length, nat_le, slice_index_or, codes, if◌then◌else◌}
 use Rattle.idle_notes.specs.declared.sets.Subsystems.{Subsystems}
 use Rattle.mpd_command.specs.declared.command.Command.{Command}
 use Rattle.mpd_command.specs.declared.command.Command.TheVariants as command
@@ -17,14 +17,17 @@ use Rattle.player_state.specs.declared.effect.AudioStep.TheVariants.{Wants, Acce
 use Rattle.partition.specs.declared.partition.PartitionFault.{PartitionFault}
 use Rattle.partition.specs.declared.partition.PartitionFault.TheVariants.{CutsAtLimit, AtLimit}
 use Rattle.player_state.specs.declared.effect.AudioStep.{AudioStep}
-use Rattle.player_state.specs.declared.report.Report.TheVariants.{ToScan, ScanEnded, ToFeed, ToPlay, Ended}
+use Rattle.player_state.specs.declared.report.Report.{Report}
+use Rattle.player_state.specs.declared.report.Report.TheVariants.{ToDecode, ToScan, ScanEnded, ToFeed, ToPlay, Ended}
+use Rattle.parts.specs.Parts.{Known, holder, known, part_at}
+use Rattle.partition_commands.specs.Partitions.{Seated, planned, seated}
 use Rattle.player_state.specs.declared.scan.ScanMove.TheVariants.{End as EndsScan}
 use Rattle.player_state.specs.declared.state.Client.{Client}
 use Rattle.player_state.specs.declared.state.Library.{Library}
 use Rattle.player_state.specs.declared.state.Part.{Part}
 use Rattle.player_events.specs.Outcomes.{OutcomeData}
 use Rattle.transitions.specs.Answers.{ResponseData, refused_by_shelf, refuses, shut, stays, tells}
-use Rattle.idle_clients.specs.Clients.{watched_of, raised, clients_after, notices_after}
+use Rattle.idle_clients.specs.Clients.{entering, move_of, watched_all, raised, clients_after, notices_after}
 use Rattle.status_commands.specs.Connection.{result_of as connection_result}
 use Rattle.library_commands.specs.Database.{result_of as database_result}
 use Rattle.status_commands.specs.Options.{result_of as options_result}
@@ -40,53 +43,58 @@ use Rattle.player_state.specs.Scans.{running}
 use Rattle.transitions.specs.Shelves.{Question, NoQuestion, is_written}
 use Rattle.transitions.specs.declared.shelf_calls.Read.{Read}
 use Rattle.shelf.specs.declared.faults.ShelfFault.{ShelfFault}
-use Rattle.player_state.specs.Outputs.{FrameBooks, books_after, can_count_all, is_output}
-use Rattle.player_state.specs.Effects.{keeps_numbers, part_after}
-use Rattle.partition.specs.Image.{Image, counted}
-use Rattle.transitions.specs.Transitions.{TransitionData, CommandResult, acts, acts_unless, departs, or_ended, quiet, report_of, transition_by, no_response}
+use Rattle.player_state.specs.Outputs.{FrameBooks, books_after, can_count_all, is_output, owes_any}
+use Rattle.partition.specs.Image.{Image, Overview, counted, overview}
+use Rattle.transitions.specs.Transitions.{TransitionData, acts, acts_unless, departs, keeps_all_numbers, or_ended, parts_after, quiet, report_of, transition_by, no_response}
 use Rattle.player_state.specs.Libraries.{library_after}
 use Rattle.idle_clients.specs.Clients.{client_of}
 use Rattle.player_events.specs.Events.{name_of}
 
--- what a command makes of the player; the commands by which a client waits are wishes and make nothing of it
-abbrev pub result_of : Asked → Part → Library → Read → Command → CommandResult
-result_of asked part library read (command.Status command) = status_result asked part library command
-result_of asked part library read (command.Options command) = options_result asked part command
-result_of asked part library read (command.Playback command) = playback_result asked part library command
-result_of asked part library read (command.Queue command) = queue_result asked part library command
-result_of asked part library read (command.Playlists command) = playlists_result asked part library read command
-result_of asked part library read (command.Database command) = database_result asked part library read command
-result_of asked part library read (command.Stickers command) = stickers_result asked library read command
-result_of asked part library read (command.Connection command) = connection_result asked command
-result_of asked part library read (command.Outputs command) = outputs_result asked part command
-result_of asked part library read (command.Messages command) = messages_result asked part command
+-- what a command makes: those of partitions by what all know, the others by the partition of its client. Those by
+-- which a client waits, or is shown other tags, are wishes and make nothing of it
+abbrev pub transition_run : Overview → Asked → Part → Library → Read → Command → TransitionData
+transition_run o asked part library read (command.Status command) = transition_by (status_result asked part library command)
+transition_run o asked part library read (command.Options command) = transition_by (options_result asked part command)
+transition_run o asked part library read (command.Playback command) = transition_by (playback_result asked part library command)
+transition_run o asked part library read (command.Queue command) = transition_by (queue_result asked part library command)
+transition_run o asked part library read (command.Playlists command) = transition_by (playlists_result asked part library read command)
+transition_run o asked part library read (command.Database command) = transition_by (database_result asked part library read command)
+transition_run o asked part library read (command.Stickers command) = transition_by (stickers_result asked library read command)
+transition_run o asked part library read (command.Connection command) = transition_by (connection_result asked command)
+transition_run o asked part library read (command.Outputs command) = transition_by (outputs_result asked part command)
+transition_run o asked part library read (command.Messages command) = transition_by (messages_result asked part command)
+transition_run o asked part library read (command.Partitions command) = planned o.parts o.clients o.openings asked part.place command
 
--- a client's wish leaves the player as it is; another command has its result
-abbrev pub transition_wished : Asked → Client → CommandResult → Option Wish → TransitionData
-transition_wished asked client command_result (Some wish) = quiet (wished asked client wish)
-transition_wished asked client command_result None = transition_by command_result
+-- a client's wish leaves the daemon as it is; another command makes what it makes
+abbrev pub transition_wished : Asked → Client → TransitionData → Option Wish → TransitionData
+transition_wished asked client t (Some wish) = quiet (wished asked client wish)
+transition_wished asked client t None = t
 
 -- what an answer is made for: a command of a client, which names it so and whose line comes so
 abbrev pub asked_by : Client → Name → Stand → Asked
 asked_by client name stand = record { client = client.number; tags = client.tags; name = name; stand = stand }
 
-abbrev pub transition_command : Part → Library → Client → Name → Stand → Command → Read → TransitionData
-transition_command part library client name stand command read =
-    let asked : Asked = asked_by client name stand in
-    transition_wished asked client (result_of asked part library read command) (wish_of command)
+-- a command of a client whose partition is not there closes it
+abbrev pub transition_there : Overview → Asked → Option Part → Library → Read → Command → TransitionData
+transition_there o asked None library read command = quiet (stays shut)
+transition_there o asked (Some part) library read command = transition_run o asked part library read command
 
-abbrev pub transition_request : Part → Library → Client → Stand → Request → Read → TransitionData
-transition_request part library client stand (Run name command) read = transition_command part library client name stand command read
-transition_request part library client stand (Refused ack) read = quiet (stays (refuses stand ack.command ack.number ack.text))
+abbrev pub transition_command : Overview → Option Part → Library → Client → Name → Stand → Command → Read → TransitionData
+transition_command o part library client name stand command read =
+    let asked : Asked = asked_by client name stand in
+    transition_wished asked client (transition_there o asked part library read command) (wish_of command)
+
+abbrev pub transition_request : Overview → Option Part → Library → Client → Stand → Request → Read → TransitionData
+transition_request o part library client stand (Run name command) read = transition_command o part library client name stand command read
+transition_request o part library client stand (Refused ack) read = quiet (stays (refuses stand ack.command ack.number ack.text))
 
 abbrev pub greeting : ResponseData
 greeting = record { answer = tells (codes "OK MPD 0.23.0\n"); move = Join }
 
 -- a client that comes is greeted; one that is there stays as it is; one that finds no room is closed
-abbrev pub response_to_new : List Client → ℕ → ResponseData
-response_to_new clients number =
-    if is_some (client_of number clients) then stays (tells (codes ""))
-    else (if nat_le 64 (length clients) then stays shut else greeting)
+abbrev pub response_to_new : List Seated → Option Client → ResponseData
+response_to_new clients (Some client) = stays (tells (codes ""))
+response_to_new clients None = if nat_le 64 (length clients) then stays shut else greeting
 
 abbrev pub is_to_go_on : Option Wish → Bool
 is_to_go_on (Some ToGoOn) = true
@@ -103,11 +111,11 @@ ends_waiting stand (Refused ack) = false
 
 -- a line of a client that is not there closes it; so does a line other than `noidle` while it waits, whatever
 -- the line says
-abbrev pub transition_line : Part → Library → Option Client → Stand → Request → Read → TransitionData
-transition_line part library None stand request read = quiet (stays shut)
-transition_line part library (Some client) stand request read =
+abbrev pub transition_line : Overview → Option Part → Library → Option Client → Stand → Request → Read → TransitionData
+transition_line o part library None stand request read = quiet (stays shut)
+transition_line o part library (Some client) stand request read =
     if is_some client.pending.waiting && not (ends_waiting stand request) then departs client.number
-    else transition_request part library client stand request read
+    else transition_request o part library client stand request read
 
 -- a transition that writes to the shelf does nothing else; where the shelf refuses, it is answered so, and
 -- nothing happens
@@ -124,30 +132,50 @@ absent = record (quiet no_response) {
   report = ToPlay (record { moves = 0; live = record { cut = 0; enabled = false; paused = false } });
 }
 
--- the turn of an output
-abbrev pub output_turn : Part → ℕ → AudioStep → TransitionData
-output_turn part output step = if is_output part.outputs output then acts step else absent
+-- the turn of an output, by the partition that it is in
+abbrev pub output_turn : Option Part → ℕ → AudioStep → TransitionData
+output_turn None output step = absent
+output_turn (Some part) output step = if is_output part.outputs output then acts step else absent
+
+-- a step of the decoder for a partition that is not there: it is told this, or the end
+abbrev pub tells_of : Bool → Report → Report → TransitionData
+tells_of ended at_end report = record (quiet no_response) { report = if ended then at_end else report }
+
+-- the decoder wants a job of a partition, whose own outputs' feeders must owe nothing
+abbrev pub want : Bool → Option Part → List Bool → TransitionData
+want ended None owes = tells_of ended Ended (ToDecode None)
+want ended (Some part) owes = acts_unless ended Ended (Wants (owes_any part.outputs owes))
+
+-- frames of a job of a partition are decoded
+abbrev pub have : Bool → Option Part → ℕ → ℕ → TransitionData
+have ended None number frames = tells_of ended (ToFeed None) (ToFeed None)
+have ended (Some part) number frames = acts_unless ended (ToFeed None) (Accepts number frames)
+
+-- the song of a job of a partition cannot be read
+abbrev pub failure : Option Part → ℕ → Bool → TransitionData
+failure None number partner = quiet no_response
+failure (Some part) number partner = acts (Fails number partner)
 
 -- the end of a scan: what it found, if it found songs, and whether that scan ran
 abbrev pub ended_scan : Library → Option (List SongData) → ℕ → TransitionData
 ended_scan library songs second = record (quiet no_response) { scan = EndsScan songs second; report = ScanEnded library.scan.runs }
 
--- What an event makes of a part, a library and some clients. The turn of an output that is not there changes
--- nothing. After the end wants, scan questions and turns are told of it, and a have is stale; an output still
--- tells of its frames.
-abbrev pub transition_of : Bool → Part → Library → List Client → Event → TransitionData
-transition_of ended part library clients (Connect number) = quiet (response_to_new clients number)
-transition_of ended part library clients (Disconnect number) = departs number
-transition_of ended part library clients (Line number stand request heard) =
-    written_transition stand request heard.refused (transition_line part library (client_of number clients) stand request heard.read)
-transition_of ended part library clients ScanQuestion = record (quiet no_response) { report = if ended then Ended else ToScan (running library.scan) }
-transition_of ended part library clients (ScanResult songs second) = ended_scan library songs second
-transition_of ended part library clients (Want owes) = acts_unless ended Ended (Wants owes)
-transition_of ended part library clients (Have number frames) = acts_unless ended (ToFeed None) (Accepts number frames)
-transition_of ended part library clients (Failed number partner) = acts (Fails number partner)
-transition_of ended part library clients (OutputTurn output written discarded failed) =
-    or_ended ended (output_turn part output (Settles output written discarded failed))
-transition_of ended part library clients End = quiet no_response
+-- What an event makes, by what all know, by the partition that it happens in, and by the client that it comes from.
+-- The turn of an output that is not there changes nothing. After the end wants, scan questions and turns are told
+-- of it, and a have is stale; an output still tells of its frames.
+abbrev pub transition_of : Overview → Option Part → Library → Option Client → Event → TransitionData
+transition_of o part library client (Connect number) = quiet (response_to_new o.clients client)
+transition_of o part library client (Disconnect number) = departs number
+transition_of o part library client (Line number stand request heard) =
+    written_transition stand request heard.refused (transition_line o part library client stand request heard.read)
+transition_of o part library client ScanQuestion = record (quiet no_response) { report = if o.ended then Ended else ToScan (running library.scan) }
+transition_of o part library client (ScanResult songs second) = ended_scan library songs second
+transition_of o part library client (Want place owes) = want o.ended part owes
+transition_of o part library client (Have place number frames) = have o.ended part number frames
+transition_of o part library client (Failed place number partner) = failure part number partner
+transition_of o part library client (OutputTurn output written discarded failed) =
+    or_ended o.ended (output_turn part output (Settles output written discarded failed))
+transition_of o part library client End = quiet no_response
 
 -- what an event asks the shelf: a line alone asks, and only one that is run
 abbrev pub question_in : Library → Request → Question
@@ -163,9 +191,6 @@ abbrev pub question_of : Library → List Client → Event → Question
 question_of library clients (Line number stand request heard) = question_line library (client_of number clients) stand request
 question_of library clients _ = NoQuestion
 
-abbrev pub transition : Image → Event → TransitionData
-transition i event = transition_of i.shared.ended i.part i.shared.library i.clients event
-
 -- the client that an event comes from, if it comes from one
 abbrev pub speaker : Event → Option ℕ
 speaker (Connect number) = Some number
@@ -173,9 +198,9 @@ speaker (Disconnect number) = Some number
 speaker (Line number stand request heard) = Some number
 speaker ScanQuestion = None
 speaker (ScanResult songs second) = None
-speaker (Want owes) = None
-speaker (Have number frames) = None
-speaker (Failed number partner) = None
+speaker (Want place owes) = None
+speaker (Have place number frames) = None
+speaker (Failed place number partner) = None
 speaker (OutputTurn output written discarded failed) = None
 speaker End = None
 
@@ -184,25 +209,72 @@ speaker End = None
 abbrev pub mover : Event → ℕ
 mover event = unwrap_or (speaker event) 0
 
--- what a transition raises for each client: what differs between the parts before and after it
-abbrev pub raised_by : Part → Library → TransitionData → Client → Subsystems
-raised_by part library t = raised t.written (watched_of part library) (watched_of (part_after library.rate part t.effect) (library_after library t.scan))
+-- the client that an event comes from, if it is there
+abbrev pub client_among : Option ℕ → List Client → Option Client
+client_among None clients = None
+client_among (Some number) clients = client_of number clients
+
+abbrev pub speaker_in : List Client → Event → Option Client
+speaker_in clients event = client_among (speaker event) clients
+
+-- the partition of a client; the first for one that is not there
+abbrev pub place_in : Option Client → ℕ
+place_in None = 0
+place_in (Some client) = client.place
+
+-- The partition that an event happens in: the one of the client that it comes from, the one whose job is asked
+-- for, decoded or failed, or the one of an output. The others happen in the first, where they change nothing.
+abbrev pub place_of : List Known → Option Client → Event → ℕ
+place_of parts client (Connect number) = place_in client
+place_of parts client (Disconnect number) = place_in client
+place_of parts client (Line number stand request heard) = place_in client
+place_of parts client ScanQuestion = 0
+place_of parts client (ScanResult songs second) = 0
+place_of parts client (Want place owes) = place
+place_of parts client (Have place number frames) = place
+place_of parts client (Failed place number partner) = place
+place_of parts client (OutputTurn output written discarded failed) = unwrap_or (holder output parts) 0
+place_of parts client End = 0
+
+abbrev pub place_at : Image → Event → ℕ
+place_at i event = place_of (map known i.parts) (speaker_in i.clients event) event
+
+abbrev pub transition : Image → Event → TransitionData
+transition i event = transition_of (overview i) (part_at (place_at i event) i.parts) i.shared.library (speaker_in i.clients event) event
+
+-- the client that goes to another partition by an event of this client
+abbrev pub goer : ℕ → ResponseData → Option ℕ
+goer number response = entering number (move_of response)
+
+-- what a transition of an event of a partition raises for each client: everything for the one that goes to another
+-- partition; else what differs before and after it
+abbrev pub raised_by : ℕ → ℕ → List Part → Library → TransitionData → Client → Subsystems
+raised_by number place parts library t =
+    raised (goer number t.response) t.written (watched_all library parts)
+    (watched_all (library_after library t.scan) (parts_after library.rate place t parts))
 
 -- whether the daemon has ended, after an event
 abbrev pub ended_after : Bool → Event → Bool
 ended_after ended End = true
 ended_after ended _ = ended
 
+-- what it raises, in an image
+abbrev pub raised_of : Image → Event → TransitionData → Client → Subsystems
+raised_of i event t = raised_by (mover event) (place_at i event) i.parts i.shared.library t
+
+abbrev pub report_at : Image → Event → TransitionData → Report
+report_at i event t = report_of (place_at i event) i.parts i.shared.library t
+
 -- the image after a transition, with its clients
 abbrev pub after_transition : Image → Event → TransitionData → Image
 after_transition i event t = record {
-  part = part_after i.shared.library.rate i.part t.effect;
+  parts = parts_after i.shared.library.rate (place_at i event) t i.parts;
   shared = record i.shared {
     library = library_after i.shared.library t.scan;
-    books = books_after i.shared.books t.effect (report_of i.part i.shared.library t);
+    books = books_after i.shared.books t.effect (report_at i event t);
     ended = ended_after i.shared.ended event;
   };
-  clients = clients_after (mover event) (raised_by i.part i.shared.library t) t.response i.clients;
+  clients = clients_after (mover event) (raised_of i event t) t.response i.clients;
 }
 
 -- the image after an event of a seat
@@ -211,30 +283,35 @@ next_image seat i event = counted seat (after_transition i event (transition i e
 
 -- what a transition makes clients hear
 abbrev pub told_by : Image → Event → TransitionData → OutcomeData
-told_by i event t = record { answer = t.response.answer; notices = notices_after (mover event) (raised_by i.part i.shared.library t) t.response i.clients; report = report_of i.part i.shared.library t }
+told_by i event t = record {
+  answer = t.response.answer;
+  notices = notices_after (mover event) (raised_of i event t) t.response i.clients;
+  report = report_at i event t;
+}
 
 -- what an event makes clients hear
 unfoldable pub told : Image → Event → OutcomeData
 told i event = told_by i event (transition i event)
 
--- the numbers of frames after a transition
-abbrev pub books_by : FrameBooks → Part → Library → TransitionData → FrameBooks
-books_by books part library t = books_after books t.effect (report_of part library t)
+-- the numbers of frames after a transition of an event of a partition
+abbrev pub books_by : FrameBooks → ℕ → List Part → Library → TransitionData → FrameBooks
+books_by books place parts library t = books_after books t.effect (report_of place parts library t)
 
 -- whether the frames that a transition tells of can be counted with all others
-abbrev pub counts_frames : Image → TransitionData → Bool
-counts_frames i t = can_count_all (books_by i.shared.books i.part i.shared.library t)
+abbrev pub counts_frames : Image → Event → TransitionData → Bool
+counts_frames i event t = can_count_all (books_by i.shared.books (place_at i event) i.parts i.shared.library t)
 
--- whether a transition leaves the numbers of cuts, starts, jobs and scans at or below their limit
-abbrev pub keeps_limits : Image → TransitionData → Bool
-keeps_limits i t = keeps_numbers i.shared.library.rate i.part i.shared.library.scan t.effect t.scan
+-- whether a transition leaves the numbers of cuts, starts, jobs and scans, and how often an output was moved, at
+-- or below their limit
+abbrev pub keeps_limits : Image → Event → TransitionData → Bool
+keeps_limits i event t = keeps_all_numbers (place_at i event) i.parts i.shared.library t
 
 -- why an event of a seat is refused, if it is: the seat made 2^63-1 events, or the frames could not be
 -- counted any more; or a number would be above its limit
-abbrev pub limit_by : ℕ → Image → TransitionData → Option PartitionFault
-limit_by seat i t =
-    if nat_le 9223372036854775807 (slice_index_or i.shared.made seat 0) || not (counts_frames i t) then Some AtLimit
-    else (if keeps_limits i t then None else Some CutsAtLimit)
+abbrev pub limit_by : ℕ → Image → Event → TransitionData → Option PartitionFault
+limit_by seat i event t =
+    if nat_le 9223372036854775807 (slice_index_or i.shared.made seat 0) || not (counts_frames i event t) then Some AtLimit
+    else (if keeps_limits i event t then None else Some CutsAtLimit)
 
 unfoldable pub limit_of : ℕ → Image → Event → Option PartitionFault
-limit_of seat i event = limit_by seat i (transition i event)
+limit_of seat i event = limit_by seat i event (transition i event)

@@ -1,9 +1,9 @@
 -- The plain data of a player of one thread, with every queue that it had, and everything that happened to it.
-use Rattle.std.specs.Prelude.{◌≡◌, ◌≢◌, ℕ, ◌+◌, ◌==◌, Bool, true, false, not, ◌&&◌, ◌||◌, List, [], ◌∷◌, ◌++◌, Option, Some, None, map, take_while, if◌then◌else◌}
+use Rattle.std.specs.Prelude.{◌≡◌, ◌≢◌, ◌⊎◌, ℕ, ◌+◌, ◌==◌, nat_lt, Bool, true, false, not, ◌&&◌, ◌||◌, List, [], ◌∷◌, ◌++◌, length, filter, Option, Some, None, map, take_while, if◌then◌else◌}
 use Rattle.std.specs.List.{list_any, range_with_len}
 use Rattle.idle_notes.specs.declared.sets.Subsystems.{Subsystems}
 use Rattle.idle_notes.specs.declared.subsystem.Subsystem.{Subsystem}
-use Rattle.idle_notes.specs.declared.subsystem.Subsystem.TheVariants.{Database, Update, StoredPlaylist, Playlist, Player, Mixer, Output, Options, Sticker, Subscription, Message}
+use Rattle.idle_notes.specs.declared.subsystem.Subsystem.TheVariants.{Database, Update, StoredPlaylist, Playlist, Player, Mixer, Output, Options, Sticker, Subscription, Message, Partition}
 use Rattle.idle_notes.specs.Sets.{none, union}
 use Rattle.idle_notes.specs.Channels.{MemberData, messages_of, pairs}
 use Rattle.mpd_text.specs.declared.songs.song.TagName.{TagName}
@@ -14,14 +14,14 @@ use Rattle.player_core.specs.Player.{PlayerState}
 use Rattle.player_events.specs.declared.event.Event.{Event}
 use Rattle.player_events.specs.declared.event.LogEntry.{LogEntry}
 use Rattle.transitions.specs.declared.reply.Move.{Move}
-use Rattle.transitions.specs.declared.reply.Move.TheVariants.{Stay, Wait, Learn, Resume, Join, Show}
+use Rattle.transitions.specs.declared.reply.Move.TheVariants.{Stay, Wait, Learn, Resume, Join, Show, Enter}
 use Rattle.idle_clients.specs.declared.notices.Notice.{Notice}
 use Rattle.player_state.specs.declared.state.Client.{Client}
 use Rattle.player_state.specs.declared.effect.Effect.{Effect}
 use Rattle.player_state.specs.declared.state.Library.{Library}
 use Rattle.player_state.specs.declared.state.Part.{Part}
 use Rattle.player_state.specs.declared.report.Report.{Report}
-use Rattle.idle_clients.specs.Clients.{Watched, raised, move_of, newcomer, options, playing}
+use Rattle.idle_clients.specs.Clients.{Watched, WatchedAll, is_this, raised, move_of, newcomer, options, playing}
 use Rattle.partition.specs.History.{made_of}
 use Rattle.player_state.specs.Outputs.{FrameBooks, OutputsData, decoded_by, discarded_by, written_by}
 use Rattle.player_state.specs.Effects.{Change, ByEdit, ByStep, change_of, channels_after, outputs_after, played_after, player_after, volume_after}
@@ -29,16 +29,13 @@ use Rattle.partition.specs.Image.{Image}
 use Rattle.transitions.specs.Transitions.{TransitionData}
 use Rattle.player_state.specs.Libraries.{library_after}
 use Rattle.transitions.specs.Shelves.{changes_lists, changes_stickers}
-use Rattle.partition.specs.Step.{transition, mover, after_transition, ended_after, told_by}
-use Rattle.transitions.specs.Transitions.{report_of}
-
--- the most entries of the queue, and the greatest version, id, and number of cuts, of starts, of jobs and of
--- scans
-pub record Greatest : Type 0 where
-  pub max_queue : ℕ
-  pub max_version : ℕ
-  pub max_id : ℕ
-  pub max_cut : ℕ
+use Rattle.partition.specs.Step.{transition, goer, mover, after_transition, ended_after, place_at, report_at, told_by}
+use Rattle.parts.specs.Parts.{carried_in, known, outputs_moved}
+use Rattle.parts.specs.declared.crossing.Crossing.{Crossing}
+use Rattle.parts.specs.declared.crossing.Crossing.TheVariants.{Stays, Opens, Closes, Brings}
+use Rattle.parts.specs.Openings.{OpeningsData}
+use Rattle.parts.specs.declared.openings.Greatest.{Greatest}
+use Rattle.player_state.specs.declared.outputs.Carried.{Carried}
 
 -- a client, the partition that it is in, the tags that it is shown, and what it waits for, if it waits
 pub record Listener : Type 0 where
@@ -61,12 +58,14 @@ pub record PartWorld : Type 0 where
   pub channels : List MemberData
   pub played : ℕ
 
--- what the partition owns, the library, the clients, and whether the daemon has ended
+-- what each partition owns, the library, the clients, whether the daemon has ended, and what a new partition is
+-- opened with
 pub record World : Type 0 where
-  pub part : PartWorld
+  pub parts : List PartWorld
   pub library : Library
   pub clients : List Listener
   pub ended : Bool
+  pub openings : OpeningsData
 
 -- one event: the worlds before and after it, what it made of the player, the notices that went out, and what
 -- a part of the daemon was told that is no client
@@ -83,10 +82,16 @@ pub record Trace : Type 0 where
   pub world : World
   pub world_transitions : List WorldTransition
 
--- what the subsystems speak of, of a partition and a library
-abbrev pub watched_by : PartWorld → Library → Watched
-watched_by p library = record {
-  library = library;
+-- the first partition of a number
+abbrev pub world_at : ℕ → List PartWorld → Option PartWorld
+world_at place [] = None
+world_at place (p ∷ ps) = if p.place == place then Some p else world_at place ps
+
+-- what the subsystems speak of, of a partition and of all
+abbrev pub watched_by : PartWorld → Watched
+watched_by p = record {
+  place = p.place;
+  name = p.name;
   queue = present p.past;
   player = p.player;
   volume = p.volume;
@@ -94,45 +99,72 @@ watched_by p library = record {
   channels = p.channels;
 }
 
-abbrev pub watched_in : World → Watched
-watched_in w = watched_by w.part w.library
+abbrev pub watched_in : World → WatchedAll
+watched_in w = record { library = w.library; parts = map watched_by w.parts }
+
+abbrev pub names_in : World → List (List ℕ)
+names_in w = map (λ (p : PartWorld). p.name) w.parts
 
 -- no message waited for a client, and one does
 abbrev pub BeginsToHave : ℕ → PartWorld → PartWorld → Type 0
 BeginsToHave number before after = (messages_of number before.channels ≡ []) × (messages_of number after.channels ≢ [])
 
--- The part that a subsystem speaks of for a client differs between the worlds before and after an event, where
--- the client's partition is this before it and this after it. Of the shelf, which stands beside the worlds, the
--- event tells what was written.
-abbrev pub DiffersIn : ℕ → Subsystem → WorldTransition → PartWorld → PartWorld → Type 0
-DiffersIn number Database m before after = m.before.library.songs ≢ m.after.library.songs
-DiffersIn number Update m before after = m.before.library.scan.runs ≢ m.after.library.scan.runs
-DiffersIn number StoredPlaylist m before after = changes_lists m.transition.written ≡ true
-DiffersIn number Playlist m before after = present before.past ≢ present after.past
-DiffersIn number Player m before after = playing before.player ≢ playing after.player
-DiffersIn number Mixer m before after = before.volume ≢ after.volume
-DiffersIn number Output m before after = before.outputs.enabled ≢ after.outputs.enabled
-DiffersIn number Options m before after = options before.player ≢ options after.player
-DiffersIn number Sticker m before after = changes_stickers m.transition.written ≡ true
-DiffersIn number Subscription m before after = pairs before.channels ≢ pairs after.channels
-DiffersIn number Message m before after = BeginsToHave number before after
+-- The part of one partition that a subsystem speaks of for a client differs. Of some subsystems it is no
+-- partition's.
+abbrev pub DiffersWithin : ℕ → Subsystem → PartWorld → PartWorld → Type 0
+DiffersWithin number Playlist before after = present before.past ≢ present after.past
+DiffersWithin number Player before after = playing before.player ≢ playing after.player
+DiffersWithin number Mixer before after = before.volume ≢ after.volume
+DiffersWithin number Output before after = before.outputs.enabled ≢ after.outputs.enabled
+DiffersWithin number Options before after = options before.player ≢ options after.player
+DiffersWithin number Subscription before after = pairs before.channels ≢ pairs after.channels
+DiffersWithin number Message before after = BeginsToHave number before after
+DiffersWithin number _ before after = ⊥
 
--- the part that a subsystem speaks of for a client differs between the worlds before and after an event
-abbrev pub Differs : ℕ → Subsystem → WorldTransition → Type 0
-Differs number subsystem m = DiffersIn number subsystem m m.before.part m.after.part
+-- it differs where the partition was there before the event and is there after it
+abbrev pub DiffersBetween : ℕ → Subsystem → Option PartWorld → Option PartWorld → Type 0
+DiffersBetween number subsystem (Some before) (Some after) = DiffersWithin number subsystem before after
+DiffersBetween number subsystem (Some before) None = ⊥
+DiffersBetween number subsystem None after = ⊥
+
+-- The part that a subsystem speaks of differs, and is the same for all clients. Of the shelf, which stands beside
+-- the worlds, the event tells what was written.
+abbrev pub DiffersForAll : Subsystem → WorldTransition → Type 0
+DiffersForAll Database m = m.before.library.songs ≢ m.after.library.songs
+DiffersForAll Update m = m.before.library.scan.runs ≢ m.after.library.scan.runs
+DiffersForAll StoredPlaylist m = changes_lists m.transition.written ≡ true
+DiffersForAll Sticker m = changes_stickers m.transition.written ≡ true
+DiffersForAll Partition m = names_in m.before ≢ names_in m.after
+DiffersForAll _ m = ⊥
 
 -- the partition of the client of a number; the first for one that is not there
 abbrev pub place_of : ℕ → List Listener → ℕ
 place_of number [] = 0
 place_of number (l ∷ ls) = if l.number == number then l.place else place_of number ls
 
+-- the part that a subsystem speaks of for a client that is in a partition differs between the worlds before and
+-- after an event
+abbrev pub DiffersAt : ℕ → ℕ → Subsystem → WorldTransition → Type 0
+DiffersAt number place subsystem m =
+    DiffersForAll subsystem m ⊎ DiffersBetween number subsystem (world_at place m.before.parts) (world_at place m.after.parts)
+
+-- by an event a client goes to another partition
+abbrev pub GoesBy : ℕ → WorldTransition → Type 0
+GoesBy number m = is_this (goer (mover m.event) m.transition.response) number ≡ true
+
+-- A subsystem is raised for a client: it goes to another partition, where all is new to it, or the part of which
+-- the subsystem speaks differs where it is
+abbrev pub Differs : ℕ → Subsystem → WorldTransition → Type 0
+Differs number subsystem m = GoesBy number m ⊎ DiffersAt number (place_of number m.before.clients) subsystem m
+
 -- the client of a number in its partition, whatever it is shown and whatever is pending for it
 abbrev pub seated : ℕ → World → Client
 seated number w = record (newcomer number) { place = place_of number w.clients }
 
--- what an event raised for a client: the subsystems whose parts differ between the worlds before and after it
+-- what an event raised for a client: everything where it goes to another partition, and else the subsystems whose
+-- parts differ between the worlds before and after it
 abbrev pub raised_for : WorldTransition → Client → Subsystems
-raised_for m client = raised m.transition.written (watched_in m.before) (watched_in m.after) client
+raised_for m client = raised (goer (mover m.event) m.transition.response) m.transition.written (watched_in m.before) (watched_in m.after) client
 
 -- the same, for the client of a number, which is where it was before the event
 abbrev pub raised_at : ℕ → WorldTransition → Subsystems
@@ -148,6 +180,7 @@ is_learning Learn = true
 is_learning Resume = false
 is_learning Join = false
 is_learning (Show tags) = false
+is_learning (Enter place) = false
 
 -- a client was sent a notice: after another's event, or as the answer to its own `idle`
 abbrev pub is_told : ℕ → WorldTransition → Bool
@@ -238,13 +271,19 @@ part_in p = record {
   played = p.played;
 }
 
--- what commands can read of a trace that these events led to: the present queue with the stamps and marks of
--- its past, what is pending for each client by the transitions, the frames of each output by the transitions,
+-- what commands can read of a trace that these events led to: the present queues with the stamps and marks of
+-- their pasts, what is pending for each client by the transitions, the frames of each output by the transitions,
 -- and what each seat made
 abbrev pub image_of : Trace → List LogEntry → Image
 image_of trace history = record {
-  part = part_in trace.world.part;
-  shared = record { library = trace.world.library; made = made_of history; books = books_of trace.world_transitions; ended = trace.world.ended };
+  parts = map part_in trace.world.parts;
+  shared = record {
+    library = trace.world.library;
+    made = made_of history;
+    books = books_of trace.world_transitions;
+    ended = trace.world.ended;
+    openings = trace.world.openings;
+  };
   clients = map (client_in trace.world_transitions) trace.world.clients;
 }
 
@@ -266,33 +305,11 @@ part_world_after rate part p effect = record p {
   played = played_after part effect;
 }
 
--- the world after a transition, of which the image of the world before it is known
-abbrev pub world_after_transition : World → Image → Event → TransitionData → World
-world_after_transition w i event t = record w {
-  part = part_world_after w.library.rate i.part w.part t.effect;
-  library = library_after w.library t.scan;
-  clients = map listener_of (after_transition i event t).clients;
-  ended = ended_after w.ended event;
-}
-
-abbrev pub traced : Trace → Image → Event → TransitionData → Trace
-traced trace i event t =
-    let after = world_after_transition trace.world i event t in
-    record {
-      world = after;
-      world_transitions =
-          record { before = trace.world; event = event; transition = t; notices = (told_by i event t).notices; report = report_of i.part i.shared.library t; after = after }
-          ∷ trace.world_transitions;
-    }
-
--- one event in a trace that these events led to
-abbrev pub trace_after_event : List LogEntry → Trace → Event → Trace
-trace_after_event history trace event = traced trace (image_of trace history) event (transition (image_of trace history) event)
-
--- a trace that some events led to, after more
-abbrev pub trace_from : List LogEntry → Trace → List LogEntry → Trace
-trace_from done trace [] = trace
-trace_from done trace (h ∷ hs) = trace_from (done ++ h ∷ []) (trace_after_event done trace h.event) hs
+-- the first partition of a number does this
+abbrev pub parts_changed : ℕ → ℕ → Effect → List PartWorld → List PartWorld
+parts_changed rate place effect [] = []
+parts_changed rate place effect (p ∷ ps) =
+    if p.place == place then part_world_after rate (part_in p) p effect ∷ ps else p ∷ parts_changed rate place effect ps
 
 abbrev pub limits_of : Part → Greatest
 limits_of part = record {
@@ -316,18 +333,68 @@ part_world_of past part = record {
   played = part.played;
 }
 
--- a trace in which nothing happened to a player
+-- a partition to which nothing happened had one queue, an empty one
+abbrev pub unplayed : Part → PartWorld
+unplayed part = part_world_of ([] ∷ []) part
+
+-- a new one is behind the others; there are 16 at most
+abbrev pub with_world : PartWorld → List PartWorld → List PartWorld
+with_world p ps = if nat_lt (length ps) 16 then ps ++ p ∷ [] else ps
+
+-- an output comes to the partition of a number as it is carried, and is in no other
+abbrev pub world_moved_output : ℕ → ℕ → Option Carried → PartWorld → PartWorld
+world_moved_output output to None p = p
+world_moved_output output to (Some c) p = record p { outputs = outputs_moved output (p.place == to) c p.outputs }
+
+-- what passes between the partitions
+abbrev pub worlds_moved : Crossing → List PartWorld → List PartWorld
+worlds_moved Stays ps = ps
+worlds_moved (Opens p) ps = with_world (unplayed p) ps
+worlds_moved (Closes place) ps = filter (λ (p : PartWorld). not (p.place == place)) ps
+worlds_moved (Brings output to) ps = map (world_moved_output output to (carried_in output to (map known (map part_in ps)))) ps
+
+-- the world after a transition, of which the image of the world before it is known
+abbrev pub world_after_transition : World → Image → Event → TransitionData → World
+world_after_transition w i event t = record {
+  parts = worlds_moved t.crossing (parts_changed w.library.rate (place_at i event) t.effect w.parts);
+  library = library_after w.library t.scan;
+  clients = map listener_of (after_transition i event t).clients;
+  ended = ended_after w.ended event;
+  openings = w.openings;
+}
+
+abbrev pub traced : Trace → Image → Event → TransitionData → Trace
+traced trace i event t =
+    let after = world_after_transition trace.world i event t in
+    record {
+      world = after;
+      world_transitions =
+          record { before = trace.world; event = event; transition = t; notices = (told_by i event t).notices; report = report_at i event t; after = after }
+          ∷ trace.world_transitions;
+    }
+
+-- one event in a trace that these events led to
+abbrev pub trace_after_event : List LogEntry → Trace → Event → Trace
+trace_after_event history trace event = traced trace (image_of trace history) event (transition (image_of trace history) event)
+
+-- a trace that some events led to, after more
+abbrev pub trace_from : List LogEntry → Trace → List LogEntry → Trace
+trace_from done trace [] = trace
+trace_from done trace (h ∷ hs) = trace_from (done ++ h ∷ []) (trace_after_event done trace h.event) hs
+
+-- a trace in which nothing happened to a daemon
 abbrev pub opening_trace : Image → Trace
 opening_trace base = record {
   world = record {
-    part = part_world_of ([] ∷ []) base.part;
+    parts = map unplayed base.parts;
     library = base.shared.library;
     clients = [];
     ended = base.shared.ended;
+    openings = base.shared.openings;
   };
   world_transitions = [];
 }
 
--- the trace of a player after a history
+-- the trace of a daemon after a history
 abbrev pub trace_after : Image → List LogEntry → Trace
 trace_after base history = trace_from [] (opening_trace base) history

@@ -1,22 +1,25 @@
 //! What each event is to do, and what it answers.
 ghost use Rattle.player_state.specs.declared.effect.Effect.TheVariants.{ByCommand};
 ghost use Rattle.player_state.specs.declared.effect.CommandEffect.TheVariants.{Rests};
-ghost use Rattle.std.specs.Prelude.{◌≡◌, true, Some, None, IfOk, if◌then◌else◌};
+ghost use Rattle.std.specs.Prelude.{◌≡◌, None, IfOk, map};
 ghost use Rattle.std.specs.Option.{option_copied};
+ghost use Rattle.parts.specs.Parts.{FitsIn, known};
 ghost use Rattle.player_state.specs.Fits.{Fits};
 ghost use Rattle.transitions.specs.Shelves.{is_ok_read};
-ghost use Rattle.partition.specs.Applying.{OkGives, WritesAlone};
+ghost use Rattle.transitions.specs.Transitions.{IsOfCommand};
+ghost use Rattle.partition.specs.Applying.{ActsAt, FitsAt, OkGives, WritesAlone, asked_in, command_in, line_in, place_in_state, request_in, run_in as run_in_lem};
+ghost use Rattle.partition.specs.Image.{image_of_state};
 ghost use Rattle.partition.specs.Lent.{ReadsFor, TurnsByRead};
-ghost use Rattle.partition.specs.Step.{asked_by as asked_by_lem, ended_scan, output_turn, result_of, ends_waiting as ends_waiting_lem, response_to_new, transition_command, transition_line, transition_of, transition_request};
+ghost use Rattle.partition.specs.Step.{asked_by as asked_by_lem, ended_scan, ends_waiting as ends_waiting_lem, failure as failure_lem, have as have_lem, output_turn, place_in as place_in_lem, place_of as place_of_lem, response_to_new, speaker_in as speaker_in_lem, transition, want as want_lem};
 ghost use Rattle.player_events.specs.Events.{store_reply_at};
-ghost use Rattle.transitions.specs.Transitions.{acts};
-ghost use Rattle.transitions.specs.Transitions.{transition_by};
+ghost use Rattle.partition_commands.specs.Partitions.{seated};
 
-use crate::state::MAX_CLIENTS;
+use crate::state::{MAX_CLIENTS, State};
 use idle_clients::find_client;
 use library_commands::asking::ask;
 use library_commands::{database, playlists, stickers};
 use mpd_command::{Command, Name, Request, StatusCommand};
+use parts::Parts;
 use player_core::Live;
 use player_events::Event;
 use player_state::{AudioStep, Client, Heard, Library, Part, Report, ScanMove};
@@ -28,62 +31,149 @@ use status_commands::{connection, messages, options, outputs, status};
 use std::alloc::{AllocError, Global};
 use transitions::{Asked, Move, Read, Response, Stand, Transition, refuses_line, shut, tells};
 
-/// What an event asks of a part.
+/// What an event asks for.
 pub(crate) fn transition_of_event(
     alloc: Global,
-    part: &Part,
-    library: &Library,
-    clients: &[Client],
-    ended: bool,
+    state: &State,
     event: &Event,
 ) -> Result<Transition, AllocError>
     requires { (store_reply_at event.now).refused ≡ None }
-    ensures transition { OkGives result (transition_of ended part.now library.now clients.now event.now) }
+    ensures transition { OkGives result (transition (image_of_state state.now) event.now) }
     ensures alone { IfOk result WritesAlone }
-    ensures fits { IfOk result (λ transition. Fits part.now transition.effect) }
+    ensures fits { IfOk result (λ transition. FitsAt state.now (place_in_state state.now event.now) transition) }
+    ensures lone { IfOk result (λ transition. ActsAt state.now (place_in_state state.now event.now) transition) }
 {
+    let client = speaker_in(&state.clients, event);
+    let part = state.parts.at(place_of(&state.parts, client, event));
     match event {
-        Event::Connect(number) => Ok(Transition::only(connect(alloc, clients, *number)?)),
+        Event::Connect(_) => Ok(Transition::only(connect(alloc, &state.clients, client)?)),
         Event::Disconnect(number) => Transition::departs(alloc, *number),
-        Event::Line(number, stand, request, heard) => {
-            let client = find_client(clients, *number);
-            let transition = answer_line(
-                alloc,
-                part,
-                library,
-                client,
-                *stand,
-                request,
-                &heard.read,
-            )?;
+        Event::Line(_, stand, request, heard) => {
+            let transition = answer_line(alloc, state, part, client, *stand, request, &heard.read)?;
             Ok(transition.once_written())
         }
         Event::ScanQuestion => {
-            let report = if ended {
+            let report = if state.ended {
                 Report::Ended
             } else {
-                Report::ToScan(library.scan.running())
+                Report::ToScan(state.library.scan.running())
             };
             Transition::reports(alloc, ScanMove::Stay, report)
         }
-        Event::ScanResult(songs, second) => end_scan(alloc, library, songs.as_ref(), *second),
-        Event::Want(owes) => {
-            Transition::acts_unless(alloc, ended, Report::Ended, AudioStep::Wants(*owes))
-        }
-        Event::Have(number, frames) => {
-            let step = AudioStep::Accepts(*number, *frames);
-            Transition::acts_unless(alloc, ended, Report::ToFeed(None), step)
-        }
-        Event::Failed(number, partner) => Transition::acts(
+        Event::ScanResult(songs, second) => end_scan(
             alloc,
-            AudioStep::Fails(*number, *partner),
+            &state.library,
+            songs.as_ref(),
+            *second,
         ),
+        Event::Want(_, owes) => want(alloc, state.ended, part, *owes),
+        Event::Have(_, number, frames) => have(alloc, state.ended, part, *number, *frames),
+        Event::Failed(_, number, partner) => failure(alloc, part, *number, *partner),
         Event::OutputTurn(output, written, discarded, failed) => {
             let turn = AudioStep::Settles(*output, *written, *discarded, *failed);
-            Ok(settle(alloc, part, *output, turn)?.or_ended(ended))
+            Ok(settle(alloc, part, *output, turn)?.or_ended(state.ended))
         }
         Event::End => Transition::reports(alloc, ScanMove::Stay, Report::Nothing),
     }
+}
+
+/// The partition that an event happens in, by its number.
+pub(crate) fn place_of_event(state: &State, event: &Event) -> u8
+    ensures { result ≡ place_in_state state.now event.now }
+{
+    place_of(&state.parts, speaker_in(&state.clients, event), event)
+}
+
+/// The client that an event comes from, if it is there.
+fn speaker_in(clients: &[Client], event: &Event) -> Option<Client>
+    ensures { result ≡ speaker_in_lem clients.now event.now }
+{
+    match event {
+        Event::Connect(number) | Event::Disconnect(number) | Event::Line(number, _, _, _) =>
+            find_client(clients, *number),
+        Event::ScanQuestion
+        | Event::ScanResult(_, _)
+        | Event::Want(_, _)
+        | Event::Have(_, _, _)
+        | Event::Failed(_, _, _)
+        | Event::OutputTurn(_, _, _, _)
+        | Event::End => None,
+    }
+}
+
+/// The partition that an event happens in: of its client, if that is there, of its job, or of its output; the
+/// first for all others, which change nothing in it.
+fn place_of(parts: &Parts, client: Option<Client>, event: &Event) -> u8
+    ensures { result ≡ place_of_lem (map known parts.now) client event.now }
+{
+    match event {
+        Event::Connect(_) | Event::Disconnect(_) | Event::Line(_, _, _, _) => place_in(client),
+        Event::Want(place, _) | Event::Have(place, _, _) | Event::Failed(place, _, _) => *place,
+        Event::OutputTurn(output, _, _, _) => parts.holder(*output).unwrap_or(0),
+        Event::ScanQuestion | Event::ScanResult(_, _) | Event::End => 0,
+    }
+}
+
+fn place_in(client: Option<Client>) -> u8
+    ensures { result ≡ place_in_lem client }
+{
+    match client {
+        Some(client) => client.place,
+        None => 0,
+    }
+}
+
+/// The decoder wants a job of a partition.
+fn want(
+    alloc: Global,
+    ended: bool,
+    part: Option<&Part>,
+    owes: [bool; 8],
+) -> Result<Transition, AllocError>
+    ensures transition { OkGives result (want_lem ended (option_copied part.entry) owes) }
+{
+    let Some(part) = part else {
+        let report = if ended {
+            Report::Ended
+        } else {
+            Report::ToDecode(None)
+        };
+        return Transition::reports(alloc, ScanMove::Stay, report);
+    };
+    let step = AudioStep::Wants(part.outputs.owes(owes));
+    Transition::acts_unless(alloc, ended, Report::Ended, step)
+}
+
+/// Frames of a job of a partition are decoded.
+fn have(
+    alloc: Global,
+    ended: bool,
+    part: Option<&Part>,
+    number: u64,
+    frames: u64,
+) -> Result<Transition, AllocError>
+    ensures transition { OkGives result (have_lem ended (option_copied part.entry) number frames) }
+{
+    if part.is_none() {
+        return Transition::reports(alloc, ScanMove::Stay, Report::ToFeed(None));
+    }
+    let step = AudioStep::Accepts(number, frames);
+    Transition::acts_unless(alloc, ended, Report::ToFeed(None), step)
+}
+
+/// The song of a job of a partition cannot be read.
+fn failure(
+    alloc: Global,
+    part: Option<&Part>,
+    number: u64,
+    partner: bool,
+) -> Result<Transition, AllocError>
+    ensures transition { OkGives result (failure_lem (option_copied part.entry) number partner) }
+{
+    if part.is_none() {
+        return Transition::reports(alloc, ScanMove::Stay, Report::Nothing);
+    }
+    Transition::acts(alloc, AudioStep::Fails(number, partner))
 }
 
 /// Ends the scan that runs at this second, with the library that it found.
@@ -111,14 +201,16 @@ fn end_scan(
 /// An output has its turn; one that is not there has nothing to play.
 fn settle(
     alloc: Global,
-    part: &Part,
+    part: Option<&Part>,
     output: usize,
     turn: AudioStep,
 ) -> Result<Transition, AllocError>
-    ensures transition { OkGives result (output_turn part.now output turn) }
+    ensures transition { OkGives result (output_turn (option_copied part.entry) output turn) }
 {
-    if part.outputs.is_output(output) {
-        return Transition::acts(alloc, turn);
+    if let Some(part) = part {
+        if part.outputs.is_output(output) {
+            return Transition::acts(alloc, turn);
+        }
     }
     let live = Live {
         cut: 0,
@@ -132,10 +224,14 @@ fn settle(
     )
 }
 
-fn connect(alloc: Global, clients: &[Client], number: u32) -> Result<Response, AllocError>
-    ensures { IfOk result (λ response. response ≡ response_to_new clients.now number) }
+fn connect(
+    alloc: Global,
+    clients: &[Client],
+    client: Option<Client>,
+) -> Result<Response, AllocError>
+    ensures { IfOk result (λ response. response ≡ response_to_new (map seated clients.now) client) }
 {
-    if find_client(clients, number).is_some() {
+    if client.is_some() {
         return tells(String::new(alloc), Move::Stay);
     }
     if clients.len() >= MAX_CLIENTS {
@@ -147,15 +243,16 @@ fn connect(alloc: Global, clients: &[Client], number: u32) -> Result<Response, A
 /// Answers a line of a client, if it is there. While it waits, any other line than `noidle` closes it.
 fn answer_line(
     alloc: Global,
-    part: &Part,
-    library: &Library,
+    state: &State,
+    part: Option<&Part>,
     client: Option<Client>,
     stand: Stand,
     request: &Request,
     read: &Read,
 ) -> Result<Transition, AllocError>
-    ensures transition { OkGives result (transition_line part.now library.now client stand request.now read.now) }
-    ensures fits { IfOk result (λ transition. Fits part.now transition.effect) }
+    ensures transition { OkGives result (line_in state.now (option_copied part.entry) client stand request.now read.now) }
+    ensures fits { IfOk result (λ transition. FitsIn (option_copied part.entry) transition.effect) }
+    ensures command { IfOk result (λ transition. IsOfCommand transition.effect) }
 {
     let Some(client) = client else {
         return Ok(Transition::only(shut(alloc)?));
@@ -163,7 +260,7 @@ fn answer_line(
     if client.pending.is_waiting() && !ends_waiting(stand, request) {
         return Transition::departs(alloc, client.number);
     }
-    answer_request(alloc, part, library, client, stand, request, read)
+    answer_request(alloc, state, part, client, stand, request, read)
 }
 
 /// What an event asks the shelf, and its answer.
@@ -203,19 +300,20 @@ fn ends_waiting(stand: Stand, request: &Request) -> bool
 /// Answers what a client asks for that may.
 fn answer_request(
     alloc: Global,
-    part: &Part,
-    library: &Library,
+    state: &State,
+    part: Option<&Part>,
     client: Client,
     stand: Stand,
     request: &Request,
     read: &Read,
 ) -> Result<Transition, AllocError>
-    ensures transition { OkGives result (transition_request part.now library.now client stand request.now read.now) }
-    ensures fits { IfOk result (λ transition. Fits part.now transition.effect) }
+    ensures transition { OkGives result (request_in state.now (option_copied part.entry) client stand request.now read.now) }
+    ensures fits { IfOk result (λ transition. FitsIn (option_copied part.entry) transition.effect) }
+    ensures command { IfOk result (λ transition. IsOfCommand transition.effect) }
 {
     match request {
         Request::Run(name, command) => {
-            answer_command(alloc, part, library, read, client, *name, stand, command)
+            answer_command(alloc, state, part, read, client, *name, stand, command)
         }
         Request::Refused(ack) => {
             let response = refuses_line(alloc, stand, ack.command, ack.number, ack.text.as_str())?;
@@ -224,24 +322,44 @@ fn answer_request(
     }
 }
 
-/// A client's wish leaves the player as it is; another command has its result.
+/// A client's wish leaves the daemon as it is; another command makes what it makes.
 fn answer_command(
     alloc: Global,
-    part: &Part,
-    library: &Library,
+    state: &State,
+    part: Option<&Part>,
     read: &Read,
     client: Client,
     name: Name,
     stand: Stand,
     command: &Command,
 ) -> Result<Transition, AllocError>
-    ensures transition { OkGives result (transition_command part.now library.now client name stand command.now read.now) }
-    ensures fits { IfOk result (λ transition. Fits part.now transition.effect) }
+    ensures transition { OkGives result (command_in state.now (option_copied part.entry) client name stand command.now read.now) }
+    ensures fits { IfOk result (λ transition. FitsIn (option_copied part.entry) transition.effect) }
+    ensures command { IfOk result (λ transition. IsOfCommand transition.effect) }
 {
     let asked = asked_by(&client, name, stand);
     match wish(alloc, asked_by(&client, name, stand), client, command)? {
         Some(response) => Ok(Transition::only(response)),
-        None => run(alloc, asked, part, library, read, command),
+        None => run_in(alloc, asked, state, part, read, command),
+    }
+}
+
+/// A command of a client whose partition is not there closes it.
+fn run_in(
+    alloc: Global,
+    asked: Asked,
+    state: &State,
+    part: Option<&Part>,
+    read: &Read,
+    command: &Command,
+) -> Result<Transition, AllocError>
+    ensures transition { OkGives result (asked_in state.now (option_copied part.entry) asked read.now command.now) }
+    ensures fits { IfOk result (λ transition. FitsIn (option_copied part.entry) transition.effect) }
+    ensures command { IfOk result (λ transition. IsOfCommand transition.effect) }
+{
+    match part {
+        Some(part) => run(alloc, asked, state, part, read, command),
+        None => Ok(Transition::only(shut(alloc)?)),
     }
 }
 
@@ -257,18 +375,20 @@ fn asked_by(client: &Client, name: Name, stand: Stand) -> Asked
     }
 }
 
-/// What a command asks of the player, and what it reads of it, by its group.
+/// What a command asks of the daemon, and what it reads of it, by its group.
 fn run(
     alloc: Global,
     asked: Asked,
+    state: &State,
     part: &Part,
-    library: &Library,
     read: &Read,
     command: &Command,
 ) -> Result<Transition, AllocError>
-    ensures transition { OkGives result (transition_by (result_of asked part.now library.now read.now command.now)) }
+    ensures transition { OkGives result (run_in_lem state.now part.now asked read.now command.now) }
     ensures fits { IfOk result (λ transition. Fits part.now transition.effect) }
+    ensures command { IfOk result (λ transition. IsOfCommand transition.effect) }
 {
+    let library = &state.library;
     match command {
         Command::Status(command) => status::run(alloc, asked, part, library, command),
         Command::Options(command) => options::run(alloc, asked, part, command),
@@ -280,5 +400,16 @@ fn run(
         Command::Connection(command) => connection::run(alloc, asked, command),
         Command::Outputs(command) => outputs::run(alloc, asked, part, command),
         Command::Messages(command) => messages::run(alloc, asked, part, command),
+        Command::Partitions(command) => {
+            partition_commands::run(
+                alloc,
+                &state.parts,
+                &state.clients,
+                state.openings,
+                asked,
+                part.place,
+                command,
+            )
+        }
     }
 }

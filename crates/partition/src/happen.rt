@@ -1,22 +1,25 @@
 //! One event after the other, each kept with what it made clients hear.
-ghost use Rattle.std.specs.Prelude.{◌≡◌, ◌⊎◌, ◌<◌, ◌≤◌, ◌+◌, ◌++◌, ◌∷◌, [], None, count_by, length, map, vec_len, vec_capacity, IfErr, IfOk, OnErr, OnOk, not, true, false, nat_le, slice_index_or};
+ghost use Rattle.std.specs.Prelude.{◌≡◌, ◌⊎◌, ◌<◌, ◌≤◌, ◌+◌, ◌++◌, ◌∷◌, ℕ, [], None, count_by, length, map, vec_len, vec_capacity, IfErr, IfOk, OnErr, OnOk, not, true, false, nat_le, slice_index_or};
 ghost use Rattle.partition.specs.declared.partition.PartitionFault.{PartitionFault};
 ghost use Rattle.idle_clients.specs.Clients.{notified};
 ghost use Rattle.partition.specs.Image.{counted, image_of_state};
 ghost use Rattle.partition.specs.Lent.{HasCause, IsRefusedIn, IsUnwrittenBy, IsWriteReply, RecordsIn, ServesEvent, TurnsByWriteOf};
-ghost use Rattle.partition.specs.Applying.{AddsEntry, GrowsBy, HearsRefusal, IsAlone, IsImageAfter, IsWithinLimits, PassesNoLimit, RefusesEvent, answer_to, clients_told, image_after, notices_by, notices_of, notices_told, outcome_with, report_by, telling_of};
-ghost use Rattle.player_state.specs.Fits.{Fits};
-ghost use Rattle.idle_clients.specs.Fingerprint.{raised_in, fingerprint};
+ghost use Rattle.partition.specs.Applying.{ActsAt, AddsEntry, FitsAt, GrowsBy, HearsRefusal, IsAlone, IsImageAfter, IsWithinLimits, PassesNoLimit, RefusesEvent, answer_to, clients_told, image_after, notices_by, notices_of, notices_told, outcome_with, place_in_state, readings_in, report_by, telling_of};
+ghost use Rattle.parts.specs.Parts.{is_within_in, part_at};
+ghost use Rattle.parts.specs.declared.crossing.Crossing.{Crossing};
+ghost use Rattle.player_state.specs.declared.effect.CommandEffect.TheVariants.{Rests};
+ghost use Rattle.player_state.specs.declared.effect.Effect.TheVariants.{ByCommand};
+ghost use Rattle.idle_clients.specs.Fingerprint.{changes_listeners_in, raised_in};
 ghost use Rattle.idle_clients.specs.Rooms.{is_waiting, listed, room_in};
 ghost use Rattle.idle_clients.specs.Settled.{AllSettled, HasRoom, nothing};
 ghost use Rattle.partition.specs.Refusals.{MayRefuse, RefusesTransition};
 ghost use Rattle.transitions.specs.Shelves.{LeavesUnchanged, answered, is_wanting, is_written};
-ghost use Rattle.partition.specs.Step.{after_transition, counts_frames, ended_after as ended_after_lem, keeps_limits, limit_of, next_image, mover as mover_lem, told as told_of, told_by, transition as transition_at, transition_of};
+ghost use Rattle.partition.specs.Step.{after_transition, counts_frames, ended_after as ended_after_lem, goer as goer_lem, keeps_limits, limit_of, next_image, mover as mover_lem, told as told_of, told_by, transition as transition_at};
 ghost use Rattle.player_events.specs.Events.{store_reply_at, with_store_reply, name_at, stand_of};
 ghost use Rattle.partition.specs.Steps.{entry};
 ghost use Rattle.player_events.specs.Events.{is_line};
 
-use crate::event_transitions::{ask_shelf, transition_of_event};
+use crate::event_transitions::{ask_shelf, place_of_event, transition_of_event};
 use crate::lent::write;
 use crate::partition::PartitionFault;
 use crate::prepare::{Prepared, prepare_step, prepare_write};
@@ -25,11 +28,12 @@ use idle_clients::{
     Notices, Raised, changes_songs, changes_subscriptions, leave, list_notices, make_move,
     notify_all,
 };
+use parts::Parts;
 use player_events::{Event, LogEntry, Outcome};
-use player_state::{Client, Library, Part, done};
+use player_state::{Client, Effect, done};
 use shelf::{Shelf, ShelfFault};
 use std::alloc::{AllocError, Global};
-use transitions::{Refusals, Response, ShelfWrite, StoreReply, Telling, Transition};
+use transitions::{Move, Refusals, Response, ShelfWrite, StoreReply, Telling, Transition};
 
 /// What an event made clients hear; the notices twice, to hand out and to keep.
 #[derive(Drop)]
@@ -186,14 +190,7 @@ fn apply_event<S: Shelf>(
         read,
         refused: None,
     });
-    let transition = transition_of_event(
-        alloc,
-        &state.part,
-        &state.library,
-        &state.clients,
-        state.ended,
-        event,
-    )?;
+    let transition = transition_of_event(alloc, state, event)?;
     if transition.written.is_written() {
         return write_transition(alloc, state, shelf, event, transition);
     }
@@ -215,14 +212,7 @@ fn apply_step(alloc: Global, state: &mut State, event: &Event) -> Result<Applied
     ensures refused { IfErr result (RefusesEvent state.old event.now) }
     ensures err { OnErr result (image_of_state state.new ≡ image_of_state state.old) }
 {
-    let transition = transition_of_event(
-        alloc,
-        &state.part,
-        &state.library,
-        &state.clients,
-        state.ended,
-        event,
-    )?;
+    let transition = transition_of_event(alloc, state, event)?;
     apply_transition(alloc, state, event, transition)
 }
 
@@ -235,25 +225,21 @@ fn apply_transition(
 ) -> Result<Applied, PartitionFault>
     requires space { vec_len state.old.clients < vec_capacity state.old.clients }
     requires settled { AllSettled state.old.clients.items }
-    requires fits { Fits state.old.part transition.effect }
+    requires fits { FitsAt state.old (place_in_state state.old event.now) transition }
+    requires acts { ActsAt state.old (place_in_state state.old event.now) transition }
     requires unwritten { is_written transition.written ≡ false }
     ensures image { OnOk result (IsImageAfter state.old event.now transition state.new) }
     ensures answer { IfOk result (λ applied. applied.telling.response.answer ≡ transition.response.answer) }
-    ensures report { IfOk result (λ applied. applied.telling.report ≡ report_by state.old transition) }
+    ensures report { IfOk result (λ applied. applied.telling.report ≡ report_by state.old event.now transition) }
     ensures given { IfOk result (λ applied. listed applied.given ≡ notices_by state.old event.now transition) }
     ensures kept { IfOk result (λ applied. listed applied.kept ≡ notices_by state.old event.now transition) }
-    ensures within { OnOk result (PassesNoLimit state.old transition) }
-    ensures refused { IfErr result (λ fault. RefusesTransition (image_of_state state.old) transition fault) }
+    ensures within { OnOk result (PassesNoLimit state.old event.now transition) }
+    ensures refused { IfErr result (λ fault. RefusesTransition (image_of_state state.old) event.now transition fault) }
     ensures err { OnErr result (image_of_state state.new ≡ image_of_state state.old) }
 {
-    let (prepared, books) = match prepare_step(
-        alloc,
-        &state.part,
-        &state.library,
-        &state.clients,
-        &state.books,
-        &transition,
-    ) {
+    let number = mover(event);
+    let place = place_of_event(state, event);
+    let (prepared, books) = match prepare_step(alloc, state, number, place, &transition) {
         Ok(made) => made,
         Err(fault) => {
             return Err(fault);
@@ -265,26 +251,44 @@ fn apply_transition(
         before,
     } = prepared;
     let database = changes_songs(&transition, &state.library);
-    let subscription = changes_subscriptions(&state.part.channels, &transition.effect);
-    let telling = transition.carry_out(&mut state.part, &mut state.library)?;
+    let subscription = changes_listeners(&state.parts, place, &transition.effect);
+    let goer = goer(number, &transition.response);
+    let telling = transition.carry_out(&mut state.parts, place, &mut state.library)?;
     state.books = books;
     state.ended = ended_after(state.ended, event);
     let unwritten = ShelfWrite::Nothing;
     let raised = before.changed(
+        goer,
         database,
         subscription,
         &unwritten,
-        &state.part,
+        &state.parts,
         &state.library,
     );
-    Ok(tell(
-        &mut state.clients,
-        mover(event),
-        &raised,
-        telling,
-        given,
-        kept,
-    ))
+    Ok(tell(&mut state.clients, number, &raised, telling, given, kept))
+}
+
+/// Whether an event makes other clients of its partition listen, or to other channels.
+fn changes_listeners(parts: &Parts, place: u8, effect: &Effect) -> bool
+    ensures { result ≡ changes_listeners_in (part_at place parts.now) effect.now }
+{
+    match parts.at(place) {
+        Some(part) => changes_subscriptions(&part.channels, effect),
+        None => false,
+    }
+}
+
+/// The client that goes to another partition by this response to it.
+fn goer(number: u32, response: &Response) -> Option<u32>
+    ensures { result ≡ goer_lem number response.now }
+{
+    if response.next().closes() {
+        return None;
+    }
+    match response.moves() {
+        Move::Enter(_) => Some(number),
+        _ => None,
+    }
 }
 
 /// Writes what an event asks for to the shelf, once there is room for all that follows: nothing can fail
@@ -316,31 +320,18 @@ fn write_transition<S: Shelf>(
     ensures unchanged { OnErr result (IsUnwrittenBy S.standing shelf.old shelf.new transition.written) }
     ensures err { OnErr result (image_of_state state.new ≡ image_of_state state.old) }
 {
-    let Ok((prepared, refusals)) = prepare_write(
-        alloc,
-        &state.part,
-        &state.library,
-        &state.clients,
-        event,
-    ) else {
+    let place = place_of_event(state, event);
+    let Ok((prepared, refusals)) = prepare_write(alloc, state, place, event) else {
         return Err(PartitionFault::NoMemory);
     };
-    let transition = write_out(
-        &state.part,
-        &state.library,
-        &state.clients,
-        state.ended,
-        shelf,
-        event,
-        transition,
-        refusals,
-    )?;
-    Ok(tell_written(state, event, transition, prepared))
+    let transition = write_out(state, shelf, event, transition, refusals)?;
+    Ok(tell_written(state, place, event, transition, prepared))
 }
 
 /// Tells of what was written to the shelf, or why it was not: the transition does nothing else.
 fn tell_written(
     state: &mut State,
+    place: u8,
     event: &Event,
     transition: Transition,
     prepared: Prepared,
@@ -348,7 +339,8 @@ fn tell_written(
     requires space { vec_len state.old.clients < vec_capacity state.old.clients }
     requires settled { AllSettled state.old.clients.items }
     requires alone { IsAlone transition }
-    requires before { prepared.before ≡ fingerprint state.old.part state.old.library }
+    requires place { place ≡ place_in_state state.old event.now }
+    requires before { prepared.before ≡ readings_in state.old Crossing.Stays place }
     requires given { count_by is_waiting state.old.clients.items ≤ room_in prepared.given }
     requires kept { count_by is_waiting state.old.clients.items ≤ room_in prepared.kept }
     requires none_given { listed prepared.given ≡ [] }
@@ -358,8 +350,8 @@ fn tell_written(
     ensures report { result.telling.report ≡ (told_by (image_of_state state.old) event.now transition).report }
     ensures given { listed result.given ≡ (told_by (image_of_state state.old) event.now transition).notices }
     ensures kept { listed result.kept ≡ (told_by (image_of_state state.old) event.now transition).notices }
-    ensures counts { counts_frames (image_of_state state.old) transition ≡ true }
-    ensures limits { keeps_limits (image_of_state state.old) transition ≡ true }
+    ensures counts { counts_frames (image_of_state state.old) event.now transition ≡ true }
+    ensures limits { keeps_limits (image_of_state state.old) event.now transition ≡ true }
 {
     let Prepared {
         given,
@@ -368,44 +360,46 @@ fn tell_written(
     } = prepared;
     state.books.rest();
     state.ended = ended_after(state.ended, event);
-    let _ = done(&state.part);
+    is_within_still(&state.parts, place);
+    let number = mover(event);
+    let goer = goer(number, &transition.response);
     let raised = before.changed(
+        goer,
         false,
         false,
         &transition.written,
-        &state.part,
+        &state.parts,
         &state.library,
     );
     let telling = transition.into_telling();
-    tell(
-        &mut state.clients,
-        mover(event),
-        &raised,
-        telling,
-        given,
-        kept,
-    )
+    tell(&mut state.clients, number, &raised, telling, given, kept)
+}
+
+/// What is true of each partition: its numbers are within their limit.
+fn is_within_still(parts: &Parts, place: u8)
+    ensures { (rate : ℕ) → is_within_in rate (part_at place parts.now) (ByCommand Rests) ≡ true }
+{
+    if let Some(part) = parts.at(place) {
+        let _ = done(part);
+    }
 }
 
 /// Asks the shelf to write what a transition says, and gives the transition for what it answers. Where there
 /// is no memory, nothing is written.
 fn write_out<S: Shelf>(
-    part: &Part,
-    library: &Library,
-    clients: &[Client],
-    ended: bool,
+    state: &State,
     shelf: &mut S,
     event: &mut Event,
     transition: Transition,
     refusals: Refusals,
 ) -> Result<Transition, AllocError>
-    requires transition { transition ≡ transition_of ended part.now library.now clients.now event.old }
+    requires transition { transition ≡ transition_at (image_of_state state.now) event.old }
     requires alone { IsAlone transition }
     requires written { is_written transition.written ≡ true }
     requires unrefused { (store_reply_at event.old).refused ≡ None }
     requires refusals { refusals ≡ (stand_of event.old, name_at event.old) }
     ensures event { HearsRefusal event.old event.new }
-    ensures transition { IfOk result (λ after. after ≡ transition_of ended part.now library.now clients.now event.new) }
+    ensures transition { IfOk result (λ after. after ≡ transition_at (image_of_state state.now) event.new) }
     ensures alone { IfOk result IsAlone }
     ensures turns { OnOk result (TurnsByWriteOf S.standing shelf.old shelf.new transition.written event.new) }
     ensures answers { OnOk result (IsWriteReply S.standing S.failed shelf.old shelf.new transition.written event.new) }
@@ -518,9 +512,9 @@ fn mover(event: &Event) -> u32
             *number,
         Event::ScanQuestion
         | Event::ScanResult(_, _)
-        | Event::Want(_)
-        | Event::Have(_, _)
-        | Event::Failed(_, _)
+        | Event::Want(_, _)
+        | Event::Have(_, _, _)
+        | Event::Failed(_, _, _)
         | Event::OutputTurn(_, _, _, _)
         | Event::End => 0,
     }

@@ -1,6 +1,7 @@
 //! The player with its history.
-ghost use Rattle.std.specs.Prelude.{◌≡◌, ◌≢◌, ◌⊎◌, ◌↔◌, ◌++◌, ◌∷◌, ◌+◌, ◌-◌, ◌^◌, ◌≤◌, ◌<◌, [], None, false, length, map, vec_capacity, IfOk, IfErr, OnErr, OnOk, IsErrOf, slice_index_or, nat_le, is_some, true, All, AllPairs};
-ghost use Rattle.song_queue.specs.State.{queue_of};
+ghost use Rattle.std.specs.Prelude.{◌≡◌, ◌⊎◌, ◌↔◌, ◌++◌, ◌∷◌, ◌+◌, ◌-◌, ◌^◌, ◌≤◌, ◌<◌, [], None, false, length, map, vec_capacity, IfOk, IfErr, OnErr, OnOk, IsErrOf, slice_index_or, nat_le, is_some, true, All};
+ghost use Rattle.parts.specs.Parts.{holder, known, named, part_at};
+ghost use Rattle.std.specs.Option.{option_copied};
 ghost use Rattle.mpd_command.specs.Requests.{name_in};
 ghost use Rattle.player_events.specs.declared.event.LogEntry.{LogEntry};
 ghost use Rattle.partition.specs.History.{IsSpent, is_full, replay, AreTold, begun, folded, joined_by, own as own_of, with_room};
@@ -8,7 +9,7 @@ ghost use Rattle.partition.specs.Image.{opening};
 ghost use Rattle.idle_clients.specs.Clients.{client_of};
 ghost use Rattle.partition.specs.Lent.{IsAtLimitOrFull, IsRefused, LacksMemory, RecordsNext, RecordsOnce, Refuses};
 ghost use Rattle.partition.specs.Lists.{RunsList, StopsList};
-ghost use Rattle.partition.specs.Legal.{IsPast};
+ghost use Rattle.partition.specs.Legal.{HasDistinctIds, IsPast};
 ghost use Rattle.partition.specs.Refusals.{MayRefuse};
 ghost use Rattle.partition.specs.Step.{limit_of, next_image, told as told_of};
 ghost use Rattle.partition.specs.Steps.{RefusesStep, entry};
@@ -22,15 +23,13 @@ use crate::happen::{record_event, record_step};
 use crate::laws::replays_worlds;
 use crate::lists::{ListFault, ListOutcome};
 use crate::state::{MAX_OWN, Setup, State};
-use command_arguments::Volume;
 use command_lists::ListForm;
 use idle_clients::find_client;
 use mpd_command::Request;
-use player_core::{Player, PlayerFault};
+use player_core::PlayerFault;
 use player_events::{Event, LogEntry, Outcome, event_bytes};
-use player_state::{Client, FrameCounts, Library, Outputs};
+use player_state::{Client, FrameCounts, Library, Part};
 use shelf::Shelf;
-use song_queue::Queue;
 use std::alloc::{AllocError, Global};
 use std::marker::Model;
 use transitions::Stand;
@@ -412,8 +411,8 @@ impl Partition {
         ensures pending { All (HasPendingSince self.now.base (world_transitions_of self.now)) self.now.present.clients }
         // The frames of each output are those of the base and the sums over the window.
         ensures books { self.now.present.shared.books ≡ books_of_all self.now }
-        // Song ids are distinct.
-        ensures distinct { AllPairs (λ e f. e.id ≢ f.id) (queue_of self.now.present.part.queue) }
+        // Song ids are distinct in the queue of each partition.
+        ensures distinct { All HasDistinctIds self.now.present.parts }
     {
         self.legal();
         &self.history
@@ -434,8 +433,7 @@ impl Partition {
         ensures settled { AllSettled self.now.present.clients }
     {
         replays_worlds();
-        // A call that reads the queue brings what its type keeps of it: distinct ids.
-        let _distinct = self.state.part.queue.len();
+        are_distinct(self.state.parts.items());
     }
 
     /// How many events a seat made, all those before the window too.
@@ -448,11 +446,32 @@ impl Partition {
         self.state.made[usize::from(seat)]
     }
 
-    /// The present queue.
-    pub fn queue(&self) -> &Queue
-        ensures { result.now ≡ self.now.present.part.queue }
+    /// The partitions, in the order in which they came.
+    pub fn parts(&self) -> &[Part]
+        ensures { result.now ≡ self.now.present.parts }
     {
-        &self.state.part.queue
+        self.state.parts.items()
+    }
+
+    /// The partition of a number, if there is one.
+    pub fn part(&self, place: u8) -> Option<&Part>
+        ensures { option_copied result ≡ part_at place self.now.present.parts }
+    {
+        self.state.parts.at(place)
+    }
+
+    /// The number of the partition of this name, if there is one.
+    pub fn place_named(&self, name: &str) -> Option<u8>
+        ensures { result ≡ named name.now (map known self.now.present.parts) }
+    {
+        self.state.parts.place_named(name)
+    }
+
+    /// The number of the partition that an output is in, if it is in one.
+    pub fn holder(&self, output: usize) -> Option<u8>
+        ensures { result ≡ holder output (map known self.now.present.parts) }
+    {
+        self.state.parts.holder(output)
     }
 
     /// Whether a client is connected.
@@ -460,25 +479,6 @@ impl Partition {
         ensures { result ≡ is_some (client_of number self.now.present.clients) }
     {
         find_client(&self.state.clients, number).is_some()
-    }
-
-    /// What is played.
-    pub fn player(&self) -> &Player
-        ensures { result.now ≡ self.now.present.part.player }
-    {
-        &self.state.part.player
-    }
-
-    pub fn volume(&self) -> &Volume
-        ensures { result.now ≡ self.now.present.part.volume }
-    {
-        &self.state.part.volume
-    }
-
-    pub fn outputs(&self) -> &Outputs
-        ensures { result.now ≡ self.now.present.part.outputs }
-    {
-        &self.state.part.outputs
     }
 
     /// The frames that each output was given, wrote and discarded.
@@ -507,6 +507,17 @@ impl Partition {
         ensures { result.now ≡ self.now.present.clients }
     {
         &self.state.clients
+    }
+}
+
+/// What is true of each partition: its queue keeps distinct ids.
+fn are_distinct(parts: &[Part])
+    ensures { All HasDistinctIds parts.now }
+{
+    if let [part, rest @ ..] = parts {
+        // A call that reads the queue brings what its type keeps of it.
+        let _distinct = part.queue.len();
+        are_distinct(rest);
     }
 }
 

@@ -1,22 +1,23 @@
 //! What an event needs that can fail, made ready before anything changes.
 ghost use Rattle.std.specs.Prelude.{◌≡◌, ◌≤◌, [], true, false, count_by, IfErr, IfOk, OnOk};
 ghost use Rattle.player_state.specs.Outputs.{can_count_all};
-ghost use Rattle.partition.specs.Refusals.{RefusesFrames};
 ghost use Rattle.idle_clients.specs.Rooms.{is_waiting, listed, room_in};
 ghost use Rattle.idle_clients.specs.Settled.{HasRoom, nothing};
 ghost use Rattle.transitions.specs.Shelves.{is_written};
-ghost use Rattle.idle_clients.specs.Fingerprint.{fingerprint};
 ghost use Rattle.player_events.specs.Events.{name_at, name_of as name_of_lem, stand_of};
-ghost use Rattle.partition.specs.Applying.{HasRoomFor};
-ghost use Rattle.partition.specs.Step.{books_by, raised_by};
+ghost use Rattle.parts.specs.declared.crossing.Crossing.{Crossing};
+ghost use Rattle.partition.specs.Applying.{ActsAt, GoesNowhere, HasRoomIn, RaisesNothing, RefusesFramesIn, books_in, raised_in_state, readings_in};
+ghost use Rattle.player_state.specs.FrameCounts.{IsBooked};
 
 use crate::partition::PartitionFault;
+use crate::state::State;
 use idle_clients::{Fingerprint, Notices, waiting};
 use mpd_command::{Name, Request};
+use parts::Crossing;
 use player_events::Event;
-use player_state::{Client, FrameCounts, Library, Part};
+use player_state::FrameCounts;
 use std::alloc::{AllocError, Global};
-use transitions::{Refusals, Stand, Transition};
+use transitions::{Move, Refusals, Stand, Transition};
 
 /// Lists for the notices of an event, one to hand out and one to keep, and what tells whether it changed a
 /// part of the player.
@@ -28,97 +29,126 @@ pub(crate) struct Prepared {
 }
 
 impl Prepared {
-    /// With room for so many notices in each list.
+    /// With room for so many notices in each list, before an event of a partition by which this passes between
+    /// partitions.
     fn with_room(
         alloc: Global,
-        part: &Part,
-        library: &Library,
+        crossing: &Crossing,
+        place: u8,
+        state: &State,
         room: usize,
     ) -> Result<Prepared, AllocError>
         ensures given { IfOk result (λ prepared. listed prepared.given ≡ []) }
         ensures kept { IfOk result (λ prepared. listed prepared.kept ≡ []) }
         ensures given_room { IfOk result (λ prepared. room ≤ room_in prepared.given) }
         ensures kept_room { IfOk result (λ prepared. room ≤ room_in prepared.kept) }
-        ensures before { IfOk result (λ prepared. prepared.before ≡ fingerprint part.now library.now) }
+        ensures before { IfOk result (λ prepared. prepared.before ≡ readings_in state.now crossing.now place) }
     {
         Ok(Prepared {
             given: Notices::with_room(alloc, room)?,
             kept: Notices::with_room(alloc, room)?,
-            before: Fingerprint::of(alloc, part, library)?,
+            before: Fingerprint::of(alloc, crossing, place, &state.parts, &state.library)?,
         })
     }
 }
 
-/// What a transition needs that writes nothing to the shelf, and the books after it.
+/// What a transition of a client's event, or another's, needs that writes nothing to the shelf, and the books
+/// after it.
 ///
 /// A transition is lent, here and below, so that it isn't dropped at each way out: a proof would go through
 /// every kind of effect there.
 #[tactic(auto, using(crate::proofs::Settled::more_room))]
 pub(crate) fn prepare_step(
     alloc: Global,
-    part: &Part,
-    library: &Library,
-    clients: &[Client],
-    books: &FrameCounts,
+    state: &State,
+    number: u32,
+    place: u8,
     transition: &Transition,
 ) -> Result<(Prepared, FrameCounts), PartitionFault>
-    requires { is_written transition.now.written ≡ false }
+    requires unwritten { is_written transition.now.written ≡ false }
+    requires acts { ActsAt state.now place transition.now }
     ensures given { IfOk result (λ made. listed made.0.given ≡ []) }
     ensures kept { IfOk result (λ made. listed made.0.kept ≡ []) }
-    ensures given_room { IfOk result (λ made. HasRoomFor part.now library.now transition.now clients.now made.0.given) }
-    ensures kept_room { IfOk result (λ made. HasRoomFor part.now library.now transition.now clients.now made.0.kept) }
-    ensures before { IfOk result (λ made. made.0.before ≡ fingerprint part.now library.now) }
-    ensures counted { OnOk result (can_count_all (books_by books.now part.now library.now transition.now) ≡ true) }
-    ensures books { IfOk result (λ made. made.1 ≡ books_by books.now part.now library.now transition.now) }
-    ensures refused { IfErr result (λ fault. RefusesFrames books.now part.now library.now transition.now fault) }
+    ensures given_room { IfOk result (λ made. HasRoomIn state.now number place transition.now made.0.given) }
+    ensures kept_room { IfOk result (λ made. HasRoomIn state.now number place transition.now made.0.kept) }
+    ensures before { IfOk result (λ made. made.0.before ≡ readings_in state.now transition.now.crossing place) }
+    ensures counted { OnOk result (can_count_all (books_in state.now place transition.now) ≡ true) }
+    ensures books { IfOk result (λ made. made.1 ≡ books_in state.now place transition.now) }
+    ensures refused { IfErr result (λ fault. RefusesFramesIn state.now place transition.now fault) }
 {
-    let Some(books) = books.after(part, &transition.effect) else {
+    let Some(books) = books_after(state, place, transition) else {
         return Err(PartitionFault::AtLimit);
     };
-    let room = room_wanted(transition, part, library, clients);
-    let prepared = Prepared::with_room(alloc, part, library, room)?;
+    let room = room_wanted(transition, state, number, place);
+    let prepared = Prepared::with_room(alloc, &transition.crossing, place, state, room)?;
     Ok((prepared, books))
+}
+
+/// The books after a transition, if its frames can be counted with all others.
+fn books_after(state: &State, place: u8, transition: &Transition) -> Option<FrameCounts>
+    requires { ActsAt state.now place transition.now }
+    ensures { IsBooked result (books_in state.now place transition.now) }
+{
+    match state.parts.at(place) {
+        Some(part) => state.books.after(part, &transition.effect),
+        None => {
+            state.books.rest();
+            Some(state.books.copied())
+        }
+    }
 }
 
 /// What an event needs that writes to the shelf, and its answers for each refusal of the shelf.
 pub(crate) fn prepare_write(
     alloc: Global,
-    part: &Part,
-    library: &Library,
-    clients: &[Client],
+    state: &State,
+    place: u8,
     event: &Event,
 ) -> Result<(Prepared, Refusals), AllocError>
     ensures given { IfOk result (λ made. listed made.0.given ≡ []) }
     ensures kept { IfOk result (λ made. listed made.0.kept ≡ []) }
-    ensures given_room { IfOk result (λ made. count_by is_waiting clients.now ≤ room_in made.0.given) }
-    ensures kept_room { IfOk result (λ made. count_by is_waiting clients.now ≤ room_in made.0.kept) }
-    ensures before { IfOk result (λ made. made.0.before ≡ fingerprint part.now library.now) }
+    ensures given_room { IfOk result (λ made. count_by is_waiting state.now.clients.items ≤ room_in made.0.given) }
+    ensures kept_room { IfOk result (λ made. count_by is_waiting state.now.clients.items ≤ room_in made.0.kept) }
+    ensures before { IfOk result (λ made. made.0.before ≡ readings_in state.now Crossing.Stays place) }
     ensures refusals { IfOk result (λ made. made.1 ≡ (stand_of event.now, name_at event.now)) }
 {
-    let prepared = Prepared::with_room(alloc, part, library, waiting(clients))?;
+    let prepared = Prepared::with_room(
+        alloc,
+        &Crossing::Stays,
+        place,
+        state,
+        waiting(&state.clients),
+    )?;
     let refusals = refusals_of(alloc, event)?;
     Ok((prepared, refusals))
 }
 
 /// How many notices a transition can give at most. For one that changes nothing no client is looked at.
-fn room_wanted(transition: &Transition, part: &Part, library: &Library, clients: &[Client]) -> usize
+fn room_wanted(transition: &Transition, state: &State, number: u32, place: u8) -> usize
     requires { is_written transition.now.written ≡ false }
-    ensures { HasRoom (raised_by part.now library.now transition.now) clients.now result }
+    ensures { HasRoom (raised_in_state state.now number place transition.now) state.now.clients.items result }
 {
-    if changes(transition, part, library) {
-        waiting(clients)
+    if changes(transition) {
+        waiting(&state.clients)
     } else {
         0
     }
 }
 
 /// Whether a transition may change what clients are told of.
-fn changes(transition: &Transition, part: &Part, library: &Library) -> bool
+fn changes(transition: &Transition) -> bool
     requires { is_written transition.now.written ≡ false }
-    ensures { result ≡ false → raised_by part.now library.now transition.now ≡ nothing }
+    ensures { result ≡ false → RaisesNothing transition.now }
 {
-    let still = transition.scan.stays() & transition.effect.rests();
-    !still
+    let still = transition.scan.stays() & transition.effect.rests() & transition.crossing.stays();
+    !still | enters(transition.response.moves())
+}
+
+/// Whether a client goes to another partition by this.
+fn enters(moves: Move) -> bool
+    ensures { result ≡ false → GoesNowhere moves }
+{
+    matches!(moves, Move::Enter(_))
 }
 
 /// The answers to the line of an event for each refusal of the shelf; for another event they are never given.

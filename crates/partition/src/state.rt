@@ -1,13 +1,10 @@
-//! The state of a player.
+//! The state of a daemon.
 ghost use Rattle.std.specs.Prelude.{◌≡◌, ◌<◌, ◌≤◌, IfOk};
-ghost use Rattle.partition.specs.Image.{image_of_state, opening};
+ghost use Rattle.partition.specs.Image.{first_part, image_of_state, opening, openings_of as openings_of_lem};
 
-use command_arguments::Volume;
-use idle_notes::Channels;
 use mpd_text::SharedText;
-use player_core::Player;
+use parts::{Greatest, Openings, Parts, opened};
 use player_state::{Client, FrameCounts, Library, Outputs, Part};
-use song_queue::Queue;
 use std::alloc::{AllocError, Global};
 
 /// The most clients that may be connected.
@@ -42,12 +39,14 @@ pub struct Setup {
 
 /// The present state.
 pub(crate) struct State {
-    pub(crate) part: Part,
+    pub(crate) parts: Parts,
     pub(crate) library: Library,
     pub(crate) made: [u64; 16],
     pub(crate) books: FrameCounts,
     /// Whether the daemon has ended.
     pub(crate) ended: bool,
+    /// What a new partition is opened with.
+    pub(crate) openings: Openings,
     /// By rising number.
     pub(crate) clients: Vec<Client>,
 }
@@ -56,18 +55,19 @@ pub(crate) struct State {
 impl Drop for State {
     fn drop(self) {
         let State {
-            part: _,
+            parts: _,
             library: _,
             made: _,
             books: _,
             ended: _,
+            openings: _,
             clients: _,
         } = self;
     }
 }
 
 impl State {
-    /// The state of a player to which nothing happened.
+    /// The state of a daemon to which nothing happened.
     pub(crate) fn opening(
         alloc: Global,
         setup: Setup,
@@ -77,28 +77,15 @@ impl State {
         requires version { 1 ≤ setup.limits.max_version }
         ensures { IfOk result (λ state. image_of_state state ≡ opening setup library) }
     {
-        let limits = setup.limits;
-        let queue = Queue::new(
-            alloc,
-            limits.max_queue as usize,
-            limits.max_version,
-            limits.max_id,
-        );
+        let openings = openings_of(&setup);
+        let part = first_part_of(alloc, openings, setup)?;
         Ok(State {
-            part: Part {
-                place: 0,
-                name: SharedText::of(String::from_str(alloc, "default")?)?,
-                queue,
-                player: Player::new(alloc, setup.random_start, limits.max_cut),
-                volume: Volume::full(),
-                outputs: setup.outputs,
-                channels: Channels::new(alloc),
-                played: 0,
-            },
+            parts: Parts::open(alloc, part)?,
             library,
             made: [0; 16],
             books: FrameCounts::empty(),
             ended: false,
+            openings,
             clients: Vec::new(alloc),
         })
     }
@@ -109,12 +96,38 @@ impl State {
         ensures { IfOk result (λ image. image_of_state image ≡ image_of_state self.now) }
     {
         Ok(State {
-            part: self.part.image(alloc)?,
+            parts: self.parts.image(alloc)?,
             library: self.library.shared()?,
             made: self.made,
             books: self.books.copied(),
             ended: self.ended,
+            openings: self.openings,
             clients: self.clients.clone()?,
         })
     }
+}
+
+/// What each partition is opened with, by the settings.
+fn openings_of(setup: &Setup) -> Openings
+    requires max_cut { setup.now.limits.max_cut < 9223372036854775808 }
+    requires version { 1 ≤ setup.now.limits.max_version }
+    ensures { result ≡ openings_of_lem setup.now }
+{
+    let limits = setup.limits;
+    let greatest = Greatest {
+        max_queue: limits.max_queue,
+        max_version: limits.max_version,
+        max_id: limits.max_id,
+        max_cut: limits.max_cut,
+    };
+    Openings::new(greatest, setup.random_start)
+}
+
+/// The partition that is there from the beginning, with all outputs.
+fn first_part_of(alloc: Global, openings: Openings, setup: Setup) -> Result<Part, AllocError>
+    requires { openings ≡ openings_of_lem setup }
+    ensures { IfOk result (λ part. part ≡ first_part setup) }
+{
+    let name = SharedText::of(String::from_str(alloc, "default")?)?;
+    Ok(opened(alloc, openings, 0, name, setup.outputs))
 }

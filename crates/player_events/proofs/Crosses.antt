@@ -6,6 +6,7 @@ use Rattle.std.proofs.Crossing.{crosses}
 use Rattle.filters.proofs.expression.Filter.TheLaws.TheKnot as filter
 use Rattle.mpd_command.proofs.connection.ConnectionCommand.TheSendSync as connection
 use Rattle.mpd_command.proofs.messages.MessageCommand.TheSendSync as messages
+use Rattle.mpd_command.proofs.partitions.PartitionCommand.TheSendSync as partitions
 use Rattle.mpd_command.proofs.name.Name.TheSendSync as name
 use Rattle.mpd_command.proofs.options.OptionCommand.TheSendSync as options
 use Rattle.mpd_command.proofs.outputs.OutputCommand.TheSendSync as outputs
@@ -102,6 +103,7 @@ command_send = variants_send Command.enum (
     (connection.the_send ⨟ tt) ⨟
     (outputs.the_send ⨟ tt) ⨟
     (messages.the_send ⨟ tt) ⨟
+    (partitions.the_send ⨟ tt) ⨟
     tt)
 
 request_send : IsSend Request.the_row
@@ -114,9 +116,9 @@ event_send = variants_send Event.enum (
     (search parts depth 60 fits 20000 ⨟ search parts depth 60 fits 20000 ⨟ request_send ⨟ heard.the_send ⨟ tt) ⨟
     tt ⨟
     (search parts depth 60 fits 20000 ⨟ search parts depth 60 fits 20000 ⨟ tt) ⨟
-    (search parts depth 60 fits 20000 ⨟ tt) ⨟
     (search parts depth 60 fits 20000 ⨟ search parts depth 60 fits 20000 ⨟ tt) ⨟
-    (search parts depth 60 fits 20000 ⨟ search parts depth 60 fits 20000 ⨟ tt) ⨟
+    (search parts depth 60 fits 20000 ⨟ search parts depth 60 fits 20000 ⨟ search parts depth 60 fits 20000 ⨟ tt) ⨟
+    (search parts depth 60 fits 20000 ⨟ search parts depth 60 fits 20000 ⨟ search parts depth 60 fits 20000 ⨟ tt) ⨟
     (search parts depth 60 fits 20000 ⨟ search parts depth 60 fits 20000 ⨟ search parts depth 60 fits 20000 ⨟ search parts depth 60 fits 20000 ⨟ tt) ⨟
     tt ⨟
     tt)

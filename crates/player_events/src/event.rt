@@ -27,12 +27,14 @@ pub enum Event {
     /// The library that a scan found, and at which second from the beginning of 1970 on; one that failed
     /// found none.
     ScanResult(Option<SharedDb>, u64),
-    /// The decoder wants a job; whether a feeder still owes frames of an earlier one.
-    Want(bool),
-    /// So many frames of a job are decoded.
-    Have(u64, u64),
-    /// The song of a job could not be read, or where this is so, that of its partner in a fade.
-    Failed(u64, bool),
+    /// The decoder wants a job of the partition of this number; of which of eight outputs the feeder still owes
+    /// frames of an earlier one.
+    Want(u8, [bool; 8]),
+    /// Of a partition's job, of this number, so many frames are decoded.
+    Have(u8, u64, u64),
+    /// The song of a partition's job, of this number, could not be read, or where this is so, that of its
+    /// partner in a fade.
+    Failed(u8, u64, bool),
     /// An output has its turn: its number, how many frames it wrote and discarded since its last one, and
     /// whether it failed.
     OutputTurn(usize, u64, u64, bool),
@@ -49,9 +51,9 @@ impl Drop for Event {
             | Event::Line(_, _, _, _)
             | Event::ScanQuestion
             | Event::ScanResult(_, _)
-            | Event::Want(_)
-            | Event::Have(_, _)
-            | Event::Failed(_, _)
+            | Event::Want(_, _)
+            | Event::Have(_, _, _)
+            | Event::Failed(_, _, _)
             | Event::OutputTurn(_, _, _, _)
             | Event::End => {}
         }

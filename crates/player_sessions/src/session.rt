@@ -171,14 +171,16 @@ fn events(player: &Partition) -> u64 {
     all
 }
 
-/// What the player shows of itself: the events of seats 15 and 3, all events, its entries, its clients, its
-/// volume.
+/// What the player shows of itself: the events of seats 15 and 3, all events, the entries of the first
+/// partition, the clients, and that partition's volume.
 fn counts(player: &Partition, alloc: Global) -> Result<String, AllocError> {
     let (last, own) = (player.own(15), player.own(3));
     let all = events(player);
-    let entries = player.queue().len();
     let clients = player.clients().len();
-    let volume = player.volume().percent();
+    let (entries, volume) = match player.part(0) {
+        Some(part) => (part.queue.len(), part.volume.percent()),
+        None => (0, 0),
+    };
     format!(in alloc; "{last} {own} {all} {entries} {clients} {volume}\n")
 }
 
@@ -200,12 +202,14 @@ fn pending(player: &Partition, alloc: Global) -> Result<String, AllocError> {
     Ok(lines.into_string())
 }
 
-/// The id and the priority of each entry.
+/// The id and the priority of each entry of the first partition.
 fn entries(player: &Partition, alloc: Global) -> Result<String, AllocError> {
     let mut all = String::new(alloc);
-    let queue = player.queue();
-    for place in 0..queue.len() {
-        let (id, priority) = entry(queue, place);
+    let Some(part) = player.part(0) else {
+        return Ok(all);
+    };
+    for place in 0..part.queue.len() {
+        let (id, priority) = entry(&part.queue, place);
         all.push_str(format!(in alloc; "{id} {priority}\n")?.as_str())?;
     }
     Ok(all)
@@ -398,15 +402,15 @@ fn two_numbers(text: &str) -> (u32, u32) {
 /// What the decoder asks or brings, at seat 6.
 fn decodes(lent: &mut Lent, alloc: Global, rest: &str, all: &mut String) -> Result<(), AllocError> {
     if rest == "wants" {
-        return happens(lent, alloc, 6, Event::Want(false), all);
+        return happens(lent, alloc, 6, Event::Want(0, [false; 8]), all);
     }
     if let Some(rest) = rest.strip_prefix("fails ") {
         let (number, whose) = first_word(rest);
-        let event = Event::Failed(u64::from(number_of(number)), whose == "partner");
+        let event = Event::Failed(0, u64::from(number_of(number)), whose == "partner");
         return happens(lent, alloc, 6, event, all);
     }
     let (number, frames) = two_numbers(rest);
-    let event = Event::Have(u64::from(number), u64::from(frames));
+    let event = Event::Have(0, u64::from(number), u64::from(frames));
     happens(lent, alloc, 6, event, all)
 }
 

@@ -68,6 +68,10 @@ with_output outputs name enabled =
 abbrev pub holds_any : OutputsData → Bool
 holds_any outputs = list_any (λ here. here) outputs.here
 
+-- whether the feeder of an output that is in the partition owes frames, where it is known of eight who does
+abbrev pub owes_any : OutputsData → List Bool → Bool
+owes_any outputs owes = list_any (λ number. is_output outputs number && slice_index_or owes number false) (range_with_len 0 8)
+
 -- what an output takes along when it is moved to another partition
 abbrev pub carried : OutputsData → ℕ → Carried
 carried outputs number = record { enabled = is_enabled outputs number; failed = has_failed outputs number; moves = slice_index_or outputs.moves number 0 }

@@ -1,6 +1,6 @@
 //! The outputs, and the frames that each was given, wrote and discarded.
-ghost use Rattle.std.specs.Prelude.{◌≡◌, ◌<◌, length, slice_index_or, IfOk, OnOk, OnErr};
-ghost use Rattle.player_state.specs.Outputs.{all_elsewhere, any_enabled as any_enabled_lem, asked_all, brought, carried as carried_lem, fed as fed_lem, fed_at as fed_at_lem, has_failed as has_failed_lem, holds_any as holds_any_lem, is_enabled as is_enabled_lem, is_output as is_output_lem, no_outputs, released, switched, turned, with_output};
+ghost use Rattle.std.specs.Prelude.{◌≡◌, ◌<◌, ◌&&◌, false, length, slice_index_or, IfOk, OnOk, OnErr};
+ghost use Rattle.player_state.specs.Outputs.{all_elsewhere, any_enabled as any_enabled_lem, asked_all, brought, carried as carried_lem, fed as fed_lem, fed_at as fed_at_lem, has_failed as has_failed_lem, holds_any as holds_any_lem, is_enabled as is_enabled_lem, is_output as is_output_lem, no_outputs, owes_any, released, switched, turned, with_output};
 
 use mpd_text::SharedText;
 use std::alloc::{AllocError, Global};
@@ -160,6 +160,19 @@ impl Outputs {
         ensures { result ≡ holds_any_lem self.now }
     {
         self.here.iter().any(|here| *here)
+    }
+
+    /// Whether the feeder of an output that is in the partition owes frames, where these do of eight.
+    pub fn owes(&self, owes: [bool; 8]) -> bool
+        ensures { result ≡ owes_any self.now owes }
+    {
+        (0..MAX_OUTPUTS).any(|number| self.owes_at(number, owes))
+    }
+
+    fn owes_at(&self, number: usize, owes: [bool; 8]) -> bool
+        ensures { result ≡ (is_output_lem self.now number && slice_index_or owes number false) }
+    {
+        number < MAX_OUTPUTS && self.here[number] && owes[number]
     }
 
     /// What an output takes along from here.

@@ -14,7 +14,7 @@ use Rattle.song_search.specs.Answers.{found, listed}
 use Rattle.filters.specs.declared.matching.Case.TheVariants.{Heeded}
 use Rattle.song_groups.specs.Tuples.{lines_of_tuples, tuples}
 use Rattle.transitions.specs.CommandResults.{shows}
-use Rattle.transitions.specs.Transitions.{CommandResult}
+use Rattle.transitions.specs.Transitions.{TransitionData, transition_by}
 use Rattle.transitions.specs.declared.asked.Asked.{Asked}
 use Rattle.library_commands.specs.Database.{list_texts}
 use Rattle.status_commands.specs.Status.{result_of as status_result}
@@ -34,23 +34,23 @@ base_shows_whole_songs asked all rate song = ap (λ (tags : List TagName). song_
 same-asked : (asked : Asked) → asked.tags ≡ tag_names → unchosen asked ≡ asked
 same-asked asked all = λ i. record asked { tags = (sym all) i }
 
-whole-of : (asked : Asked) (set : List TagName) (showing : Showing) (less whole : CommandResult) → IsShownLess asked set showing less whole → IsShownWhole asked showing whole
+whole-of : (asked : Asked) (set : List TagName) (showing : Showing) (less whole : TransitionData) → IsShownLess asked set showing less whole → IsShownWhole asked showing whole
 whole-of asked set (Lines lines) less whole h = h.0
 whole-of asked set _ less whole h = tt
 
 pub base_shows_all_lines : BaseShowsAllLines
-base_shows_all_lines asked part library read it all =
+base_shows_all_lines every asked part library read it all =
     let showing : Showing = showing_of part library read it in
-    subst (λ (a : Asked). IsShownWhole asked showing (result_of a part library read it)) (same-asked asked all)
-    (whole-of asked asked.tags showing (result_of asked part library read it) (result_of (unchosen asked) part library read it)
-    (hidden_tags_are_left_out asked part library read it (subst IsTagSet (sym all) refl)))
+    subst (λ (a : Asked). IsShownWhole asked showing (result_of every a part library read it)) (same-asked asked all)
+    (whole-of asked asked.tags showing (result_of every asked part library read it) (result_of every (unchosen asked) part library read it)
+    (hidden_tags_are_left_out every asked part library read it (subst IsTagSet (sym all) refl)))
 
 pub base_status_has_no_time : BaseStatusHasNoTime
 unfolding status_result
-base_status_has_no_time asked part library read false base =
+base_status_has_no_time every asked part library read false base =
     let it = status_shows_world asked false part library in
-    (it.0, it.2.time, it.2, it.1)
-base_status_has_no_time asked part library read true base = absurd (cc)
+    (it.0, it.2.time, it.2, ap transition_by it.1)
+base_status_has_no_time every asked part library read true base = absurd (cc)
 
 -- one of the six is read and shown as itself
 as-named : (tag : KnownTag) (name : TagName) → base_of tag ≡ Some name → (read_of tag ≡ Some name) × (text_of tag ≡ tag_text name)

@@ -13,6 +13,7 @@ use Rattle.mpd_command.specs.Commands.{command_of}
 use Rattle.mpd_command.specs.Messages.{rows as messages_rows}
 use Rattle.mpd_command.specs.Names.{all_names, name_of, is_forbidden, is_there, text_of}
 use Rattle.mpd_command.specs.Outputs.{rows as outputs_rows}
+use Rattle.mpd_command.specs.Partitions.{rows as partitions_rows}
 use Rattle.mpd_command.specs.Playback.{rows as playback_rows}
 use Rattle.mpd_command.specs.Requests.{named_of, of_name, read_as, request_from, request_of, request_with, with_arguments}
 use Rattle.mpd_command.specs.Stickers.{rows as stickers_rows}
@@ -55,7 +56,8 @@ command-found kill word words there =
     (either _ _ (lifted IsBasePlaylist command.Playlists _ (playlists-found kill word words there) (λ a h. h))
     (either _ _ (lifted Any command.Stickers _ (any-found (found stickers_rows word words)) (λ a h. tt))
     (either _ _ (lifted Any command.Outputs _ (any-found (found outputs_rows word words)) (λ a h. tt))
-    (lifted Any command.Messages _ (any-found (found messages_rows word words)) (λ a h. tt))))))))))
+    (either _ _ (lifted Any command.Messages _ (any-found (found messages_rows word words)) (λ a h. tt))
+    (lifted Any command.Partitions _ (any-found (found partitions_rows word words)) (λ a h. tt)))))))))))
 
 -- the text of the name that a word is is the word
 named-by : (f : ℕ → Name) → ((place : ℕ) → text_of (f place) ≡ slice_index_or all_names place (codes "")) → (word : List ℕ) (name : Name) (o : Option ℕ)

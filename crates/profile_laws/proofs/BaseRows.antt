@@ -20,11 +20,11 @@ use Rattle.selections.specs.declared.asked.Selection.{Selection}
 use Rattle.mpd_text.specs.Answers.Range.{range_of}
 use Rattle.mpd_command.specs.Names.{is_there}
 use Rattle.mpd_command.specs.Tables.{Row, found}
-use Rattle.mpd_command.specs.Connection.{rows as connection_rows}
-use Rattle.mpd_command.specs.Database.{rows as database_rows}
-use Rattle.mpd_command.specs.Options.{rows as options_rows}
-use Rattle.mpd_command.specs.Playlists.{rows as playlists_rows}
-use Rattle.mpd_command.specs.Queue.{rows as queue_rows}
+use Rattle.mpd_command.specs.Connection.{rows as connection_rows, rows_from_notcommands}
+use Rattle.mpd_command.specs.Database.{rows as database_rows, rows_from_listall, rows_from_rescan}
+use Rattle.mpd_command.specs.Options.{rows as options_rows, rows_from_replay_gain_mode}
+use Rattle.mpd_command.specs.Playlists.{rows as playlists_rows, rows_from_playlistadd}
+use Rattle.mpd_command.specs.Queue.{rows as queue_rows, rows_from_playlist, rows_from_prio}
 use Rattle.mpd_command.specs.Status.{rows as status_rows}
 use Rattle.command_arguments.specs.declared.forms.Window.{Window}
 use Rattle.command_arguments.specs.declared.wanted.Wanted.{Wanted}
@@ -100,7 +100,7 @@ adds test words = from-read IsBaseFilter IsAddition _ (filter_of Base test words
 
 -- the tables
 connection : (kill : Bool) → Rows IsBaseConnection kill (connection_rows (base_set kill))
-unfolding connection_rows
+unfolding connection_rows rows_from_notcommands
 connection kill = (
   (λ words there. alone IsBaseConnection _ words tt),
   (
@@ -150,7 +150,7 @@ abbrev AtEnd : Uri × Option Place → Type 0
 AtEnd p = p.1 ≡ None
 
 queue : (kill : Bool) → Rows IsBaseQueue kill (queue_rows (base_set kill))
-unfolding queue_rows
+unfolding queue_rows rows_from_playlist rows_from_prio
 queue kill = (
   (λ words there. from-read AtEnd IsBaseQueue _ _ (mapped AtEnd _ (one_of forms.uri_of words) (λ uri. refl)) (λ p none. none)),
   (
@@ -208,7 +208,7 @@ queue kill = (
 )
 
 options : (kill : Bool) → Rows IsBaseOption kill options_rows
-unfolding options_rows
+unfolding options_rows rows_from_replay_gain_mode
 options kill = (
   (λ words there. search mapped),
   (
@@ -239,7 +239,7 @@ options kill = (
 )
 
 database : (kill : Bool) → Rows IsBaseDatabase kill (database_rows (base_set kill))
-unfolding database_rows
+unfolding database_rows rows_from_listall rows_from_rescan
 database kill = (
   (λ words there. none-there there),
   (
@@ -288,7 +288,7 @@ abbrev WithoutPlace : {A B : Type 0} → A × B × Option Place → Type 0
 WithoutPlace p = p.2 ≡ None
 
 playlists : (kill : Bool) → Rows IsBasePlaylist kill (playlists_rows (base_set kill))
-unfolding playlists_rows
+unfolding playlists_rows rows_from_playlistadd
 playlists kill = (
   (λ words there. search mapped),
   (

@@ -186,6 +186,7 @@ IsBase (command.Stickers it) = Unit {0}
 IsBase (command.Connection it) = IsBaseConnection it
 IsBase (command.Outputs it) = Unit {0}
 IsBase (command.Messages it) = Unit {0}
+IsBase (command.Partitions it) = Unit {0}
 
 -- a line asks for such a command under a name that is there in the base profile, or it is refused
 abbrev pub AsksForBase : Bool → Request → Type 0

@@ -17,7 +17,7 @@ use Rattle.player_state.specs.declared.state.Client.{Client}
 use Rattle.player_state.specs.declared.state.Library.{Library}
 use Rattle.player_state.specs.declared.state.Part.{Part}
 use Rattle.transitions.specs.CommandResults.{shows}
-use Rattle.transitions.specs.Transitions.{CommandResult}
+use Rattle.transitions.specs.Transitions.{TransitionData, transition_by}
 use Rattle.transitions.specs.declared.asked.Asked.{Asked}
 use Rattle.transitions.specs.declared.shelf_calls.Read.{Read}
 use Rattle.mpd_command.specs.declared.command.Command.{Command}
@@ -28,7 +28,7 @@ use Rattle.status_laws.specs.Shown.{Shown, ShowsWorld, text_of as status_text}
 use Rattle.profile_laws.specs.Base.{IsBase}
 use Rattle.tag_laws.specs.ChosenTags.{tags_next}
 use Rattle.tag_laws.specs.HiddenTags.{text_of}
-use Rattle.tag_laws.specs.Results.{result_of}
+use Rattle.tag_laws.specs.Results.{AllKnown, result_of}
 use Rattle.tag_laws.specs.ShownSongs.{Lines, Showing, showing_of}
 
 -- a client that is shown all tags is shown all after a command of the base profile
@@ -47,24 +47,25 @@ BaseShowsWholeSongs =
     → (rate : ℕ) (song : SongData) → song_lines_with asked.tags rate song ≡ song_lines rate song
 
 -- all lines are shown, where lines of songs are shown
-abbrev pub IsShownWhole : Asked → Showing → CommandResult → Type 0
-IsShownWhole asked (Lines lines) result = result ≡ shows asked (text_of lines)
+abbrev pub IsShownWhole : Asked → Showing → TransitionData → Type 0
+IsShownWhole asked (Lines lines) result = result ≡ transition_by (shows asked (text_of lines))
 IsShownWhole asked _ result = Unit {0}
 
 -- and by each command
 abbrev pub BaseShowsAllLines : Type 0
 BaseShowsAllLines =
-    (asked : Asked) (part : Part) (library : Library) (read : Read) (it : Command)
+    (every : AllKnown) (asked : Asked) (part : Part) (library : Library) (read : Read) (it : Command)
     → asked.tags ≡ tag_names
-    → IsShownWhole asked (showing_of part library read it) (result_of asked part library read it)
+    → IsShownWhole asked (showing_of part library read it) (result_of every asked part library read it)
 
 -- what a `status` of the base profile shows is what the player is, and has no line `time`
 abbrev pub BaseStatusHasNoTime : Type 0
 BaseStatusHasNoTime =
-    (asked : Asked) (part : Part) (library : Library) (read : Read) (everyday : Bool)
+    (every : AllKnown) (asked : Asked) (part : Part) (library : Library) (read : Read) (everyday : Bool)
     → IsBase (command.Status (status.Status everyday))
     → (shown : Shown) × (shown.time ≡ None) × ShowsWorld false part library shown
-    × (result_of asked part library read (command.Status (status.Status everyday)) ≡ shows asked (status_text shown))
+    × (result_of every asked part library read (command.Status (status.Status everyday))
+    ≡ transition_by (shows asked (status_text shown)))
 
 -- a line for each text of a tag, under its name
 abbrev pub lines_of_texts : TagName → List (List ℕ) → List ℕ

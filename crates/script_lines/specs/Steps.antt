@@ -9,8 +9,10 @@ use Rattle.script_lines.specs.Cuts.{has_byte}
 use Rattle.script_lines.specs.Limits.{limit_named, greatest_of, number_within}
 use Rattle.script_lines.specs.Tags.{is_tag, tags_of}
 use Rattle.script_lines.specs.declared.limit.LimitName.{LimitName}
+use Rattle.script_lines.specs.declared.step.JobStep.{JobStep}
+use Rattle.script_lines.specs.declared.step.JobStep.TheVariants.{Want, Have, Failed}
 use Rattle.script_lines.specs.declared.step.Step.{Step}
-use Rattle.script_lines.specs.declared.step.Step.TheVariants.{Song, Limit, Gone, Scanned, Want, Have, Failed, Turn, Window}
+use Rattle.script_lines.specs.declared.step.Step.TheVariants.{Song, Limit, Gone, Scanned, Job, JobIn, Turn, Window}
 
 -- 1 to 1,024 bytes without a newline
 unfoldable pub is_uri : List ℕ → Bool
@@ -59,20 +61,20 @@ window_of [] = Some Window
 window_of (word ∷ words) = None
 
 -- nothing after the word
-abbrev pub want_of : List (List ℕ) → Option Step
+abbrev pub want_of : List (List ℕ) → Option JobStep
 want_of [] = Some Want
 want_of (word ∷ words) = None
 
-abbrev pub have_to : ℕ → Option ℕ → Option Step
+abbrev pub have_to : ℕ → Option ℕ → Option JobStep
 have_to job None = None
 have_to job (Some count) = Some (Have job count)
 
-abbrev pub have_with : Option ℕ → List ℕ → Option Step
+abbrev pub have_with : Option ℕ → List ℕ → Option JobStep
 have_with None count = None
 have_with (Some job) count = have_to job (number_of count)
 
 -- the number of a job, and how many of its frames are there
-abbrev pub have_of : List (List ℕ) → Option Step
+abbrev pub have_of : List (List ℕ) → Option JobStep
 have_of (job ∷ count ∷ []) = have_with (number_of job) count
 have_of _ = None
 
@@ -82,18 +84,39 @@ mark_of mark [] = Some false
 mark_of mark (word ∷ []) = if bytes_eq word mark then Some true else None
 mark_of mark _ = None
 
-abbrev pub failed_to : ℕ → Option Bool → Option Step
+abbrev pub failed_to : ℕ → Option Bool → Option JobStep
 failed_to job None = None
 failed_to job (Some partner) = Some (Failed job partner)
 
-abbrev pub failed_with : Option ℕ → List (List ℕ) → Option Step
+abbrev pub failed_with : Option ℕ → List (List ℕ) → Option JobStep
 failed_with None words = None
 failed_with (Some job) words = failed_to job (mark_of (codes "partner") words)
 
 -- the number of a job, and `partner` where the song that is mixed in is meant
-abbrev pub failed_of : List (List ℕ) → Option Step
+abbrev pub failed_of : List (List ℕ) → Option JobStep
 failed_of (job ∷ words) = failed_with (number_of job) words
 failed_of [] = None
+
+-- a step of the decoder in a partition
+abbrev pub job_step_of : List ℕ → List (List ℕ) → Option JobStep
+job_step_of word arguments =
+    if bytes_eq word (codes "want") then want_of arguments
+    else (if bytes_eq word (codes "have") then have_of arguments
+    else (if bytes_eq word (codes "failed") then failed_of arguments
+    else None))
+
+abbrev pub in_first : Option JobStep → Option Step
+in_first None = None
+in_first (Some step) = Some (Job step)
+
+abbrev pub in_named : List ℕ → Option JobStep → Option Step
+in_named name None = None
+in_named name (Some step) = Some (JobIn name step)
+
+-- NAME, and a step of the decoder in the partition of this name
+abbrev pub named_of : List (List ℕ) → Option Step
+named_of (name ∷ word ∷ words) = in_named name (job_step_of word words)
+named_of _ = None
 
 abbrev pub turn_as : ℕ → ℕ → Option Bool → Option Step
 turn_as written discarded None = None
@@ -126,11 +149,8 @@ turn_of [] = None
 abbrev pub player_step_of : List ℕ → List (List ℕ) → Option Step
 player_step_of word arguments =
     if bytes_eq word (codes "window") then window_of arguments
-    else (if bytes_eq word (codes "want") then want_of arguments
-    else (if bytes_eq word (codes "have") then have_of arguments
-    else (if bytes_eq word (codes "failed") then failed_of arguments
     else (if bytes_eq word (codes "turn") then turn_of arguments
-    else None))))
+    else in_first (job_step_of word arguments))
 
 -- the step of its words
 abbrev pub step_of_words : List (List ℕ) → Option Step
@@ -140,7 +160,8 @@ step_of_words (word ∷ arguments) =
     else (if bytes_eq word (codes "limit") then limit_of arguments
     else (if bytes_eq word (codes "gone") then gone_of arguments
     else (if bytes_eq word (codes "scanned") then scanned_of arguments
-    else player_step_of word arguments)))
+    else (if bytes_eq word (codes "in") then named_of arguments
+    else player_step_of word arguments))))
 
 abbrev pub step_if_read : Result (List (List ℕ)) WordsFault → Option Step
 step_if_read (Ok words) = step_of_words words

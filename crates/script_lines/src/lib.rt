@@ -9,5 +9,5 @@ mod tag;
 
 pub use limit::{EVERYDAY, LimitName, MAX_CUT, MAX_HISTORY, MAX_ID, MAX_QUEUE, MAX_VERSION};
 pub use line::ScriptLine;
-pub use step::{MAX_CLIENT, MAX_URI, Step};
+pub use step::{JobStep, MAX_CLIENT, MAX_URI, Step};
 pub use tag::MAX_TEXT;

@@ -1,12 +1,12 @@
 //! Steps of a script.
 ghost use Rattle.std.specs.Prelude.{◌≡◌, IfOk, map, string_bytes, Some, true};
 ghost use Rattle.mpd_text.specs.Lines.Cut.{HasNoNewline};
-ghost use Rattle.script_lines.specs.Steps.{is_uri as is_uri_lem, song_with as song_with_lem, song_of, limit_of, gone_of, scanned_of, window_of, want_of, have_of, failed_of, turn_of, turn_told as turn_told_lem, turn_as as turn_as_lem, mark_of, player_step_of, step_of_words, step_of};
+ghost use Rattle.script_lines.specs.Steps.{is_uri as is_uri_lem, song_with as song_with_lem, song_of, limit_of, gone_of, scanned_of, window_of, want_of, have_of, failed_of, job_step_of, named_of, turn_of, turn_told as turn_told_lem, turn_as as turn_as_lem, mark_of, player_step_of, step_of_words, step_of};
 
 use crate::cut::has;
 use crate::limit::{LimitName, number_within};
 use crate::tag::{are_tags, tags_of};
-use mpd_text::{Song, WordsFault, number, words};
+use mpd_text::{SharedText, Song, WordsFault, number, words};
 use std::alloc::{AllocError, Global};
 
 /// The greatest number of a client.
@@ -14,6 +14,18 @@ pub const MAX_CLIENT: u32 = 9;
 
 /// The greatest length of a song's URI, in bytes.
 pub const MAX_URI: usize = 1_024;
+
+/// A step of the decoder in a partition.
+#[derive(Clone, Copy, Debug, PartialEq, Eq)]
+pub enum JobStep {
+    /// The partition is asked for a job.
+    Want,
+    /// Of the job with the first number, so many frames are there.
+    Have(u32, u32),
+    /// The song of the job with this number cannot be read, or, where true, that of the partner that is mixed
+    /// in.
+    Failed(u32, bool),
+}
 
 /// A step that comes before the first line of a client, beside them, or after it.
 #[derive(Drop)]
@@ -26,13 +38,10 @@ pub enum Step {
     Gone(u32),
     /// The scan that runs ends, with the songs so far.
     Scanned,
-    /// The player is asked for a job.
-    Want,
-    /// Of the job with the first number, so many frames are there.
-    Have(u32, u32),
-    /// The song of the job with this number cannot be read, or, where true, that of the partner that is mixed
-    /// in.
-    Failed(u32, bool),
+    /// A step of the decoder in the first partition.
+    Job(JobStep),
+    /// The same in the partition of this name.
+    JobIn(SharedText, JobStep),
     /// A turn of output 0: how many frames it wrote, how many it discarded, and whether it failed.
     Turn(u32, u32, bool),
     /// How many events the window of the history has, and how many there were in all.
@@ -67,6 +76,8 @@ impl Step {
             Ok(gone(arguments))
         } else if word.as_str() == "scanned" {
             Ok(scanned(arguments))
+        } else if word.as_str() == "in" {
+            named(alloc, arguments)
         } else {
             Ok(player_step(word.as_str(), arguments))
         }
@@ -148,14 +159,36 @@ fn player_step(word: &str, arguments: &[String]) -> Option<Step>
 {
     if word == "window" {
         window(arguments)
-    } else if word == "want" {
+    } else if word == "turn" {
+        turn(arguments)
+    } else {
+        Some(Step::Job(job_step(word, arguments)?))
+    }
+}
+
+/// A step of the decoder in the partition that its first word names.
+fn named(alloc: Global, arguments: &[String]) -> Result<Option<Step>, AllocError>
+    ensures { IfOk result (λ step. step ≡ named_of (map string_bytes arguments.now)) }
+{
+    let [name, word, words @ ..] = arguments else {
+        return Ok(None);
+    };
+    let Some(step) = job_step(word.as_str(), words) else {
+        return Ok(None);
+    };
+    let name = SharedText::new(alloc, name.as_str())?;
+    Ok(Some(Step::JobIn(name, step)))
+}
+
+fn job_step(word: &str, arguments: &[String]) -> Option<JobStep>
+    ensures { result ≡ job_step_of word.now (map string_bytes arguments.now) }
+{
+    if word == "want" {
         want(arguments)
     } else if word == "have" {
         have(arguments)
     } else if word == "failed" {
         failed(arguments)
-    } else if word == "turn" {
-        turn(arguments)
     } else {
         None
     }
@@ -170,16 +203,16 @@ fn window(arguments: &[String]) -> Option<Step>
     }
 }
 
-fn want(arguments: &[String]) -> Option<Step>
+fn want(arguments: &[String]) -> Option<JobStep>
     ensures { result ≡ want_of (map string_bytes arguments.now) }
 {
     match arguments {
-        [] => Some(Step::Want),
+        [] => Some(JobStep::Want),
         _ => None,
     }
 }
 
-fn have(arguments: &[String]) -> Option<Step>
+fn have(arguments: &[String]) -> Option<JobStep>
     ensures { result ≡ have_of (map string_bytes arguments.now) }
 {
     let [job, count] = arguments else {
@@ -187,10 +220,10 @@ fn have(arguments: &[String]) -> Option<Step>
     };
     let job = number(job.as_str())?;
     let count = number(count.as_str())?;
-    Some(Step::Have(job, count))
+    Some(JobStep::Have(job, count))
 }
 
-fn failed(arguments: &[String]) -> Option<Step>
+fn failed(arguments: &[String]) -> Option<JobStep>
     ensures { result ≡ failed_of (map string_bytes arguments.now) }
 {
     let [job, words @ ..] = arguments else {
@@ -198,7 +231,7 @@ fn failed(arguments: &[String]) -> Option<Step>
     };
     let job = number(job.as_str())?;
     let partner = mark(words, "partner")?;
-    Some(Step::Failed(job, partner))
+    Some(JobStep::Failed(job, partner))
 }
 
 fn turn(arguments: &[String]) -> Option<Step>

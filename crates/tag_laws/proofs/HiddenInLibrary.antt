@@ -36,20 +36,20 @@ use Rattle.queue_commands.specs.Queue.{current_place}
 use Rattle.library_commands.specs.Database.{find_met, lines_in, lines_of_folders, lines_of_songs as song_lines, lines_with, list_info, list_place, list_root, list_song_or_folder_info, list_texts, no_such_directory, show_song_or_folder, shows_playlists, uri_or_all, result_of as database_result}
 use Rattle.library_commands.specs.Playlists.{on_list, refused, result_of as playlists_result}
 use Rattle.status_commands.specs.Status.{result_of as status_result}
-use Rattle.tag_laws.specs.HiddenLines.{IsShownLess, unchosen}
+use Rattle.tag_laws.specs.HiddenLines.{unchosen}
 use Rattle.tag_laws.specs.HiddenTags.{IsTagSet, LessTags, line, lines_of_song}
 use Rattle.tag_laws.specs.ShownSongs.{Lines, Refusal, Showing, current_lines, database_shown, folder_shown, lines_in_folder, lines_of_entry, lines_of_songs, lines_of_uri, list_shown, playlists_shown, root_shown, selection_shown, status_shown, under_shown}
-use Rattle.tag_laws.proofs.HiddenInQueue.{answers, row-less}
+use Rattle.tag_laws.proofs.HiddenInQueue.{AreShownLess, answers, row-less}
 use Rattle.tag_laws.proofs.HiddenLines.{less-append, less-each, less-line, less-nil, song-less}
 
 -- one test chooses what is shown, and for both
 where-test : (asked : Asked) (set : List TagName) (b : Bool) (s t : Showing) (some other all another : CommandResult)
-    → IsShownLess asked set s some all → IsShownLess asked set t other another → IsShownLess asked set (cond b s t) (cond b some other) (cond b all another)
+    → AreShownLess asked set s some all → AreShownLess asked set t other another → AreShownLess asked set (cond b s t) (cond b some other) (cond b all another)
 where-test asked set true s t some other all another h k = h
 where-test asked set false s t some other all another h k = k
 
 -- what the shelf refuses is refused
-refused-same : (asked : Asked) (set : List TagName) (fault : ShelfFault) → IsShownLess asked set Refusal (refused asked fault) (refused asked fault)
+refused-same : (asked : Asked) (set : List TagName) (fault : ShelfFault) → AreShownLess asked set Refusal (refused asked fault) (refused asked fault)
 refused-same asked set NoSuchList = (refl, refl)
 refused-same asked set Exists = (refl, refl)
 refused-same asked set BadName = (refl, refl)
@@ -103,22 +103,22 @@ module _ (asked : Asked) (library : Library) (is : IsTagSet asked.tags) where
   set = asked.tags
 
   selection-less : (case : Case) (selection : Selection) (wanted : Wanted)
-      → IsShownLess asked set (selection_shown library case selection wanted) (find_met asked library case selection wanted) (find_met (unchosen asked) library case selection wanted)
+      → AreShownLess asked set (selection_shown library case selection wanted) (find_met asked library case selection wanted) (find_met (unchosen asked) library case selection wanted)
   selection-less case selection (Meeting e) = answers asked set _ _ _ (songs-less set is library _)
   selection-less case selection (Refused text) = (refl, refl)
 
-  song-shown : (song : SongData) → IsShownLess asked set (Lines (lines_of_song library.rate song)) (shows asked (song_lines_with set library.rate song)) (shows asked (song_lines_with tag_names library.rate song))
+  song-shown : (song : SongData) → AreShownLess asked set (Lines (lines_of_song library.rate song)) (shows asked (song_lines_with set library.rate song)) (shows asked (song_lines_with tag_names library.rate song))
   song-shown song =
       answers asked set (lines_of_song library.rate song) (song_lines_with set library.rate song) (song_lines_with tag_names library.rate song) (song-less set is library.rate song)
 
-  place-less : (uri : List ℕ) (o : Option SongData) → IsShownLess asked set (folder_shown library uri o) (show_song_or_folder asked library o uri) (show_song_or_folder (unchosen asked) library o uri)
+  place-less : (uri : List ℕ) (o : Option SongData) → AreShownLess asked set (folder_shown library uri o) (show_song_or_folder asked library o uri) (show_song_or_folder (unchosen asked) library o uri)
   place-less uri (Some song) = song-shown song
   place-less uri None =
       where-test asked set (is_folder uri library.songs) (Lines (lines_in_folder library uri)) Refusal
       (shows asked (lines_in set library uri)) (no_such_directory asked) (shows asked (lines_in tag_names library uri)) (no_such_directory asked)
       (answers asked set _ _ _ (folder-less set is library uri)) (refl, refl)
 
-  root-less : (read : Read) → IsShownLess asked set (root_shown library read) (list_root asked library read) (list_root (unchosen asked) library read)
+  root-less : (read : Read) → AreShownLess asked set (root_shown library read) (list_root asked library read) (list_root (unchosen asked) library read)
   root-less (read_variant.Names names) =
       answers asked set _ _ _ (less-append set (lines_in_folder library []) (flat_map (λ name. line (codes "playlist") name ∷ []) names)
       (lines_in set library []) (lines_in tag_names library []) (playlist_lines names) (playlist_lines names)
@@ -126,7 +126,7 @@ module _ (asked : Asked) (library : Library) (is : IsTagSet asked.tags) where
   root-less (read_variant.Refused fault) = refused-same asked set fault
   root-less _ = (refl, refl)
 
-  info-shown : (read : Read) (uri : List ℕ) (everyday : Bool) → IsShownLess asked set (cond (shows_playlists uri everyday) (root_shown library read) (folder_shown library uri (song_of library.songs uri)))
+  info-shown : (read : Read) (uri : List ℕ) (everyday : Bool) → AreShownLess asked set (cond (shows_playlists uri everyday) (root_shown library read) (folder_shown library uri (song_of library.songs uri)))
       (list_info asked library read uri everyday) (list_info (unchosen asked) library read uri everyday)
   info-shown read uri everyday =
       where-test asked set (shows_playlists uri everyday) (root_shown library read) (folder_shown library uri (song_of library.songs uri))
@@ -134,21 +134,21 @@ module _ (asked : Asked) (library : Library) (is : IsTagSet asked.tags) where
       (root-less read) (place-less uri (song_of library.songs uri))
 
   under-less : (uri : List ℕ) (o : Option SongData)
-      → IsShownLess asked set (under_shown library uri o) (list_song_or_folder_info asked library o uri) (list_song_or_folder_info (unchosen asked) library o uri)
+      → AreShownLess asked set (under_shown library uri o) (list_song_or_folder_info asked library o uri) (list_song_or_folder_info (unchosen asked) library o uri)
   under-less uri (Some song) = song-shown song
   under-less uri None =
       where-test asked set (is_folder uri library.songs) (Lines (lines_of_songs library (under uri library.songs))) Refusal
       (shows asked (lines_with set library (under uri library.songs))) (no_such_directory asked) (shows asked (lines_with tag_names library (under uri library.songs))) (no_such_directory asked)
       (answers asked set _ _ _ (songs-less set is library (under uri library.songs))) (refl, refl)
 
-  list-less : (read : Read) → IsShownLess asked set (list_shown library read)
+  list-less : (read : Read) → AreShownLess asked set (list_shown library read)
       (on_list asked read (λ uris. shows asked (info_lines set library.rate library.songs uris))) (on_list asked read (λ uris. shows asked (info_lines tag_names library.rate library.songs uris)))
   list-less (read_variant.List uris) = answers asked set _ _ _ (infos-less set is library uris)
   list-less (read_variant.Refused fault) = refused-same asked set fault
   list-less _ = (refl, refl)
 
 pub database_less : (asked : Asked) (part : Part) (library : Library) (read : Read) (it : DatabaseCommand) → IsTagSet asked.tags
-    → IsShownLess asked asked.tags (database_shown library read it) (database_result asked part library read it) (database_result (unchosen asked) part library read it)
+    → AreShownLess asked asked.tags (database_shown library read it) (database_result asked part library read it) (database_result (unchosen asked) part library read it)
 unfolding database_result list_texts
 database_less asked part library read (database.Find selection) is = selection-less asked library is Heeded selection selection.wanted
 database_less asked part library read (database.ListAllInfo uri) is = under-less asked library is (uri_or_all uri) (song_of library.songs (uri_or_all uri))
@@ -157,7 +157,7 @@ database_less asked part library read (database.Search selection) is = selection
 database_less asked part library read _ is = refl
 
 pub playlists_less : (asked : Asked) (part : Part) (library : Library) (read : Read) (it : PlaylistCommand) → IsTagSet asked.tags
-    → IsShownLess asked asked.tags (playlists_shown library read it) (playlists_result asked part library read it) (playlists_result (unchosen asked) part library read it)
+    → AreShownLess asked asked.tags (playlists_shown library read it) (playlists_result asked part library read it) (playlists_result (unchosen asked) part library read it)
 unfolding playlists_result
 playlists_less asked part library read (playlists.ListPlaylistInfo name) is =
     let tags : List TagName = asked.tags in
@@ -168,7 +168,7 @@ playlists_less asked part library read (playlists.ListPlaylistInfo name) is =
 playlists_less asked part library read _ is = refl
 
 pub status_less : (asked : Asked) (part : Part) (library : Library) (it : StatusCommand) → IsTagSet asked.tags
-    → IsShownLess asked asked.tags (status_shown part library it) (status_result asked part library it) (status_result (unchosen asked) part library it)
+    → AreShownLess asked asked.tags (status_shown part library it) (status_result asked part library it) (status_result (unchosen asked) part library it)
 unfolding status_result
 status_less asked part library status.CurrentSong is =
     answers asked asked.tags _ _ _ (lines-at asked.tags is part library (current_place part))

@@ -15,18 +15,23 @@ use Rattle.command_arguments.specs.declared.wanted.Wanted.TheVariants.{Meeting, 
 use Rattle.player_state.specs.declared.state.Library.{Library}
 use Rattle.player_state.specs.declared.state.Part.{Part}
 use Rattle.transitions.specs.CommandResults.{shows}
+use Rattle.transitions.specs.Transitions.{CommandResult, transition_by}
 use Rattle.transitions.specs.declared.asked.Asked.{Asked}
 use Rattle.mpd_command.specs.declared.queue.QueueCommand.{QueueCommand}
 use Rattle.mpd_command.specs.declared.queue.QueueCommand.TheVariants as queue
 use Rattle.queue_commands.specs.Queue.{count, entry_lines, meeting, playlist_find, priority_line, range_or_all, show_changed, show_one, show_places, result_of as queue_result}
 use Rattle.tag_laws.specs.HiddenLines.{IsShownLess, unchosen}
 use Rattle.tag_laws.specs.HiddenTags.{IsTagSet, LessTags, Line, line, lines_of_song}
-use Rattle.tag_laws.specs.ShownSongs.{Lines, changed_shown, lines_of_priority, lines_of_row, met_shown, place_shown, places_shown, queue_shown}
+use Rattle.tag_laws.specs.ShownSongs.{Lines, Showing, changed_shown, lines_of_priority, lines_of_row, met_shown, place_shown, places_shown, queue_shown}
 use Rattle.tag_laws.proofs.HiddenLines.{less-append, less-each, less-line, less-nil, song-less}
 
+-- the same of what two commands make of the player
+abbrev pub AreShownLess : Asked → List TagName → Showing → CommandResult → CommandResult → Type 0
+AreShownLess asked set showing less whole = IsShownLess asked set showing (transition_by less) (transition_by whole)
+
 -- an answer shows lines
-pub answers : (asked : Asked) (set : List TagName) (lines : List Line) (less whole : List ℕ) → LessTags set lines less whole → IsShownLess asked set (Lines lines) (shows asked less) (shows asked whole)
-answers asked set lines less whole h = ((λ i. shows asked (h.0 i)), (λ i. shows asked (h.1 i)))
+pub answers : (asked : Asked) (set : List TagName) (lines : List Line) (less whole : List ℕ) → LessTags set lines less whole → AreShownLess asked set (Lines lines) (shows asked less) (shows asked whole)
+answers asked set lines less whole h = ((λ i. transition_by (shows asked (h.0 i))), (λ i. transition_by (shows asked (h.1 i))))
 
 priority-less : (set : List TagName) (priority : ℕ) (b : Bool)
     → LessTags set (cond b [] (line (codes "Prio") (decimal priority) ∷ [])) (cond b [] (pair_line (codes "Prio") (decimal priority))) (cond b [] (pair_line (codes "Prio") (decimal priority)))
@@ -51,33 +56,33 @@ module _ (set : List TagName) (is : IsTagSet set) where
   rows-less rate rows = less-each set (lines_of_row rate) (entry_lines set rate) (entry_lines tag_names rate) (row-less rate) rows
 
   places-less : (asked : Asked) (part : Part) (library : Library) (places : Option (Places ℕ))
-      → IsShownLess asked set (places_shown part library places) (show_places asked part (entry_lines set library.rate) places) (show_places asked part (entry_lines tag_names library.rate) places)
+      → AreShownLess asked set (places_shown part library places) (show_places asked part (entry_lines set library.rate) places) (show_places asked part (entry_lines tag_names library.rate) places)
   places-less asked part library None = (refl, refl)
   places-less asked part library (Some r) = answers asked set _ _ _ (rows-less library.rate _)
 
   changed-less : (asked : Asked) (part : Part) (library : Library) (version : ℕ) (places : Option (Places ℕ))
-      → IsShownLess asked set (changed_shown part library version places)
+      → AreShownLess asked set (changed_shown part library version places)
       (show_changed asked part (entry_lines set library.rate) version places) (show_changed asked part (entry_lines tag_names library.rate) version places)
   changed-less asked part library version None = (refl, refl)
   changed-less asked part library version (Some r) = answers asked set _ _ _ (rows-less library.rate _)
 
 module _ (asked : Asked) (part : Part) (library : Library) (is : IsTagSet asked.tags) where
   met-less : (case : Case) (wanted : Wanted)
-      → IsShownLess asked asked.tags (met_shown part library case wanted) (playlist_find asked part library case wanted) (playlist_find (unchosen asked) part library case wanted)
+      → AreShownLess asked asked.tags (met_shown part library case wanted) (playlist_find asked part library case wanted) (playlist_find (unchosen asked) part library case wanted)
   met-less case (Meeting e) =
       answers asked asked.tags _ _ _ (rows-less asked.tags is library.rate (meeting part.queue case e))
   met-less case (Refused text) = (refl, refl)
 
-  shown-less : (places : Option (Places ℕ)) → IsShownLess asked asked.tags (places_shown part library places)
+  shown-less : (places : Option (Places ℕ)) → AreShownLess asked asked.tags (places_shown part library places)
       (show_places asked part (entry_lines asked.tags library.rate) places) (show_places asked part (entry_lines tag_names library.rate) places)
   shown-less places = places-less asked.tags is asked part library places
 
-  one-less : (place : Option ℕ) → IsShownLess asked asked.tags (place_shown part library place) (show_one asked part library place) (show_one (unchosen asked) part library place)
+  one-less : (place : Option ℕ) → AreShownLess asked asked.tags (place_shown part library place) (show_one asked part library place) (show_one (unchosen asked) part library place)
   one-less None = (refl, refl)
   one-less (Some place) = shown-less (Some _)
 
 pub queue_less : (asked : Asked) (part : Part) (library : Library) (it : QueueCommand) → IsTagSet asked.tags
-    → IsShownLess asked asked.tags (queue_shown part library it) (queue_result asked part library it) (queue_result (unchosen asked) part library it)
+    → AreShownLess asked asked.tags (queue_shown part library it) (queue_result asked part library it) (queue_result (unchosen asked) part library it)
 unfolding queue_result
 queue_less asked part library (queue.PlaylistFind wanted) is = met-less asked part library is Heeded wanted
 queue_less asked part library (queue.PlaylistId None) is = shown-less asked part library is (range_or_all None (count part))

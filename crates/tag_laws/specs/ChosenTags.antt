@@ -19,7 +19,8 @@ abbrev pub tags_moved : List TagName → Move → List TagName
 tags_moved before (Show tags) = tags
 tags_moved before _ = before
 
--- once what it asks for was answered; by a command that is no wish it makes no move
+-- once what it asks for was answered; by a command that is no wish it makes no move, or goes to another partition,
+-- and its tags go with it
 abbrev pub tags_answered : List TagName → Option ResponseData → List TagName
 tags_answered before None = before
 tags_answered before (Some response) = tags_moved before response.move

@@ -181,3 +181,4 @@ showing_of part library read (command.Stickers it) = NoSongs
 showing_of part library read (command.Connection it) = connection_shown it
 showing_of part library read (command.Outputs it) = NoSongs
 showing_of part library read (command.Messages it) = NoSongs
+showing_of part library read (command.Partitions it) = NoSongs

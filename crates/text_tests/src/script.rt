@@ -1,7 +1,7 @@
 //! Lines of a script.
 use crate::songs;
 use crate::tables::{Reads, compared, repeated, wants};
-use script_lines::{LimitName, ScriptLine, Step};
+use script_lines::{JobStep, LimitName, ScriptLine, Step};
 use std::alloc::{AllocError, Global};
 
 /// Whose line it is, and what follows in brackets.
@@ -49,14 +49,25 @@ pub fn read_step(alloc: Global, rest: &str) -> Result<String, AllocError> {
 /// What a step of the player says.
 fn player_step(alloc: Global, step: &Step) -> Result<String, AllocError> {
     match step {
-        Step::Want => String::from_str(alloc, "want"),
         Step::Window => String::from_str(alloc, "window"),
-        Step::Have(job, count) => format!(in alloc; "have {job} {count}"),
-        Step::Failed(job, partner) => format!(in alloc; "failed {job} {partner}"),
+        Step::Job(job) => job_step(alloc, job),
+        Step::JobIn(name, job) => {
+            let told = job_step(alloc, job)?;
+            format!(in alloc; "in {} {told}", name.as_str())
+        }
         Step::Turn(written, discarded, failed) => format!(in alloc;
             "turn {written} {discarded} {failed}"
         ),
         _ => String::from_str(alloc, "another"),
+    }
+}
+
+/// What a step of the decoder says.
+fn job_step(alloc: Global, step: &JobStep) -> Result<String, AllocError> {
+    match step {
+        JobStep::Want => String::from_str(alloc, "want"),
+        JobStep::Have(job, count) => format!(in alloc; "have {job} {count}"),
+        JobStep::Failed(job, partner) => format!(in alloc; "failed {job} {partner}"),
     }
 }
 
@@ -183,6 +194,26 @@ Failed 1 => bad";
 fn jobs(rt: HostRuntime) {
     let told = compared(rt.alloc(), Reads::Step, JOBS);
     wants(&rt, told, "32 lines agree");
+}
+
+const JOBS_IN: &str = "in k want => in k want
+in \"k\" have 1 1024 => in k have 1 1024
+in up_stairs-2 failed 3 partner => in up_stairs-2 failed 3 true
+in default failed 3 => in default failed 3 false
+in k want now => bad
+in k have 1 => bad
+in k => bad
+in => bad
+in k window => bad
+in k turn 0 0 0 => bad
+in k in k want => bad
+in k scanned => bad
+In k want => bad";
+
+#[test]
+fn jobs_in_a_partition(rt: HostRuntime) {
+    let told = compared(rt.alloc(), Reads::Step, JOBS_IN);
+    wants(&rt, told, "13 lines agree");
 }
 
 const TURNS: &str = "turn 0 0 0 => turn 0 0 false

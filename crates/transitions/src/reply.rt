@@ -47,6 +47,8 @@ pub enum Move {
     Join,
     /// It is shown these tags from now on.
     Show(TagSet),
+    /// It is in the partition of this number from now on.
+    Enter(u8),
 }
 
 /// The bytes for the client that spoke, what becomes of it, and whether it was refused something.

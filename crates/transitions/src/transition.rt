@@ -1,24 +1,21 @@
 //! What an event is to do, found out before anything changes.
 ghost use Rattle.std.specs.Prelude.{◌≡◌, if◌then◌else◌, true, false, IfOk, IsErrOf, OnOk, OnErr};
 ghost use Rattle.transitions.specs.CommandResults.{begins_scan as begins_scan_lem, bad_index as bad_index_lem, bad_name as bad_name_lem, closes_client as closes_client_lem, does as does_lem, edits, ends_daemon as ends_daemon_lem, no_such_song as no_such_song_lem, not_playing as not_playing_lem, refusal, shows as shows_lem, writes as writes_lem};
-ghost use Rattle.player_state.specs.Effects.{part_after};
+ghost use Rattle.parts.specs.Parts.{FitsIn, part_at};
 ghost use Rattle.player_state.specs.Libraries.{library_after, second_after};
 ghost use Rattle.player_state.specs.declared.scan.ScanMove.TheVariants.{End};
-ghost use Rattle.player_state.specs.Fits.{Fits};
 ghost use Rattle.transitions.specs.Shelves.{is_written};
 ghost use Rattle.player_state.specs.declared.report.Report.{Report};
-ghost use Rattle.transitions.specs.Transitions.{IsDecidedBy, acts as acts_lem, acts_unless as acts_unless_lem, departs as departs_lem, keeps_all_numbers, leaves as leaves_lem, only_written, or_ended as or_ended_lem, quiet, report_of, no_response};
+ghost use Rattle.transitions.specs.Transitions.{IsDecidedBy, acts as acts_lem, acts_unless as acts_unless_lem, crosses as crosses_lem, departs as departs_lem, enters as enters_lem, keeps_all_numbers, leaves as leaves_lem, max_cut_in, only_written, or_ended as or_ended_lem, parts_after, quiet, report_of, no_response};
 
 use crate::asked::Asked;
 use crate::reply::Move;
-use crate::response::{Response, refuses, shows, shut, shut_down, succeeds, tells};
+use crate::response::{Response, refuses, shows, shut, shut_down, succeeds, succeeds_and, tells};
 use crate::shelf_calls::ShelfWrite;
 use mpd_text::{Answer, ErrorNumber};
+use parts::{Crossing, Parts};
 use player_core::PlayerFault;
-use player_state::{
-    AudioStep, CommandEffect, Effect, Library, Part, Report, ScanMove,
-    carry_out as carry_out_effect, same_songs,
-};
+use player_state::{AudioStep, CommandEffect, Effect, Library, Report, ScanMove, same_songs};
 use song_db::SharedDb;
 use song_queue::Edit;
 use std::alloc::{AllocError, Global};
@@ -31,6 +28,8 @@ pub struct Transition {
     pub written: ShelfWrite,
     pub response: Response,
     pub report: Report,
+    /// What passes between the partitions.
+    pub crossing: Crossing,
 }
 
 // Written out, so that a proof goes through one call where it lets one go (docs/DECISIONS.md).
@@ -42,6 +41,7 @@ impl Drop for Transition {
             written: _,
             response: _,
             report: _,
+            crossing: _,
         } = self;
     }
 }
@@ -51,7 +51,7 @@ impl Model for Transition {
 
     ghost Value = { TransitionData };
 
-    ghost view = { λ p. transition_from p.effect p.scan p.written p.response p.report };
+    ghost view = { λ p. transition_from p.effect p.scan p.written p.response p.report p.crossing };
 }
 
 impl Transition {
@@ -65,6 +65,7 @@ impl Transition {
             written: ShelfWrite::Nothing,
             response,
             report: Report::Nothing,
+            crossing: Crossing::Stays,
         }
     }
 
@@ -78,6 +79,7 @@ impl Transition {
             written: ShelfWrite::Nothing,
             response: tells(String::new(alloc), Move::Stay)?,
             report: Report::Nothing,
+            crossing: Crossing::Stays,
         })
     }
 
@@ -106,6 +108,7 @@ impl Transition {
             written: ShelfWrite::Nothing,
             response: shows(asked, lines)?,
             report: Report::Nothing,
+            crossing: Crossing::Stays,
         })
     }
 
@@ -123,6 +126,7 @@ impl Transition {
             written: ShelfWrite::Nothing,
             response: succeeds(alloc, asked)?,
             report: Report::Nothing,
+            crossing: Crossing::Stays,
         })
     }
 
@@ -140,6 +144,7 @@ impl Transition {
             written,
             response: succeeds(alloc, asked)?,
             report: Report::Nothing,
+            crossing: Crossing::Stays,
         })
     }
 
@@ -157,6 +162,7 @@ impl Transition {
             written: ShelfWrite::Nothing,
             response: shows(asked, lines)?,
             report: Report::Nothing,
+            crossing: Crossing::Stays,
         })
     }
 
@@ -191,6 +197,7 @@ impl Transition {
             written: ShelfWrite::Nothing,
             response,
             report: Report::Nothing,
+            crossing: Crossing::Stays,
         }
     }
 
@@ -208,6 +215,7 @@ impl Transition {
             written,
             response,
             report: _,
+            crossing: _,
         } = self;
         Transition {
             effect: Effect::ByCommand(CommandEffect::Rests),
@@ -215,6 +223,7 @@ impl Transition {
             written,
             response,
             report: Report::Nothing,
+            crossing: Crossing::Stays,
         }
     }
 
@@ -228,6 +237,7 @@ impl Transition {
             written: ShelfWrite::Nothing,
             response: shows(asked, lines)?,
             report: Report::Nothing,
+            crossing: Crossing::Stays,
         })
     }
 
@@ -241,6 +251,7 @@ impl Transition {
             written: ShelfWrite::Nothing,
             response: tells(String::new(alloc), Move::Stay)?,
             report,
+            crossing: Crossing::Stays,
         })
     }
 
@@ -311,6 +322,7 @@ impl Transition {
             written: _,
             response,
             report: _,
+            crossing: _,
         } = self;
         Telling {
             response,
@@ -318,23 +330,52 @@ impl Transition {
         }
     }
 
-    /// Changes a part and a library as it asks, and gives what is told. Where it is refused, nothing
-    /// changes.
-    pub fn carry_out(self, part: &mut Part, library: &mut Library) -> Result<Telling, PlayerFault>
-        requires { Fits part.old self.effect }
-        ensures part { OnOk result (part.new ≡ part_after library.old.rate part.old self.effect) }
+    /// Something passes between the partitions, and no lines are shown.
+    pub fn crosses(
+        alloc: Global,
+        asked: Asked,
+        crossing: Crossing,
+    ) -> Result<Transition, AllocError>
+        ensures { IfOk result (λ transition. transition ≡ crosses_lem asked crossing) }
+    {
+        let mut transition = Transition::only(succeeds(alloc, asked)?);
+        transition.crossing = crossing;
+        Ok(transition)
+    }
+
+    /// The client that asks goes to the partition of a number; its channels and its messages end in the other.
+    pub fn enters(alloc: Global, asked: Asked, place: u8) -> Result<Transition, AllocError>
+        ensures { IfOk result (λ transition. transition ≡ enters_lem asked place) }
+    {
+        Ok(Transition::leaves(
+            asked.client,
+            succeeds_and(alloc, asked, Move::Enter(place))?,
+        ))
+    }
+
+    /// Changes the partition of a number and a library as it asks, lets pass between the partitions what it
+    /// asks, and gives what is told. Where it is refused, nothing changes.
+    pub fn carry_out(
+        self,
+        parts: &mut Parts,
+        place: u8,
+        library: &mut Library,
+    ) -> Result<Telling, PlayerFault>
+        requires { FitsIn (part_at place parts.old) self.effect }
+        ensures parts { OnOk result (parts.new ≡ parts_after library.old.rate place self parts.old) }
         ensures library { OnOk result (library.new ≡ library_after library.old self.scan) }
         ensures response { IfOk result (λ telling. telling.response ≡ self.response) }
-        ensures report { IfOk result (λ telling. telling.report ≡ report_of part.old library.old self) }
-        ensures within { OnOk result (keeps_all_numbers part.old library.old self ≡ true) }
-        ensures limit { IsErrOf result PlayerFault.CutsAtLimit → keeps_all_numbers part.old library.old self ≡ false }
-        ensures err { OnErr result (part.new ≡ part.old) }
+        ensures report { IfOk result (λ telling. telling.report ≡ report_of place parts.old library.old self) }
+        ensures within { OnOk result (keeps_all_numbers place parts.old library.old self ≡ true) }
+        ensures limit { IsErrOf result PlayerFault.CutsAtLimit → keeps_all_numbers place parts.old library.old self ≡ false }
+        ensures err { OnErr result (parts.new ≡ parts.old) }
         ensures err_library { OnErr result (library.new ≡ library.old) }
     {
-        if library
-            .scan
-            .begins_beyond(part.player.max_cut(), &self.scan)
-        {
+        let max_cut = max_cut_at(parts, place);
+        if library.scan.begins_beyond(max_cut, &self.scan) {
+            return Err(PlayerFault::CutsAtLimit);
+        }
+        if parts.moves_beyond(max_cut, &self.crossing) {
             return Err(PlayerFault::CutsAtLimit);
         }
         let Transition {
@@ -343,10 +384,22 @@ impl Transition {
             written: _,
             response,
             report,
+            crossing,
         } = self;
-        let report = carry_out_effect(part, &library.rate, effect, report)?;
+        let report = parts.carry_out(place, &library.rate, effect, report)?;
+        parts.cross(crossing);
         move_scan(library, scan);
         Ok(Telling { response, report })
+    }
+}
+
+/// The limit of numbers of the partition of a number.
+fn max_cut_at(parts: &Parts, place: u8) -> u64
+    ensures { result ≡ max_cut_in (part_at place parts.now) }
+{
+    match parts.at(place) {
+        Some(part) => part.player.max_cut(),
+        None => 9_223_372_036_854_775_807,
     }
 }
 

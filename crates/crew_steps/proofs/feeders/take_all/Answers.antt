@@ -1,18 +1,13 @@
 use Rattle.std.proofs.Common.{rules, arith, ◌≡◌, ◌+◌, subst, sym, ◌∙◌}
-use Rattle.crew_steps.specs.Feeding.{OwesNothing, TakesItsOwn, fed_frames}
-use Rattle.crew_steps.proofs.Places.{next_holds, so_far_all, so_far_next, so_far_none}
+use Rattle.crew_steps.specs.Feeding.{TakesItsOwn, fed_frames}
+use Rattle.crew_steps.proofs.Places.{so_far_all, so_far_next, so_far_none}
 use Rattle.crew_steps.proofs.feeders.take_all.Goals as goal
 
 pub loop-i-init : goal.loop-i-init
-loop-i-init c = so_far_none (TakesItsOwn (fed_frames c.args.feed.now c.args.frames.now)) 0 _
-
-pub take_one-requires-clause-idle : goal.take_one-requires-clause-idle
-take_one-requires-clause-idle c =
-    subst OwesNothing (sym c.index_mut.ensures.value)
-    (next_holds OwesNothing (TakesItsOwn (fed_frames c.args.feed.now c.args.frames.now)) c.loop-i.i 0 c.loop-i.i c.args.feeders.now.items c.loop-i.feeders.items c.index_mut.result.now (omega arith) (search rules) c.loop-i.invariant c.requires.idle)
+loop-i-init g c = so_far_none (TakesItsOwn (fed_frames c.args.feed.now c.args.frames.now)) 0 _
 
 pub loop-i-preserved : goal.loop-i-preserved
-loop-i-preserved c =
+loop-i-preserved g c =
     let own = fed_frames c.args.feed.now c.args.frames.now in
     let here : c.loop-i.i ≡ 0 + c.loop-i.i = omega arith in
     so_far_next (TakesItsOwn own) c.loop-i.i 0 c.loop-i.i c.args.feeders.now.items c.loop-i.feeders.items c.index_mut.result.now c.take_one.new.feeder here (search rules)
@@ -20,4 +15,4 @@ loop-i-preserved c =
     c.loop-i.invariant
 
 pub returns : goal.returns
-returns c = so_far_all (TakesItsOwn (fed_frames c.args.feed.now c.args.frames.now)) c.loop-i.i 0 c.args.feeders.now.items c.loop-i.feeders.items (search rules) c.loop-i.invariant
+returns g c = so_far_all (TakesItsOwn (fed_frames c.args.feed.now c.args.frames.now)) c.loop-i.i 0 c.args.feeders.now.items c.loop-i.feeders.items (search rules) c.loop-i.invariant

@@ -4,4 +4,4 @@ use Rattle.crew_steps.proofs.Places.{SoFar}
 use Rattle.crew_steps.proofs.feeders.take_all.Given as goal
 
 abbrev pub invariant-loop-i : goal.invariant-loop-i
-invariant-loop-i l = EachAt (SoFar (TakesItsOwn (fed_frames l.feed l.frames)) l.i) 0 l.initial.feeders.items l.feeders.items
+invariant-loop-i g l = EachAt (SoFar (TakesItsOwn (fed_frames l.feed l.frames)) l.i) 0 l.initial.feeders.items l.feeders.items

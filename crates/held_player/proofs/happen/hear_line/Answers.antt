@@ -1,3 +1,8 @@
+use Rattle.parts.specs.Parts.{part_at}
+use Rattle.partition.specs.Image.{overview}
+use Rattle.partition.specs.Step.{place_at, speaker_in}
+use Rattle.player_events.specs.declared.event.Event.{Event}
+use Rattle.player_events.specs.declared.event.Event.TheVariants.{Line}
 use Rattle.transitions.specs.declared.asked.Stand.TheVariants.{Alone}
 use Rattle.counted_player.proofs.Booked.{has_eight}
 use Rattle.counted_player.proofs.Frameless.{line_frameless}
@@ -17,4 +22,6 @@ returns-clause-books g c =
     let p = c.args.counted.now.present in
     books_stay g.S.Shelf.standing g.S.Shelf.failed c.args.counted.now c.happen.new.counted c.args.shelf.now c.happen.new.shelf c.args.seat.now.number _
     (has_eight c.args.counted.now c.happen.ensures.legal) c.happen.result
-    (λ heard. line_frameless p.shared.ended p.part p.shared.library p.clients c.args.client Alone c.args.request heard) c.happen.ensures.ok c.happen.ensures.refused
+    (λ heard.
+    let line : Event = Line c.args.client Alone c.args.request heard in
+    line_frameless (overview p) (part_at (place_at p line) p.parts) p.shared.library (speaker_in p.clients line) c.args.client Alone c.args.request heard) c.happen.ensures.ok c.happen.ensures.refused

@@ -2,7 +2,9 @@ use Rattle.std.proofs.Common.{◌≡◌, None, false, sym, subst}
 use Rattle.std.specs.Prelude.{IfErr, IfOk, OnOk}
 use Rattle.player_events.specs.declared.event.Event.{Event}
 use Rattle.partition.specs.History.{joined_by}
-use Rattle.partition.specs.Step.{limit_of, told}
+use Rattle.parts.specs.Parts.{part_at}
+use Rattle.partition.specs.Image.{overview}
+use Rattle.partition.specs.Step.{limit_of, place_at, speaker_in, told}
 use Rattle.player_events.specs.Events.{is_line}
 use Rattle.counted_player.proofs.Booked.{has_eight}
 use Rattle.held_player.specs.News.{event_of}
@@ -35,7 +37,7 @@ pub returns-clause-books : goal.returns-clause-books
 returns-clause-books g c =
     let i = c.args.counted.now.present in
     step_stays c.args.counted.now c.take_step.new.counted c.args.seat.now.number (event_of c.args.news) (has_eight c.args.counted.now c.take_step.ensures.legal)
-    (news_frameless i.shared.ended i.part i.shared.library i.clients c.args.news) c.take_step.result (returns-clause-player g c) c.take_step.ensures.unchanged
+    (news_frameless (overview i) (part_at (place_at i (event_of c.args.news)) i.parts) i.shared.library (speaker_in i.clients (event_of c.args.news)) c.args.news) c.take_step.result (returns-clause-player g c) c.take_step.ensures.unchanged
 
 pub returns-clause-somewhere : goal.returns-clause-somewhere
 returns-clause-somewhere g c =

@@ -1,8 +1,6 @@
-use Rattle.std.proofs.Common.{◌≡◌, Bool, true, None, cond, refl, ap, sym, ◌∙◌}
-use Rattle.std.specs.Prelude.{Option}
+use Rattle.std.proofs.Common.{ap, sym, ◌∙◌}
 use Rattle.std.proofs.lemmas.Bool.{cond-false, cond-true}
-use Rattle.mpd_command.specs.Names.{is_there, name_of}
-use Rattle.mpd_command.specs.declared.name.Name.{Name}
+use Rattle.mpd_command.specs.Names.{is_there}
 use Rattle.mpd_command.proofs.Known.{text-of_word, there-unnamed}
 use Rattle.mpd_command.proofs.request.name_in_set.Goals as goal
 

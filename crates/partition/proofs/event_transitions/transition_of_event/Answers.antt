@@ -1,42 +1,52 @@
-use Rattle.std.proofs.Common.{Bool, true, false, ap, sym, subst, ◌∙◌, if◌then◌else◌}
+use Rattle.std.proofs.Common.{◌≡◌, ℕ, Bool, true, false, Option, Some, None, ap, sym, subst, ◌∙◌, rules, if◌then◌else◌}
+use Rattle.std.specs.Option.{option_copied}
 use Rattle.transitions.specs.Shelves.{is_written}
 use Rattle.transitions.specs.Transitions.{TransitionData, acts, or_ended, quiet}
+use Rattle.parts.specs.Parts.{FitsIn, part_at}
 use Rattle.player_state.specs.declared.effect.AudioStep.{AudioStep}
 use Rattle.player_state.specs.declared.effect.AudioStep.TheVariants.{Settles}
-use Rattle.player_state.specs.Outputs.{is_output}
-use Rattle.partition.specs.Applying.{WritesAlone}
-use Rattle.partition.specs.Step.{absent}
-use Rattle.player_state.specs.Fits.{Fits}
 use Rattle.player_state.specs.declared.state.Part.{Part}
+use Rattle.player_state.specs.Outputs.{is_output}
+use Rattle.partition.specs.Applying.{WritesAlone, place_in_state}
+use Rattle.partition.specs.Step.{absent, output_turn}
 use Rattle.partition.proofs.event_transitions.transition_of_event.Goals as goal
 
 -- what writes to the shelf does nothing else
-fits_once : (part : Part) (b : Bool) (t : TransitionData) → Fits part t.effect → Fits part (if b then record (quiet t.response) { written = t.written } else t).effect
-fits_once part true t fits = tt
-fits_once part false t fits = fits
+fits_once : (part : Option Part) (b : Bool) (t : TransitionData) → FitsIn part t.effect → FitsIn part (if b then record (quiet t.response) { written = t.written } else t).effect
+fits_once None b t fits = tt
+fits_once (Some part) true t fits = tt
+fits_once (Some part) false t fits = fits
+
+-- the turn of an output writes nothing and fits
+turn_alone : (ended : Bool) (part : Option Part) (output : ℕ) (step : AudioStep) → WritesAlone (or_ended ended (output_turn part output step))
+turn_alone ended None output step = λ w. cc
+turn_alone ended (Some part) output step =
+    elim (is_output part.outputs output) as (λ b. WritesAlone (or_ended ended (if b then acts step else absent))) [ true ↦ λ w. cc | false ↦ λ w. cc ]
+
+turn_fits : (ended : Bool) (part : Option Part) (output : ℕ) (step : AudioStep) → FitsIn part (or_ended ended (output_turn part output step)).effect
+turn_fits ended None output step = tt
+turn_fits ended (Some part) output step =
+    elim (is_output part.outputs output) as (λ b. FitsIn (Some part) (or_ended ended (if b then acts step else absent)).effect) [ true ↦ tt | false ↦ tt ]
 
 pub returns-in_ok-transition-in-Line-clause-fits : goal.returns-in_ok-transition-in-Line-clause-fits
 returns-in_ok-transition-in-Line-clause-fits c =
     let t : TransitionData = c.in_ok-transition-in-Line.transition in
-    subst (λ (u : TransitionData). Fits c.args.part.now u.effect) (sym c.once_written.ensures.transition) (fits_once c.args.part.now (is_written t.written) t c.in_ok-transition-in-Line.ensures.fits)
-
--- the turn of an output writes nothing and fits
-turn_alone : (ended b : Bool) (step : AudioStep) → WritesAlone (or_ended ended (if b then acts step else absent))
-turn_alone ended true step = λ w. cc
-turn_alone ended false step = λ w. cc
-
-turn_fits : (part : Part) (ended b : Bool) (step : AudioStep) → Fits part (or_ended ended (if b then acts step else absent)).effect
-turn_fits part ended true step = tt
-turn_fits part ended false step = tt
+    let here : Option Part = part_at (place_in_state c.args.state.now c.args.event.now) c.args.state.now.parts in
+    let is : option_copied c.at-part.result ≡ here = search rules in
+    subst (λ (u : TransitionData). FitsIn here u.effect) (sym c.once_written.ensures.transition)
+    (fits_once here (is_written t.written) t (subst (λ (o : Option Part). FitsIn o t.effect) is c.in_ok-transition-in-Line.ensures.fits))
 
 pub returns-in_ok-settle-in-OutputTurn-clause-alone : goal.returns-in_ok-settle-in-OutputTurn-clause-alone
 returns-in_ok-settle-in-OutputTurn-clause-alone c =
     let turn : AudioStep = Settles c.in-OutputTurn.output c.in-OutputTurn.written c.in-OutputTurn.discarded c.in-OutputTurn.failed in
-    subst WritesAlone (sym (c.or_ended.ensures ∙ ap (or_ended c.args.ended) c.in_ok-settle-in-OutputTurn.ensures.transition))
-    (turn_alone c.args.ended (is_output c.args.part.now.outputs c.in-OutputTurn.output) turn)
+    subst WritesAlone (sym (c.or_ended.ensures ∙ ap (or_ended c.args.state.now.ended) c.in_ok-settle-in-OutputTurn.ensures.transition))
+    (turn_alone c.args.state.now.ended (option_copied c.at-part.result) c.in-OutputTurn.output turn)
 
 pub returns-in_ok-settle-in-OutputTurn-clause-fits : goal.returns-in_ok-settle-in-OutputTurn-clause-fits
 returns-in_ok-settle-in-OutputTurn-clause-fits c =
     let turn : AudioStep = Settles c.in-OutputTurn.output c.in-OutputTurn.written c.in-OutputTurn.discarded c.in-OutputTurn.failed in
-    subst (λ (u : TransitionData). Fits c.args.part.now u.effect) (sym (c.or_ended.ensures ∙ ap (or_ended c.args.ended) c.in_ok-settle-in-OutputTurn.ensures.transition))
-    (turn_fits c.args.part.now c.args.ended (is_output c.args.part.now.outputs c.in-OutputTurn.output) turn)
+    let here : Option Part = part_at (place_in_state c.args.state.now c.args.event.now) c.args.state.now.parts in
+    let is : option_copied c.at-part.result ≡ here = search rules in
+    subst (λ (u : TransitionData). FitsIn here u.effect)
+    (sym (c.or_ended.ensures ∙ ap (or_ended c.args.state.now.ended) (c.in_ok-settle-in-OutputTurn.ensures.transition ∙ ap (λ o. output_turn o c.in-OutputTurn.output turn) is)))
+    (turn_fits c.args.state.now.ended here c.in-OutputTurn.output turn)

@@ -7,7 +7,7 @@ use Rattle.transitions.specs.Transitions.{TransitionData}
 use Rattle.idle_clients.specs.Rooms.{listed}
 use Rattle.transitions.specs.Shelves.{IsRead, is_written}
 use Rattle.player_events.specs.Events.{with_store_reply, store_reply_at}
-use Rattle.partition.specs.Step.{question_of, told_by, transition, transition_of}
+use Rattle.partition.specs.Step.{question_of, told_by, transition}
 use Rattle.partition.proofs.Lending.{uncalled}
 use Rattle.partition.proofs.Serving.{heard_read, heard_so, serves_unwritten, serves_written, unchanged}
 use Rattle.partition.proofs.Writing.{hears_last}
@@ -49,7 +49,7 @@ returns-then-is_written-clause-shelf g c =
     c.args.shelf.now c.ask_shelf.new.shelf c.write_transition.new.shelf c.in_ok-read.ensures.turns
     (subst (λ ks. Trusted (g.S.Shelf.standing c.args.shelf.now) (g.S.Shelf.standing c.ask_shelf.new.shelf)
     → IsRead (g.S.Shelf.failed c.args.shelf.now c.ask_shelf.new.shelf) (g.S.Shelf.standing c.args.shelf.now).maps (question_of i.shared.library ks c.args.event.now) c.in_ok-read.read) c.deref.ensures.value c.in_ok-read.ensures.read)
-    (ap (λ (t : TransitionData). t.written) (c.in_ok-transition.ensures.transition ∙ ap (λ ks. transition_of i.shared.ended i.part i.shared.library ks c.hear.new.self) c.deref-2.ensures.value ∙ ap (transition i) c.hear.ensures))
+    (ap (λ (t : TransitionData). t.written) (c.in_ok-transition.ensures.transition ∙ ap (transition i) c.hear.ensures))
     (c.write_transition.ensures.event ∙ ap (λ (e : Event). with_store_reply e (record (store_reply_at e) { refused = (store_reply_at c.write_transition.new.event).refused })) c.hear.ensures)
     turns answers ample)
     c.write_transition.ensures.turns c.write_transition.ensures.answers c.write_transition.ensures.ample
@@ -63,13 +63,13 @@ pub returns-clause-given : goal.returns-clause-given
 returns-clause-given g c =
     let i : Image = image_of_state c.args.state.now in
     subst (λ (t : TransitionData). IfOk c.apply_transition.result (λ applied. listed applied.given ≡ (told_by i c.hear.new.self t).notices))
-    (c.in_ok-transition.ensures.transition ∙ ap (λ ks. transition_of i.shared.ended i.part i.shared.library ks c.hear.new.self) c.deref-2.ensures.value) c.apply_transition.ensures.given
+    c.in_ok-transition.ensures.transition c.apply_transition.ensures.given
 
 pub returns-clause-kept : goal.returns-clause-kept
 returns-clause-kept g c =
     let i : Image = image_of_state c.args.state.now in
     subst (λ (t : TransitionData). IfOk c.apply_transition.result (λ applied. listed applied.kept ≡ (told_by i c.hear.new.self t).notices))
-    (c.in_ok-transition.ensures.transition ∙ ap (λ ks. transition_of i.shared.ended i.part i.shared.library ks c.hear.new.self) c.deref-2.ensures.value) c.apply_transition.ensures.kept
+    c.in_ok-transition.ensures.transition c.apply_transition.ensures.kept
 
 pub returns-clause-shelf : goal.returns-clause-shelf
 returns-clause-shelf g c =
@@ -79,7 +79,7 @@ returns-clause-shelf g c =
     (serves_unwritten g.S.Shelf.standing g.S.Shelf.failed i c.args.event.now c.hear.new.self c.in_ok-read.read c.args.shelf.now c.ask_shelf.new.shelf c.in_ok-read.ensures.turns
     (subst (λ ks. Trusted (g.S.Shelf.standing c.args.shelf.now) (g.S.Shelf.standing c.ask_shelf.new.shelf)
     → IsRead (g.S.Shelf.failed c.args.shelf.now c.ask_shelf.new.shelf) (g.S.Shelf.standing c.args.shelf.now).maps (question_of i.shared.library ks c.args.event.now) c.in_ok-read.read) c.deref.ensures.value c.in_ok-read.ensures.read)
-    (sym (ap (λ (t : TransitionData). is_written t.written) (c.in_ok-transition.ensures.transition ∙ ap (λ ks. transition_of i.shared.ended i.part i.shared.library ks c.hear.new.self) c.deref-2.ensures.value ∙ ap (transition i) c.hear.ensures)) ∙ none)
+    (sym (ap (λ (t : TransitionData). is_written t.written) (c.in_ok-transition.ensures.transition ∙ ap (transition i) c.hear.ensures)) ∙ none)
     c.hear.ensures)
 
 pub returns-clause-cause : goal.returns-clause-cause
@@ -90,7 +90,7 @@ returns-clause-cause g c =
     (serves_unwritten g.S.Shelf.standing g.S.Shelf.failed i c.args.event.now c.hear.new.self c.in_ok-read.read c.args.shelf.now c.ask_shelf.new.shelf c.in_ok-read.ensures.turns
     (subst (λ ks. Trusted (g.S.Shelf.standing c.args.shelf.now) (g.S.Shelf.standing c.ask_shelf.new.shelf)
     → IsRead (g.S.Shelf.failed c.args.shelf.now c.ask_shelf.new.shelf) (g.S.Shelf.standing c.args.shelf.now).maps (question_of i.shared.library ks c.args.event.now) c.in_ok-read.read) c.deref.ensures.value c.in_ok-read.ensures.read)
-    (sym (ap (λ (t : TransitionData). is_written t.written) (c.in_ok-transition.ensures.transition ∙ ap (λ ks. transition_of i.shared.ended i.part i.shared.library ks c.hear.new.self) c.deref-2.ensures.value ∙ ap (transition i) c.hear.ensures)) ∙ none)
+    (sym (ap (λ (t : TransitionData). is_written t.written) (c.in_ok-transition.ensures.transition ∙ ap (transition i) c.hear.ensures)) ∙ none)
     c.hear.ensures))
 
 pub returns-clause-unchanged : goal.returns-clause-unchanged

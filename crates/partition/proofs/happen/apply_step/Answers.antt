@@ -1,19 +1,19 @@
-use Rattle.std.proofs.Common.{◌≡◌, ◌∙◌, ap, subst}
+use Rattle.std.proofs.Common.{◌≡◌, subst}
 use Rattle.std.specs.Prelude.{IfOk}
 use Rattle.transitions.specs.Transitions.{TransitionData}
 use Rattle.idle_clients.specs.Rooms.{listed}
 use Rattle.partition.specs.Image.{Image, image_of_state}
-use Rattle.partition.specs.Step.{told_by, transition_of}
+use Rattle.partition.specs.Step.{told_by}
 use Rattle.partition.proofs.happen.apply_step.Goals as goal
 
 pub returns-clause-given : goal.returns-clause-given
 returns-clause-given c =
     let i : Image = image_of_state c.args.state.now in
     subst (λ (t : TransitionData). IfOk c.apply_transition.result (λ applied. listed applied.given ≡ (told_by i c.args.event.now t).notices))
-    (c.in_ok-transition.ensures.transition ∙ ap (λ ks. transition_of i.shared.ended i.part i.shared.library ks c.args.event.now) c.deref.ensures.value) c.apply_transition.ensures.given
+    c.in_ok-transition.ensures.transition c.apply_transition.ensures.given
 
 pub returns-clause-kept : goal.returns-clause-kept
 returns-clause-kept c =
     let i : Image = image_of_state c.args.state.now in
     subst (λ (t : TransitionData). IfOk c.apply_transition.result (λ applied. listed applied.kept ≡ (told_by i c.args.event.now t).notices))
-    (c.in_ok-transition.ensures.transition ∙ ap (λ ks. transition_of i.shared.ended i.part i.shared.library ks c.args.event.now) c.deref.ensures.value) c.apply_transition.ensures.kept
+    c.in_ok-transition.ensures.transition c.apply_transition.ensures.kept

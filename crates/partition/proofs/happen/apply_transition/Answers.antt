@@ -1,60 +1,53 @@
-use Rattle.std.proofs.Common.{◌∙◌, not, sym, rules}
-use Rattle.player_state.specs.Libraries.{same_songs}
+use Rattle.std.proofs.Common.{sym, rules}
 use Rattle.partition.specs.Image.{Image, image_of_state}
-use Rattle.player_state.specs.Libraries.{songs_after}
+use Rattle.transitions.specs.declared.shelf_calls.ShelfWrite.TheVariants.{Nothing}
 use Rattle.idle_clients.specs.Rooms.{listed, room_in}
-use Rattle.idle_clients.specs.Fingerprint.{changes_subscriptions, raised_in, fingerprint}
-use Rattle.partition.proofs.Raised.{PartIs, LibraryIs, Shown, stepped, noticed, roomy, told_alike}
+use Rattle.idle_clients.specs.Fingerprint.{raised_in}
+use Rattle.partition.proofs.Raised.{Shown, stepped, noticed, roomy, shown_by}
 use Rattle.partition.proofs.Settled.{unwritten}
 use Rattle.partition.proofs.happen.apply_transition.Goals as goal
 
 pub tell-requires-clause-given : goal.tell-requires-clause-given
 tell-requires-clause-given c =
     let i : Image = image_of_state c.args.state.now in
-    let part_is : PartIs i c.args.event.now c.args.transition c.carry_out.new.part c.carry_out.new.library (raised_in c.changed-raised.result) c.args.transition.response = search rules in
-    let library_is : LibraryIs i c.args.event.now c.args.transition c.carry_out.new.part c.carry_out.new.library (raised_in c.changed-raised.result) c.args.transition.response = search rules in
-    let shown : Shown i c.args.event.now c.args.transition c.carry_out.new.part c.carry_out.new.library (raised_in c.changed-raised.result) c.args.transition.response = search rules in
-    roomy i c.args.event.now c.args.transition c.carry_out.new.part c.carry_out.new.library (raised_in c.changed-raised.result) c.args.transition.response
-    (room_in c.in-Ok.made.0.given) part_is library_is shown (search rules)
+    let shown : Shown i c.args.event.now c.args.transition c.carry_out.new.parts c.carry_out.new.library (raised_in c.changed-raised.result) c.args.transition.response =
+    shown_by i c.args.event.now c.args.transition c.carry_out.new.parts c.carry_out.new.library (raised_in c.changed-raised.result) c.args.transition.response
+    c.goer-goer.result c.changes_songs-database.result c.changes_listeners-subscription.result Nothing c.in-Ok.made.0.before c.changed-raised.result (search rules) (search rules) (search rules) (search rules) (sym (unwritten c.args.transition.written c.requires.unwritten)) (search rules) in
+    roomy i c.args.event.now c.args.transition c.carry_out.new.parts c.carry_out.new.library (raised_in c.changed-raised.result) c.args.transition.response
+    (room_in c.in-Ok.made.0.given) (search rules) (search rules) shown (search rules)
 
 pub tell-requires-clause-kept : goal.tell-requires-clause-kept
 tell-requires-clause-kept c =
     let i : Image = image_of_state c.args.state.now in
-    let part_is : PartIs i c.args.event.now c.args.transition c.carry_out.new.part c.carry_out.new.library (raised_in c.changed-raised.result) c.args.transition.response = search rules in
-    let library_is : LibraryIs i c.args.event.now c.args.transition c.carry_out.new.part c.carry_out.new.library (raised_in c.changed-raised.result) c.args.transition.response = search rules in
-    let shown : Shown i c.args.event.now c.args.transition c.carry_out.new.part c.carry_out.new.library (raised_in c.changed-raised.result) c.args.transition.response = search rules in
-    roomy i c.args.event.now c.args.transition c.carry_out.new.part c.carry_out.new.library (raised_in c.changed-raised.result) c.args.transition.response
-    (room_in c.in-Ok.made.0.kept) part_is library_is shown (search rules)
+    let shown : Shown i c.args.event.now c.args.transition c.carry_out.new.parts c.carry_out.new.library (raised_in c.changed-raised.result) c.args.transition.response =
+    shown_by i c.args.event.now c.args.transition c.carry_out.new.parts c.carry_out.new.library (raised_in c.changed-raised.result) c.args.transition.response
+    c.goer-goer.result c.changes_songs-database.result c.changes_listeners-subscription.result Nothing c.in-Ok.made.0.before c.changed-raised.result (search rules) (search rules) (search rules) (search rules) (sym (unwritten c.args.transition.written c.requires.unwritten)) (search rules) in
+    roomy i c.args.event.now c.args.transition c.carry_out.new.parts c.carry_out.new.library (raised_in c.changed-raised.result) c.args.transition.response
+    (room_in c.in-Ok.made.0.kept) (search rules) (search rules) shown (search rules)
 
 pub returns-clause-image : goal.returns-clause-image
 returns-clause-image c =
     let i : Image = image_of_state c.args.state.now in
-    let shown : Shown i c.args.event.now c.args.transition c.carry_out.new.part c.carry_out.new.library (raised_in c.changed-raised.result) c.args.transition.response =
-    c.changed-raised.ensures
-    ∙ told_alike c.changes_songs-database.result (not (same_songs i.shared.library.songs (songs_after i.shared.library c.args.transition.scan)))
-    c.changes_subscriptions-subscription.result (changes_subscriptions i.part.channels c.args.transition.effect) _ c.args.transition.written c.in-Ok.made.0.before (fingerprint i.part i.shared.library)
-    c.carry_out.new.part c.carry_out.new.library (search rules) (search rules) (sym (unwritten c.args.transition.written c.requires.unwritten)) (search rules) in
-    stepped i c.args.event.now c.args.transition c.carry_out.new.part c.carry_out.new.library (raised_in c.changed-raised.result) c.in_ok-telling.telling.response c.in-Ok.made.1 c.ended_after-state.result c.tell.new.clients.items
+    let shown : Shown i c.args.event.now c.args.transition c.carry_out.new.parts c.carry_out.new.library (raised_in c.changed-raised.result) c.args.transition.response =
+    shown_by i c.args.event.now c.args.transition c.carry_out.new.parts c.carry_out.new.library (raised_in c.changed-raised.result) c.args.transition.response
+    c.goer-goer.result c.changes_songs-database.result c.changes_listeners-subscription.result Nothing c.in-Ok.made.0.before c.changed-raised.result (search rules) (search rules) (search rules) (search rules) (sym (unwritten c.args.transition.written c.requires.unwritten)) (search rules) in
+    stepped i c.args.event.now c.args.transition c.carry_out.new.parts c.carry_out.new.library (raised_in c.changed-raised.result) c.in_ok-telling.telling.response c.in-Ok.made.1 c.ended_after-state.result c.tell.new.clients.items
     (search rules) (search rules) (search rules) c.ended_after-state.ensures (search rules) shown (search rules)
 
 pub returns-clause-given : goal.returns-clause-given
 returns-clause-given c =
     let i : Image = image_of_state c.args.state.now in
-    let shown : Shown i c.args.event.now c.args.transition c.carry_out.new.part c.carry_out.new.library (raised_in c.changed-raised.result) c.args.transition.response =
-    c.changed-raised.ensures
-    ∙ told_alike c.changes_songs-database.result (not (same_songs i.shared.library.songs (songs_after i.shared.library c.args.transition.scan)))
-    c.changes_subscriptions-subscription.result (changes_subscriptions i.part.channels c.args.transition.effect) _ c.args.transition.written c.in-Ok.made.0.before (fingerprint i.part i.shared.library)
-    c.carry_out.new.part c.carry_out.new.library (search rules) (search rules) (sym (unwritten c.args.transition.written c.requires.unwritten)) (search rules) in
-    noticed i c.args.event.now c.args.transition c.carry_out.new.part c.carry_out.new.library (raised_in c.changed-raised.result) c.in_ok-telling.telling.response (listed c.tell.result.given)
+    let shown : Shown i c.args.event.now c.args.transition c.carry_out.new.parts c.carry_out.new.library (raised_in c.changed-raised.result) c.args.transition.response =
+    shown_by i c.args.event.now c.args.transition c.carry_out.new.parts c.carry_out.new.library (raised_in c.changed-raised.result) c.args.transition.response
+    c.goer-goer.result c.changes_songs-database.result c.changes_listeners-subscription.result Nothing c.in-Ok.made.0.before c.changed-raised.result (search rules) (search rules) (search rules) (search rules) (sym (unwritten c.args.transition.written c.requires.unwritten)) (search rules) in
+    noticed i c.args.event.now c.args.transition c.carry_out.new.parts c.carry_out.new.library (raised_in c.changed-raised.result) c.in_ok-telling.telling.response (listed c.tell.result.given)
     (search rules) (search rules) (search rules) shown (search rules)
 
 pub returns-clause-kept : goal.returns-clause-kept
 returns-clause-kept c =
     let i : Image = image_of_state c.args.state.now in
-    let shown : Shown i c.args.event.now c.args.transition c.carry_out.new.part c.carry_out.new.library (raised_in c.changed-raised.result) c.args.transition.response =
-    c.changed-raised.ensures
-    ∙ told_alike c.changes_songs-database.result (not (same_songs i.shared.library.songs (songs_after i.shared.library c.args.transition.scan)))
-    c.changes_subscriptions-subscription.result (changes_subscriptions i.part.channels c.args.transition.effect) _ c.args.transition.written c.in-Ok.made.0.before (fingerprint i.part i.shared.library)
-    c.carry_out.new.part c.carry_out.new.library (search rules) (search rules) (sym (unwritten c.args.transition.written c.requires.unwritten)) (search rules) in
-    noticed i c.args.event.now c.args.transition c.carry_out.new.part c.carry_out.new.library (raised_in c.changed-raised.result) c.in_ok-telling.telling.response (listed c.tell.result.kept)
+    let shown : Shown i c.args.event.now c.args.transition c.carry_out.new.parts c.carry_out.new.library (raised_in c.changed-raised.result) c.args.transition.response =
+    shown_by i c.args.event.now c.args.transition c.carry_out.new.parts c.carry_out.new.library (raised_in c.changed-raised.result) c.args.transition.response
+    c.goer-goer.result c.changes_songs-database.result c.changes_listeners-subscription.result Nothing c.in-Ok.made.0.before c.changed-raised.result (search rules) (search rules) (search rules) (search rules) (sym (unwritten c.args.transition.written c.requires.unwritten)) (search rules) in
+    noticed i c.args.event.now c.args.transition c.carry_out.new.parts c.carry_out.new.library (raised_in c.changed-raised.result) c.in_ok-telling.telling.response (listed c.tell.result.kept)
     (search rules) (search rules) (search rules) shown (search rules)

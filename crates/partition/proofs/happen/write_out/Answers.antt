@@ -9,24 +9,26 @@ use Rattle.transitions.specs.Answers.{refused_by_shelf, stays}
 use Rattle.transitions.specs.Transitions.{TransitionData}
 use Rattle.transitions.specs.Shelves.{IsAnswered, is_wanting, is_written, maps_after}
 use Rattle.player_events.specs.Events.{store_reply_at, with_store_reply}
-use Rattle.partition.specs.Step.{transition_of}
+use Rattle.partition.specs.Image.{Image, image_of_state}
+use Rattle.partition.specs.Step.{transition}
 use Rattle.transitions.specs.Transitions.{quiet}
 use Rattle.partition.proofs.Writing.{hears, refused_transition}
 use Rattle.partition.proofs.happen.write_out.Goals as goal
 
 pub returns : goal.returns
 returns g c =
-    let writes : is_written (transition_of c.args.ended c.args.part.now c.args.library.now c.args.clients.now c.args.event.now).written ≡ true =
+    let i : Image = image_of_state c.args.state.now in
+    let writes : is_written (transition i c.args.event.now).written ≡ true =
     ap (λ (t : TransitionData). is_written t.written) (sym c.requires.transition) ∙ c.requires.written in
     let heard : StoreReply = record { read = (store_reply_at c.args.event.now).read; refused = Some c.in-Err.fault } in
-    let heard_is : store_reply_at c.refuse.new.self ≡ heard = ap store_reply_at c.refuse.ensures ∙ hears c.args.ended c.args.part.now c.args.library.now c.args.clients.now c.args.event.now writes heard in
+    let heard_is : store_reply_at c.refuse.new.self ≡ heard = ap store_reply_at c.refuse.ensures ∙ hears i c.args.event.now writes heard in
     let refused_is : (store_reply_at c.refuse.new.self).refused ≡ Some c.in-Err.fault = ap (λ (h : StoreReply). h.refused) heard_is in
     let written_is : c.transition.inside.written ≡ c.args.transition.written = ap (λ (t : TransitionData). t.written) c.transition.view_is in
     record {
       event = c.refuse.ensures ∙ ap (λ (r : Option ShelfFault). with_store_reply c.args.event.now (record (store_reply_at c.args.event.now) { refused = r })) (sym refused_is);
       transition = c.only.ensures ∙ ap quiet (c.into_response.ensures ∙ ap (λ (r : Stand × Option Name). stays (refused_by_shelf r.0 r.1 c.in-Err.fault)) c.requires.refusals)
-          ∙ sym (refused_transition c.args.ended c.args.part.now c.args.library.now c.args.clients.now c.args.event.now c.in-Err.fault writes c.requires.unrefused)
-          ∙ ap (transition_of c.args.ended c.args.part.now c.args.library.now c.args.clients.now) (sym c.refuse.ensures);
+          ∙ sym (refused_transition i c.args.event.now c.in-Err.fault writes c.requires.unrefused)
+          ∙ ap (transition i) (sym c.refuse.ensures);
       alone = rw c.only.ensures refl;
       turns = rw refused_is (subst (λ (w : ShelfWrite). Turns (g.S.Shelf.standing c.args.shelf.now) (g.S.Shelf.standing c.write.new.shelf) false (maps_after w (g.S.Shelf.standing c.args.shelf.now).maps)) written_is c.in-Err.ensures.turns);
       answers = λ trusted. rw refused_is (subst (λ (w : ShelfWrite). IsAnswered (g.S.Shelf.failed c.args.shelf.now c.write.new.shelf) (g.S.Shelf.standing c.args.shelf.now).maps w (Err c.in-Err.fault)) written_is (c.in-Err.ensures.answers trusted));

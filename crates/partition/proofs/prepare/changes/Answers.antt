@@ -1,22 +1,32 @@
-use Rattle.std.proofs.Common.{◌≡◌, ◌∙◌, Bool, true, false, not, ◌&&◌, ap, sym, refl}
+use Rattle.std.proofs.Common.{◌≡◌, ◌∙◌, Bool, true, false, not, ◌&&◌, ◌||◌, ap, sym, subst, refl}
+use Rattle.parts.specs.declared.crossing.Crossing.TheVariants.{Stays}
 use Rattle.player_state.specs.declared.effect.Effect.TheVariants.{ByCommand}
 use Rattle.player_state.specs.declared.effect.CommandEffect.TheVariants.{Rests}
 use Rattle.player_state.specs.declared.scan.ScanMove.TheVariants.{Stay}
 use Rattle.transitions.specs.Transitions.{TransitionData}
+use Rattle.partition.specs.Applying.{GoesNowhere}
 use Rattle.partition.proofs.Settled.{same_raises}
 use Rattle.partition.proofs.prepare.changes.Goals as goal
 
-first : (a b : Bool) → not (a && b) ≡ false → a ≡ true
-first true b e = refl
-first false b e = cc
+neither : (a b : Bool) → (a || b) ≡ false → (a ≡ false) × (b ≡ false)
+neither true b e = cc
+neither false b e = (refl, e)
 
-second : (a b : Bool) → not (a && b) ≡ false → b ≡ true
-second true true e = refl
-second true false e = cc
-second false b e = cc
+holds : (a : Bool) → not a ≡ false → a ≡ true
+holds true e = refl
+holds false e = cc
+
+both : (a b : Bool) → (a && b) ≡ true → (a ≡ true) × (b ≡ true)
+both true b e = (refl, e)
+both false b e = cc
 
 pub returns : goal.returns
 returns c = λ e.
-    let scan : c.args.transition.now.scan ≡ Stay = ap (λ (t : TransitionData). t.scan) (sym c.transition.view_is) ∙ c.stays.ensures (first c.stays.result c.rests.result e) in
-    let effect : c.args.transition.now.effect ≡ (ByCommand Rests) = ap (λ (t : TransitionData). t.effect) (sym c.transition.view_is) ∙ c.rests.ensures (second c.stays.result c.rests.result e) in
-    same_raises c.args.part.now c.args.library.now c.args.transition.now scan effect c.requires
+    let parts = neither _ _ e in
+    let all = both _ _ (holds _ parts.0) in
+    let inner = both _ _ all.0 in
+    let scan : c.args.transition.now.scan ≡ Stay = ap (λ (t : TransitionData). t.scan) (sym c.transition.view_is) ∙ c.stays.ensures inner.0 in
+    let effect : c.args.transition.now.effect ≡ (ByCommand Rests) = ap (λ (t : TransitionData). t.effect) (sym c.transition.view_is) ∙ c.rests.ensures inner.1 in
+    let crossing : c.args.transition.now.crossing ≡ Stays = ap (λ (t : TransitionData). t.crossing) (sym c.transition.view_is) ∙ c.stays-2.ensures all.1 in
+    let move_is : c.moves.result ≡ c.args.transition.now.response.move = c.moves.ensures ∙ ap (λ (t : TransitionData). t.response.move) c.transition.view_is in
+    same_raises c.args.transition.now scan effect crossing (subst GoesNowhere move_is (c.enters.ensures parts.1)) c.requires

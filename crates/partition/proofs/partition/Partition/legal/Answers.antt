@@ -1,4 +1,6 @@
 use Rattle.std.proofs.Common.{◌++◌, sym, subst}
+use Rattle.std.specs.Prelude.{All}
+use Rattle.partition.specs.Legal.{HasDistinctIds}
 use Rattle.partition.specs.Image.{Image, image_of_state, opening}
 use Rattle.partition.specs.Invariant.{Came}
 use Rattle.idle_clients.specs.Settled.{AllSettled}
@@ -32,7 +34,7 @@ returns-clause-legal c =
       books = since.1;
       few = c.self.invariant.few;
       room = c.self.invariant.room;
-      distinct = c.len-distinct.ensures.valid.distinct;
+      distinct = subst (All HasDistinctIds) c.items.ensures c.are_distinct.ensures;
     })
 
 pub returns-clause-settled : goal.returns-clause-settled

@@ -1,0 +1,75 @@
+//! Songs that are open of a partition, while another has its turn.
+ghost use Rattle.std.specs.Prelude.{ℕ, ◌≡◌, ◌<◌, IfSome, None, length, vec_capacity, vec_len};
+ghost use Rattle.crew_steps.specs.OpenSongs.{AreMeant, ExchangesMeant, StayMeant};
+
+use crate::open_song::OpenSong;
+use crate::rounds::is_there;
+use counted_devices::Media;
+use std::mem;
+
+/// The current song of a partition and its partner in a fade, as far as they are open.
+#[derive(Drop)]
+pub(crate) struct PartSongs<M: Media + Drop> {
+    /// The number of the partition.
+    pub(crate) place: u8,
+    pub(crate) current: Option<OpenSong<M>>,
+    pub(crate) partner: Option<OpenSong<M>>,
+}
+
+impl<M: Media + Drop> PartSongs<M> {
+    /// None is open.
+    pub(crate) fn none(place: u8) -> PartSongs<M>
+        ensures { (result.current ≡ None) × (result.partner ≡ None) }
+    {
+        PartSongs {
+            place,
+            current: None,
+            partner: None,
+        }
+    }
+}
+
+/// Where the songs of the partition of a number are, if they are there.
+fn position_of<M: Media + Drop>(songs: &[PartSongs<M>], place: u8) -> Option<usize>
+    ensures { IfSome result (λ at. at < length songs.now) }
+{
+    songs.iter().position(|songs| songs.place == place)
+}
+
+/// Puts songs to the others, and takes out those of the partition of a number, if some are there. There is room.
+pub(crate) fn exchange<M: Media + Drop>(
+    others: &mut Vec<PartSongs<M>>,
+    left: PartSongs<M>,
+    place: u8,
+) -> PartSongs<M>
+    requires { vec_len others.old < vec_capacity others.old }
+    ensures { ExchangesMeant others.old.items left others.new.items result }
+{
+    match position_of(others, place) {
+        Some(at) => mem::replace(&mut others[at], left),
+        None => {
+            others.push_reserved(left);
+            PartSongs::none(place)
+        }
+    }
+}
+
+/// Closes the songs of the partitions that are gone: of sixteen numbers these are of one.
+pub(crate) fn close_gone<M: Media + Drop>(others: &mut Vec<PartSongs<M>>, places: [bool; 16])
+    ensures { StayMeant others.old.items others.new.items }
+{
+    for i in 0..others.len() {
+        close_one_gone(&mut others[i], places);
+    }
+}
+
+/// Closes the songs of a partition if it is gone.
+fn close_one_gone<M: Media + Drop>(songs: &mut PartSongs<M>, places: [bool; 16])
+    ensures { (rate : ℕ) → AreMeant rate songs.old → AreMeant rate songs.new }
+{
+    if is_there(places, songs.place) {
+        return;
+    }
+    songs.current = None;
+    songs.partner = None;
+}

@@ -1,0 +1,211 @@
+-- Clients stay in the order of their numbers, and none waits for what is pending for it.
+use Rattle.std.proofs.Common.{◌≡◌, inl, inr, ℕ, zero, suc, ◌==◌, Bool, true, false, ◌||◌, nat_lt, List, [], ◌∷◌, Option, Some, None, is_some, map, refl, ap, sym, subst, ◌∙◌, if◌then◌else◌}
+use Rattle.std.specs.Prelude.{insert, unwrap_or}
+use Rattle.std.specs.List.{position_or_len}
+use Rattle.std.proofs.lemmas.Bool.{eqb-true}
+use Rattle.idle_notes.specs.declared.pending.Pending.{Pending}
+use Rattle.idle_notes.specs.declared.sets.Subsystems.{Subsystems}
+use Rattle.idle_notes.specs.Notes.{cancelled, due, everything, fresh, noted, notice_of, settled, waits}
+use Rattle.idle_notes.specs.Sets.{is_nonempty, meet, none, union}
+use Rattle.mpd_text.specs.declared.songs.song.TagName.{TagName}
+use Rattle.player_state.specs.declared.state.Client.{Client}
+use Rattle.player_state.specs.declared.state.Library.{Library}
+use Rattle.player_state.specs.declared.state.Part.{Part}
+use Rattle.parts.specs.Parts.{known, part_at}
+use Rattle.transitions.specs.Transitions.{TransitionData, quiet}
+use Rattle.transitions.specs.declared.reply.Move.{Move}
+use Rattle.transitions.specs.declared.reply.Move.TheVariants.{Stay, Wait, Learn, Resume, Join, Show, Enter}
+use Rattle.status_commands.specs.Status.{idles}
+use Rattle.idle_clients.proofs.Rises.{rising_after}
+use Rattle.idle_clients.specs.Clients.{AllAbove, Rising, at, client_of, clients_after, entered, joined, move_of, moved, newcomer, notice_for, notice_to, notified, shown, staying}
+use Rattle.idle_clients.specs.Settled.{AllSettled, IsSettled}
+use Rattle.player_events.specs.declared.event.Event.{Event}
+use Rattle.partition.specs.Image.{Image, opening, overview}
+use Rattle.partition.specs.Step.{client_among, mover, next_image, place_at, raised_by, raised_of, speaker, speaker_in, transition}
+use Rattle.partition_laws.specs.Apart.{LeadsToLegal, Legal, OpensLegal, StaysLegal, no_shelf_changes}
+use Rattle.player_events.specs.declared.event.LogEntry.{LogEntry}
+use Rattle.partition.specs.History.{replay}
+use Rattle.partition_laws.proofs.Clients.{above_none}
+use Rattle.partition_laws.proofs.Raised.{raised_is, spoken, unspoken}
+use Rattle.partition_laws.proofs.Rebuilt.{rests}
+use Rattle.partition_laws.proofs.Transitions.{IsCalm, calm_or_idles}
+
+-- a client that heard is settled
+notified_settled : (r : Client → Subsystems) (k : Client) → IsSettled (notified r k)
+notified_settled r k =
+    let p : Pending = noted (r k) k.pending in
+    let cases : (b : Bool) → is_nonempty (due p) ≡ b → is_nonempty (due (if b then fresh else p)) ≡ false =
+    λ b. elim b as (λ b. is_nonempty (due p) ≡ b → is_nonempty (due (if b then fresh else p)) ≡ false) [ true ↦ λ e. refl | false ↦ λ e. e ] in
+    cases (is_nonempty (due p)) refl
+
+all_notified : (r : Client → Subsystems) (ks : List Client) → AllSettled (map (notified r) ks)
+all_notified r [] = tt
+all_notified r (k ∷ ks) = (notified_settled r k, all_notified r ks)
+
+settled_map : (f : Client → Client) → ((k : Client) → IsSettled k → IsSettled (f k)) → (ks : List Client) → AllSettled ks → AllSettled (map f ks)
+settled_map f keeps [] all = tt
+settled_map f keeps (k ∷ ks) all = (keeps k all.0, settled_map f keeps ks all.1)
+
+settled_insert : (ks : List Client) (place : ℕ) (k : Client) → AllSettled ks → IsSettled k → AllSettled (insert ks place k)
+settled_insert [] zero k all one = (one, tt)
+settled_insert [] (suc place) k all one = (one, tt)
+settled_insert (c ∷ cs) zero k all one = (one, all)
+settled_insert (c ∷ cs) (suc place) k all one = (all.0, settled_insert cs place k all.1 one)
+
+at_settled : (n : ℕ) (change : Pending → Pending) → ((p : Pending) → is_nonempty (due (change p)) ≡ false) → (k : Client) → IsSettled k → IsSettled (at n change k)
+at_settled n change makes k one =
+    elim (k.number == n) as (λ b. is_nonempty (due (if b then record k { pending = change k.pending } else k).pending) ≡ false) [ true ↦ makes k.pending | false ↦ one ]
+
+shown_settled : (n : ℕ) (tags : List TagName) (k : Client) → IsSettled k → IsSettled (shown n tags k)
+shown_settled n tags k one =
+    elim (k.number == n) as (λ b. is_nonempty (due (if b then record k { tags = tags } else k).pending) ≡ false) [ true ↦ one | false ↦ one ]
+
+entered_settled : (n place : ℕ) (k : Client) → IsSettled k → IsSettled (entered n place k)
+entered_settled n place k one =
+    elim (k.number == n) as (λ b. is_nonempty (due (if b then record k { place = place; pending = everything } else k).pending) ≡ false) [ true ↦ refl | false ↦ one ]
+
+settled_joined : (n : ℕ) (ks : List Client) → AllSettled ks → AllSettled (joined n ks)
+settled_joined n ks all =
+    let place : ℕ = position_or_len (λ (c : Client). nat_lt n c.number) ks in
+    let new : Client = newcomer n in
+    elim (is_some (client_of n ks)) as (λ b. AllSettled (if b then ks else insert ks place new)) [ true ↦ all | false ↦ settled_insert ks place new all refl ]
+
+-- a move by which no client begins to wait keeps each settled
+settled_moved : (n : ℕ) (move : Move) (ks : List Client) → IsCalm move → AllSettled ks → AllSettled (moved n move ks)
+settled_moved n Stay ks calm all = all
+settled_moved n (Wait names) ks calm all = absurd calm
+settled_moved n Learn ks calm all = settled_map (at n (λ p. fresh)) (at_settled n (λ p. fresh) (λ p. refl)) ks all
+settled_moved n Resume ks calm all = settled_map (at n cancelled) (at_settled n cancelled (λ p. refl)) ks all
+settled_moved n Join ks calm all = settled_joined n ks all
+settled_moved n (Show tags) ks calm all = settled_map (shown n tags) (shown_settled n tags) ks all
+settled_moved n (Enter place) ks calm all = settled_map (entered n place) (entered_settled n place) ks all
+
+or_false : (b : Bool) → (b || false) ≡ b
+or_false true = refl
+or_false false = refl
+
+union_none : (s : Subsystems) → union s none ≡ s
+union_none s = λ i. record {
+  database = or_false s.database i;
+  update = or_false s.update i;
+  stored_playlist = or_false s.stored_playlist i;
+  playlist = or_false s.playlist i;
+  player = or_false s.player i;
+  mixer = or_false s.mixer i;
+  output = or_false s.output i;
+  options = or_false s.options i;
+  sticker = or_false s.sticker i;
+  subscription = or_false s.subscription i;
+  message = or_false s.message i;
+  partition = or_false s.partition i;
+}
+
+noted_none : (p : Pending) → noted none p ≡ p
+noted_none p = ap (λ (s : Subsystems). record p { changed = s }) (union_none p.changed)
+
+-- where nothing is raised for it, a settled client is as it was, and is not told
+module _ (r : Client → Subsystems) (k : Client) (nothing : r k ≡ none) (one : IsSettled k) where
+  unheard : noted (r k) k.pending ≡ k.pending
+  unheard = ap (λ (s : Subsystems). noted s k.pending) nothing ∙ noted_none k.pending
+
+  pub still : notified r k ≡ k
+  still =
+      ap (λ (p : Pending). record k { pending = settled p }) unheard
+      ∙ ap (λ (b : Bool). record k { pending = if b then fresh else k.pending }) one
+
+  pub silent : notice_for r k ≡ []
+  silent =
+      ap (λ (p : Pending). notice_to k.number (notice_of p)) unheard
+      ∙ ap (λ (b : Bool). notice_to k.number (if b then Some (due k.pending) else None)) one
+
+pub settled_at : (n : ℕ) (k : Client) (ks : List Client) → AllSettled ks → client_of n ks ≡ Some k → IsSettled k
+settled_at n k [] all e = cc
+settled_at n k (c ∷ cs) all e =
+    let cases : (b : Bool) → (if b then Some c else client_of n cs) ≡ Some k → IsSettled k =
+    λ b. elim b as (λ b. (if b then Some c else client_of n cs) ≡ Some k → IsSettled k) [
+      | true ↦ λ f. (let same : c ≡ k = cc in subst IsSettled same all.0)
+      | false ↦ λ f. settled_at n k cs all.1 f
+    ] in
+    cases (c.number == n) e
+
+all_still : (r : Client → Subsystems) → ((k : Client) → r k ≡ none) → (ks : List Client) → AllSettled ks → map (notified r) ks ≡ ks
+all_still r nothing [] all = refl
+all_still r nothing (k ∷ ks) all = λ i. still r k (nothing k) all.0 i ∷ all_still r nothing ks all.1 i
+
+-- one client begins to wait, for which nothing of what it names is pending
+module _ (m : ℕ) (names : Subsystems) where
+  waits_all : (ks : List Client) → Rising ks → AllSettled ks → ((k : Client) → client_of m ks ≡ Some k → is_nonempty (meet k.pending.changed names) ≡ false)
+      → AllSettled (map (at m (waits names)) ks)
+  waits_all [] rises all free = tt
+  waits_all (k ∷ ks) rises all free =
+      let cases : (b : Bool) → (k.number == m) ≡ b → ((c : Client) → (if b then Some k else client_of m ks) ≡ Some c → is_nonempty (meet c.pending.changed names) ≡ false)
+      → (is_nonempty (due (if b then record k { pending = waits names k.pending } else k).pending) ≡ false) × AllSettled (map (at m (waits names)) ks) =
+      λ b. elim b as (λ b. (k.number == m) ≡ b → ((c : Client) → (if b then Some k else client_of m ks) ≡ Some c → is_nonempty (meet c.pending.changed names) ≡ false)
+      → (is_nonempty (due (if b then record k { pending = waits names k.pending } else k).pending) ≡ false) × AllSettled (map (at m (waits names)) ks)) [
+        | true ↦ λ e f.
+            let none_left : client_of m ks ≡ None = above_none m ks (subst (λ x. AllAbove x ks) (eqb-true k.number m e) rises.0) in
+            (f k refl, waits_all ks rises.1 all.1 (λ c g. (let clash : None ≡ Some c = sym none_left ∙ g in cc)))
+        | false ↦ λ e f. (all.0, waits_all ks rises.1 all.1 f)
+      ] in
+      cases (k.number == m) refl free
+
+among : (o : Option ℕ) (ks : List Client) (k : Client) → client_among o ks ≡ Some k → client_of (unwrap_or o 0) ks ≡ Some k
+among None ks k e = cc
+among (Some number) ks k e = e
+
+-- a client that begins to wait raises nothing
+waiting_raises : (m at : ℕ) (ps : List Part) (l : Library) (names : Subsystems) (k : Client) → raised_by m at ps l (quiet (idles names None)) k ≡ none
+waiting_raises m at ps l names k =
+    let t : TransitionData = quiet (idles names None) in
+    raised_is k.place m at ps l t k refl
+    ∙ ap (λ (qs : List Part). spoken false k.number (part_at k.place ps) (part_at k.place qs) no_shelf_changes l l (map known ps) (map known qs)) (rests l.rate at ps)
+    ∙ unspoken k.number (part_at k.place ps) l (map known ps)
+
+module _ (i : Image) (event : Event) (legal : Legal i) where
+  abbrev m : ℕ
+  m = mover event
+
+  abbrev Settles : TransitionData → Type 0
+  Settles t = AllSettled (clients_after m (raised_of i event t) t.response i.clients)
+
+  idles_settle : (k : Client) (names : Subsystems) → speaker_in i.clients event ≡ Some k → Settles (quiet (idles names (notice_of (waits names k.pending))))
+  idles_settle k names is =
+      let d : Subsystems = meet k.pending.changed names in
+      let cases : (b : Bool) → is_nonempty d ≡ b → Settles (quiet (idles names (if b then Some d else None))) =
+      λ b. elim b as (λ b. is_nonempty d ≡ b → Settles (quiet (idles names (if b then Some d else None)))) [
+        | true ↦ λ e. settled_moved m Learn (map (notified (raised_of i event (quiet (idles names (Some d))))) i.clients) tt (all_notified (raised_of i event (quiet (idles names (Some d)))) i.clients)
+        | false ↦ λ e.
+            let r : Client → Subsystems = raised_of i event (quiet (idles names None)) in
+            let heard : map (notified r) i.clients ≡ i.clients =
+            all_still r (λ c. waiting_raises m (place_at i event) i.parts i.shared.library names c) i.clients legal.settled in
+            let free : (c : Client) → client_of m i.clients ≡ Some c → is_nonempty (meet c.pending.changed names) ≡ false =
+            λ c f. (let both : Some k ≡ Some c = sym (among (speaker event) i.clients k is) ∙ f in let same : k ≡ c = cc in ap (λ (x : Client). is_nonempty (meet x.pending.changed names)) (sym same) ∙ e) in
+            subst (λ (ks : List Client). AllSettled (map (at m (waits names)) ks)) (sym heard) (waits_all m names i.clients legal.rising legal.settled free)
+      ] in
+      cases (is_nonempty d) refl
+
+  settled_after : Settles (transition i event)
+  settled_after =
+      let t : TransitionData = transition i event in
+      let r : Client → Subsystems = raised_of i event t in
+      elim (calm_or_idles (overview i) (part_at (place_at i event) i.parts) i.shared.library (speaker_in i.clients event) event) [
+        | inl calm ↦ settled_moved m (move_of t.response) (map (notified r) (staying m t.response i.clients)) calm (all_notified r (staying m t.response i.clients))
+        | inr w ↦ subst Settles (sym w.3) (idles_settle w.0 w.1 w.2)
+      ]
+
+pub stays_legal : StaysLegal
+unfolding next_image
+stays_legal seat i event legal = record {
+  rising = rising_after (mover event) (raised_of i event (transition i event)) (transition i event).response i.clients legal.rising;
+  settled = settled_after i event legal;
+}
+
+pub opens_legal : OpensLegal
+opens_legal setup library = record { rising = tt; settled = tt }
+
+legal_after : (history : List LogEntry) (i : Image) → Legal i → Legal (replay i history)
+legal_after [] i legal = legal
+legal_after (h ∷ hs) i legal = legal_after hs (next_image h.seat i h.event) (stays_legal h.seat i h.event legal)
+
+pub leads_to_legal : LeadsToLegal
+leads_to_legal setup library history = legal_after history (opening setup library) (opens_legal setup library)

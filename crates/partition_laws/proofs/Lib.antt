@@ -1,0 +1,10 @@
+pub mod Clients
+pub mod Raised
+pub mod Rebuilt
+pub mod Transitions
+pub mod Legal
+pub mod Agreeing
+pub mod Apart
+pub mod Moves
+pub mod Crossings
+pub mod Reports

@@ -1,0 +1,3 @@
+pub mod Apart
+pub mod Moves
+pub mod Reports

@@ -1,0 +1,9 @@
+//! What the clients of one partition hear of the others, said once more and proved of the definitions.
+#![tactic(auto)]
+
+mod laws;
+
+pub use laws::{
+    daemons_stay_legal, equal_views_hear_the_same, moves_rise, others_may_be_left_out,
+    reports_tell_moves,
+};

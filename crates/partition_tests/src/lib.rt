@@ -1,0 +1,7 @@
+//! Tests of partitions and of their commands.
+#![tactic(auto)]
+
+#[cfg(test)]
+mod partitions;
+#[cfg(test)]
+mod wanted;
