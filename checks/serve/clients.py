@@ -25,7 +25,7 @@ from daemon import Daemon, Pacer, Table, program_of, wave
 
 # What the daemon leaves out (README, "What clients can say"): a client that sends such a request is refused there.
 LEFT_OUT = ('addtagid', 'albumart', 'binarylimit', 'clearmounts', 'cleartagid', 'config', 'decoders', 'getfingerprint', 'list album',
-            'listallinfo', 'listfiles', 'listmounts', 'listneighbors', 'listpartitions', 'mixrampdb', 'outputset', 'password', 'playlistfind',
+            'listallinfo', 'listfiles', 'listmounts', 'listneighbors', 'mixrampdb', 'outputset', 'password', 'playlistfind',
             'playlistsearch', 'rangeid', 'readcomments', 'readpicture', 'replay_gain_status', 'searchaddpl', 'stats', 'tagtypes ', 'urlhandlers', 'volume')
 # .. of which these are there with `everyday = true`
 EVERYDAY = ('albumart', 'decoders', 'list album', 'listallinfo', 'listmounts', 'playlistfind', 'playlistsearch', 'readcomments', 'readpicture',

@@ -1,0 +1,198 @@
+#!/usr/bin/env python3
+"""Partitions: 16 of them with 64 clients, what one costs, and rooms that play apart.
+
+    checks/serve/partitions.py [PROGRAM] [--seconds N]
+
+N seconds (20) of 63 clients in 16 partitions that edit, ask and wait there, each in a queue that no other partition shows; the time of
+requests with one partition and with 16, and the memory of an empty one; two rooms of which one's reader stands still; and an output
+that is moved to and fro while both its partitions play. The exit status is 1 where an answer is wrong, where a client
+hears of another partition, where a room falls silent for another's reader, or where the books of an output do not balance.
+"""
+import argparse
+import os
+import random
+import re
+import subprocess
+import sys
+import tempfile
+import time
+
+sys.dont_write_bytecode = True
+
+from daemon import Client, Daemon, Pacer, Table, program_of, put_songs
+from load import Asker, run_askers
+
+MOST = 16           # partitions
+DEAREST = 1.5       # times what a request costs where there is one partition
+EMPTY = 20          # the most kB of an empty partition
+SLOWEST = 1.0       # the seconds within which each answer is to come
+MOVES = 40          # of an output that is moved to and fro
+BOOKS = re.compile(r'output (\d+): decoded (\d+) written (\d+) discarded (\d+) left (\d+)')
+
+
+class Tenant(Asker):
+    """A client of a partition. One that waits hears of its own alone: it idles on what none of its partition changes."""
+
+    def __init__(self, port, number, kind, place):
+        super().__init__(port, number, kind)
+        self.place = place
+        if place:
+            self.client.socket.setblocking(True)
+            if self.client.ask('partition p%d' % place) != ['OK']:
+                raise AssertionError('no partition p%d' % place)
+            self.client.socket.setblocking(False)
+
+    def request(self):
+        if self.kind == 'silent':
+            return 'idle options'
+        return super().request()
+
+
+def new_partitions(daemon, count):
+    client = daemon.client()
+    for number in range(1, count):
+        client.must('newpartition p%d' % number)
+    return client
+
+
+def check_load(table, program, folder, music, seconds):
+    """16 partitions with four clients each, one of which waits for what nobody in its partition changes."""
+    pacers = [Pacer(os.path.join(folder, 'fifo%d' % number)) for number in range(8)]
+    daemon = Daemon(program, folder, music, [pacer.path for pacer in pacers])
+    first = new_partitions(daemon, MOST)
+    more = first.ask('newpartition one_more')[-1]
+    table.row('the 17th partition', more, right=more == 'ACK [52@0] {newpartition} too many partitions')
+    for number in range(8):
+        mover = daemon.client()
+        mover.must('partition p%d' % (2 * number + 1))
+        mover.must('moveoutput out%d' % number)
+        mover.close()
+    kinds = ['edit', 'ping', 'edit', 'silent']
+    tenants = [Tenant(daemon.port, number, kinds[number % 4], number // 4) for number in range(63)]
+    closed = run_askers(tenants, seconds)
+    for kind in ('ping', 'edit'):
+        of_kind = [tenant for tenant in tenants if tenant.kind == kind]
+        slowest, wrong = max(tenant.slowest for tenant in of_kind), sum(tenant.wrong for tenant in of_kind)
+        table.row('%d clients: %s' % (len(of_kind), kind), '%.0f a second, slowest %.1f ms, %d wrong' % (
+            sum(tenant.count for tenant in of_kind) / seconds, 1000 * slowest, wrong), right=not wrong and slowest < SLOWEST)
+    heard = sum(tenant.notices for tenant in tenants if tenant.kind == 'silent')
+    table.row('clients that wait for modes', '%d changes told' % heard, right=heard == 0)
+    table.row('clients that were closed', closed, right=closed == 0)
+    names = {line for line in first.must('listpartitions')}
+    table.row('listpartitions', '%d names' % len(names), right=len(names) == MOST)
+    for tenant in tenants:
+        tenant.client.close()
+    balances(table, daemon, pacers)
+
+
+def balances(table, daemon, pacers=()):
+    """The daemon ends, and each output's frames are those written, discarded or left."""
+    client = daemon.client()
+    for line in client.must('listpartitions'):
+        client.must('partition %s' % line.partition(': ')[2])
+        client.must('stop')
+    client.close()
+    status, summary = daemon.end()
+    for pacer in pacers:
+        pacer.close()
+    books = [[int(word) for word in BOOKS.match(line).groups()] for line in summary if BOOKS.match(line)]
+    right = status == 0 and books and all(decoded == written + discarded + left for _, decoded, written, discarded, left in books)
+    table.row('the books at the end', '%d outputs, %d frames decoded' % (len(books), sum(book[1] for book in books)), right=right)
+
+
+def seconds_of(client, request, count):
+    """Seconds of a request, of so many in flight."""
+    client.must(request)
+    start = time.monotonic()
+    client.socket.sendall((request + '\n').encode() * count)
+    for _ in range(count):
+        if client.answer()[-1] != 'OK':
+            raise AssertionError(request)
+    return (time.monotonic() - start) / count
+
+
+def check_cost(table, program, folder, music):
+    """What a request costs with one partition and with 16, and the memory of an empty one."""
+    daemon = Daemon(program, folder, music, ['/dev/null'])
+    client = daemon.client()
+    requests = ['ping', 'status', 'outputs', 'addid "album 00/0001.wav"', 'delete 0', 'setvol 30', 'currentsong']
+    times = {}
+    for count in (1, MOST):
+        if count > 1:
+            before = daemon.memory()
+            new_partitions(daemon, count).close()
+            each = 1000 * (daemon.memory() - before) / (count - 1)
+            table.row('memory of an empty partition', '%.1f kB' % each, right=each <= EMPTY)
+        for request in requests:
+            times[request, count] = min(seconds_of(client, request, 500) for _ in range(5))
+    for request in requests:
+        one, all_of = times[request, 1], times[request, MOST]
+        table.row(request, '%.1f us, with 16 partitions %.1f us' % (1e6 * one, 1e6 * all_of), right=all_of <= DEAREST * one)
+    client.close()
+    balances(table, daemon)
+
+
+def check_rooms(table, program, folder, music):
+    """A reader in one room stands still: the other room plays on."""
+    still, pacer = os.path.join(folder, 'still'), Pacer(os.path.join(folder, 'paced'))
+    os.mkfifo(still)
+    reader = subprocess.Popen([sys.executable, '-c', 'import sys, time; file = open(sys.argv[1], "rb", 0); file.read(4096); time.sleep(1000)', still])
+    daemon = Daemon(program, folder, music, [pacer.path, still])
+    kitchen, upstairs = daemon.client(), new_partitions(daemon, 2)
+    upstairs.must('partition p1')
+    upstairs.must('moveoutput out1')
+    for client in (kitchen, upstairs):
+        client.must('add ""')
+        client.must('play')
+    time.sleep(1)
+    before = float(kitchen.value('status', 'elapsed')), float(upstairs.value('status', 'elapsed'))
+    time.sleep(2)
+    after = float(kitchen.value('status', 'elapsed')), float(upstairs.value('status', 'elapsed'))
+    table.row('a reader that stands still', 'its room %.3f, two seconds later %.3f' % (before[1], after[1]), right=before[1] == after[1])
+    table.row('', 'the other room %.3f, then %.3f' % (before[0], after[0]), right=after[0] - before[0] > 1)
+    reader.kill()
+    reader.wait()
+    balances(table, daemon, [pacer])
+
+
+def check_moves(table, program, folder, music):
+    """An output is moved to and fro while both partitions play."""
+    pacers = [Pacer(os.path.join(folder, 'room%d' % number)) for number in range(2)]
+    daemon = Daemon(program, folder, music, [pacer.path for pacer in pacers])
+    one, two = daemon.client(), new_partitions(daemon, 2)
+    two.must('partition p1')
+    for client in (one, two):
+        client.must('add ""')
+        client.must('repeat 1')
+        client.must('play')
+    draw = random.Random(1)
+    for number in range(MOVES):
+        to, other = (two, one) if number % 2 == 0 else (one, two)
+        to.must('moveoutput out1')
+        names = [line for line in to.must('outputs') if line.startswith('outputname: out1')]
+        gone = [line for line in other.must('outputs') if line.startswith('outputname: out1')]
+        if not names or gone:
+            table.row('move %d' % number, 'the output is in %s' % ('both' if names else 'neither'), right=False)
+        time.sleep(draw.random() / 10)
+    table.row('%d moves of an output' % MOVES, 'elapsed %s and %s' % (one.value('status', 'elapsed'), two.value('status', 'elapsed')))
+    balances(table, daemon, pacers)
+
+
+def main():
+    parser = argparse.ArgumentParser(description='Checks of several partitions.')
+    parser.add_argument('program', nargs='?')
+    parser.add_argument('--seconds', type=float, default=20)
+    given = parser.parse_args()
+    program, table = program_of(given.program), Table('Partitions', 34, 90)
+    checks = [lambda *them: check_load(*them, given.seconds), check_cost, check_rooms, check_moves]
+    for check in checks:
+        with tempfile.TemporaryDirectory() as folder:
+            music = os.path.join(folder, 'music')
+            put_songs(music, 20, 20 * 44100)
+            check(table, program, folder, music)
+    print('\n%d failed' % table.failed)
+    return 1 if table.failed else 0
+
+
+if __name__ == '__main__':
+    sys.exit(main())
