@@ -31,7 +31,7 @@ BOOKS = re.compile(r'output (\d+): decoded (\d+) written (\d+) discarded (\d+) l
 
 
 class Tenant(Asker):
-    """A client of a partition. One that waits hears of its own alone: it idles on what none of its partition changes."""
+    """A client of a partition. A silent one waits for what none of its partition changes, once it was told of all that its move raised."""
 
     def __init__(self, port, number, kind, place):
         super().__init__(port, number, kind)
@@ -40,6 +40,8 @@ class Tenant(Asker):
             self.client.socket.setblocking(True)
             if self.client.ask('partition p%d' % place) != ['OK']:
                 raise AssertionError('no partition p%d' % place)
+            if self.client.ask('idle options') != ['changed: options', 'OK']:
+                raise AssertionError('a move does not raise everything')
             self.client.socket.setblocking(False)
 
     def request(self):
@@ -56,7 +58,7 @@ def new_partitions(daemon, count):
 
 
 def check_load(table, program, folder, music, seconds):
-    """16 partitions with four clients each, one of which waits for what nobody in its partition changes."""
+    """16 partitions with four clients each, one of which waits for what nobody in its partition changes; eight of them play."""
     pacers = [Pacer(os.path.join(folder, 'fifo%d' % number)) for number in range(8)]
     daemon = Daemon(program, folder, music, [pacer.path for pacer in pacers])
     first = new_partitions(daemon, MOST)
@@ -66,6 +68,8 @@ def check_load(table, program, folder, music, seconds):
         mover = daemon.client()
         mover.must('partition p%d' % (2 * number + 1))
         mover.must('moveoutput out%d' % number)
+        for request in ('add ""', 'repeat 1', 'play'):
+            mover.must(request)
         mover.close()
     kinds = ['edit', 'ping', 'edit', 'silent']
     tenants = [Tenant(daemon.port, number, kinds[number % 4], number // 4) for number in range(63)]
