@@ -128,7 +128,7 @@ def check_cost(table, program, folder, music):
             each = 1000 * (daemon.memory() - before) / (count - 1)
             table.row('memory of an empty partition', '%.1f kB' % each, right=each <= EMPTY)
         for request in requests:
-            times[request, count] = min(seconds_of(client, request, 500) for _ in range(5))
+            times[request, count] = min(seconds_of(client, request, 500) for _ in range(20))
     for request in requests:
         one, all_of = times[request, 1], times[request, MOST]
         table.row(request, '%.1f us, with 16 partitions %.1f us' % (1e6 * one, 1e6 * all_of), right=all_of <= DEAREST * one)
