@@ -23,7 +23,7 @@ TESTS = re.compile(r'_tests$|^(?:worked_rows|daemon_day|player_sessions)$')
 
 # the rooms, the highest first
 ROOMS = [
-    ('the program', 'music_daemon shelf_file serving scan_report settings command_line'),
+    ('the program', 'music_daemon shelf_file serving kept_state scan_report settings command_line'),
     ('clients', 'mpd_server mpd_session mpd_answers'),
     ("the house's threads", 'crew crew_steps'),
     ('the house', 'house held_player counted_player'),

@@ -35,10 +35,11 @@ CASES = [
     ('a bad shelf before a bad folder', 'music = "/nosuch"\nlisten = ""\nshelf = "/nosuch/shelf"', 'cannot open shelf'),
     ('a folder that is not there', 'music = "/nosuch"\nlisten = ""', 'cannot read folder /nosuch'),
     ('a file for a folder', 'music = "%(settings)s"\nlisten = ""', 'cannot read folder %(settings)s'),
-    ('no address', 'music = "%(music)s"\nlisten = "here"', 'cannot listen'),
-    ('a name for an address', 'music = "%(music)s"\nlisten = "localhost:6600"', 'cannot listen'),
-    ('an address of another machine', 'music = "%(music)s"\nlisten = "192.0.2.1:6600"', 'cannot listen'),
-    ('a port that is taken', GOOD, 'cannot listen'),
+    ('no address', 'music = "%(music)s"\nlisten = "here"', 'cannot listen at here, which is no address and port such as 127.0.0.1:6600'),
+    ('a name for an address', 'music = "%(music)s"\nlisten = "house:6600"', 'cannot listen at house:6600, which is no address and port such as 127.0.0.1:6600'),
+    ('a state that is a folder', GOOD + 'state = "%(music)s"', 'cannot read %(music)s'),
+    ('an address of another machine', 'music = "%(music)s"\nlisten = "192.0.2.1:6600"', 'cannot listen at 192.0.2.1:6600, which is no address of this machine'),
+    ('a port that is taken', GOOD, 'cannot listen at 127.0.0.1:%(taken)d, where another program listens'),
 ]
 
 

@@ -3,7 +3,7 @@ use Rattle.std.proofs.Common.{◌≡◌, ◌==◌, ℕ, Bool, cond, true, false,
 use Rattle.clap.specs.Walk.{Text}
 use Rattle.clap.specs.declared.error.kind.ErrorKind.TheVariants.{UnknownArgument, ValueValidation}
 use Rattle.clap.proofs.OnLiterals.{clap_on_literals}
-use Rattle.command_line.specs.Readings.{AsksScan, AsksServe, IsPlain, Readings, Refuses}
+use Rattle.command_line.specs.Readings.{AsksCheck, AsksScan, AsksServe, IsPlain, Readings, Refuses}
 
 -- a word that does not begin with a hyphen: it is empty, or its first byte is another
 plain_word : (P : Text → Type 0) → P [] → ((x : ℕ) (xs : Text) → (x == 45) ≡ false → P (x ∷ xs)) → (word : Text) → IsPlain word → P word
@@ -18,6 +18,11 @@ serve : (name file : Text) → IsPlain file → AsksServe (name ∷ codes "serve
 unfolding clap_on_literals
 serve name file is = plain_word (λ w. AsksServe (name ∷ codes "serve" ∷ codes "--config" ∷ w ∷ []) w)
     (record { taken = refl; read = (_, refl, (refl, refl)) }) (λ x xs e. record { taken = simp e refl; read = simp e (_, refl, (refl, refl)) }) file is
+
+check : (name file : Text) → IsPlain file → AsksCheck (name ∷ codes "serve" ∷ codes "--config" ∷ file ∷ codes "--check" ∷ []) file
+unfolding clap_on_literals
+check name file is = plain_word (λ w. AsksCheck (name ∷ codes "serve" ∷ codes "--config" ∷ w ∷ codes "--check" ∷ []) w)
+    (record { taken = refl; read = (_, refl, (refl, refl), refl) }) (λ x xs e. record { taken = simp e refl; read = simp e (_, refl, (refl, refl), refl) }) file is
 
 plain_file : (name file : Text) → IsPlain file → Refuses (name ∷ codes "serve" ∷ file ∷ []) (UnknownArgument ∷ [])
 unfolding clap_on_literals
@@ -54,6 +59,7 @@ pub all : Readings
 unfolding clap_on_literals
 all = record {
   serve = serve;
+  check = check;
   no_config = λ name. refl;
   no_file = λ name. refl;
   plain_file = plain_file;

@@ -2,16 +2,20 @@
 -- arguments of each (this profile's).
 use Rattle.std.specs.Prelude.{[], ◌∷◌, codes, true, Some, pos}
 use Rattle.clap.specs.Words.{App, Rule, new_app, new_rule, with_rule, with_subcommand}
-use Rattle.clap.specs.declared.builder.ArgAction.TheVariants.{Set}
+use Rattle.clap.specs.declared.builder.ArgAction.TheVariants.{Set, SetTrue}
 use Rattle.clap.specs.declared.builder.value_parser.ValueParser.TheVariants as parser
 
 -- `--config FILE`, which may not be left out
 abbrev pub config : Rule
 config = record (new_rule (codes "config")) { long = Some (codes "config"); required = true; action = Some Set; value_names = 1 }
 
--- `serve --config FILE`
+-- `--check`
+abbrev pub check : Rule
+check = record (new_rule (codes "check")) { long = Some (codes "check"); action = Some SetTrue }
+
+-- `serve --config FILE [--check]`
 abbrev pub serve : App
-serve = with_rule (new_app (codes "serve")) config
+serve = with_rule (with_rule (new_app (codes "serve")) config) check
 
 -- `--rate N`: from 8,000 to 192,000, and 44,100 where it is left out
 abbrev pub rate : Rule

@@ -1,5 +1,5 @@
 -- Which program the words ask for (this profile's).
-use Rattle.std.specs.Prelude.{◌≡◌, ⊤, ℕ, List, Some, codes, option_map}
+use Rattle.std.specs.Prelude.{◌≡◌, ⊤, ℕ, Bool, true, false, List, Option, None, Some, codes, option_map}
 use Rattle.std.specs.Str.Parse.{digits_value, without_leading_plus}
 use Rattle.clap.specs.Words.{IsAmong, Kinds, Row, Text, fault_of, first_of, kind_of, one_of, subcommand_of}
 use Rattle.clap.specs.declared.error.kind.ErrorKind.{ErrorKind}
@@ -18,13 +18,19 @@ number_of text = digits_value 10 (without_leading_plus text)
 abbrev pub IsServe : Text × List Row → Text → Type 0
 IsServe p file = (p.0 ≡ codes "serve") × (first_of (codes "config") p.1 ≡ Some file)
 
+-- a flag is what its text says: `true` or `false`, and false where there is none
+pub record IsFlag (text : Option Text) (flag : Bool) : Type 0 where
+  pub none : text ≡ None → flag ≡ false
+  pub set : text ≡ Some (codes "true") → flag ≡ true
+  pub left_out : text ≡ Some (codes "false") → flag ≡ false
+
 -- they are those of a scan at this rate of this folder
 abbrev pub IsScan : Text × List Row → ℕ → Text → Type 0
 IsScan p rate folder = (p.0 ≡ codes "scan") × (option_map number_of (one_of (codes "rate") p.1) ≡ Some rate) × (first_of (codes "folder") p.1 ≡ Some folder)
 
 -- they are those of this program
 abbrev pub Says : Text × List Row → Program → Type 0
-Says p (Serve file) = IsServe p file.now
+Says p (Serve file check) = IsServe p file.now × IsFlag (one_of (codes "check") p.1) check
 Says p (Scan rate folder) = IsScan p rate folder.now
 Says p Script = p.0 ≡ codes "script"
 

@@ -1,7 +1,7 @@
 -- What some command lines mean, word by word (this profile's). The program's name may be any.
 use Rattle.std.specs.Prelude.{◌≡◌, ℕ, List, [], ◌∷◌, None, Some, codes}
 use Rattle.clap.specs.Lexer.{strip_byte}
-use Rattle.clap.specs.Words.{Kinds, Row, Text, fault_of, subcommand_of}
+use Rattle.clap.specs.Words.{Kinds, Row, Text, fault_of, one_of, subcommand_of}
 use Rattle.clap.specs.declared.error.kind.ErrorKind.TheVariants.{DisplayHelp, DisplayVersion, InvalidSubcommand, InvalidValue, MissingRequiredArgument, MissingSubcommand, UnknownArgument, ValueValidation}
 use Rattle.command_line.specs.Arguments.{daemon}
 use Rattle.command_line.specs.Programs.{IsScan, IsServe}
@@ -14,6 +14,11 @@ IsPlain word = strip_byte 45 word ≡ None
 pub record AsksServe (words : List Text) (file : Text) : Type 0 where
   pub taken : fault_of daemon words ≡ []
   pub read : (p : Text × List Row) × (subcommand_of daemon words ≡ Some p) × IsServe p file
+
+-- the same, and only a check of it
+pub record AsksCheck (words : List Text) (file : Text) : Type 0 where
+  pub taken : fault_of daemon words ≡ []
+  pub read : (p : Text × List Row) × (subcommand_of daemon words ≡ Some p) × IsServe p file × (one_of (codes "check") p.1 ≡ Some (codes "true"))
 
 -- the words are taken, and ask for a scan at this rate of this folder
 pub record AsksScan (words : List Text) (rate : ℕ) (folder : Text) : Type 0 where
@@ -32,6 +37,7 @@ Refuses words kinds = fault_of daemon words ≡ kinds
 pub record Readings : Type 0 where
   -- `serve --config FILE`, which may not be left out
   pub serve : (name file : Text) → IsPlain file → AsksServe (name ∷ codes "serve" ∷ codes "--config" ∷ file ∷ []) file
+  pub check : (name file : Text) → IsPlain file → AsksCheck (name ∷ codes "serve" ∷ codes "--config" ∷ file ∷ codes "--check" ∷ []) file
   pub no_config : (name : Text) → Refuses (name ∷ codes "serve" ∷ []) (MissingRequiredArgument ∷ [])
   pub no_file : (name : Text) → Refuses (name ∷ codes "serve" ∷ codes "--config" ∷ []) (InvalidValue ∷ [])
   pub plain_file : (name file : Text) → IsPlain file → Refuses (name ∷ codes "serve" ∷ file ∷ []) (UnknownArgument ∷ [])

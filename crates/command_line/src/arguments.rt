@@ -35,7 +35,8 @@ fn serve<'a>(alloc: Global) -> Result<Command<'a>, AllocError>
 {
     Command::new(alloc, "serve")
         .about("Serves clients and plays to outputs, as a file of settings says")
-        .arg(config(alloc))
+        .arg(config(alloc))?
+        .arg(check(alloc))
 }
 
 fn scan<'a>(alloc: Global) -> Result<Command<'a>, AllocError>
@@ -65,6 +66,16 @@ fn config<'a>(alloc: Global) -> Arg<'a>
         .help("The file of settings")
         .required(true)
         .action(ArgAction::Set)
+}
+
+fn check<'a>(alloc: Global) -> Arg<'a>
+    ensures rule { rule_of result ≡ arguments.check }
+    ensures local { result.global ≡ false }
+{
+    Arg::new(alloc, "check")
+        .long("check")
+        .help("Says what the settings name, and ends")
+        .action(ArgAction::SetTrue)
 }
 
 fn rate<'a>(alloc: Global) -> Arg<'a>

@@ -54,7 +54,7 @@ fn serve_in<'a>(matches: &ArgMatches<'a>) -> Program<'a>
     let Some(file) = matches.get_str("config") else {
         unreachable!()
     };
-    Program::Serve(file)
+    Program::Serve(file, matches.get_flag("check"))
 }
 
 /// The scan that words ask for which were taken.

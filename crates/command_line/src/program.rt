@@ -9,8 +9,9 @@ use song_db::Rate;
 /// What the words ask for.
 #[derive(Drop)]
 pub enum Program<'a> {
-    /// Serves clients and plays to outputs, as this file of settings says.
-    Serve(&'a str),
+    /// Serves clients and plays to outputs, as this file of settings says; or, where this is so, only checks
+    /// what it says.
+    Serve(&'a str, bool),
     /// Prints the songs of this folder at this rate.
     Scan(Rate, &'a str),
     /// Runs standard input as a script.

@@ -12,7 +12,7 @@ mod files;
 
 use client::visits;
 use files::{SETTINGS, print_files, write_settings};
-use shelf_file::serve_by_file;
+use shelf_file::{Purpose, serve_by_file};
 use std::fmt::Display;
 use std::process::ExitCode;
 use std::{io, thread};
@@ -21,7 +21,11 @@ use std::{io, thread};
 fn main(rt: HostRuntime) -> io::Result<ExitCode> {
     let address = write_settings(&rt)?;
     let client = thread::spawn(&rt, move || visits(&rt, address))?;
-    let served = went_well(&rt, "daemon", serve_by_file(rt, rt, SETTINGS));
+    let served = went_well(
+        &rt,
+        "daemon",
+        serve_by_file(rt, rt, SETTINGS, Purpose::Serve),
+    );
     let visited = went_well(&rt, "client", client.join(&rt));
     end(&rt, served && visited)
 }

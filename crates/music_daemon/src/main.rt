@@ -7,7 +7,7 @@ use counted_devices::Counting;
 use daemon_script::{ScriptFault, run_script};
 use library_scan::{ScanFault, scan};
 use scan_report::{Progress, report_of};
-use shelf_file::serve_by_file;
+use shelf_file::{Purpose, serve_by_file};
 use song_db::Rate;
 use std::io::{ErrorKind, IsTerminal, Write};
 use std::process::ExitCode;
@@ -21,7 +21,12 @@ fn main(rt: HostRuntime) -> io::Result<ExitCode> {
         Err(_) => return refuse_bytes(&rt),
     };
     match command_line(rt.alloc(), &words) {
-        Ok(Program::Serve(file)) => match serve_by_file(rt, rt, file) {
+        Ok(Program::Serve(file, is_check)) => match serve_by_file(
+            rt,
+            rt,
+            file,
+            purpose_of(is_check),
+        ) {
             Ok(()) => Ok(ExitCode::SUCCESS),
             Err(fault) => {
                 eprintln!(rt; "music_daemon: {fault}")?;
@@ -31,6 +36,15 @@ fn main(rt: HostRuntime) -> io::Result<ExitCode> {
         Ok(Program::Scan(rate, folder)) => print_scan(&rt, folder, &rate),
         Ok(Program::Script) => run_input(&rt),
         Err(fault) => refuse(&rt, &fault),
+    }
+}
+
+/// What a file of settings is read for.
+fn purpose_of(is_check: bool) -> Purpose {
+    if is_check {
+        Purpose::Check
+    } else {
+        Purpose::Serve
     }
 }
 

@@ -2,7 +2,7 @@
 use crate::helpers::{owned, wants};
 use library_scan::{Refusal, Refused, Scanned};
 use mpd_text::{Song, Tag, TagName, Text};
-use scan_report::{per_second, report_of};
+use scan_report::{found_text, per_second, rate_text, report_of};
 use song_db::Rate;
 use std::alloc::Global;
 use std::process::Abort;
@@ -57,6 +57,43 @@ fn check_a_report<R: Abort>(rt: &R, alloc: Global) {
 #[test]
 fn a_report(rt: HostRuntime) {
     check_a_report(&rt, rt.alloc());
+}
+
+fn check_what_is_told<R: Abort>(rt: &R, alloc: Global) {
+    let mut found = scanned(rt, alloc);
+    let told = found_text(alloc, &found).expect(rt, "no memory");
+    wants(
+        rt,
+        "two reasons as common",
+        told.as_str(),
+        "2 songs, 2 files are none (NotRiff 1)",
+    );
+    found
+        .refused
+        .push(refused(rt, alloc, "e.wav", Refusal::ReadFault))
+        .expect(rt, "no memory");
+    let told = found_text(alloc, &found).expect(rt, "no memory");
+    wants(
+        rt,
+        "the commonest reason",
+        told.as_str(),
+        "2 songs, 3 files are none (ReadFault 2)",
+    );
+    found.refused.clear();
+    let told = found_text(alloc, &found).expect(rt, "no memory");
+    wants(rt, "all are songs", told.as_str(), "2 songs");
+    let told = rate_text(alloc, 2, 3, 8_000).expect(rt, "no memory");
+    wants(
+        rt,
+        "a rate",
+        told.as_str(),
+        "2 of 3 files are at 8000 frames a second; set rate = 8000, or see music_daemon scan DIR",
+    );
+}
+
+#[test]
+fn what_is_told(rt: HostRuntime) {
+    check_what_is_told(&rt, rt.alloc());
 }
 
 fn check_speeds<R: Abort>(rt: &R, alloc: Global) {

@@ -22,7 +22,14 @@ fn words_of<R: Abort>(rt: &R, alloc: Global, line: &str) -> Vec<String> {
 fn told<R: Abort>(rt: &R, alloc: Global, line: &str) -> String {
     let words = words_of(rt, alloc, line);
     match command_line(alloc, &words) {
-        Ok(Program::Serve(file)) => format!(in alloc; "Serve({file})").expect(rt, "no memory"),
+        Ok(Program::Serve(file, true)) => format!(in alloc; "Check({file})").expect(
+            rt,
+            "no memory",
+        ),
+        Ok(Program::Serve(file, false)) => format!(in alloc; "Serve({file})").expect(
+            rt,
+            "no memory",
+        ),
         Ok(Program::Scan(rate, folder)) => {
             let frames = rate.frames();
             format!(in alloc; "Scan({frames}, {folder})").expect(rt, "no memory")
@@ -55,9 +62,11 @@ fn refused<R: Abort>(rt: &R, alloc: Global, fault: &LineFault) -> String {
 }
 
 /// Lines, each with what it is to come to.
-const LINES: [(&str, &str); 29] = [
+const LINES: [(&str, &str); 31] = [
     ("serve --config FILE", "Serve(FILE)"),
     ("serve --config=FILE", "Serve(FILE)"),
+    ("serve --config FILE --check", "Check(FILE)"),
+    ("serve --check --config FILE", "Check(FILE)"),
     ("serve --config -", "Serve(-)"),
     ("serve --config=", "Serve()"),
     (
@@ -151,10 +160,11 @@ Options:
 
 const SERVE_HELP: &str = "Serves clients and plays to outputs, as a file of settings says
 
-Usage: music_daemon serve --config <FILE>
+Usage: music_daemon serve [OPTIONS] --config <FILE>
 
 Options:
       --config <FILE>  The file of settings
+      --check          Says what the settings name, and ends
   -h, --help           Print help
 ";
 

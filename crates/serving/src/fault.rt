@@ -21,8 +21,12 @@ pub enum DaemonFault {
     NoFolder(String),
     #[error("too many songs")]
     TooManySongs,
-    #[error("cannot listen")]
-    CannotListen,
+    /// Names the address, and what is wrong with it.
+    #[error("cannot listen at {0}")]
+    CannotListen(String),
+    /// The sockets cannot be waited for.
+    #[error("cannot serve")]
+    CannotServe,
     /// The summary was not written, or the shelf's file not closed.
     #[error("write fault")]
     WriteFault,
@@ -51,7 +55,7 @@ impl From<SettingsFault> for DaemonFault {
 impl From<ServeFault> for DaemonFault {
     fn from(fault: ServeFault) -> DaemonFault {
         match fault {
-            ServeFault::ListenFault => DaemonFault::CannotListen,
+            ServeFault::ListenFault => DaemonFault::CannotServe,
             ServeFault::NoMemory => DaemonFault::NoMemory,
         }
     }

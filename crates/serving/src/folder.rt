@@ -1,20 +1,29 @@
 //! The folder of the music.
 use crate::fault::DaemonFault;
-use counted_devices::ReadSeek;
+use counted_devices::{Counting, ReadSeek};
 use crew::Scanner;
-use library_scan::{Unwatched, Watcher, scan};
-use scan_report::Progress;
+use library_scan::{Content, Refusal, Refused, Scanned, Unwatched, Watcher, content_of, scan};
+use scan_report::{Progress, found_text, rate_text};
 use song_db::{Db, Rate, SharedDb};
-use std::alloc::Global;
+use std::alloc::{AllocError, Global};
+use std::fs;
 use std::io::IsTerminal;
 use std::rt::Files;
 
+/// Rates that files are often at, in frames a second.
+const COMMON_RATES: [u32; 12] = [
+    8_000, 11_025, 16_000, 22_050, 24_000, 32_000, 44_100, 48_000, 88_200, 96_000, 176_400, 192_000,
+];
+
+/// What a scan found, and the line that tells of it.
+#[derive(Drop)]
+pub(crate) struct Found {
+    pub(crate) songs: SharedDb,
+    pub(crate) told: String,
+}
+
 /// The songs of a folder. A long scan shows on a terminal how far it is.
-pub(crate) fn songs_of(
-    rt: &HostRuntime,
-    folder: &str,
-    rate: &Rate,
-) -> Result<SharedDb, DaemonFault> {
+pub(crate) fn songs_of(rt: &HostRuntime, folder: &str, rate: &Rate) -> Result<Found, DaemonFault> {
     let mut progress = Progress::new(rt, rt.stderr().is_terminal());
     let scanned = songs_watched(rt, rt.alloc(), folder, rate, &mut progress);
     progress.end();
@@ -27,21 +36,103 @@ fn songs_watched<R: Files + AllocGlobal + Clone + Drop, W: Watcher>(
     folder: &str,
     rate: &Rate,
     watcher: &mut W,
-) -> Result<SharedDb, DaemonFault>
+) -> Result<Found, DaemonFault>
 where
-    R::File: ReadSeek,
+    R::File: ReadSeek + Drop,
 {
     match scan(rt, alloc, folder, rate, watcher) {
-        Ok(scanned) => match Db::of_songs(alloc, scanned.songs) {
-            Ok(songs) => Ok(SharedDb::new(alloc, songs)?),
-            // A scan gives each URI once, and no more songs than a library has.
-            Err(_) => Err(DaemonFault::NoMemory),
-        },
+        Ok(scanned) => {
+            let told = told_of(rt, alloc, folder, &scanned)?;
+            match Db::of_songs(alloc, scanned.songs) {
+                Ok(songs) => Ok(Found {
+                    songs: SharedDb::new(alloc, songs)?,
+                    told,
+                }),
+                // A scan gives each URI once, and no more songs than a library has.
+                Err(_) => Err(DaemonFault::NoMemory),
+            }
+        }
         Err(fault) => Err(DaemonFault::of_scan(fault, String::from_str(alloc, folder)?)),
     }
 }
 
-/// Scans the folder again where clients ask for that.
+/// The line that tells of a scan: how many songs there are, or where none is, and a file is refused for what
+/// may be another rate, that rate.
+fn told_of<R: Files + AllocGlobal + Clone + Drop>(
+    rt: &R,
+    alloc: Global,
+    folder: &str,
+    scanned: &Scanned,
+) -> Result<String, AllocError>
+where
+    R::File: ReadSeek + Drop,
+{
+    if scanned.songs.is_empty() {
+        if let Some(rate) = rate_of_first(rt, alloc, folder, scanned)? {
+            // The scan at that rate says how many files are songs at it.
+            if let Ok(other) = scan(rt, alloc, folder, &rate, &mut Unwatched) {
+                return rate_text(
+                    alloc,
+                    other.songs.len(),
+                    scanned.refused.len(),
+                    rate.frames(),
+                );
+            }
+        }
+    }
+    found_text(alloc, scanned)
+}
+
+/// The first common rate at which the first file is a song that is not refused for other reasons.
+fn rate_of_first<R: Files + AllocGlobal + Clone + Drop>(
+    rt: &R,
+    alloc: Global,
+    folder: &str,
+    scanned: &Scanned,
+) -> Result<Option<Rate>, AllocError>
+where
+    R::File: ReadSeek + Drop,
+{
+    let Some(first) = first_unsupported(&scanned.refused) else {
+        return Ok(None);
+    };
+    let path = format!(in alloc; "{folder}/{}", first.uri.as_str())?;
+    for frames in COMMON_RATES {
+        if let Some(rate) = Rate::new(frames) {
+            if is_song_at(rt, alloc, path.as_str(), &rate)? {
+                return Ok(Some(rate));
+            }
+        }
+    }
+    Ok(None)
+}
+
+fn first_unsupported(files: &[Refused]) -> Option<&Refused> {
+    for file in files {
+        if matches!(&file.refusal, Refusal::Unsupported) {
+            return Some(file);
+        }
+    }
+    None
+}
+
+fn is_song_at<R: Files + AllocGlobal + Clone + Drop>(
+    rt: &R,
+    alloc: Global,
+    path: &str,
+    rate: &Rate,
+) -> Result<bool, AllocError>
+where
+    R::File: ReadSeek + Drop,
+{
+    let Ok(file) = fs::open(rt, path) else {
+        return Ok(false);
+    };
+    let content = content_of(alloc, &mut Counting::new(file), rate)?;
+    Ok(matches!(content, Content::Song(_, _)))
+}
+
+/// Scans the folder again where clients ask for that, and tells of each scan on standard error.
 #[derive(Drop)]
 pub(crate) struct FolderScanner<R: Files + Drop> {
     rt: R,
@@ -55,18 +146,32 @@ impl<R: Files + Drop> FolderScanner<R> {
     }
 }
 
-impl<R: Files + AllocGlobal + Clone + Drop> Scanner for FolderScanner<R>
+impl<R: Files + AllocGlobal + Eprint + Clone + Drop> Scanner for FolderScanner<R>
 where
-    R::File: ReadSeek,
+    R::File: ReadSeek + Drop,
 {
     fn scan(&mut self, alloc: Global) -> Option<SharedDb> {
-        songs_watched(
+        let found = songs_watched(
             &self.rt,
             alloc,
             self.folder.as_str(),
             &self.rate,
             &mut Unwatched,
-        )
-        .ok()
+        );
+        match found {
+            Ok(found) => {
+                tell(&self.rt, found.told.as_str());
+                Some(found.songs)
+            }
+            Err(fault) => {
+                let _told = eprintln!(self.rt; "music_daemon: {fault}");
+                None
+            }
+        }
     }
+}
+
+/// Tells a line on standard error. Where that fails nothing is told: the daemon does not end for it.
+pub(crate) fn tell<R: Eprint>(rt: &R, line: &str) {
+    let _told = eprintln!(rt; "music_daemon: {line}");
 }

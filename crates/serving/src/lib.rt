@@ -1,15 +1,20 @@
 //! The daemon: its start, its run and its end, with the files of the system and its sockets.
 #![tactic(auto)]
 
+mod address;
+mod checked;
 mod fault;
 mod folder;
 mod gear;
 mod hall;
+mod keeper;
 mod output_file;
 mod player;
+mod restoring;
 mod run;
 mod serving;
+mod state_file;
 mod summary;
 
 pub use fault::DaemonFault;
-pub use serving::serve;
+pub use serving::{Purpose, serve};

@@ -5,6 +5,7 @@ ghost use Rattle.std.specs.Prelude.{◌≤◌, vec_len};
 use crate::fault::DaemonFault;
 use crate::gear::Gear;
 use crate::hall::{Hall, shared};
+use crate::keeper::start_keeper_for;
 use crate::summary::print_summary;
 use counted_devices::{Media, Sink};
 use counted_player::{Ledgers, Seat};
@@ -54,6 +55,7 @@ pub(crate) fn run<
     server: Server,
     shelf: &mut S,
     manner: Manner,
+    state: Option<String>,
 ) -> Result<(), DaemonFault> {
     let alloc = host.alloc();
     let Hall {
@@ -70,11 +72,20 @@ pub(crate) fn run<
     let mut crew = start_crew::<L, O, N, M, R>(rt, alloc, &house, writers, source, shares, manner)?;
     // Without this thread the server looks for notices by itself.
     let waking = start_waker(rt, &house, &mut server).ok();
+    let keeping = start_keeper_for(rt, *host, &house, state);
     let served = match start_scanner(rt, alloc, &house, &mut crew, scanner) {
         Ok(()) => server.serve(&rt, alloc, &house, &mut seat, shelf, manner.commands),
         Err(_) => Err(ServeFault::NoMemory),
     };
-    end(&rt, host, &house, &mut seat, crew, waking, served)
+    end(
+        &rt,
+        host,
+        &house,
+        &mut seat,
+        crew,
+        [waking, keeping],
+        served,
+    )
 }
 
 /// Starts the threads of the outputs and of the decoder. All that they are given is made before the first of
@@ -112,14 +123,12 @@ fn end<L: Ledgers, R: Threads + Wait + Clock>(
     house: &House<L>,
     seat: &mut Seat<L>,
     crew: Crew<L>,
-    waking: Option<JoinHandle<()>>,
+    others: [Option<JoinHandle<()>>; 2],
     served: Result<(), ServeFault>,
 ) -> Result<(), DaemonFault> {
     match close_at_last(rt, house, seat, crew) {
         Ok(settled) => {
-            if let Some(waking) = waking {
-                waking.join(rt);
-            }
+            join_all(rt, others);
             let printed = print_summary(host, &settled);
             first_of(served, printed)
         }
@@ -127,6 +136,17 @@ fn end<L: Ledgers, R: Threads + Wait + Clock>(
             let_go(crew);
             Err(DaemonFault::Player(fault))
         }
+    }
+}
+
+/// Joins threads that end with the daemon.
+fn join_all<R: Threads + Wait>(rt: &R, threads: [Option<JoinHandle<()>>; 2]) {
+    let [waking, keeping] = threads;
+    if let Some(waking) = waking {
+        waking.join(rt);
+    }
+    if let Some(keeping) = keeping {
+        keeping.join(rt);
     }
 }
 

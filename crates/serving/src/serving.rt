@@ -3,22 +3,25 @@ ghost use Rattle.settings.specs.Values.{AreWithin};
 ghost use Rattle.held_player.specs.Blanks.{AreFor, HasPartsOfFrames, HasSeatsOfOnePart};
 ghost use Rattle.std.specs.Prelude.{◌≡◌};
 
+use crate::address::{address_of, listen_at};
+use crate::checked::print_found;
 use crate::fault::DaemonFault;
-use crate::folder::songs_of;
+use crate::folder::{Found, songs_of, tell};
 use crate::gear::gear_of;
 use crate::hall::open_hall;
 use crate::player::player_of;
+use crate::restoring::restore;
 use crate::run::{Manner, run};
+use crate::state_file::read_state;
 use counted_player::Ledgers;
 use crew::second_now;
 use frame_ledger::Blanks as FrameBlanks;
 use held_player::Blanks;
-use mio::net::TcpListener;
 use mpd_command::CommandSet;
-use mpd_server::{Server, bind};
+use mpd_server::Server;
 use settings::Settings;
 use shelf::Shelf;
-use song_db::SharedDb;
+use std::alloc::{AllocError, Global};
 use std::marker::Brand;
 use std::net::Net;
 use std::sync::Wait;
@@ -26,10 +29,19 @@ use std::sync::ledger::Blank;
 use std::thread::Threads;
 use std::time::Clock;
 
+/// What the settings are read for.
+#[derive(Clone, Copy, Debug, PartialEq, Eq)]
+pub enum Purpose {
+    /// Serves until a client ends the daemon.
+    Serve,
+    /// Tells what the settings name, and ends.
+    Check,
+}
+
 /// Scans the folder, listens, serves with this shelf until a client ends the daemon, and prints what became
-/// of each output's frames. Both handles are the program's: `rt` is what may wait and start threads, and
-/// `host` opens files and prints. Its type is written out, since what a thread takes with it may not rest on
-/// a bound of `R::File`.
+/// of each output's frames; or, for a check, prints what was found. Both handles are the program's: `rt` is
+/// what may wait and start threads, and `host` opens files and prints. Its type is written out, since what a
+/// thread takes with it may not rest on a bound of `R::File`.
 ///
 /// # Errors
 ///
@@ -39,12 +51,35 @@ pub fn serve<S: Shelf, R: Threads + Wait + Clock + Net + Copy + Send + Sync + 's
     host: HostRuntime,
     settings: &Settings,
     shelf: &mut S,
+    purpose: Purpose,
 ) -> Result<(), DaemonFault>
     requires { AreWithin settings.now }
 {
-    let songs = songs_of(&host, settings.music.as_str(), &settings.rate)?;
-    let listener = bind(&rt, settings.listen.as_str())?;
-    serve_with::<Brand, S, R>(rt, host, blanks(), settings, songs, listener, shelf)
+    if is_state_shelf(settings) {
+        return Err(DaemonFault::BadSetting(String::from_str(host.alloc(), "state")?));
+    }
+    let found = songs_of(&host, settings.music.as_str(), &settings.rate)?;
+    match purpose {
+        Purpose::Serve => serve_with::<Brand, S, R>(rt, host, blanks(), settings, found, shelf),
+        Purpose::Check => check(&host, settings, &found),
+    }
+}
+
+/// Whether the state is to be kept in the file of the shelf, which it would write over.
+fn is_state_shelf(settings: &Settings) -> bool {
+    match (&settings.state, &settings.shelf) {
+        (Some(state), Some(shelf)) => state.as_str() == shelf.as_str(),
+        _ => false,
+    }
+}
+
+/// Whether the address is one and the state can be read; and what was found.
+fn check(host: &HostRuntime, settings: &Settings, found: &Found) -> Result<(), DaemonFault> {
+    address_of(host.alloc(), settings.listen.as_str())?;
+    if let Some(path) = &settings.state {
+        read_state(host, path.as_str())?;
+    }
+    print_found(host, settings, found.told.as_str())
 }
 
 /// Seven new ledgers; those of written and discarded frames have a part for each output, and one more.
@@ -75,19 +110,50 @@ fn serve_with<
     host: HostRuntime,
     blanks: Blanks,
     settings: &Settings,
-    songs: SharedDb,
-    listener: TcpListener,
+    found: Found,
     shelf: &mut S,
 ) -> Result<(), DaemonFault>
     requires settings { AreWithin settings.now }
     requires blanks { AreFor L.names blanks }
 {
     let alloc = host.alloc();
+    let Found { songs, told } = found;
     let player = player_of(alloc, settings, songs, second_now(&rt))?;
-    let hall = open_hall::<L, R>(&rt, alloc, blanks, player)?;
+    let mut hall = open_hall::<L, R>(&rt, alloc, blanks, player)?;
+    if let Some(path) = &settings.state {
+        let opened = &mut hall;
+        restore(
+            &rt,
+            &host,
+            &opened.house,
+            &mut opened.seat,
+            shelf,
+            path.as_str(),
+        )?;
+    }
+    let listener = listen_at(&rt, alloc, settings.listen.as_str())?;
     let server = Server::open(&rt, alloc, listener)?;
     let gear = gear_of(host, settings)?;
-    run(rt, &host, hall, gear, server, shelf, manner_of(settings))
+    tell(&host, told.as_str());
+    let state = state_of(alloc, settings)?;
+    run(
+        rt,
+        &host,
+        hall,
+        gear,
+        server,
+        shelf,
+        manner_of(settings),
+        state,
+    )
+}
+
+/// The file of the state, where the settings name one.
+fn state_of(alloc: Global, settings: &Settings) -> Result<Option<String>, AllocError> {
+    match &settings.state {
+        Some(path) => Ok(Some(String::from_str(alloc, path.as_str())?)),
+        None => Ok(None),
+    }
 }
 
 fn manner_of(settings: &Settings) -> Manner {

@@ -45,6 +45,7 @@ all = record {
   everyday = refl;
   output = refl;
   no_shelf = refl;
+  no_state = refl;
   not_toml = not_toml;
   unknown = unknown;
   low_rate = low_rate;

@@ -108,4 +108,5 @@ settings_keys =
     ∷ key (codes "rate") (is_number 8000 192000) (stands_for (integer (pos 44100)))
     ∷ key (codes "ring") (is_number 1024 65536) (stands_for (integer (pos 8192)))
     ∷ key (codes "shelf") is_text nothing
+    ∷ key (codes "state") is_text nothing
     ∷ []

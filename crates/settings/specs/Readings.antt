@@ -35,6 +35,7 @@ pub record Readings : Type 0 where
   pub everyday : IsThere (codes "everyday") (boolean false)
   pub output : IsThere (codes "output") (array no_items)
   pub no_shelf : value settings_keys (codes "shelf") least_table ≡ None
+  pub no_state : value settings_keys (codes "state") least_table ≡ None
   -- no TOML
   pub not_toml : Refuses (codes "music") (codes "")
   -- an unknown key, and one outside its range

@@ -67,6 +67,7 @@ pub record Says (entries : Members) (settings : Settings) : Type 0 where
   pub music : value settings_keys (codes "music") entries ≡ Some (string (string_bytes settings.music))
   pub listen : value settings_keys (codes "listen") entries ≡ Some (string (string_bytes settings.listen))
   pub shelf : value settings_keys (codes "shelf") entries ≡ option_map (λ path. string (string_bytes path)) settings.shelf
+  pub state : value settings_keys (codes "state") entries ≡ option_map (λ path. string (string_bytes path)) settings.state
   pub rate : value settings_keys (codes "rate") entries ≡ Some (integer (pos settings.rate))
   pub random_start : value settings_keys (codes "random_start") entries ≡ Some (integer (pos settings.random_start))
   pub history : value settings_keys (codes "history") entries ≡ Some (integer (pos settings.history))

@@ -63,6 +63,7 @@ fn read(alloc: Global, table: &Table) -> Result<Settings, AllocError>
         music: text_at(alloc, table, "music")?,
         listen: text_at(alloc, table, "listen")?,
         shelf: text_perhaps(alloc, table, "shelf")?,
+        state: text_perhaps(alloc, table, "state")?,
         rate: rate_of(table),
         random_start: natural_at(table, "random_start"),
         history: number_at(table, "history", HISTORY),

@@ -43,7 +43,7 @@ pub(crate) fn is_good(name: &str, value: &Value) -> bool
     match name {
         "everyday" | "kill" => value.is_bool(),
         "history" => is_number(value, HISTORY),
-        "listen" | "music" | "shelf" => value.is_str(),
+        "listen" | "music" | "shelf" | "state" => value.is_str(),
         "output" => are_outputs(value),
         "random_start" => natural(value).is_some(),
         "rate" => is_number(value, RATE),

@@ -11,6 +11,9 @@ pub struct Settings {
     pub listen: String,
     /// The file of the shelf, which is in memory where there is none.
     pub shelf: Option<String>,
+    /// The file in which queue, current song, modes, volume and outputs are kept; where there is none they end
+    /// with the daemon.
+    pub state: Option<String>,
     /// The rate of all songs, 44,100 by default.
     pub rate: Rate,
     /// Where random numbers start, 0 by default.

@@ -27,6 +27,10 @@ fn line_of<R: Abort>(rt: &R, alloc: Global, settings: &Settings) -> String {
     let mut line = format!(in alloc;
         "{music} {listen} {shelf} {rate} {start} {history} {ring} {kill}"
     ).expect(rt, "no memory");
+    if let Some(state) = &settings.state {
+        let more = format!(in alloc; " state={state}").expect(rt, "no memory");
+        line.push_str(more.as_str()).expect(rt, "no memory");
+    }
     for output in settings.outputs.as_slice() {
         let (name, path, enabled) = (output.name.as_str(), output.path.as_str(), output.enabled);
         let more = format!(in alloc; " {name}={path}:{enabled}").expect(rt, "no memory");
@@ -41,11 +45,15 @@ fn with_needed<R: Abort>(rt: &R, alloc: Global, text: &str) -> String {
 }
 
 /// What is added to the two keys that must be there, and what the whole comes to.
-const ADDED: [(&str, &str); 29] = [
+const ADDED: [(&str, &str); 31] = [
     ("", "/m 127.0.0.1:0 - 44100 0 4096 8192 false"),
     (
         "shelf = \"/s\"\nkill = true",
         "/m 127.0.0.1:0 /s 44100 0 4096 8192 true",
+    ),
+    (
+        "state = \"/t\"",
+        "/m 127.0.0.1:0 - 44100 0 4096 8192 false state=/t",
     ),
     (
         "rate = 8000\nhistory = 1\nring = 1024",
@@ -81,6 +89,7 @@ const ADDED: [(&str, &str); 29] = [
     ("random_start = 9223372036854775808", "BadSetting()"),
     ("kill = 1", "BadSetting(kill)"),
     ("shelf = 1", "BadSetting(shelf)"),
+    ("state = 1", "BadSetting(state)"),
     ("zone = 1\nrate = 1\nport = 1", "BadSetting(port)"),
     ("port = 1\nZone = 1", "BadSetting(Zone)"),
     ("\"é\" = 1\nzone = 1", "BadSetting(zone)"),

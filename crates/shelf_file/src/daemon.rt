@@ -3,7 +3,7 @@ ghost use Rattle.settings.specs.Values.{AreWithin};
 ghost use Rattle.std.specs.Prelude.{IfOk};
 
 use crate::file::serve_on_file;
-use serving::{DaemonFault, serve};
+use serving::{DaemonFault, Purpose, serve};
 use settings::{Settings, settings};
 use shelf::MemShelf;
 use std::fs;
@@ -13,8 +13,8 @@ use std::sync::Wait;
 use std::thread::Threads;
 use std::time::Clock;
 
-/// Serves as a file of settings says, until a client ends the daemon. Both handles are the program's, as of
-/// [`serve`].
+/// Serves as a file of settings says, until a client ends the daemon, or only checks what it says. Both
+/// handles are the program's, as of [`serve`].
 ///
 /// # Errors
 ///
@@ -23,11 +23,18 @@ pub fn serve_by_file<R: Threads + Wait + Clock + Net + Copy + Send + Sync + 'sta
     rt: R,
     host: HostRuntime,
     file: &str,
+    purpose: Purpose,
 ) -> Result<(), DaemonFault> {
     let settings = read_settings(&host, file)?;
     match &settings.shelf {
-        Some(path) => serve_on_file(rt, host, &settings, path.as_str()),
-        None => serve(rt, host, &settings, &mut MemShelf::new(host.alloc())),
+        Some(path) => serve_on_file(rt, host, &settings, path.as_str(), purpose),
+        None => serve(
+            rt,
+            host,
+            &settings,
+            &mut MemShelf::new(host.alloc()),
+            purpose,
+        ),
     }
 }
 

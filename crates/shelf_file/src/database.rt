@@ -1,7 +1,7 @@
 //! The shelf of a database, whatever that is kept in.
 ghost use Rattle.settings.specs.Values.{AreWithin};
 
-use serving::{DaemonFault, serve};
+use serving::{DaemonFault, Purpose, serve};
 use settings::Settings;
 use shelf::ShelfFault;
 use shelf_database::SqlShelf;
@@ -22,12 +22,13 @@ pub(crate) fn serve_with_database<
     host: HostRuntime,
     settings: &Settings,
     opened: Result<Connection<S>, (Error, L)>,
+    purpose: Purpose,
 ) -> (Result<(), DaemonFault>, Option<Connection<S>>)
     requires { AreWithin settings.now }
 {
     match shelf_of(host.alloc(), opened) {
         Ok(mut shelf) => {
-            let served = serve(rt, host, settings, &mut shelf);
+            let served = serve(rt, host, settings, &mut shelf, purpose);
             (served, Some(shelf.into_connection()))
         }
         Err(fault) => (Err(fault), None),

@@ -3,7 +3,7 @@
 ghost use Rattle.settings.specs.Values.{AreWithin};
 
 use crate::database::serve_with_database;
-use serving::DaemonFault;
+use serving::{DaemonFault, Purpose};
 use settings::Settings;
 use sqlite::{Connection, Error, ErrorCode, FileStore, Leftover, Unknown};
 use sqlite_disk::Disk;
@@ -18,11 +18,12 @@ pub(crate) fn serve_on_file<R: Threads + Wait + Clock + Net + Copy + Send + Sync
     host: HostRuntime,
     settings: &Settings,
     path: &str,
+    purpose: Purpose,
 ) -> Result<(), DaemonFault>
     requires { AreWithin settings.now }
 {
     let opened = Connection::open_from(&host, path, false, Unknown);
-    serve_and_close(rt, host, settings, opened)
+    serve_and_close(rt, host, settings, opened, purpose)
 }
 
 /// Serves with the shelf of a connection, and closes it, so that the one file holds all of it. Where that
@@ -32,10 +33,11 @@ fn serve_and_close<D: Disk + Drop, R: Threads + Wait + Clock + Net + Copy + Send
     host: HostRuntime,
     settings: &Settings,
     opened: Result<Connection<FileStore<D>>, (Error, Option<Leftover<D>>)>,
+    purpose: Purpose,
 ) -> Result<(), DaemonFault>
     requires { AreWithin settings.now }
 {
-    let (served, connection) = serve_with_database(rt, host, settings, opened);
+    let (served, connection) = serve_with_database(rt, host, settings, opened, purpose);
     let closed = match connection {
         Some(connection) => connection.close(),
         None => Ok(()),

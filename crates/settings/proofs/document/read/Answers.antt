@@ -13,6 +13,9 @@ text_at-requires-2-clause-good c = good_at settings_keys (codes "listen") (table
 pub text_perhaps-requires : goal.text_perhaps-requires
 text_perhaps-requires c = good_at settings_keys (codes "shelf") (table_view c.args.table.now) c.requires.good
 
+pub text_perhaps-requires-2 : goal.text_perhaps-requires-2
+text_perhaps-requires-2 c = good_at settings_keys (codes "state") (table_view c.args.table.now) c.requires.good
+
 pub rate_of-requires : goal.rate_of-requires
 rate_of-requires c = good_at settings_keys (codes "rate") (table_view c.args.table.now) c.requires.good
 

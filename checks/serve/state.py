@@ -1,0 +1,379 @@
+#!/usr/bin/env python3
+"""The state over starts: what is there again, kill -9 while a client edits, stops at each write, and files of a state that are none.
+
+    checks/serve/state.py [PROGRAM] [--times N] [--beside N]      (200 kills, 8 daemons at a time if left out)
+
+One client edits the queue without a pause; the daemon is killed at a random moment and started again on the same file of the state.
+The queue that comes back is one that stood at most three seconds before the kill, or, before the first write, the one of the start.
+The disk that is full is a small one in memory, and the file of another user is read as nobody: both need root.
+"""
+import argparse
+import concurrent.futures
+import os
+import random
+import shutil
+import subprocess
+import sys
+import tempfile
+import threading
+import time
+
+sys.dont_write_bytecode = True
+
+from daemon import Daemon, Pacer, Table, program_of, put_songs
+
+OLDEST = 3.0    # the seconds that the queue which comes back may have stood before the kill
+LONGEST = 5.0   # the seconds that a client has at most before the kill
+PLAYED = 12.0   # the seconds that the place in a song which is played may be behind: it is looked at every ten
+WRITTEN = 3.0   # the seconds within which a change is in the file
+NOBODY = 65534
+KEYS = ('volume', 'repeat', 'random', 'single', 'consume', 'playlistlength', 'xfade', 'state', 'song', 'elapsed')
+
+
+def queue_of(client):
+    """The queue: of each entry its URI and its priority."""
+    found = []
+    for line in client.must('playlistinfo'):
+        key, _, value = line.partition(': ')
+        if key == 'file':
+            found.append([value, 0])
+        elif key == 'Prio':
+            found[-1][1] = int(value)
+    return tuple(map(tuple, found))
+
+
+def state_of(client):
+    lines = dict(line.split(': ', 1) for line in client.must('status'))
+    return {key: lines.get(key) for key in KEYS}, queue_of(client), client.must('outputs')
+
+
+def started(program, folder, music, path, outputs=()):
+    return Daemon(program, folder, music, outputs, more='state = "%s"' % path)
+
+
+class Editor(threading.Thread):
+    """A client that edits, and each queue that it made with the moments between which it stood."""
+
+    def __init__(self, daemon, songs, seed):
+        super().__init__()
+        self.client, self.songs, self.draw = daemon.client(), songs, random.Random(seed)
+        self.queues, self.wrong = [[time.monotonic(), None, queue_of(self.client)]], None
+
+    def edit(self, queue):
+        """A line, and the queue that it makes of this one."""
+        kind = self.draw.randrange(6)
+        if kind < 3 and len(queue) < 30 or not queue:
+            song = self.draw.choice(self.songs)
+            return 'add "%s"' % song, queue + ((song, 0),)
+        place = self.draw.randrange(len(queue))
+        others = queue[:place] + queue[place + 1:]
+        if kind == 3:
+            priority = self.draw.randrange(256)
+            return 'prio %d %d' % (priority, place), queue[:place] + ((queue[place][0], priority),) + queue[place + 1:]
+        return ('delete %d' % place, others) if kind == 4 else ('move %d 0' % place, (queue[place],) + others)
+
+    def run(self):
+        try:
+            for number in range(1 << 30):
+                line, queue = self.edit(self.queues[-1][2])
+                # It stands from when it is sent, whether its answer comes or not; and the one before until the answer.
+                self.queues.append([time.monotonic(), None, queue])
+                self.client.must(line)
+                self.queues[-2][1] = time.monotonic()
+                if number % 20 == 0 and queue_of(self.client) != queue:
+                    self.wrong = line
+                time.sleep(0.01)
+        except (OSError, AssertionError):
+            pass
+
+
+EDITS = ('add "album 00/0003.wav"', 'add "album 00/0001.wav"', 'add ""', 'prio 7 1', 'prio 255 3', 'setvol 41', 'repeat 1', 'single 1', 'consume 1', 'crossfade 3', 'disableoutput 0')
+LAST = (
+    ('paused', ('seek 2 4.5', 'pause 1')),
+    ('stopped', ('play 1', 'stop')),
+    ('stopped, first of one', ('clear', 'add "album 00/0002.wav"', 'play 0', 'stop')),
+    ('no song', ('stop', 'clear')),
+    ('random', ('clear', 'random 1', 'add ""', 'seek 4 2', 'pause 1')),
+    ('oneshot', ('single oneshot', 'consume oneshot', 'seek 13 1', 'pause 1')),
+)
+
+
+def check_all_back(program, folder, music):
+    """Players are there again, after `kill` and after kill -9."""
+    table = Table('What is there again', 50, 60)
+    kept = os.path.join(folder, 'kept')
+    for name, last in LAST:
+        for ends in ('kill', 'kill -9'):
+            if os.path.exists(kept):
+                os.remove(kept)
+            daemon = started(program, folder, music, kept, ['/dev/null'])
+            client = daemon.client()
+            for line in EDITS + last:
+                client.must(line)
+            wanted = state_of(client)
+            if ends == 'kill':
+                daemon.end()
+            else:
+                time.sleep(OLDEST)
+                daemon.kill()
+            daemon = started(program, folder, music, kept, ['/dev/null'])
+            found = state_of(daemon.client())
+            told = 'as it was' if found == wanted else '%s for %s' % (found, wanted)
+            table.row('%s, after %s' % (name, ends), told, right=found == wanted and daemon.errors().count('\n') == 0)
+            daemon.end()
+    return table.failed
+
+
+def check_played(program, folder, music):
+    """A song that is played is played on from about where it was."""
+    table = Table('\nA song that is played', 50, 60)
+    for ends, most in (('kill', 1.5), ('kill -9', PLAYED)):
+        kept, pacer = os.path.join(folder, 'played by ' + ends), Pacer(os.path.join(folder, 'pipe by ' + ends))
+        daemon = started(program, folder, music, kept, [pacer.path])
+        client = daemon.client()
+        for line in ('add ""', 'seek 3 1'):
+            client.must(line)
+        time.sleep(7)
+        wanted = state_of(client)
+        if ends == 'kill':
+            daemon.end()
+        else:
+            daemon.kill()
+        daemon = started(program, folder, music, kept, [('/dev/null', False)])
+        found = state_of(daemon.client())
+        place, at = float(wanted[0].pop('elapsed')), float(found[0].pop('elapsed'))
+        right = found[:2] == wanted[:2] and place - most <= at <= place + 0.5
+        table.row('after %s' % ends, '%.1f s of %.1f s' % (at, place), right=right)
+        daemon.end()
+        pacer.close()
+    return table.failed
+
+
+def killed_once(program, folder, music, songs, number, moment):
+    """The age of the queue that came back; None where it never stood, or a line made another queue than it should."""
+    own = os.path.join(folder, 'killed %d' % number)
+    os.mkdir(own)
+    kept = os.path.join(own, 'state')
+    daemon = started(program, own, music, kept)
+    editor = Editor(daemon, songs, number)
+    editor.start()
+    time.sleep(moment)
+    killed = time.monotonic()
+    daemon.kill()
+    editor.join()
+    daemon = started(program, own, music, kept)
+    found = queue_of(daemon.client())
+    told = daemon.errors()
+    daemon.kill()
+    ages = [killed - (end or killed) for start, end, queue in editor.queues if queue == found]
+    return None if editor.wrong or 'state' in told or not ages else max(0.0, min(ages)), len(editor.queues)
+
+
+def check_kills(program, folder, music, songs, times, beside):
+    table = Table('\nkill -9 while a client edits', 50, 60)
+    draw = random.Random(7)
+    with concurrent.futures.ThreadPoolExecutor(beside) as pool:
+        runs = [pool.submit(killed_once, program, folder, music, songs, number, draw.uniform(0, LONGEST)) for number in range(times)]
+        results = [run.result() for run in runs]
+    wrong = [number for number, (age, _) in enumerate(results) if age is None]
+    oldest = max([age for age, _ in results if age is not None] or [0.0])
+    table.row('kills, and edits before them', '%d, %d' % (times, sum(edits for _, edits in results)))
+    table.row('queues that never stood', str(wrong or 'none'), right=not wrong)
+    table.row('the oldest that came back stood so long before', '%.2f s' % oldest, right=oldest <= OLDEST)
+    return table.failed
+
+
+CALLS = ('openat', 'write', 'fsync', 'close', 'rename')
+
+
+def stopped_once(program, folder, music, call, number):
+    """Whether the daemon was killed as it made this call on the state's files for the so manyth time; the queue that came back, and how
+    many lines of the file were refused."""
+    own = os.path.join(folder, 'stop %s %d' % (call, number))
+    os.mkdir(own)
+    kept, traced = os.path.join(own, 'state'), os.path.join(own, 'traced')
+    with open(kept, 'w') as file:
+        file.write('addid "album 00/0001.wav" 0\n')
+    paths = ' '.join("-P '%s'" % path for path in (kept, kept + '.new', own))
+    with open(traced, 'w') as file:
+        file.write('#!/bin/sh\nexec strace -f -qq -o /dev/null %s -e trace=%s -e inject=%s:signal=SIGKILL:when=%d %s "$@"\n' % (paths, ','.join(CALLS), call, number, program))
+    os.chmod(traced, 0o755)
+    daemon = Daemon(traced, own, music, more='state = "%s"' % kept, wait=False)
+    try:
+        daemon.wait_for_port()
+        client = daemon.client()
+        for line in ('add "album 00/0002.wav"', 'prio 9 1'):
+            client.must(line)
+        daemon.process.wait(WRITTEN + 1)
+    except (AssertionError, OSError):
+        daemon.process.wait(WRITTEN)
+    except subprocess.TimeoutExpired:
+        daemon.end()
+    stopped = daemon.process.returncode not in (0, None)
+    daemon = started(program, own, music, kept)
+    found = queue_of(daemon.client()), daemon.errors().count('state: ')
+    daemon.kill()
+    return stopped, found
+
+
+def check_stops(program, folder, music, beside):
+    """The daemon is killed as it opens, writes, stores, closes or renames a file of the state, at each such call of its first writes."""
+    table = Table('\nA stop at each call of a write', 50, 60)
+    if shutil.which('strace') is None:
+        table.row('left out', 'strace is not installed')
+        return table.failed
+    old = (('album 00/0001.wav', 0),)
+    middle = old + (('album 00/0002.wav', 0),)
+    new = old + (('album 00/0002.wav', 9),)
+    with concurrent.futures.ThreadPoolExecutor(beside) as pool:
+        runs = {(call, number): pool.submit(stopped_once, program, folder, music, call, number) for call in CALLS for number in range(1, 7)}
+        results = {stop: run.result() for stop, run in runs.items()}
+    stops = {stop: found for stop, (stopped, found) in results.items() if stopped}
+    wrong = [stop for stop, (_, (queue, refused)) in results.items() if queue not in (old, middle, new) or refused]
+    unstopped = [stop for stop, (stopped, (queue, _)) in results.items() if not stopped and queue != new]
+    table.row('stops', ', '.join('%s %d' % (call, sum(1 for stop in stops if stop[0] == call)) for call in CALLS), right=all(any(stop[0] == call for stop in stops) for call in CALLS))
+    table.row('the earlier queue was there', str(sum(1 for queue, _ in stops.values() if queue == old)), right=any(queue == old for queue, _ in stops.values()))
+    table.row('a later queue was there', str(sum(1 for queue, _ in stops.values() if queue != old)), right=any(queue != old for queue, _ in stops.values()))
+    table.row('any other, or a line that is refused', str(wrong or 'none'), right=not wrong)
+    table.row('not the last queue where there was no stop', str(unstopped or 'none'), right=not unstopped)
+    return table.failed
+
+
+def wait_until(holds):
+    end = time.monotonic() + WRITTEN
+    while time.monotonic() < end and not holds():
+        time.sleep(0.05)
+    return holds()
+
+
+def text_at(path):
+    with open(path) as file:
+        return file.read()
+
+
+def check_full(program, folder, music):
+    """A disk that is full."""
+    table = Table('\nA full disk', 50, 60)
+    disk = os.path.join(folder, 'disk')
+    os.mkdir(disk)
+    if subprocess.run(['mount', '-t', 'tmpfs', '-o', 'size=64k', 'tmpfs', disk], capture_output=True).returncode != 0:
+        table.row('left out', 'no small disk can be made here')
+        return table.failed
+    try:
+        kept = os.path.join(disk, 'state')
+        daemon = started(program, folder, music, kept)
+        client = daemon.client()
+        client.must('add "album 00/0001.wav"')
+        table.row('with room it is written', 'yes', right=wait_until(lambda: os.path.exists(kept) and '0001' in text_at(kept)))
+        with open(os.path.join(disk, 'filler'), 'wb', 0) as filler:
+            try:
+                while True:
+                    filler.write(bytes(4096))
+            except OSError:
+                pass
+        before = text_at(kept)
+        for line in ('add ""', 'prio 5 0'):
+            client.must(line)
+        table.row('the fault is told', daemon.errors()[-60:], right=wait_until(lambda: 'cannot write state %s' % kept in daemon.errors()))
+        time.sleep(2 * WRITTEN)
+        table.row('once', str(daemon.errors().count('cannot write')), right=daemon.errors().count('cannot write') == 1)
+        table.row('the file is the earlier one', 'yes', right=text_at(kept) == before)
+        wanted = queue_of(client)
+        os.remove(os.path.join(disk, 'filler'))
+        time.sleep(WRITTEN)
+        daemon.kill()
+        daemon = started(program, folder, music, kept)
+        table.row('with room again it is written', 'yes', right=queue_of(daemon.client()) == wanted)
+        daemon.kill()
+    finally:
+        subprocess.run(['umount', disk])
+    return table.failed
+
+
+def ran(program, folder, path, music, user=None):
+    """The status and the errors of a start that is to end by itself."""
+    settings = os.path.join(folder, 'odd.toml')
+    with open(settings, 'w') as file:
+        file.write('music = "%s"\nlisten = "127.0.0.1:0"\nstate = "%s"\n' % (music, path))
+    run = subprocess.run([program, 'serve', '--config', settings], capture_output=True, timeout=60, user=user)
+    return run.returncode, run.stderr.decode()
+
+
+def check_files(program, folder, music):
+    """Files that are no state."""
+    table = Table('\nFiles of a state', 50, 60)
+    path = os.path.join(folder, 'odd')
+    with open(path, 'wb') as file:
+        file.write(b'add "nothing"\n' * 7500000)
+    wanted = 1, 'music_daemon: cannot read %s, which has more than 64 MiB: it is no state\n' % path
+    found = ran(program, folder, path, music)
+    table.row('100 MB', found[1].strip()[-60:], right=found == wanted)
+    os.remove(path)
+    os.mkdir(path)
+    found = ran(program, folder, path, music)
+    table.row('a folder', found[1].strip()[-60:], right=found == (1, 'music_daemon: cannot read %s\n' % path))
+    os.rmdir(path)
+    if os.getuid() == 0:
+        with open(path, 'w') as file:
+            file.write('setvol 3\n')
+        os.chmod(path, 0o600)
+        found = ran(program, folder, path, music, NOBODY)
+        table.row('of another user', found[1].strip()[-60:], right=found == (1, 'music_daemon: cannot read %s\n' % path) and text_at(path) == 'setvol 3\n')
+    else:
+        table.row('of another user', 'left out, for want of root')
+    refused = path + '.refused'
+    odd = random.Random(3).randbytes(100000)
+    good = 'setvol 12\naddid "album 00/0001.wav" 0\n'
+    lines = 'nonsense\nkill\nidle\naddid "nosuch.wav" 0\n'
+    lists = 'command_list_begin\naddid "nosuch.wav" 0\nprio 9 0\nseek 0 3\ncommand_list_end\ncommand_list_begin\naddid "album 00/0002.wav" 0\nprio 4 0\ncommand_list_end\n'
+    cases = (
+        ('bytes that are no text, and lines behind them', odd + b'\n' + good.encode(), None, (('album 00/0001.wav', 0),)),
+        ('lines that are refused: the others are run', (lines + good).encode(), 4, (('album 00/0001.wav', 0),)),
+        ('lists that are refused: no other song is touched', (good + lists).encode(), 1, (('album 00/0002.wav', 4), ('album 00/0001.wav', 0))),
+        ('a file that ends in a list', (good + 'command_list_begin\naddid "album 00/0002.wav" 0\nprio 4').encode(), 1, (('album 00/0002.wav', 0), ('album 00/0001.wav', 0))),
+    )
+    for name, content, count, queue in cases:
+        with open(path, 'wb') as file:
+            file.write(content)
+        daemon = started(program, folder, music, path)
+        client = daemon.client()
+        found = client.value('status', 'volume'), queue_of(client)
+        told = [line for line in daemon.errors().splitlines() if line.startswith('music_daemon: state: ')]
+        with open(refused, 'rb') as file:
+            right = file.read() == content
+        right = right and found == ('12', queue) and (len(told) == 11 if count is None else len(told) == count)
+        table.row(name, '%d told, %s' % (len(told), found), right=right)
+        daemon.end()
+        os.remove(refused)
+    table.row('the state in the shelf\'s file', '', right=one_file(program, folder, music))
+    return table.failed
+
+
+def one_file(program, folder, music):
+    settings, path = os.path.join(folder, 'one.toml'), os.path.join(folder, 'one')
+    with open(settings, 'w') as file:
+        file.write('music = "%s"\nlisten = "127.0.0.1:0"\nstate = "%s"\nshelf = "%s"\n' % (music, path, path))
+    run = subprocess.run([program, 'serve', '--config', settings], capture_output=True, timeout=60)
+    return (run.returncode, run.stderr) == (1, b'music_daemon: bad setting state\n')
+
+
+def main():
+    parser = argparse.ArgumentParser(description='The state over starts.')
+    parser.add_argument('program', nargs='?')
+    parser.add_argument('--times', type=int, default=200)
+    parser.add_argument('--beside', type=int, default=8)
+    given = parser.parse_args()
+    program = program_of(given.program)
+    with tempfile.TemporaryDirectory() as folder:
+        os.chmod(folder, 0o755)
+        music = os.path.join(folder, 'music')
+        put_songs(music, 12, 441000)
+        songs = ['album %02d/%04d.wav' % (number // 10, number) for number in range(12)]
+        failed = check_all_back(program, folder, music) + check_played(program, folder, music) + check_files(program, folder, music)
+        failed += check_full(program, folder, music) + check_stops(program, folder, music, given.beside)
+        failed += check_kills(program, folder, music, songs, given.times, given.beside)
+    print('\n%d failed' % failed)
+    return 1 if failed else 0
+
+
+sys.exit(main())

@@ -1,0 +1,13 @@
+//! What is kept of a player while the daemon is not there: its queue, its current song, its modes and its
+//! outputs, as a text of protocol lines.
+#![tactic(auto)]
+
+mod answers;
+mod kept;
+mod laws;
+mod text;
+
+pub use answers::kept_of;
+pub use kept::{Kept, KeptEntry, KeptOptions, KeptOutput, KeptPlayback, KeptSong};
+pub use laws::gives_back;
+pub use text::state_text;

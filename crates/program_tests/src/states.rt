@@ -1,0 +1,69 @@
+//! What is kept of a player, as lines.
+use crate::helpers::wants;
+use kept_state::{kept_of, state_text};
+use std::alloc::{AllocError, Global};
+use std::process::Abort;
+
+const OPTIONS: &str = "setvol 100\nrepeat 0\nrandom 0\nsingle 0\nconsume 0\ncrossfade 0\n";
+
+/// What a player answered, and the lines after those of volume and modes as they are at the start.
+const ANSWERS: [(&str, &str); 8] = [
+    ("", ""),
+    (
+        "state: stop\nfile: a.wav\nPos: 0\nId: 7\nfile: b.wav\nPos: 1\nId: 8\n",
+        "addid \"b.wav\" 0\naddid \"a.wav\" 0\n",
+    ),
+    (
+        "state: pause\nsong: 1\nelapsed: 4.500\nfile: a.wav\nTitle: state: play\nPos: 0\nId: 7\nPrio: 2\nfile: b \"x\".wav\nPos: 1\nId: 8\nPrio: 9\nfile: c.wav\nPos: 2\nId: 9\nPrio: 255\n",
+        "command_list_begin\naddid \"c.wav\" 0\nprio 255 0\ncommand_list_end\ncommand_list_begin\naddid \"b \\\"x\\\".wav\" 0\nprio 9 0\nseek 0 4.500\npause 1\ncommand_list_end\ncommand_list_begin\naddid \"a.wav\" 0\nprio 2 0\ncommand_list_end\n",
+    ),
+    (
+        "state: play\nsong: 0\nelapsed: 0.000\nfile: a.wav\n",
+        "command_list_begin\naddid \"a.wav\" 0\nseek 0 0.000\ncommand_list_end\n",
+    ),
+    (
+        "state: stop\nsong: 0\nfile: a.wav\n",
+        "command_list_begin\naddid \"a.wav\" 0\nplay 0\nstop\ncommand_list_end\n",
+    ),
+    ("state: stop\nnextsong: 3\n", ""),
+    ("state: play\nsong: 3\nfile: a.wav\n", "addid \"a.wav\" 0\n"),
+    (
+        "outputid: 0\noutputname: outputenabled: 0\noutputenabled: 1\noutputid: 1\noutputenabled: 0\n",
+        "enableoutput 0\ndisableoutput 1\n",
+    ),
+];
+
+fn text_of(alloc: Global, answers: &str) -> Result<String, AllocError> {
+    let kept = kept_of(alloc, answers)?;
+    state_text(alloc, &kept)
+}
+
+fn check_states<R: Abort>(rt: &R, alloc: Global) {
+    for (answers, lines) in ANSWERS {
+        let text = text_of(alloc, answers).expect(rt, "no memory");
+        let wanted = format!(in alloc; "{OPTIONS}{lines}").expect(rt, "no memory");
+        wants(rt, answers, text.as_str(), wanted.as_str());
+    }
+}
+
+#[test]
+fn states(rt: HostRuntime) {
+    check_states(&rt, rt.alloc());
+}
+
+fn check_options<R: Abort>(rt: &R, alloc: Global) {
+    let answers =
+        "volume: 7\nrepeat: 1\nrandom: 1\nsingle: oneshot\nconsume: 1\nplaylist: 4\nxfade: 12\n";
+    let text = text_of(alloc, answers).expect(rt, "no memory");
+    wants(
+        rt,
+        "options",
+        text.as_str(),
+        "setvol 7\nrepeat 1\nrandom 1\nsingle oneshot\nconsume 1\ncrossfade 12\n",
+    );
+}
+
+#[test]
+fn options(rt: HostRuntime) {
+    check_options(&rt, rt.alloc());
+}

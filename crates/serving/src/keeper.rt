@@ -1,0 +1,282 @@
+//! A client of the daemon's own that keeps the player's state in a file.
+use crate::folder::tell;
+use crate::restoring::{BASE, KEEPER};
+use crate::state_file::write_state;
+use command_lists::ListForm;
+use counted_player::{Ledgers, Seat};
+use held_player::News;
+use house::House;
+use kept_state::{KeptPlayback, kept_of, state_text};
+use mpd_command::Request;
+use shelf::MemShelf;
+use std::alloc::{AllocError, Global};
+use std::sync::{Arc, Wait};
+use std::thread::{self, JoinHandle, Threads};
+use std::time::{Clock, Duration, Instant};
+use transitions::Next;
+
+/// How many milliseconds lie at least between two writes.
+const PAUSE: u64 = 2_000;
+
+/// How many milliseconds pass at most in a pause until the end is seen.
+const LOOK: u64 = 50;
+
+/// How many seconds the client idles at most while a song is played, whose place moves on without a change.
+const PLAYING: u64 = 10;
+
+/// How many milliseconds the client waits at most before it looks whether the daemon has ended.
+const LONGEST_WAIT: u64 = 1_000;
+
+/// How many milliseconds others have to take their notices out, before it is looked again.
+const HAND_OUT: u64 = 5;
+
+/// What is kept changes by these alone, but for the place in a song that is played.
+const IDLE: &str = "idle playlist player mixer options output";
+
+/// What the player is asked.
+const QUESTIONS: &str = "status\noutputs\nplaylistinfo";
+
+/// Starts the thread that keeps the state in the file of this path, where there is one. Where it cannot be
+/// started, that is told on standard error and nothing is kept.
+pub(crate) fn start_keeper_for<
+    L: Ledgers + Send + Sync + 'static,
+    R: Threads + Wait + Clock + Copy + Send + 'static,
+>(
+    rt: R,
+    host: HostRuntime,
+    house: &Arc<House<L>, Global>,
+    path: Option<String>,
+) -> Option<JoinHandle<()>> {
+    let path = path?;
+    match start_keeper(rt, host, house, path) {
+        Ok(handle) => Some(handle),
+        Err(_) => {
+            tell(
+                &host,
+                "the state is not kept: there is no memory for its thread",
+            );
+            None
+        }
+    }
+}
+
+fn start_keeper<
+    L: Ledgers + Send + Sync + 'static,
+    R: Threads + Wait + Clock + Copy + Send + 'static,
+>(
+    rt: R,
+    host: HostRuntime,
+    house: &Arc<House<L>, Global>,
+    path: String,
+) -> Result<JoinHandle<()>, AllocError> {
+    let house = Arc::try_clone(house)?;
+    let Ok(seat) = house.seat(&rt) else {
+        return Err(AllocError);
+    };
+    let handle = thread::spawn(&rt, move || keep(&rt, &host, &*house, seat, path.as_str()))?;
+    Ok(handle)
+}
+
+/// Keeps the state until the daemon has ended.
+fn keep<'h, L: Ledgers, R: Wait + Clock>(
+    rt: &'h R,
+    host: &'h HostRuntime,
+    house: &'h House<L>,
+    seat: Seat<L>,
+    path: &'h str,
+) {
+    let mut keeper = Keeper {
+        rt,
+        host,
+        house,
+        seat,
+        shelf: MemShelf::new(host.alloc()),
+        path,
+        written: String::new(host.alloc()),
+        has_failed: false,
+        plays: false,
+    };
+    if keeper
+        .house
+        .notice(rt, &mut keeper.seat, News::Comes(KEEPER))
+        .is_err()
+    {
+        tell(
+            host,
+            "the state is not kept: the player takes no client for it",
+        );
+        return;
+    }
+    for _ in rt.forever() {
+        // Asked before the last look, so that this sees all that was done until the end.
+        let has_ended = house.has_ended(rt);
+        let is_kept = keeper.look();
+        if has_ended {
+            return;
+        }
+        rest(rt, house);
+        if is_kept {
+            keeper.await_change();
+        }
+    }
+}
+
+/// Rests between two writes, or until the daemon ends.
+fn rest<L: Ledgers, R: Wait + Clock>(rt: &R, house: &House<L>) {
+    for _ in 0..PAUSE / LOOK {
+        if house.has_ended(rt) {
+            return;
+        }
+        thread::sleep(rt, Duration::from_millis(LOOK));
+    }
+}
+
+/// The client, and what it wrote last.
+#[derive(Drop)]
+struct Keeper<'h, L: Ledgers, R: Wait + Clock> {
+    rt: &'h R,
+    host: &'h HostRuntime,
+    house: &'h House<L>,
+    seat: Seat<L>,
+    /// None of its commands asks a shelf.
+    shelf: MemShelf,
+    path: &'h str,
+    written: String,
+    /// Whether the last write failed, which is told once.
+    has_failed: bool,
+    /// Whether a song was played at the last look.
+    plays: bool,
+}
+
+impl<'h, L: Ledgers, R: Wait + Clock> Keeper<'h, L, R> {
+    /// Looks at the player, and writes its state where that is another than the one that was written last.
+    /// False where there was no memory for it, or it could not be written.
+    fn look(&mut self) -> bool {
+        match self.state() {
+            Ok(text) => {
+                if text.as_str() == self.written.as_str() {
+                    return true;
+                }
+                self.write(text)
+            }
+            Err(_) => false,
+        }
+    }
+
+    fn write(&mut self, text: String) -> bool {
+        match write_state(self.host, self.path, text.as_str()) {
+            Ok(()) => {
+                self.written = text;
+                self.has_failed = false;
+                true
+            }
+            Err(fault) => {
+                if !self.has_failed {
+                    let _told = eprintln!(*self.host;
+                        "music_daemon: cannot write state {}: {fault}",
+                        self.path
+                    );
+                }
+                self.has_failed = true;
+                false
+            }
+        }
+    }
+
+    /// The state as it is now.
+    fn state(&mut self) -> Result<String, AllocError> {
+        let alloc = self.host.alloc();
+        let answers = self.ask()?;
+        let kept = kept_of(alloc, answers.as_str())?;
+        self.plays = match &kept.song {
+            Some(song) => matches!(&song.playback, KeptPlayback::Play(_)),
+            None => false,
+        };
+        state_text(alloc, &kept)
+    }
+
+    /// What the player answers to the questions, all at one moment.
+    fn ask(&mut self) -> Result<String, AllocError> {
+        let alloc = self.host.alloc();
+        let mut requests = Vec::new(alloc);
+        for line in QUESTIONS.lines() {
+            requests.push(Request::of_line(alloc, line, BASE)?)?;
+        }
+        let Ok(answered) = self.house.list(
+            self.rt,
+            &mut self.seat,
+            &mut self.shelf,
+            KEEPER,
+            ListForm::Plain,
+            requests,
+        )
+        else {
+            return Err(AllocError);
+        };
+        let mut text = String::new(alloc);
+        for outcome in answered.answers().outcomes() {
+            // An answer that is none must not be taken for that of an empty player.
+            if outcome.reply().next() != Next::Goes || outcome.reply().is_refusal() {
+                return Err(AllocError);
+            }
+            text.push_str(outcome.reply().text())?;
+        }
+        Ok(text)
+    }
+
+    /// Idles until what is kept may have changed or the daemon has ended; while a song is played, no longer
+    /// than so many seconds.
+    fn await_change(&mut self) {
+        if self.tell_player(IDLE) != Some(Next::Waits) {
+            return;
+        }
+        let (rt, house) = (self.rt, self.house);
+        let last = self.last_moment();
+        for _ in rt.forever() {
+            let waits = house.await_notice(rt, Duration::from_millis(LONGEST_WAIT));
+            if house.outbox(rt, KEEPER).is_some() {
+                return;
+            }
+            let is_over = house.has_ended(rt) || is_past(rt, &last);
+            if is_over && self.tell_player("noidle").is_some() {
+                return;
+            }
+            if waits || is_over {
+                thread::sleep(rt, Duration::from_millis(HAND_OUT));
+            }
+        }
+    }
+
+    /// Until when the client idles at most, where a song is played and there is a clock.
+    fn last_moment(&self) -> Option<Instant> {
+        if !self.plays {
+            return None;
+        }
+        match Instant::now(self.rt) {
+            Ok(now) => now.checked_add(Duration::from_secs(PLAYING)),
+            Err(_) => None,
+        }
+    }
+
+    /// Says a line of the client. None where there was no memory for it.
+    fn tell_player(&mut self, line: &str) -> Option<Next> {
+        let Ok(request) = Request::of_line(self.host.alloc(), line, BASE) else {
+            return None;
+        };
+        match self
+            .house
+            .command(self.rt, &mut self.seat, &mut self.shelf, KEEPER, request)
+        {
+            Ok(answered) => Some(answered.reply().next()),
+            Err(_) => None,
+        }
+    }
+}
+
+/// Whether a moment is past, if there is one. Where the clock cannot be read, it is not.
+fn is_past<K: Clock>(clock: &K, last: &Option<Instant>) -> bool {
+    match (last, Instant::now(clock)) {
+        (Some(last), Ok(now)) => *last < now,
+        _ => false,
+    }
+}
