@@ -121,6 +121,7 @@ THEOREMS = [
     ('partition_laws', 'equal_views_hear_the_same', '', 'partition_laws/Apart', 'EqualViewsHearTheSame', 'partition_laws: daemons_stay_legal'),
     ('partition_laws', 'others_may_be_left_out', '', 'partition_laws/Apart', 'OthersMayBeLeftOut', ''),
     ('output_ring', 'Drainer::write_out', 'played', 'output_ring/Turns', 'WritesHand', 'partition_laws: moves_rise reports_tell_moves'),
+    ('partition_laws', 'feeds_owe_nothing', '', 'partition_laws/Owing', 'FeedsOweNothing', ''),
     'decoded frames are written or discarded, in order, then left',
     ('crew', 'close', 'settled', 'crew/Closing', 'ClosesRuns', ''),
     ('held_player', 'Held::settle_all', 'settles', 'held_player/Settling', 'SettlesInTurn', ''),

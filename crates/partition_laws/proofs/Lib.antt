@@ -8,3 +8,4 @@ pub mod Apart
 pub mod Moves
 pub mod Crossings
 pub mod Reports
+pub mod Owing

@@ -193,7 +193,7 @@ turns_tell_moves i output written discarded failed s places is going =
     by (holding output fs) refl is
 
 -- what frames are fed with
-fed_is : (outputs : OutputsData) (output moves : ℕ) → slice_index_or (fed outputs) output None ≡ Some moves → fed_at outputs output ≡ Some moves
+pub fed_is : (outputs : OutputsData) (output moves : ℕ) → slice_index_or (fed outputs) output None ≡ Some moves → fed_at outputs output ≡ Some moves
 fed_is outputs zero moves e = e
 fed_is outputs (suc zero) moves e = e
 fed_is outputs (suc (suc zero)) moves e = e
@@ -204,7 +204,7 @@ fed_is outputs (suc (suc (suc (suc (suc (suc zero)))))) moves e = e
 fed_is outputs (suc (suc (suc (suc (suc (suc (suc zero))))))) moves e = e
 fed_is outputs (suc (suc (suc (suc (suc (suc (suc (suc output)))))))) moves e = cc
 
-asked_is : (asked enabled : Bool) (n moves : ℕ) → ((if asked && enabled then Some n else None) ≡ Some moves) → (asked ≡ true) × (n ≡ moves)
+pub asked_is : (asked enabled : Bool) (n moves : ℕ) → ((if asked && enabled then Some n else None) ≡ Some moves) → (asked ≡ true) × (n ≡ moves)
 asked_is true true n moves e = (refl, (let same : n ≡ moves = cc in same))
 asked_is true false n moves e = cc
 asked_is false enabled n moves e = cc
@@ -224,7 +224,7 @@ module _ (rate number frames : ℕ) where
   fed_report ended part = report_in rate part (have ended part number frames).effect (have ended part number frames).report
 
   -- frames that are fed are those of a partition that is there, with its outputs
-  feed_is : (ended : Bool) (part : Option Part) (feed : Feed) → fed_report ended part ≡ ToFeed (Some feed) → (p : Part) × (part ≡ Some p) × (feed.outputs ≡ fed p.outputs)
+  pub feed_is : (ended : Bool) (part : Option Part) (feed : Feed) → fed_report ended part ≡ ToFeed (Some feed) → (p : Part) × (part ≡ Some p) × (feed.outputs ≡ fed p.outputs)
   feed_is true None feed e = cc
   feed_is false None feed e = cc
   feed_is true (Some p) feed e = cc
@@ -237,7 +237,7 @@ module _ (rate number frames : ℕ) where
       ] in
       (p, refl, cases (had p number frames).feed e)
 
-have_report : (i : Image) (place number frames : ℕ) → (told i (Have place number frames)).report
+pub have_report : (i : Image) (place number frames : ℕ) → (told i (Have place number frames)).report
     ≡ fed_report i.shared.library.rate number frames i.shared.ended (part_at place i.parts)
 unfolding told
 have_report i place number frames = refl

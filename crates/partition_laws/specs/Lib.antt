@@ -1,3 +1,4 @@
 pub mod Apart
 pub mod Moves
 pub mod Reports
+pub mod Owing

@@ -1,6 +1,7 @@
 //! Laws of daemons with several partitions. A caller that calls one may use it; each does nothing.
 ghost use Rattle.partition_laws.specs.Apart.{EqualViewsHearTheSame, LeadsToLegal, OpensLegal, OthersMayBeLeftOut, StaysLegal};
 ghost use Rattle.partition_laws.specs.Moves.{MovesRise, MovesTellPlaces, OpensApart, StaysApart};
+ghost use Rattle.partition_laws.specs.Owing.{FeedsOweNothing};
 ghost use Rattle.partition_laws.specs.Reports.{FeedsNameMoves, KeepsOutputs, OpensWithOutputs, TurnsTellMoves};
 
 /// A daemon that nothing happened to is legal, and a legal one is so after every event: so each is that some
@@ -39,4 +40,11 @@ pub fn reports_tell_moves()
     ensures next { KeepsOutputs }
     ensures turns { TurnsTellMoves }
     ensures feeds { FeedsNameMoves }
+{}
+
+/// A want says in the rings of which outputs frames wait. Where it is given a job, the frames of that job are
+/// fed to none of these outputs, whatever happens before they are decoded: no ring that is handed them owed
+/// any.
+pub fn feeds_owe_nothing()
+    ensures { FeedsOweNothing }
 {}

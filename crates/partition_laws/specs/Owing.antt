@@ -1,0 +1,36 @@
+-- A ring is fed only where it owed no frames when their job was given, over the events of a daemon.
+use Rattle.std.specs.Prelude.{◌≡◌, ℕ, ◌==◌, Bool, true, false, ◌&&◌, List, [], ◌∷◌, Option, Some, None, slice_index_or}
+use Rattle.player_state.specs.declared.report.Feed.{Feed}
+use Rattle.player_state.specs.declared.report.Report.{Report}
+use Rattle.player_state.specs.declared.report.Report.TheVariants.{ToDecode, ToFeed}
+use Rattle.player_events.specs.declared.event.Event.{Event}
+use Rattle.player_events.specs.declared.event.Event.TheVariants.{Have, Want}
+use Rattle.partition.specs.Image.{Image}
+use Rattle.partition.specs.Step.{next_image, place_at, told}
+use Rattle.partition_laws.specs.Apart.{after_events}
+use Rattle.partition_laws.specs.Reports.{HasOutputs, is_fed_at}
+
+abbrev pub is_job : Report → Bool
+is_job (ToDecode (Some job)) = true
+is_job _ = false
+
+-- a partition is given a job by an event
+abbrev pub gives_job : ℕ → Image → Event → Bool
+gives_job place i event = (place_at i event == place) && is_job (told i event).report
+
+-- a partition is given no job by a list of events
+abbrev pub GivesNoJob : ℕ → Image → List (ℕ × Event) → Type 0
+GivesNoJob place i [] = Unit {0}
+GivesNoJob place i (e ∷ es) = (gives_job place i e.1 ≡ false) × GivesNoJob place (next_image e.0 i e.1) es
+
+-- the frames of a partition's job are fed to none of these outputs
+abbrev pub FeedsNoneOf : List Bool → ℕ → Image → Type 0
+FeedsNoneOf owes place i = (number frames : ℕ) (feed : Feed) → (told i (Have place number frames)).report ≡ ToFeed (Some feed)
+    → (output moves : ℕ) → is_fed_at feed output ≡ Some moves → slice_index_or owes output false ≡ false
+
+-- A want says in the rings of which outputs frames wait. Where it is given a job, the frames of that job are
+-- fed to none of these, whatever happens before they are decoded.
+abbrev pub FeedsOweNothing : Type 0
+FeedsOweNothing = (i : Image) (seat place : ℕ) (owes : List Bool) (es : List (ℕ × Event)) → HasOutputs i
+    → gives_job place i (Want place owes) ≡ true → GivesNoJob place (next_image seat i (Want place owes)) es
+    → FeedsNoneOf owes place (after_events (next_image seat i (Want place owes)) es)
