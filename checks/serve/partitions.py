@@ -3,8 +3,8 @@
 
     checks/serve/partitions.py [PROGRAM] [--seconds N]
 
-N seconds (20) of 63 clients in 16 partitions that edit, ask and wait there, each in a queue that no other partition shows; the time of
-requests with one partition and with 16, and the memory of an empty one; two rooms of which one's reader stands still; and an output
+N seconds (20) of 63 clients in 16 partitions that edit, ask and wait there, each in a queue that no other partition shows; the instructions
+of lines with one partition and with 16 (by Debian's package valgrind), and the memory of an empty one; two rooms of which one's reader stands still; and an output
 that is moved to and fro while both its partitions play. The exit status is 1 where an answer is wrong, where a client
 hears of another partition, where a room falls silent for another's reader, or where the books of an output do not balance.
 """
@@ -23,7 +23,18 @@ from daemon import Client, Daemon, Pacer, Table, program_of, put_songs
 from load import Asker, run_askers
 
 MOST = 16           # partitions
-DEAREST = 1.5       # times what a request costs where there is one partition
+DEAREST = 1.5       # times what a line costs where there is one partition
+TIMES = 200         # that a line is run
+# lines of a script, and how many events its history holds (0: as many as by default); with 1 each event is folded
+COSTS = [
+    ('`ping`', ['1 ping'], 0),
+    ('`status`', ['1 status'], 0),
+    ('`outputs`', ['1 outputs'], 0),
+    ('`addid`', ['1 addid a.wav'], 0),
+    ('`setvol`', ['1 setvol 30', '1 setvol 40'], 0),
+    ('a change told to a client', ['2 idle mixer', '1 setvol 30', '2 idle mixer', '1 setvol 40'], 0),
+    ('a `ping` and a fold', ['1 ping'], 1),
+]
 EMPTY = 20          # the most kB of an empty partition
 SLOWEST = 1.0       # the seconds within which each answer is to come
 MOVES = 40          # of an output that is moved to and fro
@@ -104,35 +115,31 @@ def balances(table, daemon, pacers=()):
     table.row('the books at the end', '%d outputs, %d frames decoded' % (len(books), sum(book[1] for book in books)), right=right)
 
 
-def seconds_of(client, request, count):
-    """Seconds of a request, of so many in flight."""
-    client.must(request)
-    start = time.monotonic()
-    client.socket.sendall((request + '\n').encode() * count)
-    for _ in range(count):
-        if client.answer()[-1] != 'OK':
-            raise AssertionError(request)
-    return (time.monotonic() - start) / count
+def instructions(program, folder, lines, partitions, length, history):
+    """Instructions of some lines of a script, by callgrind, with so many partitions of which the first has so many entries."""
+    before = ['! song a.wav 8000'] + ['! limit history %d' % history] * bool(history)
+    before += ['1 newpartition p%d' % number for number in range(1, partitions)] + ['1 add a.wav'] * length
+    counted = []
+    for times in (TIMES, 2 * TIMES):
+        out = os.path.join(folder, 'counted')
+        subprocess.run(['valgrind', '--tool=callgrind', '--callgrind-out-file=%s' % out, program, 'script'], check=True,
+                       input='\n'.join(before + lines * times + ['']).encode(), stdout=subprocess.DEVNULL, stderr=subprocess.DEVNULL)
+        with open(out, encoding='utf-8') as told:
+            counted.append(int(re.search(r'^(?:summary|totals): (\d+)', told.read(), re.M)[1]))
+    return (counted[1] - counted[0]) / TIMES
 
 
 def check_cost(table, program, folder, music):
-    """What a request costs with one partition and with 16, and the memory of an empty one."""
+    """What lines cost with one partition and with 16, in instructions; and the memory of an empty partition."""
+    for name, lines, history in COSTS:
+        one = instructions(program, folder, lines, 1, 0, history)
+        of_many = instructions(program, folder, lines, MOST, 0, history)
+        table.row(name, '%.0f instructions, with 16 partitions %.0f' % (one, of_many), right=of_many <= DEAREST * one)
     daemon = Daemon(program, folder, music, ['/dev/null'])
-    client = daemon.client()
-    requests = ['ping', 'status', 'outputs', 'addid "album 00/0001.wav"', 'delete 0', 'setvol 30', 'currentsong']
-    times = {}
-    for count in (1, MOST):
-        if count > 1:
-            before = daemon.memory()
-            new_partitions(daemon, count).close()
-            each = 1000 * (daemon.memory() - before) / (count - 1)
-            table.row('memory of an empty partition', '%.1f kB' % each, right=each <= EMPTY)
-        for request in requests:
-            times[request, count] = min(seconds_of(client, request, 500) for _ in range(20))
-    for request in requests:
-        one, all_of = times[request, 1], times[request, MOST]
-        table.row(request, '%.1f us, with 16 partitions %.1f us' % (1e6 * one, 1e6 * all_of), right=all_of <= DEAREST * one)
-    client.close()
+    before = daemon.memory()
+    new_partitions(daemon, MOST).close()
+    each = 1000 * (daemon.memory() - before) / (MOST - 1)
+    table.row('memory of an empty partition', '%.1f kB' % each, right=each <= EMPTY)
     balances(table, daemon)
 
 
