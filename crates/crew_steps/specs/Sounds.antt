@@ -69,6 +69,10 @@ song_at partner songs = if partner then songs.partner else songs.current
 abbrev pub AreOpenFor : OpenSongs → ℕ → Job → Type 0
 AreOpenFor songs place job = (is_song place job.id songs.current ≡ true) × (is_partner place job.fade songs.partner ≡ true)
 
+-- no song is open
+abbrev pub AreClosed : OpenSongs → Type 0
+AreClosed songs = (songs.current ≡ None) × (songs.partner ≡ None)
+
 -- a song of a partition's job is not open: its own, or the one that it fades into
 abbrev pub IsShut : OpenSongs → ℕ → Job → Bool → Type 0
 IsShut songs place job false = is_song place job.id songs.current ≡ false

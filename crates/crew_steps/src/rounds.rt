@@ -1,5 +1,5 @@
 //! The numbers of the partitions, which have their turns one after the other.
-ghost use Rattle.std.specs.Prelude.{◌≡◌, ◌⊎◌, true, false, slice_index_or};
+ghost use Rattle.std.specs.Prelude.{◌≡◌, ◌⊎◌, true, false, filter, length, slice_index_or};
 
 /// Whether a partition has this number, of sixteen numbers of which these have one.
 pub(crate) fn is_there(places: [bool; 16], place: u8) -> bool
@@ -23,6 +23,8 @@ pub(crate) fn next_place(places: [bool; 16], before: u8) -> u8
 }
 
 /// How many partitions there are.
-pub(crate) fn count_of(places: [bool; 16]) -> usize {
+pub(crate) fn count_of(places: [bool; 16]) -> usize
+    ensures { result ≡ length (filter (λ is_there. is_there) places) }
+{
     places.iter().filter(|is_there| **is_there).count()
 }

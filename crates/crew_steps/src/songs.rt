@@ -49,11 +49,11 @@ pub(crate) struct Songs<S: SongSource<M> + Drop, M: Media + Drop> {
 }
 
 impl<S: SongSource<M> + Drop, M: Media + Drop> Songs<S, M> {
-    ghost use Rattle.std.specs.Prelude.{◌≡◌, ◌≤◌, ◌⊎◌, ◌||◌, Bool, true, false, None, Some, Err, IfOk, IfErr, IsOk, OnErr, OnOk, if◌then◌else◌, not, vec_len};
+    ghost use Rattle.std.specs.Prelude.{◌≡◌, ◌≤◌, ◌⊎◌, ◌||◌, Bool, true, false, None, Some, Err, IfOk, IfErr, IsOk, OnErr, OnOk, if◌then◌else◌, not, slice_index_or, vec_len};
     ghost use Rattle.crew_steps.specs.OpenSongs.{HasFault, opened, opened_in};
     ghost use Rattle.crew_steps.specs.Shown.{songs_of};
     ghost use Rattle.crew_steps.specs.Songs.{Fails, IsFaultOf, IsShort};
-    ghost use Rattle.crew_steps.specs.Sounds.{AreOfSome, IsMeant, OthersOf, ReadsJob, is_song, song_at};
+    ghost use Rattle.crew_steps.specs.Sounds.{AreClosed, AreOfSome, IsMeant, OthersOf, ReadsJob, is_song, song_at};
     ghost use Rattle.crew_steps.specs.declared.songs.NoFrames.{NoFrames};
 
     pub(crate) fn new(alloc: Global, source: S, rate: u32) -> Songs<S, M>
@@ -72,7 +72,7 @@ impl<S: SongSource<M> + Drop, M: Media + Drop> Songs<S, M> {
     /// Turns to the songs of the partition of a number. Where it has just come, none of it is open: what was
     /// open of an earlier one of this number is closed.
     pub(crate) fn turn_to(&mut self, place: u8, is_new: bool) -> Result<(), NoFrames>
-        ensures closed { is_new ≡ true → OnOk result (((songs_of self.new).current ≡ None) × ((songs_of self.new).partner ≡ None)) }
+        ensures closed { is_new ≡ true → OnOk result (AreClosed (songs_of self.new)) }
         ensures fault { IfErr result (λ fault. fault ≡ NoFrames.NoMemory) }
         ensures rate { self.new.rate ≡ self.old.rate }
     {
@@ -107,7 +107,9 @@ impl<S: SongSource<M> + Drop, M: Media + Drop> Songs<S, M> {
 
     /// Closes the songs of the partitions that are gone: of sixteen numbers these are of one.
     pub(crate) fn close_gone(&mut self, places: [bool; 16])
-        ensures { self.new.rate ≡ self.old.rate }
+        ensures closed { slice_index_or places self.old.place false ≡ false → AreClosed (songs_of self.new) }
+        ensures kept { slice_index_or places self.old.place false ≡ true → songs_of self.new ≡ songs_of self.old }
+        ensures rate { self.new.rate ≡ self.old.rate }
     {
         close_gone(&mut self.others, places);
         if !is_there(places, self.place) {
@@ -188,7 +190,7 @@ impl<S: SongSource<M> + Drop, M: Media + Drop> Songs<S, M> {
 
     /// Closes the current song and its partner.
     fn close_both(&mut self)
-        ensures closed { ((songs_of self.new).current ≡ None) × ((songs_of self.new).partner ≡ None) }
+        ensures closed { AreClosed (songs_of self.new) }
         ensures rate { self.new.rate ≡ self.old.rate }
     {
         self.close(false);
