@@ -62,7 +62,7 @@ def unescaped(line):
 def worked(program):
     """Each worked row, and once more with each line that its head says. The gate holds what the program prints of a row to the
     row; here what each line prints is read off a run without faults."""
-    for name in sorted(os.listdir(WORKED)):
+    for name in sorted(it for it in os.listdir(WORKED) if it.endswith('.row')):
         lines, fronts = [], [b'']
         with open(os.path.join(WORKED, name), 'rb') as row:
             for line in row:

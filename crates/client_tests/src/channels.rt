@@ -294,12 +294,15 @@ fn after_sixty_three(alloc: Global, steps: &[Step]) -> Result<String, AllocError
     if !are_sent(&mut channels, "news", 63) {
         return String::from_str(alloc, "refused");
     }
-    let mut all = answers(alloc, &mut channels, steps)?;
-    for client in 1..3 {
-        all.push_str(last_message(alloc, &channels, client)?.as_str())?;
-        all.push('\n')?;
-    }
-    Ok(all)
+    then_last(alloc, &mut channels, steps)
+}
+
+/// What is answered to the steps, and then the last message of each of two clients.
+fn then_last(alloc: Global, channels: &mut Channels, steps: &[Step]) -> Result<String, AllocError> {
+    let answers = answers(alloc, channels, steps)?;
+    let first = last_message(alloc, channels, 1)?;
+    let second = last_message(alloc, channels, 2)?;
+    format!(in alloc; "{answers}{first}\n{second}\n")
 }
 
 #[test]
@@ -413,15 +416,18 @@ fn full_image(alloc: Global) -> Result<String, AllocError> {
     }
     let mut image = channels.image()?;
     channels.leave(1);
-    let mut all = last_message(alloc, &image, 1)?;
-    all.push('\n')?;
+    asked_of_image(alloc, &mut image)
+}
+
+fn asked_of_image(alloc: Global, image: &mut Channels) -> Result<String, AllocError> {
+    let last = last_message(alloc, image, 1)?;
     let asked = [
         Step::Subscribe(1, "q"),
         Step::Send("a", "lost"),
         Step::Channels,
     ];
-    all.push_str(answers(alloc, &mut image, &asked)?.as_str())?;
-    Ok(all)
+    let answers = answers(alloc, image, &asked)?;
+    format!(in alloc; "{last}\n{answers}")
 }
 
 #[test]

@@ -91,8 +91,48 @@ fn other_lines_begin_and_end_no_list(rt: HostRuntime) {
     );
 }
 
-/// A list of lines of these lengths, and what the collector says of one more line: before it, of it, and
-/// whether a list is open.
+/// Begins a list and gives it so many lines of a length. What is said of the last of these.
+fn fill(
+    alloc: Global,
+    collector: &mut ListCollector,
+    count: u32,
+    length: usize,
+) -> Result<String, AllocError> {
+    let mut all = taken(alloc, collector, Some("command_list_begin"))?;
+    let line = "x".repeat(alloc, length)?;
+    for _ in 0..count {
+        all = taken(alloc, collector, Some(line.as_str()))?;
+    }
+    Ok(all)
+}
+
+/// What the collector says of one more line of a length: before it, of it, and whether a list is open.
+fn more_told(
+    alloc: Global,
+    collector: &mut ListCollector,
+    length: usize,
+) -> Result<String, AllocError> {
+    let last = "x".repeat(alloc, length)?;
+    let before = collector.is_too_large_with(Some(last.as_str()));
+    let end = collector.is_too_large_with(Some("command_list_end"));
+    let taken = taken(alloc, collector, Some(last.as_str()))?;
+    format!(in alloc; "{before} {end} {taken}{}", is_open(collector))
+}
+
+/// Both, with a space between them.
+fn fill_and_more(
+    alloc: Global,
+    collector: &mut ListCollector,
+    count: u32,
+    length: usize,
+    more: usize,
+) -> Result<String, AllocError> {
+    let filled = fill(alloc, collector, count, length)?;
+    let told = more_told(alloc, collector, more)?;
+    format!(in alloc; "{filled} {told}")
+}
+
+/// A list of lines of a length, and what the collector says of one more line.
 fn after_lines(
     alloc: Global,
     count: u32,
@@ -100,16 +140,7 @@ fn after_lines(
     more: usize,
 ) -> Result<String, AllocError> {
     let mut collector = ListCollector::new();
-    let mut all = taken(alloc, &mut collector, Some("command_list_begin"))?;
-    let line = "x".repeat(alloc, length)?;
-    for _ in 0..count {
-        all = taken(alloc, &mut collector, Some(line.as_str()))?;
-    }
-    let last = "x".repeat(alloc, more)?;
-    let before = collector.is_too_large_with(Some(last.as_str()));
-    let end = collector.is_too_large_with(Some("command_list_end"));
-    let taken = taken(alloc, &mut collector, Some(last.as_str()))?;
-    format!(in alloc; "{all} {before} {end} {taken}{}", is_open(&collector))
+    fill_and_more(alloc, &mut collector, count, length, more)
 }
 
 // 128 lines of 16,383 bytes have 2,097,152 bytes with their newlines.

@@ -1,9 +1,11 @@
 //! An output that stands in a write delays no caller and no other output, and what it is not yet rid of is
 //! left at the end.
-use crate::door::behind_a_door;
+use crate::door::{Rooms, behind_a_door};
+use crate::rooms::Day;
 use crate::tunes::{Tone, Tune, listed, tune_of};
 use crate::wanted::wants;
-use crate::wire::{right_lines, right_to_the_hall};
+use crate::wire::right_to_the_hall;
+use crate::wired::told_with_lines;
 use partition::PartitionFault;
 use std::alloc::{AllocError, Global};
 use std::sync::Wait;
@@ -37,9 +39,7 @@ ping
 ~ the door opens
 ~ hall 8000";
     let (day, mut rooms) = behind_a_door(rt, alloc, saw(alloc, 8_000)?, 0, 20_000, script)?;
-    let mut told = day.told(alloc)?;
-    told.push_str(right_lines(alloc, &mut rooms.wires, Tone::Saw)?.as_str())?;
-    Ok(told)
+    told_with_lines(alloc, &day, &mut rooms.wires, Tone::Saw)
 }
 
 // The song has fewer frames than a ring, so that the attic gets all of them though the hall takes none.
@@ -58,9 +58,9 @@ OK
 the door opens: true
 hall 8000: true
 files opened: 1
-8000 8000 0 0 0
-8000 8000 0 0 0
-8000 8000
+decoded 8000, written 8000, discarded 0, left 0, torn 0
+decoded 8000, written 8000, discarded 0, left 0, torn 0
+right frames in the hall 8000, in the attic 8000
 ",
     );
     Ok(())
@@ -96,11 +96,18 @@ only 10240: true
 OK
 the door opens: true
 files opened: 1
-10240 1024 0 9216 0
-10240 10240 0 0 0
+decoded 10240, written 1024, discarded 0, left 9216, torn 0
+decoded 10240, written 10240, discarded 0, left 0, torn 0
 ",
     );
     Ok(())
+}
+
+/// What came of a day, with what its first output wrote and whether frames of its second are left.
+fn late_of(alloc: Global, day: &Day) -> Result<String, PartitionFault> {
+    let (heard, hall) = (&day.heard, day.balance(alloc, 0)?);
+    let attic = day.rest(alloc, 1)?;
+    Ok(format!(in alloc; "{heard}{hall}{attic}")?)
 }
 
 fn late_told<R: Threads + Wait + Clock + Copy + Drop + Send + Sync + 'static>(
@@ -112,10 +119,7 @@ play
 ~ hall 3000
 ~ an output stands in its write";
     let (day, _rooms) = behind_a_door(rt, alloc, saw(alloc, 3_000)?, 1, 2_000, script)?;
-    let mut told = String::from_str(alloc, day.heard.as_str())?;
-    told.push_str(day.balance(alloc, 0)?.as_str())?;
-    told.push_str(day.rest(alloc, 1)?.as_str())?;
-    Ok(told)
+    late_of(alloc, &day)
 }
 
 // The attic has its last turn long after the hall has ended.
@@ -135,6 +139,13 @@ left true balanced true
     Ok(())
 }
 
+/// What came of a day, with what its first output wrote.
+fn stop_of(alloc: Global, day: &Day, rooms: &mut Rooms) -> Result<String, PartitionFault> {
+    let (heard, hall) = (&day.heard, day.balance(alloc, 0)?);
+    let lines = right_to_the_hall(alloc, &mut rooms.wires, Tone::HandThenSteps)?;
+    Ok(format!(in alloc; "{heard}{hall}{lines}")?)
+}
+
 fn stop_told<R: Threads + Wait + Clock + Copy + Drop + Send + Sync + 'static>(
     rt: R,
     alloc: Global,
@@ -152,10 +163,7 @@ play 1
 ~ the door opens
 ~ hall 4024";
     let (day, mut rooms) = behind_a_door(rt, alloc, tunes, 0, 20_000, script)?;
-    let mut told = String::from_str(alloc, day.heard.as_str())?;
-    told.push_str(day.balance(alloc, 0)?.as_str())?;
-    told.push_str(right_to_the_hall(alloc, &mut rooms.wires, Tone::HandThenSteps)?.as_str())?;
-    Ok(told)
+    stop_of(alloc, &day, &mut rooms)
 }
 
 // The hall was in the write of its first hand of 1,024 frames. All else of the first song is of an old cut,
@@ -175,7 +183,7 @@ OK
 the door opens: true
 hall 4024: true
 written 4024 torn 0 balanced true
-4024
+right frames in the hall 4024
 ",
     );
     Ok(())

@@ -1,12 +1,10 @@
 //! Songs whose files are not there, or are shorter than the library says.
-use crate::rooms::{Blind, Stage, one_day, shared};
 use crate::tunes::{Tone, Tune, listed, lost_tune, tune_of};
 use crate::wanted::wants;
-use crate::wire::{right_lines, two_wires};
-use crew_steps::Open;
+use crate::wired::{told_with_lines, wired_day};
 use partition::PartitionFault;
 use std::alloc::Global;
-use std::sync::{Arc, Wait};
+use std::sync::Wait;
 use std::test::Fail;
 use std::thread::Threads;
 use std::time::Clock;
@@ -19,19 +17,9 @@ fn told<R: Threads + Wait + Clock + Copy + Send + Sync + 'static>(
     script: &str,
     tone: Tone,
 ) -> Result<String, PartitionFault> {
-    let (writers, mut wires) = two_wires(alloc, 100_000, 100_000)?;
     let tunes = listed(alloc, first, Some(second))?;
-    let gate = shared(alloc, Open)?;
-    let stage = Stage {
-        tunes,
-        writers,
-        gate,
-        scanner: Blind,
-    };
-    let day = one_day(rt, alloc, stage, script, &mut wires)?;
-    let mut told = day.told(alloc)?;
-    told.push_str(right_lines(alloc, &mut wires, tone)?.as_str())?;
-    Ok(told)
+    let (day, mut wires) = wired_day(rt, alloc, tunes, 100_000, script)?;
+    told_with_lines(alloc, &day, &mut wires, tone)
 }
 
 fn after_a_lost_song<R: Threads + Wait + Clock + Copy + Send + Sync + 'static>(
@@ -63,9 +51,9 @@ OK
 hall 3000: true
 attic 3000: true
 files opened: 1
-3000 3000 0 0 0
-3000 3000 0 0 0
-3000 3000
+decoded 3000, written 3000, discarded 0, left 0, torn 0
+decoded 3000, written 3000, discarded 0, left 0, torn 0
+right frames in the hall 3000, in the attic 3000
 ",
     );
     Ok(())
@@ -100,9 +88,9 @@ OK
 hall 12100: true
 attic 12100: true
 files opened: 3
-12100 12100 0 0 0
-12100 12100 0 0 0
-12100 12100
+decoded 12100, written 12100, discarded 0, left 0, torn 0
+decoded 12100, written 12100, discarded 0, left 0, torn 0
+right frames in the hall 12100, in the attic 12100
 ",
     );
     Ok(())

@@ -1,39 +1,29 @@
 //! Two songs that fade into each other, at half the volume, through two outputs: the bytes are those of the
 //! formulas.
-use crate::rooms::{Blind, Stage, one_day, shared};
-use crate::tunes::{Tone, listed, tune_of};
+use crate::tunes::{Tone, Tune, listed, tune_of};
 use crate::wanted::wants;
-use crate::wire::{right_lines, two_wires};
-use crew_steps::Open;
+use crate::wired::{told_with_lines, wired_day};
 use partition::PartitionFault;
-use std::alloc::Global;
-use std::sync::{Arc, Wait};
+use std::alloc::{AllocError, Global};
+use std::sync::Wait;
 use std::test::Fail;
 use std::thread::Threads;
 use std::time::Clock;
+
+fn two_songs(alloc: Global) -> Result<Vec<Tune>, AllocError> {
+    let first = tune_of(alloc, "a.wav", 12_000, 12_000, Tone::Saw)?;
+    let second = tune_of(alloc, "b.wav", 10_000, 10_000, Tone::Steps)?;
+    listed(alloc, first, Some(second))
+}
 
 fn told<R: Threads + Wait + Clock + Copy + Send + Sync + 'static>(
     rt: R,
     alloc: Global,
 ) -> Result<String, PartitionFault> {
-    let (writers, mut wires) = two_wires(alloc, 100_000, 100_000)?;
-    let tunes = listed(
-        alloc,
-        tune_of(alloc, "a.wav", 12_000, 12_000, Tone::Saw)?,
-        Some(tune_of(alloc, "b.wav", 10_000, 10_000, Tone::Steps)?),
-    )?;
-    let gate = shared(alloc, Open)?;
-    let stage = Stage {
-        tunes,
-        writers,
-        gate,
-        scanner: Blind,
-    };
+    let tunes = two_songs(alloc)?;
     let script = "crossfade 1\nsetvol 50\nadd a.wav\nadd b.wav\nplay\n~ hall 14000\n~ attic 14000";
-    let day = one_day(rt, alloc, stage, script, &mut wires)?;
-    let mut told = day.told(alloc)?;
-    told.push_str(right_lines(alloc, &mut wires, Tone::Faded)?.as_str())?;
-    Ok(told)
+    let (day, mut wires) = wired_day(rt, alloc, tunes, 100_000, script)?;
+    told_with_lines(alloc, &day, &mut wires, Tone::Faded)
 }
 
 #[test]
@@ -49,9 +39,9 @@ OK
 hall 14000: true
 attic 14000: true
 files opened: 2
-14000 14000 0 0 0
-14000 14000 0 0 0
-14000 14000
+decoded 14000, written 14000, discarded 0, left 0, torn 0
+decoded 14000, written 14000, discarded 0, left 0, torn 0
+right frames in the hall 14000, in the attic 14000
 ",
     );
     Ok(())

@@ -1,46 +1,38 @@
 //! A writer that fails: its output is switched off, its frames are discarded, and the other output goes on.
-use crate::rooms::{Blind, Stage, one_day, shared};
+use crate::rooms::Day;
 use crate::tunes::{Tone, listed, tune_of};
 use crate::wanted::wants;
-use crate::wire::{right_lines, two_wires};
-use crew_steps::Open;
+use crate::wire::{Wires, right_lines};
+use crate::wired::wired_day;
 use partition::PartitionFault;
 use std::alloc::Global;
-use std::sync::{Arc, Wait};
+use std::sync::Wait;
 use std::test::Fail;
 use std::thread::Threads;
 use std::time::Clock;
+
+fn balances(alloc: Global, day: &Day, wires: &mut Wires) -> Result<String, PartitionFault> {
+    let (heard, hall) = (&day.heard, day.balance(alloc, 0)?);
+    let attic = day.balance(alloc, 1)?;
+    let lines = right_lines(alloc, wires, Tone::Saw)?;
+    Ok(format!(in alloc; "{heard}{hall}{attic}{lines}")?)
+}
 
 fn told<R: Threads + Wait + Clock + Copy + Send + Sync + 'static>(
     rt: R,
     alloc: Global,
     room: usize,
 ) -> Result<String, PartitionFault> {
-    let (writers, mut wires) = two_wires(alloc, room, 100_000)?;
-    let tunes = listed(
-        alloc,
-        tune_of(alloc, "a.wav", 12_000, 12_000, Tone::Saw)?,
-        None,
-    )?;
-    let gate = shared(alloc, Open)?;
-    let stage = Stage {
-        tunes,
-        writers,
-        gate,
-        scanner: Blind,
-    };
+    let song = tune_of(alloc, "a.wav", 12_000, 12_000, Tone::Saw)?;
     let script = "add a.wav
 play
 outputs ~ outputenabled: 0
 enableoutput 0
 outputs
 ~ attic 12000";
-    let day = one_day(rt, alloc, stage, script, &mut wires)?;
-    let mut told = String::from_str(alloc, day.heard.as_str())?;
-    told.push_str(day.balance(alloc, 0)?.as_str())?;
-    told.push_str(day.balance(alloc, 1)?.as_str())?;
-    told.push_str(right_lines(alloc, &mut wires, Tone::Saw)?.as_str())?;
-    Ok(told)
+    let tunes = listed(alloc, song, None)?;
+    let (day, mut wires) = wired_day(rt, alloc, tunes, room, script)?;
+    balances(alloc, &day, &mut wires)
 }
 
 // Six bytes are a frame and a half.
@@ -65,7 +57,7 @@ OK
 attic 12000: true
 written 1 torn 2 balanced true
 written 12000 torn 0 balanced true
-1 12000
+right frames in the hall 1, in the attic 12000
 ",
     );
     Ok(())

@@ -25,3 +25,5 @@ mod updating;
 mod wanted;
 #[cfg(test)]
 mod wire;
+#[cfg(test)]
+mod wired;

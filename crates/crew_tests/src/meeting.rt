@@ -2,7 +2,8 @@
 use crate::rooms::{Blind, Stage, one_day, shared};
 use crate::tunes::{Tone, listed, tune_of};
 use crate::wanted::wants;
-use crate::wire::{right_lines, two_wires};
+use crate::wire::two_wires;
+use crate::wired::told_with_lines;
 use crew_steps::Gate;
 use partition::PartitionFault;
 use std::alloc::Global;
@@ -64,12 +65,9 @@ fn told<R: Threads + Wait + Clock + Copy + Send + Sync + 'static>(
     };
     let script = "add a.wav\nplay\n~ hall 3000\n~ attic 3000";
     let day = one_day(rt, alloc, stage, script, &mut wires)?;
-    let mut told = day.told(alloc)?;
-    told.push_str(right_lines(alloc, &mut wires, Tone::Saw)?.as_str())?;
-    if gate.missed.load(Ordering::SeqCst) == 0 {
-        told.push_str("both met\n")?;
-    }
-    Ok(told)
+    let told = told_with_lines(alloc, &day, &mut wires, Tone::Saw)?;
+    let has_missed = gate.missed.load(Ordering::SeqCst) != 0;
+    Ok(format!(in alloc; "{told}missed: {has_missed}\n")?)
 }
 
 #[test]
@@ -82,10 +80,10 @@ OK
 hall 3000: true
 attic 3000: true
 files opened: 1
-3000 3000 0 0 0
-3000 3000 0 0 0
-3000 3000
-both met
+decoded 3000, written 3000, discarded 0, left 0, torn 0
+decoded 3000, written 3000, discarded 0, left 0, torn 0
+right frames in the hall 3000, in the attic 3000
+missed: false
 ",
     );
     Ok(())

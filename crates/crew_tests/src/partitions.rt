@@ -3,7 +3,7 @@
 use crate::door::behind_a_door;
 use crate::tunes::{Tone, Tune, listed, tune_of};
 use crate::wanted::wants;
-use crate::wire::right_apart;
+use crate::wired::told_apart;
 use partition::PartitionFault;
 use std::alloc::{AllocError, Global};
 use std::sync::Wait;
@@ -43,10 +43,7 @@ play
         0,
         script,
     )?;
-    let mut told = day.told(alloc)?;
-    let right = right_apart(alloc, &mut rooms.wires, Tone::Saw, Tone::Steps)?;
-    told.push_str(right.as_str())?;
-    Ok(told)
+    told_apart(alloc, &day, &mut rooms.wires, Tone::Saw, Tone::Steps)
 }
 
 // Both entries have the id 1 in their own queues. Each file is opened once, though jobs of the partitions take
@@ -68,9 +65,9 @@ OK
 hall 6000: true
 attic 5000: true
 files opened: 2
-6000 6000 0 0 0
-5000 5000 0 0 0
-6000 5000
+decoded 6000, written 6000, discarded 0, left 0, torn 0
+decoded 5000, written 5000, discarded 0, left 0, torn 0
+right frames in the hall 6000, in the attic 5000
 ",
     );
     Ok(())
@@ -100,10 +97,13 @@ play
         20_000,
         script,
     )?;
-    let mut told = day.told(alloc)?;
-    let right = right_apart(alloc, &mut rooms.wires, Tone::Saw, Tone::HandThenSteps)?;
-    told.push_str(right.as_str())?;
-    Ok(told)
+    told_apart(
+        alloc,
+        &day,
+        &mut rooms.wires,
+        Tone::Saw,
+        Tone::HandThenSteps,
+    )
 }
 
 // The attic has 1,024 frames in its hand, which it writes, and 8,192 in its ring, and 1,024 are owed to it. It is
@@ -127,9 +127,9 @@ hall 20000: true
 the door opens: true
 attic 4024: true
 files opened: 2
-20000 20000 0 0 0
-13240 4024 9216 0 0
-20000 4024
+decoded 20000, written 20000, discarded 0, left 0, torn 0
+decoded 13240, written 4024, discarded 9216, left 0, torn 0
+right frames in the hall 20000, in the attic 4024
 ",
     );
     Ok(())

@@ -1,17 +1,18 @@
 //! A house whose threads run, and a client who says the lines of a script in it.
-ghost use Rattle.std.specs.Prelude.{◌≡◌, ◌<◌, IfOk};
+ghost use Rattle.frame_ledger.specs.Shares.{AreEmpty, HasAllParts, HasPartsBut};
+ghost use Rattle.std.specs.Prelude.{◌≡◌, ◌≤◌, IfOk, vec_len};
 ghost use Rattle.held_player.specs.Blanks.{AreFor};
 ghost use Rattle.counted_player.specs.Counts.{IsFresh};
 
 use crate::tunes::{Files, Tune, library};
 use counted_devices::Sink;
-use counted_player::{Ledgers, Seat};
-use crew::{Scanner, close, start_decoder, start_outputs, start_scanner};
+use counted_player::{Decoded, Discarded, Ledgers, Seat, Written};
+use crew::{Crew, OutputRuns, Scanner, close, let_go, start_decoder, start_outputs, start_scanner};
 use crew_steps::{Gate, output_setups};
-use frame_ledger::{SettleFault, Settled};
-use held_player::Blanks;
+use frame_ledger::{OutputShares, SettleFault, Settled};
+use held_player::{Blanks, CrewShares, Settlement};
 use house::House;
-use house_tests::rooms::{blanks, comes, says};
+use house_rooms::{blanks, comes, says};
 use mpd_text::SharedText;
 use partition::{Limits, Partition, PartitionFault, Setup};
 use player_state::{Library, Outputs};
@@ -19,6 +20,7 @@ use song_db::SharedDb;
 use std::alloc::{AllocError, Global};
 use std::marker::Brand;
 use std::sync::atomic::{AtomicU32, Ordering};
+use std::sync::ledger::Share;
 use std::sync::{Arc, Wait};
 use std::thread;
 use std::thread::Threads;
@@ -66,21 +68,27 @@ pub(crate) struct Day {
     pub(crate) settled: Vec<Result<Settled, SettleFault>>,
 }
 
+fn settled_told(
+    alloc: Global,
+    settled: &Result<Settled, SettleFault>,
+) -> Result<String, AllocError> {
+    match settled {
+        Ok(s) => format!(in alloc;
+            "decoded {}, written {}, discarded {}, left {}, torn {}\n",
+            s.decoded, s.written, s.discarded, s.left, s.torn
+        ),
+        Err(_) => String::from_str(alloc, "not settled\n"),
+    }
+}
+
 impl Day {
     /// What was heard and seen, after it the files that were opened, and a line for each output: frames
     /// decoded, written, discarded and left, and bytes torn.
     pub(crate) fn told(&self, alloc: Global) -> Result<String, PartitionFault> {
-        let mut told = String::from_str(alloc, self.heard.as_str())?;
-        told.push_str(format!(in alloc; "files opened: {}\n", self.opened)?.as_str())?;
+        let (heard, opened) = (&self.heard, self.opened);
+        let mut told = format!(in alloc; "{heard}files opened: {opened}\n")?;
         for one in &self.settled {
-            let line = match one {
-                Ok(s) => format!(in alloc;
-                    "{} {} {} {} {}\n",
-                    s.decoded, s.written, s.discarded, s.left, s.torn
-                )?,
-                Err(_) => String::from_str(alloc, "not settled\n")?,
-            };
-            told.push_str(line.as_str())?;
+            told.push_str(settled_told(alloc, one)?.as_str())?;
         }
         Ok(told)
     }
@@ -154,9 +162,30 @@ fn says_until<L: Ledgers, R: Wait + Clock>(
     Ok(false)
 }
 
-/// Goes through a script: a line `~ STEP` is a step of the test's own, `LINE ~ TEXT` is said until its answer
-/// has the text, and any other line is said once. What was heard, and for each wait whether what it is for
-/// came.
+/// What is heard of a line of a script: `~ STEP` is a step of the test's own, `LINE ~ TEXT` is said until its
+/// answer has the text, and any other line is said once. Of each wait it is told whether what it is for came.
+fn heard_of<L: Ledgers, V: Watch<R>, R: Wait + Clock>(
+    rt: &R,
+    alloc: Global,
+    house: &House<L>,
+    seat: &mut Seat<L>,
+    line: &str,
+    watch: &mut V,
+) -> Result<String, PartitionFault> {
+    if let Some(step) = line.strip_prefix("~ ") {
+        let done = watch.does(rt, step);
+        return Ok(format!(in alloc; "{step}: {done}\n")?);
+    }
+    match line.split_once(" ~ ") {
+        Some((line, text)) => {
+            let came = says_until(rt, alloc, house, seat, line, text)?;
+            Ok(format!(in alloc; "{text}: {came}\n")?)
+        }
+        None => says(rt, alloc, house, seat, 1, line),
+    }
+}
+
+/// A client comes and goes through a script. What was heard of all its lines.
 fn plays<L: Ledgers, V: Watch<R>, R: Wait + Clock>(
     rt: &R,
     alloc: Global,
@@ -168,17 +197,207 @@ fn plays<L: Ledgers, V: Watch<R>, R: Wait + Clock>(
     let mut heard = String::new(alloc);
     comes(rt, house, seat, 1)?;
     for line in script.lines() {
-        if let Some(step) = line.strip_prefix("~ ") {
-            let done = watch.does(rt, step);
-            heard.push_str(format!(in alloc; "{step}: {done}\n")?.as_str())?;
-        } else if let Some((line, text)) = line.split_once(" ~ ") {
-            let came = says_until(rt, alloc, house, seat, line, text)?;
-            heard.push_str(format!(in alloc; "{text}: {came}\n")?.as_str())?;
-        } else {
-            heard.push_str(says(rt, alloc, house, seat, 1, line)?.as_str())?;
-        }
+        heard.push_str(heard_of(rt, alloc, house, seat, line, watch)?.as_str())?;
     }
     Ok(heard)
+}
+
+/// The outputs' threads.
+fn outputs_of<
+    L: Ledgers + Send + Sync + 'static,
+    O: Sink + Drop + Send + 'static,
+    G: Gate + Drop + Send + Sync + 'static,
+    R: Threads + Wait + Clock + Copy + Send + 'static,
+>(
+    rt: R,
+    alloc: Global,
+    house: &Arc<House<L>, Global>,
+    gate: &Arc<G, Global>,
+    writers: Vec<O>,
+    shares: OutputShares<Written<L>, Discarded<L>>,
+) -> Result<OutputRuns<L>, PartitionFault>
+    requires parts { HasPartsBut 0 shares }
+    requires empty { AreEmpty shares }
+    ensures { IfOk result (λ outputs. vec_len outputs.runs ≤ 8) }
+{
+    let output_setups = output_setups(alloc, 8_192, writers)?;
+    // There are two, and a part of each book for eight.
+    if output_setups.len() > 8 {
+        return Err(PartitionFault::NoMemory);
+    }
+    Ok(start_outputs(rt, alloc, house, gate, output_setups, shares)?)
+}
+
+/// The decoder's thread beside these outputs.
+fn decoder_of<
+    L: Ledgers + Send + Sync + 'static,
+    R: Threads + Wait + Clock + Copy + Send + 'static,
+>(
+    rt: R,
+    alloc: Global,
+    house: &Arc<House<L>, Global>,
+    files: Files,
+    outputs: OutputRuns<L>,
+    share: Share<Decoded<L>>,
+) -> Result<Crew<L>, PartitionFault>
+    requires part { share.parts ≡ 1 }
+    requires few { vec_len outputs.runs ≤ 8 }
+{
+    Ok(start_decoder(rt, alloc, house, files, 8_000, outputs, share)?)
+}
+
+/// The crew with the thread of a scanner.
+fn with_scanner<
+    L: Ledgers + Send + Sync + 'static,
+    N: Scanner + Drop + Send + 'static,
+    R: Threads + Wait + Clock + Copy + Send + 'static,
+>(
+    rt: R,
+    alloc: Global,
+    house: &Arc<House<L>, Global>,
+    crew: Crew<L>,
+    scanner: N,
+) -> Result<Crew<L>, PartitionFault> {
+    let mut crew = crew;
+    match start_scanner(rt, alloc, house, &mut crew, scanner) {
+        Ok(()) => Ok(crew),
+        Err(_) => {
+            let_go(crew);
+            Err(PartitionFault::NoMemory)
+        }
+    }
+}
+
+/// All threads of a house.
+fn crew_of<
+    L: Ledgers + Send + Sync + 'static,
+    O: Sink + Drop + Send + 'static,
+    G: Gate + Drop + Send + Sync + 'static,
+    N: Scanner + Drop + Send + 'static,
+    R: Threads + Wait + Clock + Copy + Send + 'static,
+>(
+    rt: R,
+    alloc: Global,
+    house: &Arc<House<L>, Global>,
+    shares: CrewShares<L>,
+    stage: Stage<O, G, N>,
+    opened: Arc<AtomicU32, Global>,
+) -> Result<Crew<L>, PartitionFault>
+    requires parts { HasAllParts shares.decoded.parts shares.outputs }
+    requires empty { AreEmpty shares.outputs }
+{
+    let Stage {
+        tunes,
+        writers,
+        gate,
+        scanner,
+    } = stage;
+    let CrewShares { decoded, outputs } = shares;
+    let outputs = outputs_of(rt, alloc, house, &gate, writers, outputs)?;
+    let files = Files { tunes, opened };
+    let crew = decoder_of(rt, alloc, house, files, outputs, decoded)?;
+    with_scanner(rt, alloc, house, crew, scanner)
+}
+
+/// How each output was settled.
+fn settled_of<L: Ledgers>(
+    alloc: Global,
+    settlements: &[Settlement<L>],
+) -> Result<Vec<Result<Settled, SettleFault>>, AllocError> {
+    let mut settled = Vec::new(alloc);
+    for settlement in settlements {
+        settled.push(settlement.result)?;
+    }
+    Ok(settled)
+}
+
+/// A day of what was heard, and of how the outputs were settled.
+fn day_of<L: Ledgers>(
+    alloc: Global,
+    heard: Result<String, PartitionFault>,
+    opened: u32,
+    settlements: &[Settlement<L>],
+) -> Result<Day, PartitionFault> {
+    let heard = heard?;
+    let settled = settled_of(alloc, settlements)?;
+    Ok(Day {
+        heard,
+        opened,
+        settled,
+    })
+}
+
+/// Goes through a script beside these threads, and closes the house.
+fn day_with<L: Ledgers, V: Watch<R>, R: Threads + Wait + Clock>(
+    rt: &R,
+    alloc: Global,
+    house: &House<L>,
+    seat: &mut Seat<L>,
+    crew: Crew<L>,
+    opened: &AtomicU32,
+    script: &str,
+    watch: &mut V,
+) -> Result<Day, PartitionFault> {
+    let heard = plays(rt, alloc, house, seat, script, watch);
+    match close(rt, house, seat, crew) {
+        Ok(settlements) => day_of(alloc, heard, opened.load(Ordering::SeqCst), &settlements),
+        Err((crew, fault)) => {
+            let_go(crew);
+            Err(fault)
+        }
+    }
+}
+
+/// Starts the threads of a house, goes through a script in it, and closes it.
+fn day_in<
+    L: Ledgers + Send + Sync + 'static,
+    O: Sink + Drop + Send + 'static,
+    G: Gate + Drop + Send + Sync + 'static,
+    N: Scanner + Drop + Send + 'static,
+    V: Watch<R>,
+    R: Threads + Wait + Clock + Copy + Send + Sync + 'static,
+>(
+    rt: R,
+    alloc: Global,
+    house: &Arc<House<L>, Global>,
+    seat: &mut Seat<L>,
+    shares: CrewShares<L>,
+    stage: Stage<O, G, N>,
+    script: &str,
+    watch: &mut V,
+) -> Result<Day, PartitionFault>
+    requires parts { HasAllParts shares.decoded.parts shares.outputs }
+    requires empty { AreEmpty shares.outputs }
+{
+    let opened = shared(alloc, AtomicU32::new(0))?;
+    let theirs = Arc::try_clone(&opened)?;
+    let crew = crew_of(rt, alloc, house, shares, stage, theirs)?;
+    day_with(&rt, alloc, house, seat, crew, &opened, script, watch)
+}
+
+fn day_of_a_seat<
+    L: Ledgers + Send + Sync + 'static,
+    O: Sink + Drop + Send + 'static,
+    G: Gate + Drop + Send + Sync + 'static,
+    N: Scanner + Drop + Send + 'static,
+    V: Watch<R>,
+    R: Threads + Wait + Clock + Copy + Send + Sync + 'static,
+>(
+    rt: R,
+    alloc: Global,
+    house: &Arc<House<L>, Global>,
+    shares: CrewShares<L>,
+    stage: Stage<O, G, N>,
+    script: &str,
+    watch: &mut V,
+) -> Result<Day, PartitionFault>
+    requires parts { HasAllParts shares.decoded.parts shares.outputs }
+    requires empty { AreEmpty shares.outputs }
+{
+    match house.seat(&rt) {
+        Ok(mut seat) => day_in(rt, alloc, house, &mut seat, shares, stage, script, watch),
+        Err(_) => Err(PartitionFault::NoMemory),
+    }
 }
 
 fn run_day<
@@ -198,49 +417,10 @@ fn run_day<
 ) -> Result<Day, PartitionFault>
     requires blanks { AreFor L.names blanks }
 {
-    let Stage {
-        tunes,
-        writers,
-        gate,
-        scanner,
-    } = stage;
-    let player = player(alloc, library(alloc, &tunes)?)?;
+    let player = player(alloc, library(alloc, &stage.tunes)?)?;
     let (house, shares) = House::<L>::open(alloc, blanks, player)?;
     let house = shared(alloc, house)?;
-    let output_setups = output_setups(alloc, 8_192, writers)?;
-    // There are two, and a part of each book for eight.
-    if output_setups.len() > 8 {
-        return Err(PartitionFault::NoMemory);
-    }
-    let Ok(mut seat) = house.seat(&rt) else {
-        return Err(PartitionFault::NoMemory);
-    };
-    let outputs = start_outputs(rt, alloc, &house, &gate, output_setups, shares.outputs)?;
-    let opened = shared(alloc, AtomicU32::new(0))?;
-    let files = Files {
-        tunes,
-        opened: Arc::try_clone(&opened)?,
-    };
-    let mut crew = start_decoder(rt, alloc, &house, files, 8_000, outputs, shares.decoded)?;
-    start_scanner(rt, alloc, &house, &mut crew, scanner)?;
-    let heard = plays(&rt, alloc, &house, &mut seat, script.as_str(), watch);
-    match close(&rt, &house, &mut seat, crew) {
-        Ok(settlements) => {
-            let mut settled = Vec::new(alloc);
-            for settlement in &settlements {
-                match settled.push(settlement.result) {
-                    Ok(()) => {}
-                    Err(refused) => return Err(AllocError::from(refused).into()),
-                }
-            }
-            Ok(Day {
-                heard: heard?,
-                opened: opened.load(Ordering::SeqCst),
-                settled,
-            })
-        }
-        Err((_crew, fault)) => Err(fault),
-    }
+    day_of_a_seat(rt, alloc, &house, shares, stage, script.as_str(), watch)
 }
 
 /// Opens a house, goes through a script in it, and closes it.

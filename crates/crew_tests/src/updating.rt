@@ -2,7 +2,8 @@
 use crate::rooms::{Stage, Watch, one_day, shared};
 use crate::tunes::{Tone, listed, songs, tune_of};
 use crate::wanted::wants;
-use crate::wire::{Wires, right_lines, two_wires};
+use crate::wire::{Wires, two_wires};
+use crate::wired::told_with_lines;
 use crew::Scanner;
 use crew_steps::Open;
 use partition::PartitionFault;
@@ -116,9 +117,7 @@ fn told<R: Threads + Wait + Clock + Copy + Drop + Send + Sync + 'static>(
         scanner: Slow { rt, begun, may_end },
     };
     let day = one_day(rt, alloc, stage, SCRIPT, &mut scans)?;
-    let mut told = day.told(alloc)?;
-    told.push_str(right_lines(alloc, &mut scans.wires, Tone::Saw)?.as_str())?;
-    Ok(told)
+    told_with_lines(alloc, &day, &mut scans.wires, Tone::Saw)
 }
 
 /// Whether a scan that had begun has ended where the house is closed.
@@ -147,7 +146,7 @@ fn late_told<R: Threads + Wait + Clock + Copy + Drop + Send + Sync + 'static>(
     };
     let day = one_day(rt, alloc, stage, "update\n~ the scan has begun", &mut scans)?;
     let has_ended = scans.may_end.load(Ordering::SeqCst);
-    Ok(format!(in alloc; "{}{has_ended}\n", day.heard)?)
+    Ok(format!(in alloc; "{}scans that have ended: {has_ended}\n", day.heard)?)
 }
 
 // The close waits for the scanner's thread, which is still in its scan.
@@ -159,7 +158,7 @@ fn a_close_while_a_scan_is_made(rt: HostRuntime) -> Result<(), Fail> {
         "updating_db: 1
 OK
 the scan has begun: true
-1
+scans that have ended: 1
 ",
     );
     Ok(())
@@ -191,9 +190,9 @@ OK
 updating_db: 2
 OK
 files opened: 1
-12000 12000 0 0 0
-12000 12000 0 0 0
-12000 12000
+decoded 12000, written 12000, discarded 0, left 0, torn 0
+decoded 12000, written 12000, discarded 0, left 0, torn 0
+right frames in the hall 12000, in the attic 12000
 ",
     );
     Ok(())

@@ -103,7 +103,7 @@ pub(crate) fn right_apart(
         right_frames(&mut wires.hall, to_hall),
         right_frames(&mut wires.attic, to_attic),
     );
-    format!(in alloc; "{hall} {attic}\n")
+    format!(in alloc; "right frames in the hall {hall}, in the attic {attic}\n")
 }
 
 /// The same of the hall alone.
@@ -113,7 +113,7 @@ pub(crate) fn right_to_the_hall(
     tone: Tone,
 ) -> Result<String, AllocError> {
     let hall = right_frames(&mut wires.hall, tone);
-    format!(in alloc; "{hall}\n")
+    format!(in alloc; "right frames in the hall {hall}\n")
 }
 
 /// Waits until so many frames came over a wire, ten seconds at most. Whether they came.

@@ -2,11 +2,11 @@
 ghost use Rattle.std.specs.Prelude.{◌≡◌, ◌+◌, ◌<◌, IfOk};
 ghost use Rattle.held_player.specs.Blanks.{AreFor};
 
-use crate::rooms::{adds_a_song, blanks, comes, player, says};
 use crate::wanted::wants;
 use counted_player::{Ledgers, Seat};
 use held_player::Blanks;
 use house::House;
+use house_rooms::{adds_a_song, blanks, comes, player, says};
 use partition::PartitionFault;
 use std::alloc::{AllocError, Global};
 use std::marker::Brand;
@@ -141,10 +141,12 @@ fn told<R: Threads + Wait + Sync>(
     let (first, second) = (counts.first, counts.second);
     let (fourth, fifth) = (counts.fourth, counts.fifth);
     let status = counts.status.as_str();
-    Ok(format!(in alloc; "{first} {second} {fourth} {fifth}\n{status}")?)
+    Ok(format!(in alloc;
+        "events made: {first} and {second}, a fourth seat: {fourth}, a fifth: {fifth}\n{status}"
+    )?)
 }
 
-const WANTED: &str = "101 101 true false
+const WANTED: &str = "events made: 101 and 101, a fourth seat: true, a fifth: false
 volume: 100
 repeat: 0
 random: 0

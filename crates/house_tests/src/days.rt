@@ -2,11 +2,11 @@
 ghost use Rattle.std.specs.Prelude.{◌≡◌};
 ghost use Rattle.held_player.specs.Blanks.{AreFor};
 
-use crate::rooms::{blanks, comes, lists, opened, says};
 use crate::wanted::wants;
 use counted_player::{Ledgers, Seat};
 use held_player::{Blanks, News};
 use house::House;
+use house_rooms::{blanks, comes, lists, opened, says};
 use partition::PartitionFault;
 use player_state::Report;
 use std::alloc::Global;
@@ -52,7 +52,7 @@ fn addressees<L: Ledgers>(
 ) -> Result<String, PartitionFault> {
     let clients = house.addressees(rt, alloc)?;
     let first = clients.first().copied().unwrap_or(0);
-    Ok(format!(in alloc; "{} for {first}\n", clients.len())?)
+    Ok(format!(in alloc; "notices for {}, the first is {first}\n", clients.len())?)
 }
 
 /// A client waits, another makes a change in a list, and the first goes before it is told.
@@ -162,7 +162,7 @@ fn day<L: Ledgers>(
     let crowds = crowds(rt, alloc, house, seat)?;
     let ends = ends(rt, alloc, house, seat)?;
     let made = seat.made();
-    Ok(format!(in alloc; "{goes}{scans}{crowds}{ends}{made}\n")?)
+    Ok(format!(in alloc; "{goes}{scans}{crowds}{ends}events made: {made}\n")?)
 }
 
 fn day_of_a_seat<L: Ledgers>(
@@ -198,9 +198,9 @@ fn clients_come_and_go(rt: HostRuntime) -> Result<(), Fail> {
         &rt,
         told(&rt, rt.alloc()),
         "OK
-1 for 1
+notices for 1, the first is 1
 heard
-0 for 0
+notices for 0, the first is 0
 none
 no scan
 updating_db: 1
@@ -210,7 +210,7 @@ ended
 OK MPD 0.23.0
 heard
 OK
-63 for 3
+notices for 63, the first is 3
 heard
 Id: 1
 OK
@@ -223,7 +223,7 @@ goes on
 ended
 the end
 the end
-144
+events made: 144
 ",
     );
     Ok(())

@@ -4,13 +4,13 @@ ghost use Rattle.std.specs.Prelude.{◌≡◌, ◌<◌, ◌≤◌, [], IfOk, vec
 ghost use Rattle.held_player.specs.Blanks.{AreFor};
 ghost use Rattle.output_ring.specs.Rings.{SameDrainer};
 
-use crate::rooms::{blanks, comes, opened, says};
 use crate::wanted::wants;
 use counted_devices::{FailAt, FailurePoint};
 use counted_player::{Decoded, Discarded, Ledgers, Seat, Written};
 use frame_ledger::OutputShares;
 use held_player::{Blanks, CrewShares, EndedRing, News, Settlement};
 use house::House;
+use house_rooms::{blanks, comes, opened, says};
 use output_ring::{Cut, Drainer, Fates, Live, ring};
 use partition::PartitionFault;
 use player_state::{Feed, Report};
@@ -24,7 +24,10 @@ use std::test::Fail;
 fn job_told(alloc: Global, report: Report) -> Result<String, PartitionFault> {
     match report {
         Report::ToDecode(Some(job)) => {
-            Ok(format!(in alloc; "job {} {} {}\n", job.number, job.from, job.count)?)
+            Ok(format!(in alloc;
+                "job {} from frame {}: {} frames\n",
+                job.number, job.from, job.count
+            )?)
         }
         _ => Ok(String::from_str(alloc, "no job\n")?),
     }
@@ -36,7 +39,7 @@ fn fed_told(alloc: Global, report: Report) -> Result<String, PartitionFault> {
         Report::ToFeed(Some(feed)) => {
             let outputs = (is_for(&feed, 0), is_for(&feed, 1), is_for(&feed, 8));
             Ok(format!(in alloc;
-                "feed {} {} {} {} {}\n",
+                "feed at cut {} and volume {} to output 0: {}, 1: {}, 8: {}\n",
                 feed.cut, feed.volume, outputs.0, outputs.1, outputs.2
             )?)
         }
@@ -53,7 +56,10 @@ fn live_told(alloc: Global, report: Report) -> Result<String, PartitionFault> {
     match report {
         Report::ToPlay(heard) => {
             let live = heard.live;
-            Ok(format!(in alloc; "live {} {} {}\n", live.cut, live.enabled, live.paused)?)
+            Ok(format!(in alloc;
+                "live at cut {}, enabled {}, paused {}\n",
+                live.cut, live.enabled, live.paused
+            )?)
         }
         _ => Ok(String::from_str(alloc, "nothing\n")?),
     }
@@ -188,7 +194,10 @@ fn settled<L: Ledgers>(
     for settlement in &house.settle_all(rt, shares, rings, room) {
         let line = match &settlement.result {
             Ok(s) => {
-                format!(in alloc; "{} {} {} {}\n", s.decoded, s.written, s.discarded, s.left)?
+                format!(in alloc;
+                    "decoded {}, written {}, discarded {}, left {}\n",
+                    s.decoded, s.written, s.discarded, s.left
+                )?
             }
             Err(_) => String::from_str(alloc, "not settled\n")?,
         };
@@ -217,6 +226,77 @@ fn decoded<L: Ledgers>(
     Ok(heard)
 }
 
+const NOTHING: Fates = Fates {
+    written: 0,
+    discarded: 0,
+};
+
+/// An output that is not there has its turn, and one that is.
+fn two_turns<L: Ledgers>(
+    rt: &impl Wait,
+    alloc: Global,
+    house: &House<L>,
+    seat: &mut Seat<L>,
+    shares: &mut OutputShares<Written<L>, Discarded<L>>,
+) -> Result<String, PartitionFault>
+    requires { (0 < shares.old.written.parts) × (0 < shares.old.discarded.parts) }
+    ensures { KeepsParts shares.old shares.new }
+{
+    let absent = turns(rt, alloc, house, seat, shares, 5, NOTHING)?;
+    let live = turns(rt, alloc, house, seat, shares, 0, NOTHING)?;
+    Ok(format!(in alloc; "{absent}{live}")?)
+}
+
+/// A song is decoded and two outputs have their turns.
+fn day<L: Ledgers>(
+    rt: &impl Wait,
+    alloc: Global,
+    house: &House<L>,
+    seat: &mut Seat<L>,
+    shares: &mut CrewShares<L>,
+) -> Result<String, PartitionFault>
+    requires { HasAllParts shares.old.decoded.parts shares.old.outputs }
+    ensures { HasAllParts shares.new.decoded.parts shares.new.outputs }
+{
+    let decoded = decoded(rt, alloc, house, seat, &mut shares.decoded)?;
+    let turns = two_turns(rt, alloc, house, seat, &mut shares.outputs)?;
+    Ok(format!(in alloc; "{decoded}{turns}")?)
+}
+
+/// That, and what the outputs are settled with.
+fn day_to_its_end<L: Ledgers>(
+    rt: &impl Wait,
+    alloc: Global,
+    house: &House<L>,
+    seat: &mut Seat<L>,
+    shares: CrewShares<L>,
+) -> Result<String, PartitionFault>
+    requires { HasAllParts shares.decoded.parts shares.outputs }
+{
+    let mut shares = shares;
+    match day(rt, alloc, house, seat, &mut shares) {
+        Ok(day) => {
+            let last = settled(rt, alloc, house, seat, shares)?;
+            Ok(format!(in alloc; "{day}{last}")?)
+        }
+        Err(fault) => Err(fault),
+    }
+}
+
+fn day_of_a_seat<L: Ledgers>(
+    rt: &impl Wait,
+    alloc: Global,
+    house: &House<L>,
+    shares: CrewShares<L>,
+) -> Result<String, PartitionFault>
+    requires { HasAllParts shares.decoded.parts shares.outputs }
+{
+    match house.seat(rt) {
+        Ok(mut seat) => day_to_its_end(rt, alloc, house, &mut seat, shares),
+        Err(_) => Err(PartitionFault::NoMemory),
+    }
+}
+
 fn evening<L: Ledgers>(
     rt: &impl Wait,
     alloc: Global,
@@ -224,38 +304,8 @@ fn evening<L: Ledgers>(
 ) -> Result<String, PartitionFault>
     requires blanks { AreFor L.names blanks }
 {
-    let (house, mut shares) = opened::<L>(alloc, blanks, 64)?;
-    let Ok(mut seat) = house.seat(rt) else {
-        return Err(PartitionFault::NoMemory);
-    };
-    let mut heard = decoded(rt, alloc, &house, &mut seat, &mut shares.decoded)?;
-    let nothing = Fates {
-        written: 0,
-        discarded: 0,
-    };
-    let absent = turns(
-        rt,
-        alloc,
-        &house,
-        &mut seat,
-        &mut shares.outputs,
-        5,
-        nothing,
-    )?;
-    heard.push_str(absent.as_str())?;
-    let live = turns(
-        rt,
-        alloc,
-        &house,
-        &mut seat,
-        &mut shares.outputs,
-        0,
-        nothing,
-    )?;
-    heard.push_str(live.as_str())?;
-    let last = settled(rt, alloc, &house, &mut seat, shares)?;
-    heard.push_str(last.as_str())?;
-    Ok(heard)
+    let (house, shares) = opened::<L>(alloc, blanks, 64)?;
+    day_of_a_seat(rt, alloc, &house, shares)
 }
 
 fn told(rt: &impl Wait, alloc: Global) -> Result<String, PartitionFault> {
@@ -267,13 +317,13 @@ fn frames_are_booked_and_settled(rt: HostRuntime) -> Result<(), Fail> {
     wants(
         &rt,
         told(&rt, rt.alloc()),
-        "job 1 0 1024
-feed 1 100 true false false
+        "job 1 from frame 0: 1024 frames
+feed at cut 1 and volume 100 to output 0: true, 1: false, 8: false
 stale
-live 0 false false
-live 1 true false
-1024 512 512 0
-0 0 0 0
+live at cut 0, enabled false, paused false
+live at cut 1, enabled true, paused false
+decoded 1024, written 512, discarded 512, left 0
+decoded 0, written 0, discarded 0, left 0
 ",
     );
     Ok(())

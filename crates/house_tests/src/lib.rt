@@ -13,7 +13,6 @@ mod notices;
 mod own_songs;
 #[cfg(test)]
 mod rests;
-pub mod rooms;
 #[cfg(test)]
 mod wanted;
 #[cfg(test)]

@@ -2,11 +2,11 @@
 ghost use Rattle.std.specs.Prelude.{◌≡◌};
 ghost use Rattle.held_player.specs.Blanks.{AreFor};
 
-use crate::rooms::{blanks, comes, hears, opened, says};
 use crate::wanted::wants;
 use counted_player::{Ledgers, Seat};
 use held_player::Blanks;
 use house::House;
+use house_rooms::{blanks, comes, hears, opened, says};
 use partition::PartitionFault;
 use std::alloc::Global;
 use std::marker::Brand;
@@ -155,7 +155,10 @@ fn counted<L: Ledgers + Send + Sync, R: Threads + Wait + Sync>(
     ended?;
     let notices = notices?;
     let (by_outbox, in_front) = (notices.by_outbox, notices.in_front);
-    Ok(format!(in alloc; "{by_outbox} {in_front} {}\n", notices.again)?)
+    Ok(format!(in alloc;
+        "by the outbox {by_outbox}, in front {in_front}, again {}\n",
+        notices.again
+    )?)
 }
 
 fn race<L: Ledgers + Send + Sync, R: Threads + Wait + Sync>(
@@ -175,6 +178,10 @@ fn told<R: Threads + Wait + Sync>(rt: &R, alloc: Global) -> Result<String, Parti
 
 #[test]
 fn every_notice_comes_once(rt: HostRuntime) -> Result<(), Fail> {
-    wants(&rt, told(&rt, rt.alloc()), "50 50 0\n");
+    wants(
+        &rt,
+        told(&rt, rt.alloc()),
+        "by the outbox 50, in front 50, again 0\n",
+    );
     Ok(())
 }

@@ -2,14 +2,14 @@
 ghost use Rattle.std.specs.Prelude.{◌≡◌};
 ghost use Rattle.held_player.specs.Blanks.{AreFor};
 
-use crate::rooms::{blanks, comes, hears, opened};
 use crate::wanted::wants;
 use counted_player::{Ledgers, Seat};
 use held_player::Blanks;
 use house::House;
+use house_rooms::{blanks, comes, hears, opened};
 use mpd_text::number;
 use partition::PartitionFault;
-use std::alloc::Global;
+use std::alloc::{AllocError, Global};
 use std::marker::Brand;
 use std::sync::Wait;
 use std::test::Fail;
@@ -114,6 +114,39 @@ fn look_up_at_once<L: Ledgers + Send + Sync, R: Threads + Wait + Sync>(
     )
 }
 
+/// How often each of two callers found its own song, and how many ids were given once.
+fn found_told(alloc: Global, one: &Found, two: &Found) -> Result<String, AllocError> {
+    let once = given_once(&one.ids, &two.ids);
+    format!(in alloc;
+        "found {} and {}, given once {once}\n",
+        one.times, two.times
+    )
+}
+
+fn both_told(
+    alloc: Global,
+    one: Result<Found, PartitionFault>,
+    two: Result<Found, PartitionFault>,
+) -> Result<String, PartitionFault> {
+    match (one, two) {
+        (Ok(one), Ok(two)) => Ok(found_told(alloc, &one, &two)?),
+        _ => Err(PartitionFault::NoMemory),
+    }
+}
+
+fn look_up<L: Ledgers + Send + Sync, R: Threads + Wait + Sync>(
+    rt: &R,
+    alloc: Global,
+    house: &House<L>,
+    in_list: bool,
+) -> Result<String, PartitionFault> {
+    let (Ok(one), Ok(two)) = (house.seat(rt), house.seat(rt)) else {
+        return Err(PartitionFault::NoMemory);
+    };
+    let (one, two) = look_up_at_once(rt, alloc, house, one, two, in_list);
+    both_told(alloc, one, two)
+}
+
 fn race<L: Ledgers + Send + Sync, R: Threads + Wait + Sync>(
     rt: &R,
     alloc: Global,
@@ -123,13 +156,7 @@ fn race<L: Ledgers + Send + Sync, R: Threads + Wait + Sync>(
     requires blanks { AreFor L.names blanks }
 {
     let (house, _shares) = opened::<L>(alloc, blanks, 4096)?;
-    let (Ok(one), Ok(two)) = (house.seat(rt), house.seat(rt)) else {
-        return Err(PartitionFault::NoMemory);
-    };
-    let (one, two) = look_up_at_once(rt, alloc, &house, one, two, in_list);
-    let (one, two) = (one?, two?);
-    let once = given_once(&one.ids, &two.ids);
-    Ok(format!(in alloc; "{} {} {once}\n", one.times, two.times)?)
+    look_up(rt, alloc, &house, in_list)
 }
 
 fn told<R: Threads + Wait + Sync>(
@@ -142,12 +169,20 @@ fn told<R: Threads + Wait + Sync>(
 
 #[test]
 fn each_finds_its_own_song(rt: HostRuntime) -> Result<(), Fail> {
-    wants(&rt, told(&rt, rt.alloc(), false), "100 100 200\n");
+    wants(
+        &rt,
+        told(&rt, rt.alloc(), false),
+        "found 100 and 100, given once 200\n",
+    );
     Ok(())
 }
 
 #[test]
 fn each_finds_its_own_song_by_lists(rt: HostRuntime) -> Result<(), Fail> {
-    wants(&rt, told(&rt, rt.alloc(), true), "100 100 200\n");
+    wants(
+        &rt,
+        told(&rt, rt.alloc(), true),
+        "found 100 and 100, given once 200\n",
+    );
     Ok(())
 }

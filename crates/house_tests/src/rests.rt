@@ -3,11 +3,11 @@ ghost use Rattle.std.specs.Prelude.{◌≡◌};
 ghost use Rattle.held_player.specs.Blanks.{AreFor};
 
 use crate::notices::meets;
-use crate::rooms::{blanks, comes, opened, says};
 use crate::wanted::wants;
 use counted_player::{Ledgers, Seat};
 use held_player::{Blanks, News};
 use house::House;
+use house_rooms::{blanks, comes, opened, says};
 use partition::PartitionFault;
 use std::alloc::Global;
 use std::marker::Brand;
@@ -172,6 +172,35 @@ fn begins<L: Ledgers, R: Wait + Clock>(
     Ok(told)
 }
 
+/// The morning, and then what is waited for or which changes are seen.
+fn day<L: Ledgers + Send + Sync, R: Threads + Wait + Clock + Sync>(
+    rt: &R,
+    alloc: Global,
+    house: &House<L>,
+    seat: &mut Seat<L>,
+    on_threads: bool,
+) -> Result<String, PartitionFault> {
+    let begun = begins(rt, alloc, house, seat)?;
+    let more = if on_threads {
+        wakings(rt, alloc, house, seat)?
+    } else {
+        seen(rt, alloc, house, seat)?
+    };
+    Ok(format!(in alloc; "{begun}{more}")?)
+}
+
+fn day_of_a_seat<L: Ledgers + Send + Sync, R: Threads + Wait + Clock + Sync>(
+    rt: &R,
+    alloc: Global,
+    house: &House<L>,
+    on_threads: bool,
+) -> Result<String, PartitionFault> {
+    match house.seat(rt) {
+        Ok(mut seat) => day(rt, alloc, house, &mut seat, on_threads),
+        Err(_) => Err(PartitionFault::NoMemory),
+    }
+}
+
 fn evening<L: Ledgers + Send + Sync, R: Threads + Wait + Clock + Sync>(
     rt: &R,
     alloc: Global,
@@ -181,17 +210,7 @@ fn evening<L: Ledgers + Send + Sync, R: Threads + Wait + Clock + Sync>(
     requires blanks { AreFor L.names blanks }
 {
     let (house, _shares) = opened::<L>(alloc, blanks, 4096)?;
-    let Ok(mut seat) = house.seat(rt) else {
-        return Err(PartitionFault::NoMemory);
-    };
-    let mut told = begins(rt, alloc, &house, &mut seat)?;
-    let more = if on_threads {
-        wakings(rt, alloc, &house, &mut seat)
-    } else {
-        seen(rt, alloc, &house, &mut seat)
-    };
-    told.push_str(more?.as_str())?;
-    Ok(told)
+    day_of_a_seat(rt, alloc, &house, on_threads)
 }
 
 fn told<R: Threads + Wait + Clock + Sync>(

@@ -2,10 +2,10 @@
 ghost use Rattle.std.specs.Prelude.{◌≡◌};
 ghost use Rattle.held_player.specs.Blanks.{AreFor};
 
-use crate::rooms::{blanks, player};
 use crate::wanted::wants;
 use counted_player::{Ledgers, Seat};
 use held_player::{Blanks, Held, News};
+use house_rooms::{blanks, player};
 use mpd_command::{CommandSet, Request};
 use partition::PartitionFault;
 use shelf::MemShelf;
@@ -63,7 +63,7 @@ fn asks<L: Ledgers>(
     fills(alloc, held, &mut seat, questions)?;
     let before = held.history().len();
     held.compact_if_large();
-    Ok(format!(in alloc; "{before} {}\n", held.history().len())?)
+    Ok(format!(in alloc; "{before} events, then {}\n", held.history().len())?)
 }
 
 fn evening<L: Ledgers>(
@@ -85,7 +85,7 @@ fn told(alloc: Global, questions: u32) -> Result<String, PartitionFault> {
 // around them. The greeting and the first answer have 17. So 128 questions pass the limit of 16,777,216.
 #[test]
 fn a_large_window_is_folded(rt: HostRuntime) -> Result<(), Fail> {
-    wants(&rt, told(rt.alloc(), 127), "129 129\n");
-    wants(&rt, told(rt.alloc(), 128), "130 0\n");
+    wants(&rt, told(rt.alloc(), 127), "129 events, then 129\n");
+    wants(&rt, told(rt.alloc(), 128), "130 events, then 0\n");
     Ok(())
 }

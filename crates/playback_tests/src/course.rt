@@ -8,6 +8,7 @@ use play_order::{Consume, Ending, Modes, Round, Single};
 use song_db::SharedSong;
 use song_queue::{Entry, Queue};
 use std::alloc::{AllocError, Global};
+use std::collections::HashSet;
 use std::mem;
 
 #[derive(Drop)]
@@ -289,30 +290,62 @@ fn end(course: &mut Course, alloc: Global, word: &str, id: u32) -> Result<String
     ended(course, alloc, ending)
 }
 
+/// What a step tells that shows something, or goes back.
+fn shown(
+    course: &mut Course,
+    alloc: Global,
+    word: &str,
+    id: u32,
+) -> Result<Option<String>, AllocError> {
+    let shown = match word {
+        "ids" => ids(course, alloc),
+        "queue" => queue_text(course, alloc, id),
+        "peek" => peeked(course, alloc, id),
+        "before" => come_before(course, alloc, id),
+        "open" => opened_with(course, alloc),
+        "previous" => gone_back(course, alloc, id),
+        _ => return Ok(None),
+    };
+    Ok(Some(shown?))
+}
+
+fn peeked(course: &Course, alloc: Global, id: u32) -> Result<String, AllocError> {
+    entry_text(alloc, course.round.peek(course.modes, &course.queue, id))
+}
+
+fn come_before(course: &Course, alloc: Global, id: u32) -> Result<String, AllocError> {
+    entry_text(alloc, course.round.before(course.modes, &course.queue, id))
+}
+
+fn opened_with(course: &mut Course, alloc: Global) -> Result<String, AllocError> {
+    id_text(alloc, opening(course)?)
+}
+
+fn gone_back(course: &mut Course, alloc: Global, id: u32) -> Result<String, AllocError> {
+    id_text(alloc, previous(course, id)?)
+}
+
+/// What a step tells that takes songs out, ends one, or changes the order.
+fn moved(
+    course: &mut Course,
+    alloc: Global,
+    word: &str,
+    given: &str,
+) -> Result<String, AllocError> {
+    match word {
+        "next" | "end" => end(course, alloc, word, number_of(given)),
+        "delete" => take_out(course, alloc, given, false),
+        "delete-current" => take_out(course, alloc, given, true),
+        _ => String::from_str(alloc, change(course, alloc, word, given)?),
+    }
+}
+
 /// What a step tells.
 fn step(course: &mut Course, alloc: Global, line: &str) -> Result<String, AllocError> {
     let (word, given) = first_word(line);
-    let id = number_of(given);
-    if word == "ids" {
-        ids(course, alloc)
-    } else if word == "queue" {
-        queue_text(course, alloc, id)
-    } else if word == "open" {
-        id_text(alloc, opening(course)?)
-    } else if word == "peek" {
-        entry_text(alloc, course.round.peek(course.modes, &course.queue, id))
-    } else if word == "before" {
-        entry_text(alloc, course.round.before(course.modes, &course.queue, id))
-    } else if word == "previous" {
-        id_text(alloc, previous(course, id)?)
-    } else if word == "next" || word == "end" {
-        end(course, alloc, word, id)
-    } else if word == "delete" {
-        take_out(course, alloc, given, false)
-    } else if word == "delete-current" {
-        take_out(course, alloc, given, true)
-    } else {
-        String::from_str(alloc, change(course, alloc, word, given)?)
+    match shown(course, alloc, word, number_of(given))? {
+        Some(text) => Ok(text),
+        None => moved(course, alloc, word, given),
     }
 }
 
@@ -336,28 +369,59 @@ fn step_of_two(
 pub fn told(alloc: Global, steps: &str) -> Result<String, AllocError> {
     let mut course = opened(alloc);
     let mut kept = opened(alloc);
+    told_of_two(&mut course, &mut kept, alloc, steps)
+}
+
+/// The same of a course and of the image that `keep` takes. It owns none of them, since each of its ways out
+/// would let them go.
+fn told_of_two(
+    course: &mut Course,
+    kept: &mut Course,
+    alloc: Global,
+    steps: &str,
+) -> Result<String, AllocError> {
     let mut all = String::new(alloc);
     for line in steps.lines() {
-        let text = step_of_two(&mut course, &mut kept, alloc, line)?;
-        if text.as_str() != "ok" {
-            push_line(&mut all, line)?;
-            push_line(&mut all, text.as_str())?;
-        }
+        let text = step_of_two(course, kept, alloc, line)?;
+        push_told(&mut all, line, text.as_str())?;
     }
     Ok(all)
+}
+
+fn push_told(all: &mut String, line: &str, text: &str) -> Result<(), AllocError> {
+    if text == "ok" {
+        return Ok(());
+    }
+    push_line(all, line)?;
+    push_line(all, text)
 }
 
 /// How many songs, each once, `next` starts in random order of a queue of so many, until none is left.
 pub fn count_in_random_order(alloc: Global, count: usize) -> Result<usize, AllocError> {
     let mut course = opened(alloc);
-    let _ok = add(&mut course, alloc, count)?;
-    randomize(&mut course, None)?;
-    let mut seen = std::collections::HashSet::new(alloc);
-    let mut current = opening(&mut course)?;
+    count_started(&mut course, alloc, count)
+}
+
+fn count_started(course: &mut Course, alloc: Global, count: usize) -> Result<usize, AllocError> {
+    let _ok = add(course, alloc, count)?;
+    randomize(course, None)?;
+    let first = opening(course)?;
+    count_from(course, alloc, first, count)
+}
+
+/// How many different songs come from this one on; 0 where more than so many come.
+fn count_from(
+    course: &mut Course,
+    alloc: Global,
+    first: Option<u32>,
+    count: usize,
+) -> Result<usize, AllocError> {
+    let mut seen = HashSet::new(alloc);
+    let mut current = first;
     for _ in 0..count {
         if let Some(id) = current {
             let _new = seen.insert(id)?;
-            current = next(&mut course, id)?.starts;
+            current = next(course, id)?.starts;
         }
     }
     Ok(if current.is_some() { 0 } else { seen.len() })

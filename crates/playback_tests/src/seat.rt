@@ -281,9 +281,20 @@ pub fn told(alloc: Global, max_cut: u32, steps: &str) -> Result<String, AllocErr
         queue: Queue::new(alloc, 16384, 2147483647, 2147483647),
     };
     let mut kept = image(&seat)?;
+    told_of_two(&mut seat, &mut kept, alloc, steps)
+}
+
+/// The same of a seat and of the image that `keep` takes. It owns none of them, since each of its ways out
+/// would let them go.
+fn told_of_two(
+    seat: &mut Seat,
+    kept: &mut Seat,
+    alloc: Global,
+    steps: &str,
+) -> Result<String, AllocError> {
     let mut all = String::new(alloc);
     for line in steps.lines() {
-        let text = step_of_two(&mut seat, &mut kept, alloc, line)?;
+        let text = step_of_two(seat, kept, alloc, line)?;
         if text.as_str() != "ok" {
             push_line(&mut all, text.as_str())?;
         }

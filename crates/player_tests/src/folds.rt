@@ -1,17 +1,9 @@
 //! Folds of the history: a session tells the same in a window of any size, and with a fold by hand between
-//! any two events.
-use crate::fades::{FADES, FADES_TELL};
-use crate::sessions::{
-    DELETION, DELETION_TELLS, EDITS, EDITS_TELL, LISTS, LISTS_TELL, ROOMS, ROOMS_TELL, SCANS,
-    SCANS_TELL, numbered,
-};
-use crate::shelf_commands::{
-    IN_LISTS, IN_LISTS_TELL, MESSAGES, MESSAGES_TELL, NOTICES, NOTICES_TELL, STICKERS,
-    STICKERS_TELL,
-};
+//! any two events. The worked rows show the former of each command.
+use crate::session::{session, session_over, session_within};
+use crate::sessions::{ROOMS, ROOMS_TELL, SCANS, SCANS_TELL, numbered};
 use crate::shelf_sizes::doubling;
 use crate::wanted::{wants, wants_made};
-use player_sessions::session::{session, session_over, session_within};
 use queue_tests::steps::push_line;
 use std::alloc::{AllocError, Global};
 
@@ -62,33 +54,10 @@ fn oddities(alloc: Global, uris: &str, steps: &str, wanted: &str) -> Result<Stri
 }
 
 #[test]
-fn folds_keep_the_queue(rt: HostRuntime) {
-    let alloc = rt.alloc();
-    wants(&rt, oddities(alloc, "a.wav", DELETION, DELETION_TELLS), "");
-    wants(&rt, oddities(alloc, "a.wav", EDITS, EDITS_TELL), "");
-    wants(&rt, oddities(alloc, "a.wav", LISTS, LISTS_TELL), "");
-}
-
-#[test]
-fn folds_keep_what_is_played(rt: HostRuntime) {
+fn folds_keep_outputs_and_scans(rt: HostRuntime) {
     let alloc = rt.alloc();
     wants(&rt, oddities(alloc, "a.wav", ROOMS, ROOMS_TELL), "");
-    wants(&rt, oddities(alloc, "a.wav\nb.wav", FADES, FADES_TELL), "");
     wants(&rt, oddities(alloc, "a.wav", SCANS, SCANS_TELL), "");
-}
-
-const FOUR: &str = "a.wav
-b.wav
-folder/c.wav
-folder/d.wav";
-
-#[test]
-fn folds_keep_lists_and_messages(rt: HostRuntime) {
-    let alloc = rt.alloc();
-    wants(&rt, oddities(alloc, FOUR, STICKERS, STICKERS_TELL), "");
-    wants(&rt, oddities(alloc, "a.wav", MESSAGES, MESSAGES_TELL), "");
-    wants(&rt, oddities(alloc, "a.wav", NOTICES, NOTICES_TELL), "");
-    wants(&rt, oddities(alloc, "a.wav", IN_LISTS, IN_LISTS_TELL), "");
 }
 
 /// A session that leaves something in each part of the state, and then shows all of it.
@@ -159,14 +128,14 @@ changed: update
 changed: stored_playlist
 changed: player
 changed: subscription
-3 0
-1 0
-2 3
-1024 500 24
-1024 0 0
-0 0 0
-0 0 0
-2 12 18 3 2 40
+id 3, priority 0
+id 1, priority 0
+id 2, priority 3
+decoded 1024, written 500, discarded 24
+decoded 1024, written 0, discarded 0
+decoded 0, written 0, discarded 0
+decoded 0, written 0, discarded 0
+seat 15: 2, seat 3: 12, all: 18, entries: 3, clients: 2, volume: 40
 changed: update
 changed: stored_playlist
 changed: player
@@ -217,7 +186,7 @@ changed: subscription
 changed: message
 OK
 OK
-4 18 26 3 2 40
+seat 15: 4, seat 3: 18, all: 26, entries: 3, clients: 2, volume: 40
 ";
 
 const THREE: &str = "a.wav
@@ -259,9 +228,33 @@ fn four_events_within(alloc: Global, most: u32) -> Result<String, AllocError> {
 #[test]
 fn a_full_window_is_folded_before_the_next_event(rt: HostRuntime) {
     let alloc = rt.alloc();
-    let one = four_events(alloc, ["1 14 1", "1 3 2", "1 38 3", "1 0 4"]);
-    let two = four_events(alloc, ["1 14 1", "2 17 2", "1 38 3", "2 38 4"]);
-    let three = four_events(alloc, ["1 14 1", "2 17 2", "3 55 3", "1 0 4"]);
+    let one = four_events(
+        alloc,
+        [
+            "events: 1, bytes: 14, all: 1",
+            "events: 1, bytes: 3, all: 2",
+            "events: 1, bytes: 38, all: 3",
+            "events: 1, bytes: 0, all: 4",
+        ],
+    );
+    let two = four_events(
+        alloc,
+        [
+            "events: 1, bytes: 14, all: 1",
+            "events: 2, bytes: 17, all: 2",
+            "events: 1, bytes: 38, all: 3",
+            "events: 2, bytes: 38, all: 4",
+        ],
+    );
+    let three = four_events(
+        alloc,
+        [
+            "events: 1, bytes: 14, all: 1",
+            "events: 2, bytes: 17, all: 2",
+            "events: 3, bytes: 55, all: 3",
+            "events: 1, bytes: 0, all: 4",
+        ],
+    );
     wants_made(&rt, four_events_within(alloc, 1), one);
     wants_made(&rt, four_events_within(alloc, 2), two);
     wants_made(&rt, four_events_within(alloc, 3), three);
@@ -291,28 +284,28 @@ show window";
 
 const BYTES_TELL: &str = "OK MPD 0.23.0
 OK
-2 17 2
+events: 2, bytes: 17, all: 2
 file: a.wav
 OK
-3 38 3
+events: 3, bytes: 38, all: 3
 playlist: x
 OK
-4 54 4
+events: 4, bytes: 54, all: 4
 OK
-5 57 5
+events: 5, bytes: 57, all: 5
 sticker: r=5
 OK
-6 74 6
+events: 6, bytes: 74, all: 6
 sticker: r=5
 OK
-7 92 7
+events: 7, bytes: 92, all: 7
 file: a.wav
 sticker: r=5
 OK
-8 126 8
-0 0 8
+events: 8, bytes: 126, all: 8
+events: 0, bytes: 0, all: 8
 OK
-1 3 9
+events: 1, bytes: 3, all: 9
 ";
 
 #[test]
@@ -330,7 +323,9 @@ fn greatest_window(alloc: Global) -> Result<String, AllocError> {
 
 fn greatest_window_tells(alloc: Global) -> Result<String, AllocError> {
     let pinged = "OK\n".repeat(alloc, 4095)?;
-    format!(in alloc; "OK MPD 0.23.0\n{pinged}4096 12299 4096\nOK\n1 3 4097\nOK\n2 6 4098\n")
+    format!(in alloc;
+        "OK MPD 0.23.0\n{pinged}events: 4096, bytes: 12299, all: 4096\nOK\nevents: 1, bytes: 3, all: 4097\nOK\nevents: 2, bytes: 6, all: 4098\n"
+    )
 }
 
 #[test]
@@ -359,10 +354,10 @@ folds
 64 idle
 show counts";
 
-const GREATEST_TELLS: &str = "93 99281 93
-64 29 93 16384 64 100
+const GREATEST_TELLS: &str = "events: 93, bytes: 99281, all: 93
+seat 15: 64, seat 3: 29, all: 93, entries: 16384, clients: 64, volume: 100
 OK
-1 3 94
+events: 1, bytes: 3, all: 94
 OK
 file: a.wav
 Time: 1
@@ -386,7 +381,7 @@ changed: playlist
 changed: player
 changed: options
 OK
-64 38 102 16383 64 100
+seat 15: 64, seat 3: 38, all: 102, entries: 16383, clients: 64, volume: 100
 ";
 
 /// What is told where the state is the greatest: 16,384 entries and 64 clients.

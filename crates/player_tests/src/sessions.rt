@@ -1,36 +1,10 @@
 //! Worked sessions of the player of one thread, and what they tell.
+use crate::session::{session, session_over};
 use crate::wanted::{wants, wants_made};
 use command_arguments::Volume;
 use mpd_command::{CommandSet, Name, Request, names};
 use partition::{PartitionFault, folds_are_unseen, reads_pending, replays_worlds};
-use player_sessions::session::session;
 use std::alloc::{AllocError, Global};
-
-pub(crate) const DELETION: &str = "comes 1
-1 add a.wav
-1 add a.wav/
-1 delete 0
-1 plchangesposid 3
-1 add b.wav
-show counts
-show 1";
-
-pub(crate) const DELETION_TELLS: &str = "OK MPD 0.23.0
-OK
-OK
-OK
-cpos: 0
-Id: 2
-OK
-ACK [50@0] {add} no such song
-1 5 6 1 1 100
-there
-";
-
-#[test]
-fn a_deletion_restamps_the_slot_after_it(rt: HostRuntime) {
-    wants(&rt, session(rt.alloc(), DELETION), DELETION_TELLS);
-}
 
 const WAITING: &str = "comes 2
 comes 1
@@ -61,7 +35,7 @@ waits
 OK
 waits
 closed
-2 9 11 1 1 40
+seat 15: 2, seat 3: 9, all: 11, entries: 1, clients: 1, volume: 40
 not there
 closed
 client: 1
@@ -105,10 +79,10 @@ changed: playlist
 changed: player
 OK
 the end
-0 5 6
-0 0 0
-0 0 0
-0 0 0
+decoded 0, written 5, discarded 6
+decoded 0, written 0, discarded 0
+decoded 0, written 0, discarded 0
+decoded 0, written 0, discarded 0
 ";
 
 #[test]
@@ -164,11 +138,11 @@ waits
 live 1 false false
 ACK [52@0] {enableoutput} output has failed
 ACK [50@0] {enableoutput} no such output
-1048 1000 4294967319
-1024 24 1000
-0 0 0
-0 0 0
-2 9 21 1 2 40
+decoded 1048, written 1000, discarded 4294967319
+decoded 1024, written 24, discarded 1000
+decoded 0, written 0, discarded 0
+decoded 0, written 0, discarded 0
+seat 15: 2, seat 3: 9, all: 21, entries: 1, clients: 2, volume: 40
 ";
 
 #[test]
@@ -210,7 +184,7 @@ ended
 ACK [50@0] {add} no such song
 OK
 none ran
-2 7 14 2 2 100
+seat 15: 2, seat 3: 7, all: 14, entries: 2, clients: 2, volume: 100
 ";
 
 #[test]
@@ -268,7 +242,9 @@ fn crowd(alloc: Global) -> Result<String, AllocError> {
 
 fn crowd_tells(alloc: Global) -> Result<String, AllocError> {
     let mut all = greetings(alloc)?;
-    all.push_str("closed\nnot there\n65 0 65 0 64 100\nclosed\nOK MPD 0.23.0\n")?;
+    all.push_str(
+        "closed\nnot there\nseat 15: 65, seat 3: 0, all: 65, entries: 0, clients: 64, volume: 100\nclosed\nOK MPD 0.23.0\n",
+    )?;
     Ok(all)
 }
 
@@ -301,51 +277,6 @@ fn all_clients_are_told_at_once(rt: HostRuntime) {
     );
 }
 
-pub(crate) const EDITS: &str = "comes 1
-1 addid a.wav
-1 addid a.wav 0
-1 playlistid 1
-1 move 0:1 1
-1 prio 7 0
-1 plchanges 3 0:1
-1 swapid 1 2
-1 moveid 9 1
-1 kill
-1 delete 0:
-1 addid a.wav +0";
-
-pub(crate) const EDITS_TELL: &str = "OK MPD 0.23.0
-Id: 1
-OK
-Id: 2
-OK
-file: a.wav
-Time: 1
-duration: 1.000
-Pos: 1
-Id: 1
-OK
-OK
-OK
-file: a.wav
-Time: 1
-duration: 1.000
-Pos: 0
-Id: 1
-Prio: 7
-OK
-OK
-ACK [50@0] {moveid} no such song
-ACK [4@0] {kill} no permission for \"kill\"
-OK
-ACK [55@0] {addid} no current song
-";
-
-#[test]
-fn a_desktop_edits_the_queue(rt: HostRuntime) {
-    wants(&rt, session(rt.alloc(), EDITS), EDITS_TELL);
-}
-
 const PLAIN_LIST: &str = "comes 1
 plain_list 0 add a.wav
 plain_list 1 ping
@@ -366,41 +297,81 @@ list_OK
 ACK [5@2] {} unknown command \"nosuch\"
 ";
 
-pub(crate) const LISTS: &str = "comes 1
-comes 2
-2 idle mixer
-runs_plain
-runs_ok add a.wav;setvol 40;ping
-runs_plain add a.wav;add nosuch;add a.wav
-runs_ok ping;close;add a.wav
-show counts
-show 1";
-
-pub(crate) const LISTS_TELL: &str = "OK MPD 0.23.0
-OK MPD 0.23.0
-waits
-OK
-list_OK
-list_OK
-list_OK
-OK
-2: changed: mixer
-ACK [50@1] {add} no such song
-list_OK
-closed
-2 8 10 2 1 40
-not there
-";
-
-#[test]
-fn lists_run_to_their_end_or_first_failure(rt: HostRuntime) {
-    wants(&rt, session(rt.alloc(), LISTS), LISTS_TELL);
-}
-
 #[test]
 fn an_answer_in_a_list_has_no_ok(rt: HostRuntime) {
     wants(&rt, session(rt.alloc(), PLAIN_LIST), PLAIN_LIST_TELLS);
     wants(&rt, session(rt.alloc(), OK_LIST), OK_LIST_TELLS);
+}
+
+/// Four songs, two of which are in a folder.
+const FOUR: &str = "a.wav
+b.wav
+folder/c.wav
+folder/d.wav";
+
+const GONE_SONGS: &str = "comes 1
+1 playlistadd x
+1 playlistadd x a.wav
+1 playlistadd x b.wav
+1 update
+scan b.wav
+1 listplaylist x
+1 listplaylistinfo x
+1 load x
+1 load x 0
+1 load x 2
+1 load x 3:
+1 playlistid";
+
+const GONE_SONGS_TELL: &str = "OK MPD 0.23.0
+ACK [2@0] {playlistadd} wrong number of arguments for \"playlistadd\"
+OK
+OK
+updating_db: 1
+OK
+ended
+file: a.wav
+file: b.wav
+OK
+file: a.wav
+file: b.wav
+Time: 1
+duration: 1.000
+OK
+OK
+OK
+ACK [2@0] {load} bad song index
+ACK [2@0] {load} bad song index
+file: b.wav
+Time: 1
+duration: 1.000
+Pos: 0
+Id: 1
+OK
+";
+
+#[test]
+fn a_list_keeps_songs_that_are_gone(rt: HostRuntime) {
+    wants(
+        &rt,
+        session_over(rt.alloc(), FOUR, GONE_SONGS),
+        GONE_SONGS_TELL,
+    );
+}
+
+const WITH_LEAVE: &str = "comes 1
+1 notcommands
+with_leave notcommands";
+
+const WITH_LEAVE_TELLS: &str = "OK MPD 0.23.0
+command: kill
+OK
+OK
+";
+
+#[test]
+fn kill_is_among_the_commands_with_leave(rt: HostRuntime) {
+    wants(&rt, session(rt.alloc(), WITH_LEAVE), WITH_LEAVE_TELLS);
 }
 
 /// What is said of an event that is refused.

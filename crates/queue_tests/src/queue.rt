@@ -91,12 +91,16 @@ fn step(queue: &mut Queue, alloc: Global, line: &str) -> Result<String, AllocErr
 }
 
 /// What the steps tell, with a line for each.
-fn told(alloc: Global, mut queue: Queue, steps: &str) -> Result<String, AllocError> {
+fn told_by(queue: &mut Queue, alloc: Global, steps: &str) -> Result<String, AllocError> {
     let mut all = String::new(alloc);
     for line in steps.lines() {
-        push_line(&mut all, step(&mut queue, alloc, line)?.as_str())?;
+        push_line(&mut all, step(queue, alloc, line)?.as_str())?;
     }
     Ok(all)
+}
+
+fn told(alloc: Global, mut queue: Queue, steps: &str) -> Result<String, AllocError> {
+    told_by(&mut queue, alloc, steps)
 }
 
 /// The same of a queue to which so many songs were added one by one.

@@ -80,7 +80,16 @@ fn step(queue: &mut Queue, alloc: Global, line: &str) -> Result<String, AllocErr
     }
 }
 
-/// What the steps tell of a queue of so many entries, with a line for each.
+/// What the steps tell, with a line for each.
+fn told(queue: &mut Queue, alloc: Global, steps: &str) -> Result<String, AllocError> {
+    let mut all = String::new(alloc);
+    for line in steps.lines() {
+        push_line(&mut all, step(queue, alloc, line)?.as_str())?;
+    }
+    Ok(all)
+}
+
+/// The same of a queue of so many entries.
 fn told_of(
     alloc: Global,
     max_version: u32,
@@ -88,11 +97,7 @@ fn told_of(
     steps: &str,
 ) -> Result<String, AllocError> {
     let mut queue = filled(alloc, max_version, count)?;
-    let mut all = String::new(alloc);
-    for line in steps.lines() {
-        push_line(&mut all, step(&mut queue, alloc, line)?.as_str())?;
-    }
-    Ok(all)
+    told(&mut queue, alloc, steps)
 }
 
 const MOVES: &str = "move 0 2 1

@@ -1,4 +1,6 @@
-//! Tests of what is asked of a library, and of the scan of a folder that is made on the spot.
+//! Tests of what is asked of a library, of the scan of a folder that is made on the spot, of what a scan
+//! prints and a daemon tells of it, of what the program is given, its command line and its settings, and of a
+//! state.
 #![tactic(auto)]
 
 #[cfg(test)]
@@ -13,3 +15,11 @@ mod limits;
 mod odd;
 #[cfg(test)]
 mod questions;
+#[cfg(test)]
+mod reports;
+#[cfg(test)]
+mod settings_texts;
+#[cfg(test)]
+mod states;
+#[cfg(test)]
+mod words;

@@ -90,17 +90,18 @@ fn prints(alloc: Global, rows: &str) -> Result<String, AllocError> {
 
 /// Whether the answer that shows all entries has more than 64 KiB, and whether the session ends well and
 /// prints what is wanted.
-fn long_session(alloc: Global) -> Result<(bool, bool), AllocError> {
+fn long_session(alloc: Global) -> Result<String, AllocError> {
     let rows = rows(alloc)?;
     let wanted = prints(alloc, rows.as_str())?;
     let told = run_whole(alloc, says(alloc)?.as_str())?;
     let is_long = size_of(rows.as_str()) > 65_536;
-    Ok((is_long, told.as_str() == wanted.as_str()))
+    let is_wanted = told.as_str() == wanted.as_str();
+    format!(in alloc; "long: {is_long}, as wanted: {is_wanted}")
 }
 
 #[test]
 fn a_long_session(rt: HostRuntime) {
-    assert!(rt; long_session(rt.alloc()) == Ok((true, true)));
+    wants(&rt, long_session(rt.alloc()), "long: true, as wanted: true");
 }
 
 /// How many lines `add a.wav` a list of 2,097,152 bytes holds.

@@ -7,7 +7,7 @@ use counted_devices::Counting;
 use counted_player::{Ledgers, Seat};
 use held_player::{Blanks, News};
 use house::House;
-use house_tests::rooms::{blanks, opened};
+use house_rooms::{blanks, opened};
 use mpd_answers::Asker;
 use mpd_command::CommandSet;
 use mpd_session::{End, Goes, Session, SessionFault};
@@ -123,6 +123,56 @@ struct Log {
     faults: String,
 }
 
+/// A client comes, and is one of the guests.
+fn greets<L: Ledgers>(
+    rt: &impl Wait,
+    alloc: Global,
+    house: &House<L>,
+    seat: &mut Seat<L>,
+    guests: &mut Vec<Guest>,
+    client: u32,
+    takes: Takes,
+    may_kill: bool,
+) -> Result<(), PartitionFault> {
+    guests.reserve(1)?;
+    let guest = comes(rt, alloc, house, seat, client, takes, may_kill)?;
+    guests.push_reserved(guest);
+    Ok(())
+}
+
+/// A guest's session reads some bytes, and its fault is told.
+fn reads_of<L: Ledgers>(
+    rt: &impl Wait,
+    alloc: Global,
+    house: &House<L>,
+    seat: &mut Seat<L>,
+    shelf: &mut MemShelf,
+    log: &mut Log,
+    client: u32,
+    bytes: &[u8],
+    then: Then,
+) -> Result<(), AllocError> {
+    for guest in &mut log.guests {
+        if guest.client == client {
+            if let Some(fault) = reads(rt, alloc, house, seat, shelf, guest, bytes, then) {
+                log.faults.push_str(fault_name(fault))?;
+            }
+        }
+    }
+    Ok(())
+}
+
+/// Whose session has a turn in a step, what it reads, and what comes then; a client that comes has none.
+fn turn_in<'a>(step: Step<'a>) -> (u32, &'a [u8], Then) {
+    match step {
+        Step::Says(client, bytes) => (client, bytes, Then::Blocks),
+        Step::Comes(client, _) => (client, b"".as_slice(), Then::Blocks),
+        Step::Waits(client) => (client, b"".as_slice(), Then::Blocks),
+        Step::Ends(client) => (client, b"".as_slice(), Then::Ends),
+        Step::Fails(client) => (client, b"".as_slice(), Then::Fails),
+    }
+}
+
 fn step_of<L: Ledgers>(
     rt: &impl Wait,
     alloc: Global,
@@ -133,26 +183,20 @@ fn step_of<L: Ledgers>(
     step: Step<'_>,
     may_kill: bool,
 ) -> Result<(), PartitionFault> {
-    let (client, bytes, then) = match step {
-        Step::Comes(client, takes) => {
-            log.guests.reserve(1)?;
-            let guest = comes(rt, alloc, house, seat, client, takes, may_kill)?;
-            log.guests.push_reserved(guest);
-            return Ok(());
-        }
-        Step::Says(client, bytes) => (client, bytes, Then::Blocks),
-        Step::Waits(client) => (client, b"".as_slice(), Then::Blocks),
-        Step::Ends(client) => (client, b"".as_slice(), Then::Ends),
-        Step::Fails(client) => (client, b"".as_slice(), Then::Fails),
-    };
-    for guest in &mut log.guests {
-        if guest.client == client {
-            if let Some(fault) = reads(rt, alloc, house, seat, shelf, guest, bytes, then) {
-                log.faults.push_str(fault_name(fault))?;
-            }
-        }
+    if let Step::Comes(client, takes) = step {
+        return greets(
+            rt,
+            alloc,
+            house,
+            seat,
+            &mut log.guests,
+            client,
+            takes,
+            may_kill,
+        );
     }
-    Ok(())
+    let (client, bytes, then) = turn_in(step);
+    Ok(reads_of(rt, alloc, house, seat, shelf, log, client, bytes, then)?)
 }
 
 /// What was told of faults, and of each client how its session is and what was written to it.
@@ -164,6 +208,32 @@ fn told_of(alloc: Global, log: &Log) -> Result<String, AllocError> {
         told.push_str(part.as_str())?;
     }
     Ok(told)
+}
+
+fn take_steps<L: Ledgers>(
+    rt: &impl Wait,
+    alloc: Global,
+    house: &House<L>,
+    seat: &mut Seat<L>,
+    shelf: &mut MemShelf,
+    log: &mut Log,
+    steps: &[Step<'_>],
+    may_kill: bool,
+) -> Result<(), PartitionFault> {
+    for step in steps {
+        step_of(rt, alloc, house, seat, shelf, log, *step, may_kill)?;
+    }
+    Ok(())
+}
+
+/// What the log tells, where all steps were taken.
+fn told_after(
+    alloc: Global,
+    taken: Result<(), PartitionFault>,
+    log: &Log,
+) -> Result<String, PartitionFault> {
+    taken?;
+    Ok(told_of(alloc, log)?)
 }
 
 fn steps_of<L: Ledgers>(
@@ -179,12 +249,23 @@ fn steps_of<L: Ledgers>(
         guests: Vec::new(alloc),
         faults: String::new(alloc),
     };
-    for step in steps {
-        step_of(
-            rt, alloc, house, seat, &mut shelf, &mut log, *step, may_kill,
-        )?;
+    let taken = take_steps(
+        rt, alloc, house, seat, &mut shelf, &mut log, steps, may_kill,
+    );
+    told_after(alloc, taken, &log)
+}
+
+fn day_of_a_seat<L: Ledgers>(
+    rt: &impl Wait,
+    alloc: Global,
+    house: &House<L>,
+    steps: &[Step<'_>],
+    may_kill: bool,
+) -> Result<String, PartitionFault> {
+    match house.seat(rt) {
+        Ok(mut seat) => steps_of(rt, alloc, house, &mut seat, steps, may_kill),
+        Err(_) => Err(PartitionFault::NoMemory),
     }
-    Ok(told_of(alloc, &log)?)
 }
 
 fn day<L: Ledgers>(
@@ -197,10 +278,7 @@ fn day<L: Ledgers>(
     requires blanks { AreFor L.names blanks }
 {
     let (house, _shares) = opened::<L>(alloc, blanks, 4096)?;
-    let Ok(mut seat) = house.seat(rt) else {
-        return Err(PartitionFault::NoMemory);
-    };
-    steps_of(rt, alloc, &house, &mut seat, steps, may_kill)
+    day_of_a_seat(rt, alloc, &house, steps, may_kill)
 }
 
 /// What the sessions of a day wrote, each after its client's number and whether it is closed.

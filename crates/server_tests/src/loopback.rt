@@ -3,10 +3,10 @@ ghost use Rattle.std.specs.Prelude.{◌≡◌};
 ghost use Rattle.held_player.specs.Blanks.{AreFor};
 
 use crate::scanner::start_scanner;
-use counted_player::Ledgers;
+use counted_player::{Ledgers, Seat};
 use held_player::Blanks;
 use house::House;
-use house_tests::rooms::{blanks, opened};
+use house_rooms::{blanks, opened};
 use mio::net::TcpListener as Door;
 use mpd_command::CommandSet;
 use mpd_server::{ServeFault, Server, bind, start_waker};
@@ -52,29 +52,54 @@ enum Party {
     ReadsLate(bool),
 }
 
-/// A house is served until a client ends the daemon, by a loop that another thread wakes, and a third makes
-/// the scans.
+/// A house is served until a client ends the daemon, while another thread makes the scans.
+fn serves_beside_scans<
+    L: Ledgers + Send + Sync + 'static,
+    R: Threads + Wait + Net + Clock + Copy + Send + 'static,
+>(
+    rt: R,
+    alloc: Global,
+    house: &Arc<House<L>, Global>,
+    seat: &mut Seat<L>,
+    server: &mut Server,
+) -> Result<(), ServeFault> {
+    let Ok(scanning) = start_scanner(rt, alloc, house) else {
+        let _ended = house.end(&rt, seat);
+        return Err(ServeFault::NoMemory);
+    };
+    let mut shelf = MemShelf::new(alloc);
+    let served = server.serve(&rt, alloc, &**house, seat, &mut shelf, all());
+    let _ended = house.end(&rt, seat);
+    scanning.join(&rt);
+    served
+}
+
+/// The same, by a loop that a third thread wakes.
+fn serves_by_a_loop<
+    L: Ledgers + Send + Sync + 'static,
+    R: Threads + Wait + Net + Clock + Copy + Send + 'static,
+>(
+    rt: R,
+    alloc: Global,
+    house: &Arc<House<L>, Global>,
+    seat: &mut Seat<L>,
+    door: Door,
+) -> Result<(), ServeFault> {
+    let mut server = Server::open(&rt, alloc, door)?;
+    let waking = start_waker(rt, house, &mut server)?;
+    let served = serves_beside_scans(rt, alloc, house, seat, &mut server);
+    waking.join(&rt);
+    served
+}
+
 fn serves_in<
     L: Ledgers + Send + Sync + 'static,
     R: Threads + Wait + Net + Clock + Copy + Send + 'static,
 >(rt: R, alloc: Global, house: &Arc<House<L>, Global>, door: Door) -> Result<(), ServeFault> {
-    let Ok(mut seat) = house.seat(&rt) else {
-        return Err(ServeFault::NoMemory);
-    };
-    let mut shelf = MemShelf::new(alloc);
-    let mut server = Server::open(&rt, alloc, door)?;
-    let waking = start_waker(rt, house, &mut server)?;
-    let scanning = start_scanner(rt, alloc, house);
-    let served = match &scanning {
-        Ok(_) => server.serve(&rt, alloc, &**house, &mut seat, &mut shelf, all()),
+    match house.seat(&rt) {
+        Ok(mut seat) => serves_by_a_loop(rt, alloc, house, &mut seat, door),
         Err(_) => Err(ServeFault::NoMemory),
-    };
-    let _ended = house.end(&rt, &mut seat);
-    waking.join(&rt);
-    if let Ok(scanning) = scanning {
-        scanning.join(&rt);
     }
-    served
 }
 
 /// The same with a new house.
@@ -144,25 +169,69 @@ fn wants_the_end(client: &mut TcpStream) -> io::Result<()> {
     }
 }
 
+/// So many clients come.
+fn others<R: Net<Listener = TcpListener, Stream = TcpStream>>(
+    rt: &R,
+    alloc: Global,
+    address: SocketAddr,
+    count: u32,
+) -> io::Result<Vec<TcpStream>> {
+    let mut others = Vec::new(alloc);
+    for _client in 0..count {
+        others.push(comes(rt, alloc, address)?)?;
+    }
+    Ok(others)
+}
+
+/// There is no place for one who comes.
+fn one_finds_no_place<R: Net<Listener = TcpListener, Stream = TcpStream>>(
+    rt: &R,
+    address: SocketAddr,
+) -> io::Result<()> {
+    let mut late = TcpStream::connect(rt, address)?;
+    wants_the_end(&mut late)
+}
+
+/// There is a place for one who comes.
+fn one_finds_a_place<R: Net<Listener = TcpListener, Stream = TcpStream>>(
+    rt: &R,
+    alloc: Global,
+    address: SocketAddr,
+) -> io::Result<()> {
+    let mut next = comes(rt, alloc, address)?;
+    says(alloc, &mut next, b"ping\n", b"OK\n")
+}
+
+fn one_closes(client: Option<TcpStream>) -> io::Result<()> {
+    let Some(mut last) = client else {
+        return Ok(());
+    };
+    last.write_all(b"close\n")?;
+    wants_the_end(&mut last)
+}
+
+/// Beside as many as there are places for one finds no place, until another has closed.
+fn many_stay<R: Net<Listener = TcpListener, Stream = TcpStream>>(
+    rt: &R,
+    alloc: Global,
+    address: SocketAddr,
+    first: &mut TcpStream,
+    clients: &mut Vec<TcpStream>,
+) -> io::Result<()> {
+    one_finds_no_place(rt, address)?;
+    one_closes(clients.pop())?;
+    one_finds_a_place(rt, alloc, address)?;
+    says(alloc, first, b"ping\n", b"OK\n")
+}
+
 fn many_come<R: Net<Listener = TcpListener, Stream = TcpStream>>(
     rt: &R,
     alloc: Global,
     address: SocketAddr,
     first: &mut TcpStream,
 ) -> io::Result<()> {
-    let mut clients = Vec::new(alloc);
-    for _client in 1..64u32 {
-        clients.push(comes(rt, alloc, address)?)?;
-    }
-    let mut late = TcpStream::connect(rt, address)?;
-    wants_the_end(&mut late)?;
-    if let Some(mut last) = clients.pop() {
-        last.write_all(b"close\n")?;
-        wants_the_end(&mut last)?;
-    }
-    let mut next = comes(rt, alloc, address)?;
-    says(alloc, &mut next, b"ping\n", b"OK\n")?;
-    says(alloc, first, b"ping\n", b"OK\n")
+    let mut clients = others(rt, alloc, address, 63)?;
+    many_stay(rt, alloc, address, first, &mut clients)
 }
 
 /// The length of the answer to `commands`.
@@ -305,29 +374,15 @@ fn one_sends_no_more<R: Net<Listener = TcpListener, Stream = TcpStream>>(
     wants_the_end(&mut half)
 }
 
-/// As many clients come as there are places for beside the first and another.
-fn many_others<R: Net<Listener = TcpListener, Stream = TcpStream>>(
-    rt: &R,
-    alloc: Global,
-    address: SocketAddr,
-) -> io::Result<Vec<TcpStream>> {
-    let mut others = Vec::new(alloc);
-    for _client in 2..64u32 {
-        others.push(comes(rt, alloc, address)?)?;
-    }
-    Ok(others)
-}
-
+/// One is closed at a limit, and another finds its place.
 fn one_is_replaced<R: Net<Listener = TcpListener, Stream = TcpStream>>(
     rt: &R,
     alloc: Global,
     address: SocketAddr,
     first: &mut TcpStream,
 ) -> io::Result<()> {
-    let _others = many_others(rt, alloc, address)?;
     one_line_is_long(rt, alloc, address, first)?;
-    let mut next = comes(rt, alloc, address)?;
-    says(alloc, &mut next, b"ping\n", b"OK\n")
+    one_finds_a_place(rt, alloc, address)
 }
 
 /// The place is free as soon as all is written, and not when the time to read is over: the few pings take
@@ -338,14 +393,28 @@ fn one_is_followed<R: Net<Listener = TcpListener, Stream = TcpStream>>(
     address: SocketAddr,
     first: &mut TcpStream,
 ) -> io::Result<()> {
-    let _others = many_others(rt, alloc, address)?;
     let mut last = comes(rt, alloc, address)?;
     last.write_all(b"close\n")?;
     for _ping in 0..10u32 {
         says(alloc, first, b"ping\n", b"OK\n")?;
     }
-    let mut next = comes(rt, alloc, address)?;
-    says(alloc, &mut next, b"ping\n", b"OK\n")
+    one_finds_a_place(rt, alloc, address)
+}
+
+/// The same beside as many clients as there are places for beside the first and another.
+fn beside_many<R: Net<Listener = TcpListener, Stream = TcpStream>>(
+    rt: &R,
+    alloc: Global,
+    address: SocketAddr,
+    first: &mut TcpStream,
+    is_at_once: bool,
+) -> io::Result<()> {
+    let _others = others(rt, alloc, address, 62)?;
+    if is_at_once {
+        one_is_followed(rt, alloc, address, first)
+    } else {
+        one_is_replaced(rt, alloc, address, first)
+    }
 }
 
 /// A socket that is closed with bytes unread is reset.
@@ -384,8 +453,8 @@ fn acts<R: Net<Listener = TcpListener, Stream = TcpStream>>(
         Party::Leaves => one_leaves(rt, alloc, address, first),
         Party::Scan => one_waits_for_a_scan(alloc, first),
         Party::HalfClosed => one_sends_no_more(rt, alloc, address, first),
-        Party::Replaced => one_is_replaced(rt, alloc, address, first),
-        Party::Followed => one_is_followed(rt, alloc, address, first),
+        Party::Replaced => beside_many(rt, alloc, address, first, false),
+        Party::Followed => beside_many(rt, alloc, address, first, true),
         Party::BreakOff => many_break_off(rt, alloc, address, first),
         Party::ReadsLate(sends_no_more) => {
             one_reads_late(rt, alloc, address, first, sends_no_more)

@@ -2,7 +2,7 @@
 
 use shelf::{MemShelf, UriList, is_list_name, is_sticker_name, next_uri};
 use shelf_tests::calls::{joined_uris, uri_list, wants, wants_text};
-use shelf_tests::cases::{Case, look_at};
+use shelf_tests::cases::{CASES, Case, look_at};
 use std::alloc::{AllocError, Global};
 use std::test::Fail;
 
@@ -11,84 +11,13 @@ fn look(alloc: Global, case: Case) -> Result<(), Fail> {
     look_at(alloc, &mut MemShelf::new(alloc), case)
 }
 
+// What a failure says names the call that was answered otherwise, so one test looks at every case.
 #[test]
-fn a_list_is_kept_and_renamed(rt: HostRuntime) -> Result<(), Fail> {
-    look(rt.alloc(), Case::ListIsKept)
-}
-
-#[test]
-fn refusals_have_their_order(rt: HostRuntime) -> Result<(), Fail> {
-    look(rt.alloc(), Case::RefusalsInOrder)
-}
-
-#[test]
-fn names_rise_by_bytes(rt: HostRuntime) -> Result<(), Fail> {
-    look(rt.alloc(), Case::NamesRise)
-}
-
-#[test]
-fn names_of_255_bytes_are_taken(rt: HostRuntime) -> Result<(), Fail> {
-    look(rt.alloc(), Case::LongNamesTaken)
-}
-
-#[test]
-fn names_of_256_bytes_are_refused(rt: HostRuntime) -> Result<(), Fail> {
-    look(rt.alloc(), Case::LongNamesRefused)
-}
-
-#[test]
-fn long_uris_come_back(rt: HostRuntime) -> Result<(), Fail> {
-    look(rt.alloc(), Case::LongUris)
-}
-
-#[test]
-fn the_longest_list_is_kept(rt: HostRuntime) -> Result<(), Fail> {
-    look(rt.alloc(), Case::LongestList)
-}
-
-#[test]
-fn a_sticker_is_kept(rt: HostRuntime) -> Result<(), Fail> {
-    look(rt.alloc(), Case::StickerIsKept)
-}
-
-#[test]
-fn stickers_rise_by_bytes(rt: HostRuntime) -> Result<(), Fail> {
-    look(rt.alloc(), Case::StickersRise)
-}
-
-#[test]
-fn any_text_comes_back(rt: HostRuntime) -> Result<(), Fail> {
-    look(rt.alloc(), Case::AnyText)
-}
-
-#[test]
-fn long_stickers_come_back(rt: HostRuntime) -> Result<(), Fail> {
-    look(rt.alloc(), Case::LongStickers)
-}
-
-#[test]
-fn a_playlist_has_stickers(rt: HostRuntime) -> Result<(), Fail> {
-    look(rt.alloc(), Case::PlaylistStickers)
-}
-
-#[test]
-fn a_missing_list_comes_first(rt: HostRuntime) -> Result<(), Fail> {
-    look(rt.alloc(), Case::MissingListFirst)
-}
-
-#[test]
-fn kinds_are_apart(rt: HostRuntime) -> Result<(), Fail> {
-    look(rt.alloc(), Case::KindsApart)
-}
-
-#[test]
-fn a_rename_takes_stickers(rt: HostRuntime) -> Result<(), Fail> {
-    look(rt.alloc(), Case::StickersRenamed)
-}
-
-#[test]
-fn a_removed_list_has_none(rt: HostRuntime) -> Result<(), Fail> {
-    look(rt.alloc(), Case::StickersRemoved)
+fn every_case_in_memory(rt: HostRuntime) -> Result<(), Fail> {
+    for case in CASES {
+        look(rt.alloc(), case)?;
+    }
+    Ok(())
 }
 
 fn can_name_list(name: &str) -> bool {

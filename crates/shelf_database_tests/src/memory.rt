@@ -3,7 +3,7 @@
 use shelf::ShelfFault;
 use shelf_database::SqlShelf;
 use shelf_tests::calls::wants;
-use shelf_tests::cases::{Case, look_at};
+use shelf_tests::cases::{CASES, Case, look_at};
 use sqlite::{Connection, MemStore, params};
 use std::alloc::Global;
 use std::test::Fail;
@@ -33,83 +33,11 @@ fn look(alloc: Global, case: Case) -> Result<(), Fail> {
 }
 
 #[test]
-fn a_list_is_kept_and_renamed(rt: HostRuntime) -> Result<(), Fail> {
-    look(rt.alloc(), Case::ListIsKept)
-}
-
-#[test]
-fn refusals_have_their_order(rt: HostRuntime) -> Result<(), Fail> {
-    look(rt.alloc(), Case::RefusalsInOrder)
-}
-
-#[test]
-fn names_rise_by_bytes(rt: HostRuntime) -> Result<(), Fail> {
-    look(rt.alloc(), Case::NamesRise)
-}
-
-#[test]
-fn names_of_255_bytes_are_taken(rt: HostRuntime) -> Result<(), Fail> {
-    look(rt.alloc(), Case::LongNamesTaken)
-}
-
-#[test]
-fn names_of_256_bytes_are_refused(rt: HostRuntime) -> Result<(), Fail> {
-    look(rt.alloc(), Case::LongNamesRefused)
-}
-
-#[test]
-fn long_uris_come_back(rt: HostRuntime) -> Result<(), Fail> {
-    look(rt.alloc(), Case::LongUris)
-}
-
-#[test]
-fn the_longest_list_is_kept(rt: HostRuntime) -> Result<(), Fail> {
-    look(rt.alloc(), Case::LongestList)
-}
-
-#[test]
-fn a_sticker_is_kept(rt: HostRuntime) -> Result<(), Fail> {
-    look(rt.alloc(), Case::StickerIsKept)
-}
-
-#[test]
-fn stickers_rise_by_bytes(rt: HostRuntime) -> Result<(), Fail> {
-    look(rt.alloc(), Case::StickersRise)
-}
-
-#[test]
-fn any_text_comes_back(rt: HostRuntime) -> Result<(), Fail> {
-    look(rt.alloc(), Case::AnyText)
-}
-
-#[test]
-fn long_stickers_come_back(rt: HostRuntime) -> Result<(), Fail> {
-    look(rt.alloc(), Case::LongStickers)
-}
-
-#[test]
-fn a_playlist_has_stickers(rt: HostRuntime) -> Result<(), Fail> {
-    look(rt.alloc(), Case::PlaylistStickers)
-}
-
-#[test]
-fn a_missing_list_comes_first(rt: HostRuntime) -> Result<(), Fail> {
-    look(rt.alloc(), Case::MissingListFirst)
-}
-
-#[test]
-fn kinds_are_apart(rt: HostRuntime) -> Result<(), Fail> {
-    look(rt.alloc(), Case::KindsApart)
-}
-
-#[test]
-fn a_rename_takes_stickers(rt: HostRuntime) -> Result<(), Fail> {
-    look(rt.alloc(), Case::StickersRenamed)
-}
-
-#[test]
-fn a_removed_list_has_none(rt: HostRuntime) -> Result<(), Fail> {
-    look(rt.alloc(), Case::StickersRemoved)
+fn every_case_over_a_database(rt: HostRuntime) -> Result<(), Fail> {
+    for case in CASES {
+        look(rt.alloc(), case)?;
+    }
+    Ok(())
 }
 
 /// A database in memory that these statements were run on.
@@ -212,16 +140,34 @@ fn number_of(connection: &mut Connection<MemStore>, query: &str) -> Result<i64, 
     }
 }
 
+fn add_sticker(
+    alloc: Global,
+    connection: &mut Connection<MemStore>,
+    number: u32,
+) -> Result<(), Fail> {
+    let uri = format!(in alloc; "{number:05}.wav")?;
+    let insert = "INSERT INTO sticker (uri, name, value) VALUES (?1, 'r', ?1)";
+    connection.execute(insert, params![uri.as_str()])?;
+    Ok(())
+}
+
+fn add_stickers(
+    alloc: Global,
+    connection: &mut Connection<MemStore>,
+    count: u32,
+) -> Result<(), Fail> {
+    connection.execute_batch("BEGIN")?;
+    for number in 0..count {
+        add_sticker(alloc, connection, number)?;
+    }
+    connection.execute_batch("COMMIT")?;
+    Ok(())
+}
+
 /// A store of profile 1 that was moved, with more stickers of one name.
 fn moved(alloc: Global, more: u32) -> Result<Connection<MemStore>, Fail> {
     let mut connection = after(alloc, false, FIRST_PROFILE)?;
-    connection.execute_batch("BEGIN")?;
-    for number in 0..more {
-        let uri = format!(in alloc; "{number:05}.wav")?;
-        let insert = "INSERT INTO sticker (uri, name, value) VALUES (?1, 'r', ?1)";
-        connection.execute(insert, params![uri.as_str()])?;
-    }
-    connection.execute_batch("COMMIT")?;
+    add_stickers(alloc, &mut connection, more)?;
     Ok(over(alloc, connection)?.into_connection())
 }
 

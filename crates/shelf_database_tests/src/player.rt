@@ -2,7 +2,7 @@
 use command_lists::ListForm;
 use mpd_command::{CommandSet, Request};
 use mpd_text::Song;
-use partition::{Limits, Partition, Setup};
+use partition::{Limits, ListOutcome, Partition, Setup};
 use player_events::Event;
 use player_state::{Library, Outputs, Scan};
 use shelf::Shelf;
@@ -74,6 +74,22 @@ fn line_of(alloc: Global, line: &str) -> Result<Event, AllocError> {
     Ok(Event::line(1, Stand::Alone, request))
 }
 
+/// The requests of the commands between semicolons.
+fn requests(alloc: Global, commands: &str) -> Result<Vec<Request>, AllocError> {
+    let mut requests = Vec::new(alloc);
+    for command in commands.split(';') {
+        requests.push(Request::of_line(alloc, command, CommandSet::base())?)?;
+    }
+    Ok(requests)
+}
+
+/// Adds what the client hears of a list before its end.
+fn add_answer(alloc: Global, outcome: &ListOutcome, all: &mut String) -> Result<(), AllocError> {
+    let mut bytes = Vec::new(alloc);
+    outcome.push_text(&mut bytes)?;
+    all.push_str(str::from_utf8(&bytes).unwrap_or("no text\n"))
+}
+
 /// Runs a list of the commands between semicolons, and adds what the client hears before its end.
 fn lists<S: Shelf>(
     alloc: Global,
@@ -82,16 +98,9 @@ fn lists<S: Shelf>(
     commands: &str,
     all: &mut String,
 ) -> Result<(), AllocError> {
-    let mut requests = Vec::new(alloc);
-    for command in commands.split(';') {
-        requests.push(Request::of_line(alloc, command, CommandSet::base())?)?;
-    }
+    let requests = requests(alloc, commands)?;
     match player.run_list(3, shelf, 1, ListForm::ListOk, requests) {
-        Ok(outcome) => {
-            let mut bytes = Vec::new(alloc);
-            outcome.push_text(&mut bytes)?;
-            all.push_str(str::from_utf8(&bytes).unwrap_or("no text\n"))
-        }
+        Ok(outcome) => add_answer(alloc, &outcome, all),
         Err(_) => all.push_str("not run\n"),
     }
 }

@@ -499,68 +499,45 @@ fn wanted(call: Call, side: Side) -> Stops {
     }
 }
 
+fn name_of(call: Call) -> &'static str {
+    match call {
+        Call::Over => "over",
+        Call::Move => "move",
+        Call::Put => "put",
+        Call::Rename => "rename",
+        Call::Remove => "remove",
+        Call::SetSticker => "set_sticker",
+    }
+}
+
 fn stops_at_each_call(rt: &impl Abort, alloc: Global, call: Call, side: Side) -> Result<(), Fail> {
     let found = stops_in(alloc, call, side)?;
-    assert_eq!(rt; found, wanted(call, side));
+    assert_eq!(rt; found, wanted(call, side), "{}", name_of(call));
+    Ok(())
+}
+
+/// Each call of a run.
+const CALLS: [Call; 6] = [
+    Call::Over,
+    Call::Move,
+    Call::Put,
+    Call::Rename,
+    Call::Remove,
+    Call::SetSticker,
+];
+
+#[test]
+fn calls_stop_in_the_log(rt: HostRuntime) -> Result<(), Fail> {
+    for call in CALLS {
+        stops_at_each_call(&rt, rt.alloc(), call, Side::Log)?;
+    }
     Ok(())
 }
 
 #[test]
-fn an_over_stops_in_the_log(rt: HostRuntime) -> Result<(), Fail> {
-    stops_at_each_call(&rt, rt.alloc(), Call::Over, Side::Log)
-}
-
-#[test]
-fn an_over_stops_in_the_database(rt: HostRuntime) -> Result<(), Fail> {
-    stops_at_each_call(&rt, rt.alloc(), Call::Over, Side::Database)
-}
-
-#[test]
-fn a_put_stops_in_the_log(rt: HostRuntime) -> Result<(), Fail> {
-    stops_at_each_call(&rt, rt.alloc(), Call::Put, Side::Log)
-}
-
-#[test]
-fn a_put_stops_in_the_database(rt: HostRuntime) -> Result<(), Fail> {
-    stops_at_each_call(&rt, rt.alloc(), Call::Put, Side::Database)
-}
-
-#[test]
-fn a_rename_stops_in_the_log(rt: HostRuntime) -> Result<(), Fail> {
-    stops_at_each_call(&rt, rt.alloc(), Call::Rename, Side::Log)
-}
-
-#[test]
-fn a_rename_stops_in_the_database(rt: HostRuntime) -> Result<(), Fail> {
-    stops_at_each_call(&rt, rt.alloc(), Call::Rename, Side::Database)
-}
-
-#[test]
-fn a_sticker_stops_in_the_log(rt: HostRuntime) -> Result<(), Fail> {
-    stops_at_each_call(&rt, rt.alloc(), Call::SetSticker, Side::Log)
-}
-
-#[test]
-fn a_sticker_stops_in_the_database(rt: HostRuntime) -> Result<(), Fail> {
-    stops_at_each_call(&rt, rt.alloc(), Call::SetSticker, Side::Database)
-}
-
-#[test]
-fn a_move_stops_in_the_log(rt: HostRuntime) -> Result<(), Fail> {
-    stops_at_each_call(&rt, rt.alloc(), Call::Move, Side::Log)
-}
-
-#[test]
-fn a_move_stops_in_the_database(rt: HostRuntime) -> Result<(), Fail> {
-    stops_at_each_call(&rt, rt.alloc(), Call::Move, Side::Database)
-}
-
-#[test]
-fn a_remove_stops_in_the_log(rt: HostRuntime) -> Result<(), Fail> {
-    stops_at_each_call(&rt, rt.alloc(), Call::Remove, Side::Log)
-}
-
-#[test]
-fn a_remove_stops_in_the_database(rt: HostRuntime) -> Result<(), Fail> {
-    stops_at_each_call(&rt, rt.alloc(), Call::Remove, Side::Database)
+fn calls_stop_in_the_database(rt: HostRuntime) -> Result<(), Fail> {
+    for call in CALLS {
+        stops_at_each_call(&rt, rt.alloc(), call, Side::Database)?;
+    }
+    Ok(())
 }

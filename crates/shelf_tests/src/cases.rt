@@ -26,6 +26,26 @@ pub enum Case {
     StickersRemoved,
 }
 
+/// Each of them.
+pub const CASES: [Case; 16] = [
+    Case::ListIsKept,
+    Case::RefusalsInOrder,
+    Case::NamesRise,
+    Case::LongNamesTaken,
+    Case::LongNamesRefused,
+    Case::LongUris,
+    Case::LongestList,
+    Case::StickerIsKept,
+    Case::StickersRise,
+    Case::AnyText,
+    Case::LongStickers,
+    Case::PlaylistStickers,
+    Case::MissingListFirst,
+    Case::KindsApart,
+    Case::StickersRenamed,
+    Case::StickersRemoved,
+];
+
 /// Looks at an empty shelf, and fails where it answers otherwise.
 pub fn look_at<S: Shelf>(alloc: Global, shelf: &mut S, case: Case) -> Result<(), Fail> {
     match case {

@@ -1,4 +1,4 @@
-//! Tests of the crates mpd_text and script_lines.
+//! Tests of the crates mpd_text and script_lines, and of devices that count how their calls end.
 //!
 //! Each call of a crate under test stands in a small function with no clause, and a test asserts once or
 //! twice: a proof costs by the size of a body, and most by its asserts and exits.
@@ -7,7 +7,11 @@
 #[cfg(test)]
 mod answers;
 #[cfg(test)]
+mod devices;
+#[cfg(test)]
 mod lines;
+#[cfg(test)]
+mod long_devices;
 #[cfg(test)]
 mod quotes;
 #[cfg(test)]

@@ -1,0 +1,208 @@
+//! A house over a few songs, and what is said in it, for tests. It is a crate of its own, since a crate with
+//! tests is proved twice.
+#![tactic(auto)]
+
+ghost use Rattle.frame_ledger.specs.Shares.{HasAllParts};
+ghost use Rattle.std.specs.Prelude.{◌≡◌, ◌+◌, ◌<◌, IfOk, OnOk};
+ghost use Rattle.held_player.specs.Blanks.{AreFor, HasPartsOfFrames, HasSeatsOfOnePart};
+ghost use Rattle.counted_player.specs.Seats.{place};
+ghost use Rattle.counted_player.specs.Counts.{IsFresh};
+
+use command_lists::ListForm;
+use counted_player::{Ledgers, Seat};
+use frame_ledger::Blanks as FrameBlanks;
+use held_player::{AnsweredList, Blanks, CrewShares, News};
+use house::House;
+use mpd_command::{CommandSet, Request};
+use mpd_text::{SharedText, Song};
+use partition::{Limits, Partition, PartitionFault, Setup};
+use player_state::{Library, Outputs, Scan};
+use shelf::MemShelf;
+use song_db::{Db, Rate, SharedDb};
+use std::alloc::{AllocError, Global};
+use std::sync::Wait;
+use std::sync::ledger::Blank;
+
+/// Seven new ledgers.
+pub fn blanks() -> Blanks
+    ensures first { HasSeatsOfOnePart result }
+    ensures frames { HasPartsOfFrames result }
+{
+    Blanks {
+        first: Blank::new(1),
+        second: Blank::new(1),
+        third: Blank::new(1),
+        fourth: Blank::new(1),
+        frames: FrameBlanks {
+            decoded: Blank::new(1),
+            written: Blank::new(9),
+            discarded: Blank::new(9),
+        },
+    }
+}
+
+fn song(alloc: Global, uri: &str) -> Result<Song, AllocError> {
+    let uri = String::from_str(alloc, uri)?;
+    match Song::new(uri, Vec::new(alloc), 8000) {
+        Some(song) => Ok(song),
+        None => Err(AllocError),
+    }
+}
+
+/// Two songs of a second.
+fn songs(alloc: Global) -> Result<Db, AllocError> {
+    let mut songs = Vec::new(alloc);
+    songs.push(song(alloc, "a.wav")?)?;
+    songs.push(song(alloc, "b.wav")?)?;
+    match Db::of_songs(alloc, songs) {
+        Ok(songs) => Ok(songs),
+        Err(_) => Err(AllocError),
+    }
+}
+
+/// Two outputs, of which the second is off.
+fn outputs(alloc: Global) -> Result<Outputs, AllocError> {
+    let mut outputs = Outputs::none(alloc);
+    let hall = SharedText::of(String::from_str(alloc, "hall")?)?;
+    outputs.add(hall, true)?;
+    let attic = SharedText::of(String::from_str(alloc, "attic")?)?;
+    outputs.add(attic, false)?;
+    Ok(outputs)
+}
+
+/// A player over two songs, with a window of at most so many events.
+pub fn player(alloc: Global, history: u32) -> Result<Partition, AllocError>
+    ensures { IfOk result (λ player. IsFresh player.present) }
+{
+    let library = Library {
+        songs: SharedDb::new(alloc, songs(alloc)?)?,
+        rate: Rate::lowest(),
+        scan: Scan::never(),
+        updated: 0,
+    };
+    let limits = Limits {
+        max_queue: 16384,
+        max_version: 2147483647,
+        max_id: 2147483647,
+        max_cut: 9223372036854775807,
+        history: history.max(1),
+    };
+    let setup = Setup {
+        limits,
+        random_start: 0,
+        outputs: outputs(alloc)?,
+    };
+    Partition::open(alloc, setup, library)
+}
+
+/// A client comes.
+pub fn comes<L: Ledgers>(
+    rt: &impl Wait,
+    house: &House<L>,
+    seat: &mut Seat<L>,
+    client: u32,
+) -> Result<(), PartitionFault>
+    ensures { OnOk result (seat.old.number < 4 → seat.new ≡ place seat.old.number (seat.old.made + 1)) }
+{
+    let _greeted = house.notice(rt, seat, News::Comes(client))?;
+    Ok(())
+}
+
+/// A client adds a song.
+pub fn adds_a_song<L: Ledgers>(
+    rt: &impl Wait,
+    alloc: Global,
+    house: &House<L>,
+    seat: &mut Seat<L>,
+    client: u32,
+) -> Result<(), PartitionFault>
+    ensures { OnOk result (seat.old.number < 4 → seat.new ≡ place seat.old.number (seat.old.made + 1)) }
+{
+    let mut shelf = MemShelf::new(alloc);
+    let request = Request::of_line(alloc, "add a.wav", CommandSet::base())?;
+    let _added = house.command(rt, seat, &mut shelf, client, request)?;
+    Ok(())
+}
+
+/// What a client hears of a line: `told` where a notice stands in front, and the reply.
+pub fn says<L: Ledgers>(
+    rt: &impl Wait,
+    alloc: Global,
+    house: &House<L>,
+    seat: &mut Seat<L>,
+    client: u32,
+    line: &str,
+) -> Result<String, PartitionFault> {
+    let mut shelf = MemShelf::new(alloc);
+    let request = Request::of_line(alloc, line, CommandSet::base())?;
+    let answered = house.command(rt, seat, &mut shelf, client, request)?;
+    let heard = heard(alloc, answered.front().is_some(), answered.reply().text())?;
+    Ok(heard)
+}
+
+/// `told` where a notice stands in front, and an answer.
+fn heard(alloc: Global, is_told: bool, answer: &str) -> Result<String, AllocError> {
+    let front = if is_told { "told\n" } else { "" };
+    format!(in alloc; "{front}{answer}")
+}
+
+/// What a client hears of a list of one line: `told` where a notice stands in front, and the answer.
+pub fn lists<L: Ledgers>(
+    rt: &impl Wait,
+    alloc: Global,
+    house: &House<L>,
+    seat: &mut Seat<L>,
+    client: u32,
+    line: &str,
+) -> Result<String, PartitionFault> {
+    let mut shelf = MemShelf::new(alloc);
+    let requests = one_request(alloc, line)?;
+    match house.list(rt, seat, &mut shelf, client, ListForm::Plain, requests) {
+        Ok(answered) => heard_of_list(alloc, &answered),
+        Err(_) => Err(PartitionFault::NoMemory),
+    }
+}
+
+/// What a list of one line asks for.
+fn one_request(alloc: Global, line: &str) -> Result<Vec<Request>, AllocError> {
+    let mut requests = Vec::with_capacity(alloc, 1)?;
+    requests.push_reserved(Request::of_line(alloc, line, CommandSet::base())?);
+    Ok(requests)
+}
+
+fn heard_of_list(alloc: Global, answered: &AnsweredList) -> Result<String, PartitionFault> {
+    let mut bytes = Vec::new(alloc);
+    answered.answers().push_text(&mut bytes)?;
+    let text = str::from_utf8(&bytes).unwrap_or("no text\n");
+    Ok(heard(alloc, answered.front().is_some(), text)?)
+}
+
+/// What a client hears of a line, alone or as a list of one line.
+pub fn hears<L: Ledgers>(
+    rt: &impl Wait,
+    alloc: Global,
+    house: &House<L>,
+    seat: &mut Seat<L>,
+    client: u32,
+    line: &str,
+    in_list: bool,
+) -> Result<String, PartitionFault> {
+    if in_list {
+        lists(rt, alloc, house, seat, client, line)
+    } else {
+        says(rt, alloc, house, seat, client, line)
+    }
+}
+
+/// A house over two songs, with a window of at most so many events.
+pub fn opened<L: Ledgers>(
+    alloc: Global,
+    blanks: Blanks,
+    history: u32,
+) -> Result<(House<L>, CrewShares<L>), PartitionFault>
+    requires blanks { AreFor L.names blanks }
+    ensures { IfOk result (λ r. HasAllParts r.1.decoded.parts r.1.outputs) }
+{
+    let player = player(alloc, history)?;
+    Ok(House::open(alloc, blanks, player)?)
+}

@@ -1,0 +1,189 @@
+//! A player that is told the state of another, by the answers of both.
+use crate::session::session_over;
+use crate::wanted::wants_made;
+use kept_state::{kept_of, state_text};
+use std::alloc::{AllocError, Global};
+use std::process::Abort;
+
+const SONGS: &str = "a.wav\nb.wav\nc.wav";
+
+const QUESTIONS: &str = "1 status\n1 outputs\n1 playlistinfo\n";
+
+/// What the player of these tests has of its outputs from the start.
+const OUTPUTS: &str = "enableoutput 0
+enableoutput 1
+enableoutput 2
+enableoutput 3
+enableoutput 4
+enableoutput 5
+enableoutput 6
+disableoutput 7
+";
+
+const FIRST_OPTIONS: &str = "setvol 100\nrepeat 0\nrandom 0\nsingle 0\nconsume 0\ncrossfade 0\n";
+
+/// The state of a player that was told these steps.
+fn state_after(alloc: Global, uris: &str, steps: &str) -> Result<String, AllocError> {
+    let steps = format!(in alloc; "comes 1\n{steps}{QUESTIONS}")?;
+    let told = session_over(alloc, uris, steps.as_str())?;
+    state_text(alloc, &kept_of(alloc, told.as_str())?)
+}
+
+/// The steps of a client that says these lines.
+fn steps_of(alloc: Global, lines: &str) -> Result<String, AllocError> {
+    let mut steps = String::new(alloc);
+    let mut is_in_list = false;
+    for line in lines.lines() {
+        if line == "command_list_begin" {
+            is_in_list = true;
+            steps.push_str("runs_plain ")?;
+        } else if line == "command_list_end" {
+            is_in_list = false;
+            steps.push_str("ping\n")?;
+        } else if is_in_list {
+            steps.push_str(line)?;
+            steps.push_str(";")?;
+        } else {
+            steps.push_str(format!(in alloc; "1 {line}\n")?.as_str())?;
+        }
+    }
+    Ok(steps)
+}
+
+/// The state of a player over these songs that was told the state of another, which was told these steps.
+fn state_again(alloc: Global, uris: &str, steps: &str) -> Result<String, AllocError> {
+    let state = state_after(alloc, SONGS, steps)?;
+    let lines = steps_of(alloc, state.as_str())?;
+    state_after(alloc, uris, lines.as_str())
+}
+
+/// A paused player with priorities, another volume and other modes, and an output that is off.
+const PAUSED: &str = "1 add a.wav
+1 add b.wav
+1 add c.wav
+1 prio 7 0
+1 prio 255 2
+1 setvol 41
+1 repeat 1
+1 single oneshot
+1 consume 1
+1 crossfade 3
+1 disableoutput 1
+1 seek 1 0.5
+1 pause 1
+";
+
+const PAUSED_OPTIONS: &str = "setvol 41
+repeat 1
+random 0
+single oneshot
+consume 1
+crossfade 3
+enableoutput 0
+disableoutput 1
+enableoutput 2
+enableoutput 3
+enableoutput 4
+enableoutput 5
+enableoutput 6
+disableoutput 7
+";
+
+const PAUSED_LAST: &str = "command_list_begin
+addid \"c.wav\" 0
+prio 255 0
+command_list_end
+";
+
+const PAUSED_SONG: &str = "command_list_begin
+addid \"b.wav\" 0
+seek 0 0.500
+pause 1
+command_list_end
+";
+
+const PAUSED_FIRST: &str = "command_list_begin
+addid \"a.wav\" 0
+prio 7 0
+command_list_end
+";
+
+fn paused_tells(alloc: Global) -> Result<String, AllocError> {
+    format!(in alloc; "{PAUSED_OPTIONS}{PAUSED_LAST}{PAUSED_SONG}{PAUSED_FIRST}")
+}
+
+#[test]
+fn a_paused_player_comes_back(rt: HostRuntime) {
+    let alloc = rt.alloc();
+    wants_made(&rt, state_after(alloc, SONGS, PAUSED), paused_tells(alloc));
+    wants_made(&rt, state_again(alloc, SONGS, PAUSED), paused_tells(alloc));
+}
+
+fn without_song_tells(alloc: Global) -> Result<String, AllocError> {
+    format!(in alloc; "{PAUSED_OPTIONS}{PAUSED_LAST}{PAUSED_FIRST}")
+}
+
+fn without_others_tells(alloc: Global) -> Result<String, AllocError> {
+    format!(in alloc; "{PAUSED_OPTIONS}{PAUSED_SONG}")
+}
+
+// The other songs have their own priorities and places.
+#[test]
+fn songs_that_are_gone_take_no_others_along(rt: HostRuntime) {
+    let alloc = rt.alloc();
+    wants_made(
+        &rt,
+        state_again(alloc, "a.wav\nc.wav", PAUSED),
+        without_song_tells(alloc),
+    );
+    wants_made(
+        &rt,
+        state_again(alloc, "b.wav", PAUSED),
+        without_others_tells(alloc),
+    );
+}
+
+/// Steps, and the lines of the state after those of volume, modes and outputs as they are at the start.
+const PLAYERS: [(&str, &str); 5] = [
+    ("", ""),
+    (
+        "1 add a.wav\n1 add b.wav\n",
+        "addid \"b.wav\" 0\naddid \"a.wav\" 0\n",
+    ),
+    (
+        "1 add a.wav\n1 add b.wav\n1 play 1\n1 stop\n",
+        "command_list_begin\naddid \"b.wav\" 0\nplay 0\nstop\ncommand_list_end\naddid \"a.wav\" 0\n",
+    ),
+    (
+        "1 add a.wav\n1 add a.wav\n1 prio 3 0\n1 seek 0 0.25\n",
+        "addid \"a.wav\" 0\ncommand_list_begin\naddid \"a.wav\" 0\nprio 3 0\nseek 0 0.250\ncommand_list_end\n",
+    ),
+    (
+        "1 add c.wav\n1 play 0\n1 clear\n1 add b.wav\n",
+        "addid \"b.wav\" 0\n",
+    ),
+];
+
+fn player_tells(alloc: Global, lines: &str) -> Result<String, AllocError> {
+    format!(in alloc; "{FIRST_OPTIONS}{OUTPUTS}{lines}")
+}
+
+fn check_player<R: Abort>(rt: &R, alloc: Global, steps: &str, lines: &str) {
+    wants_made(
+        rt,
+        state_after(alloc, SONGS, steps),
+        player_tells(alloc, lines),
+    );
+    wants_made(
+        rt,
+        state_again(alloc, SONGS, steps),
+        player_tells(alloc, lines),
+    );
+}
+
+#[test]
+fn players_come_back(rt: HostRuntime) {
+    for (steps, lines) in PLAYERS {
+        check_player(&rt, rt.alloc(), steps, lines);
+    }
+}

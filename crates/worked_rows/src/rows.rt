@@ -1,0 +1,103 @@
+//! Runs worked script sessions, the files `*.row` of the folder that the program runs in, and compares what
+//! they print.
+//!
+//! A row file has lines `# TEXT`, `since:` and `until:` (all passed over), `again: STAGE LINE` (the session
+//! is run once more with that line in front), input lines `> LINE`, and after each the lines that it prints:
+//! `< LINE` exactly, or `<~ LINE`, a line that the answer has among others, or `<! TEXT`, where no further
+//! line of the answer begins so. `>e` and `<e` are the same with escapes: `\r`, `\t`, `\\`, `\xHH`, and
+//! `\{TEXT*N}` for a text N times.
+
+use crate::row::Row;
+use counted_devices::{FailAt, FailurePoint};
+use daemon_script::run_script;
+use std::{fs, io};
+
+/// The most row files.
+const MAX_ROWS: usize = 4_096;
+
+/// A row whose runs all printed what it wants, or all of these.
+#[derive(Clone, Copy)]
+struct Passed {
+    /// The wanted lines.
+    lines: u64,
+    runs: u64,
+}
+
+/// Runs each row, and prints how many lines were as wanted.
+pub fn run_all(rt: &HostRuntime) -> io::Result<()> {
+    let names = names_of_rows(rt)?;
+    run_each(rt, &names)
+}
+
+/// The names of the row files, in byte order.
+fn names_of_rows(rt: &HostRuntime) -> io::Result<Vec<String>> {
+    let mut names = Vec::new(rt.alloc());
+    for entry in fs::read_dir(rt, ".")?.take(MAX_ROWS) {
+        let name = String::from_str(rt.alloc(), entry?.file_name())?;
+        if name.as_str().ends_with(".row") {
+            names.push(name)?;
+        }
+    }
+    names.sort()?;
+    Ok(names)
+}
+
+fn run_each(rt: &HostRuntime, names: &[String]) -> io::Result<()> {
+    let mut all = Passed { lines: 0, runs: 0 };
+    for name in names {
+        let passed = run_row(rt, name.as_str())?;
+        all.lines = all.lines.saturating_add(passed.lines);
+        all.runs = all.runs.saturating_add(passed.runs);
+    }
+    let Passed { lines, runs } = all;
+    println!(rt; "{} rows, {lines} lines, {runs} runs", names.len())
+}
+
+/// Runs the row of a file and prints whether it passes. No lines where it does not.
+fn run_row(rt: &HostRuntime, name: &str) -> io::Result<Passed> {
+    let text = fs::read_to_string(rt, name)?;
+    let passed = passes(rt, text.as_str())?;
+    print_row(rt, name, passed)?;
+    Ok(passed.unwrap_or(Passed { lines: 0, runs: 0 }))
+}
+
+fn print_row(rt: &HostRuntime, name: &str, passed: Option<Passed>) -> io::Result<()> {
+    match passed {
+        Some(Passed { lines, runs }) => {
+            println!(rt; "{name}: {lines} lines as wanted, runs: {runs}")
+        }
+        None => println!(rt; "{name}: DIFFERS"),
+    }
+}
+
+/// Runs a row as it is, and once more after each line of its `again`. `None` where a run prints something
+/// else.
+fn passes(rt: &HostRuntime, text: &str) -> io::Result<Option<Passed>> {
+    let Some(row) = Row::read(rt.alloc(), text)? else {
+        return Ok(None);
+    };
+    let Some(lines) = wanted_lines(rt, &row, &[])? else {
+        return Ok(None);
+    };
+    let mut runs = 1u64;
+    for first in row.again() {
+        if wanted_lines(rt, &row, first)?.is_none() {
+            return Ok(None);
+        }
+        runs = runs.saturating_add(1);
+    }
+    Ok(Some(Passed { lines, runs }))
+}
+
+/// How many wanted lines a row has, if what the script prints for some first bytes and the row's input is
+/// what it wants.
+fn wanted_lines(rt: &HostRuntime, row: &Row, first: &[u8]) -> io::Result<Option<u64>> {
+    let mut input = Vec::from_slice(rt.alloc(), first)?;
+    input.extend_from_slice(row.input())?;
+    let mut reader = FailAt::new(input, FailurePoint::Never);
+    let mut writer = FailAt::new(Vec::new(rt.alloc()), FailurePoint::Never);
+    if run_script(rt.alloc(), &mut reader, &mut writer).is_err() {
+        return Ok(None);
+    }
+    Ok(row.compare(writer.bytes()))
+}
