@@ -3,9 +3,10 @@
 
     crates.py ROOT CRATE...                     prints the lines of these crates and of all below them, in the order of crates.txt
     crates.py ROOT CRATE... --for PROGRAM WORK  copies them into the folder WORK, with a crate of the folder PROGRAM above them
+    crates.py ROOT CRATE... --sources-for PROGRAM WORK
 
 ROOT is a repository's top folder; a CRATE that its crates.txt does not name is a library of the kit. PROGRAM has
-src/main.rt.txt, which is main.rt in the copy: WORK/crates/PROGRAM. What the crates have proved is copied along.
+src/main.rt.txt, which is main.rt in the copy: WORK/crates/PROGRAM. What the crates have proved is copied along, but with --sources-for.
 """
 import os
 import shutil
@@ -30,11 +31,11 @@ def below(root, crates):
     return {crate: line for crate, line in lines.items() if crate in found}
 
 
-def copy_below(root, crates, program, work):
+def copy_below(root, crates, program, work, left_out=()):
     """Copies them with the program, and says which folder is the program's."""
     lines = below(root, crates)
     for crate in lines:
-        shutil.copytree(os.path.join(root, 'crates', crate), os.path.join(work, 'crates', crate), symlinks=True)
+        shutil.copytree(os.path.join(root, 'crates', crate), os.path.join(work, 'crates', crate), symlinks=True, ignore=shutil.ignore_patterns(*left_out))
     name = os.path.basename(os.path.normpath(program))
     folder = os.path.join(work, 'crates', name)
     shutil.copytree(program, folder)
@@ -48,7 +49,9 @@ def copy_below(root, crates, program, work):
 def main(words):
     if words[-3:-2] == ['--for']:
         copy_below(words[0], words[1:-3], words[-2], words[-1])
-    elif len(words) > 1 and '--for' not in words:
+    elif words[-3:-2] == ['--sources-for']:
+        copy_below(words[0], words[1:-3], words[-2], words[-1], ['out'])
+    elif len(words) > 1 and not {'--for', '--sources-for'} & set(words):
         print(''.join(below(words[0], words[1:]).values()), end='')
     else:
         sys.exit(__doc__)
