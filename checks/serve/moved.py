@@ -4,7 +4,8 @@ killed many times at a moment drawn. What is then in the file is read by Debian'
 
     checks/serve/moved.py [PROGRAM] [--kills N]      (200 if left out)
 
-The file is one that was closed, and one left open with its log beside it.
+The file is one that was closed, and one left open with its log beside it. The row of playlists' stickers is run over a file too, with
+a start between any two of its lines.
 """
 import argparse
 import glob
@@ -19,8 +20,9 @@ import time
 
 sys.dont_write_bytecode = True
 
-from daemon import HERE, Daemon, Table, program_of, put_songs
+from daemon import HERE, ROOT, Daemon, Table, program_of, put_songs
 
+ROW = os.path.join(ROOT, 'crates', 'worked_rows', 'data', 'stickers-of-stored-playlists.row')
 MANY = 5_000      # the stickers of the file whose move is killed at moments that are drawn
 MOST = 100_000    # the stickers of the file whose move is timed
 TABLES = (
@@ -197,6 +199,33 @@ def try_kills(table, trial, kills):
     table.row('killed %d times within %.2f s, %d of them after the move' % (kills, longest, moved), '%d wrong' % wrong, right=wrong == 0 and 0 < moved < kills)
 
 
+def lines_of_row():
+    """The lines of the row of playlists' stickers, each with its answer."""
+    steps = []
+    with open(ROW, encoding='utf-8') as row:
+        for line in row:
+            if line.startswith('> 1 '):
+                steps.append((line[4:].rstrip('\n'), []))
+            elif line.startswith('< 1 ') and not line.startswith('< 1 OK MPD'):
+                steps[-1][1].append(line[4:].rstrip('\n'))
+    return steps
+
+
+def try_row(table, program, folder, music):
+    """The row over a file, with another start of the daemon between any two of its lines."""
+    steps, path, wrong = lines_of_row(), os.path.join(folder, 'row.db'), 0
+    for cut in range(len(steps) + 1):
+        for name in files_of(path):
+            os.remove(name)
+        for part in (steps[:cut], steps[cut:]):
+            daemon = Daemon(program, folder, music, shelf=path)
+            client = daemon.client()
+            wrong += sum(client.ask(line) != answer for line, answer in part)
+            client.close()
+            wrong += daemon.end()[0] != 0
+    table.row('the row of %d lines with a start between any two' % len(steps), '%d wrong' % wrong, right=bool(steps) and wrong == 0)
+
+
 def seconds_to_start(trial):
     began = time.monotonic()
     daemon = trial.start()
@@ -222,6 +251,7 @@ def main():
             right = read(trial.path)[0] == 1 and trial.is_told() and is_kept(trial.path, trial.lists, trial.stickers)
             table.row('%s, moved, told by the daemon, read by sqlite3' % how, 'as it was' if right else 'not so', right=right)
             try_writes(table, trial, library, how)
+        try_row(table, program, folder, music)
         many = {('song %d' % number, 'rating'): str(number) for number in range(MANY)}
         try_kills(table, Trial(program, folder, music, {}, many), given.kills)
         trial = Trial(program, folder, music, {}, {('song %d' % number, 'rating'): str(number) for number in range(MOST)})
