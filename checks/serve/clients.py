@@ -349,6 +349,29 @@ def run_ncmpc(steps, port, folder):
         screen.end()
 
 
+def run_partitions(steps, port, folder):
+    """Two lists: ncmpc makes a partition on its page of outputs and goes there; mpc, which knows no partitions, stays where it was."""
+    steps.client.must('clear')
+    steps.client.must('add First')
+    screen = Screen('rooms', ['env', 'TERM=screen', 'HOME=' + folder, 'LANG=C.UTF-8', 'ncmpc', '-h', '127.0.0.1', '-p', str(port)], folder)
+    try:
+        screen.press('8')
+        steps.step('ncmpc', 'shows outputs and partitions', screen.shows('out0', 'Create new partition'), screen.text)
+        screen.press('End', 'Enter', *'upstairs', 'Enter')
+        made = screen.shows('upstairs') and 'partition: upstairs' in steps.client.must('listpartitions')
+        steps.step('ncmpc', 'makes a partition', made, screen.text)
+        screen.press('End', 'Up', 'Enter', '2')
+        steps.step('ncmpc', 'goes there, where no song is queued', not screen.shows('Air'), screen.text)
+        screen.press('3')
+        screen.shows('First', 'Second')
+        screen.press('Down', 'Space', '2')
+        steps.step('ncmpc', 'adds a folder there', screen.shows('Sea') and steps.status('playlistlength') == '2', screen.text)
+        shown = subprocess.run(['mpc', '-h', '127.0.0.1', '-p', str(port), 'playlist'], capture_output=True, text=True).stdout
+        steps.step('mpc', 'shows the first list', 'Air' in shown and 'Sea' not in shown, shown)
+    finally:
+        screen.end()
+
+
 def run_ncmpcpp(steps, port, folder):
     steps.client.must('clear')
     steps.client.must('add First')
@@ -446,6 +469,7 @@ def main():
         try:
             for needed, run in [(['mpc'], lambda: run_mpc(steps, proxy.port)), (['/usr/lib/python3/dist-packages/mpd'], lambda: run_library(steps, proxy.port)),
                                 (['ncmpc', 'tmux'], lambda: run_ncmpc(steps, proxy.port, folder)),
+                                (['ncmpc', 'mpc', 'tmux'], lambda: run_partitions(steps, proxy.port, folder)),
                                 (['ncmpcpp', 'tmux'], lambda: run_ncmpcpp(steps, proxy.port, folder)),
                                 *([(['cantata', 'Xvfb', 'xdotool', 'dbus-run-session'], lambda: run_cantata(steps, proxy.port, folder))] if is_everyday else [])]:
                 missing = [name for name in needed if not (shutil.which(name) or os.path.exists(name))]
