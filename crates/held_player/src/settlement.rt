@@ -1,4 +1,16 @@
 //! The settlement of all outputs, once their threads have ended.
+//!
+//! At the end it is asked of each output whether its frames add up: those decoded for it are those that it
+//! wrote or discarded, in order, and those left in its ring. Nobody counted them alone. The decoder, the
+//! outputs and the player's books each have parts of three ledgers, and a ledger's tokens cannot be copied
+//! or lost: whoever adds to his share adds to the total. Once the threads are joined and all parts are
+//! back, the books that the player kept are the sums of what the threads did, and not what somebody says of
+//! them.
+//!
+//! So a settlement compares two things that were made apart: the books, which went through the player's
+//! events, and the ring's own ends, which know what was pushed and popped. Fates that no turn told of any
+//! more are counted first. An answer of `Unsettled` then means that a token is missing, and one of another
+//! book that a step was wrong; neither can be hidden by a count that was kept twice by the same hand.
 ghost use Rattle.std.specs.Prelude.{◌≡◌, ◌<◌, ◌≤◌, [], None, vec_len, vec_capacity};
 ghost use Rattle.frame_ledger.specs.Shares.{HasAllParts, KeepsParts};
 ghost use Rattle.held_player.specs.Settling.{AreSumsOf, HaveAllOutputs, SettlesInTurn, SettlesRing, numbers_in, settled_books, with_fates};

@@ -1,4 +1,15 @@
 //! What a session does, over its parts.
+//!
+//! Bytes come as a socket gives them, and go as it takes them, so a turn of a conversation may stop at any
+//! of them: within a line, within a list, within an answer. What is in between is kept in four places: a
+//! piece that was read and is not split, lines that are not run, the commands of a list that is not
+//! complete, and the bytes that are not written. The invariant is that these, with what was answered, are
+//! all that the client sent, in its order: no cut of the bytes into pieces changes what is answered.
+//!
+//! Memory may lack at each of these steps. Then what was done stays done and the rest waits in its place
+//! for the next turn: a line is run once, whatever becomes of its answer. No more is read while lines wait,
+//! and no more is run while the client takes too little, so one that asks and never reads costs a bounded
+//! piece of memory, and is closed.
 ghost use Rattle.std.specs.Prelude.{◌≡◌, ◌≢◌, ◌++◌, ◌<◌, ◌≤◌, ◌+◌, ◌⊎◌, [], length, take, drop, map, Some, None, Ok, Err, true, false, OnOk, OnErr, IfOk, is_ok};
 ghost use Rattle.std.specs.Io.KnownBytes.{Appends, Consumes};
 ghost use Rattle.mpd_text.specs.Lines.Split.{views, line_of};

@@ -1,4 +1,17 @@
 //! One event after the other, each kept with what it made clients hear.
+//!
+//! An event is applied in three stretches. First its transition is found: what is answered, the effect on
+//! its partition, what passes between partitions, what is written to the shelf. That only reads. Then all
+//! that may fail is done: the limits are looked at, the frames counted, and room is taken for the entry in
+//! the history, for each notice and for what the effect needs; a write to the shelf is the last of it. From
+//! there on nothing can fail: the effect is carried out, what it raised is read off fingerprints of before
+//! and after, each client is told or keeps it as pending, and the event is kept with what it made clients
+//! hear.
+//!
+//! So the invariant needs no case of an event that is half done: the present state is always the image of
+//! the base after the events of the window, as the definition `next_image` has it, and a refused event
+//! leaves all of it as it was. What is raised is not said by the commands, of which there are many, but
+//! found by comparing: a command that changes something and forgets to say so cannot be written.
 ghost use Rattle.std.specs.Prelude.{◌≡◌, ◌⊎◌, ◌<◌, ◌≤◌, ◌+◌, ◌++◌, ◌∷◌, ℕ, [], None, count_by, length, map, vec_len, vec_capacity, IfErr, IfOk, OnErr, OnOk, not, true, false, nat_le, slice_index_or};
 ghost use Rattle.partition.specs.declared.partition.PartitionFault.{PartitionFault};
 ghost use Rattle.idle_clients.specs.Clients.{notified};

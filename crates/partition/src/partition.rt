@@ -1,4 +1,15 @@
 //! The player with its history.
+//!
+//! The state could be replayed from the first event on, and that is what the definitions do; but a daemon
+//! that runs for a year cannot keep a year of events. So a player has a base, a window of the events since,
+//! and the present state, which is the base after the window. A fold makes the present state the base and
+//! empties the window. It is no event, and nobody hears of it: what is read of the history (stamps, pending
+//! sets, books, how many events each seat made) is read off base and window together, and each of these is
+//! the same before a fold and after it (the law `FoldsAreUnseen`).
+//!
+//! That costs two rules. Whatever is to be read after a fold must be part of the image, and not only of the
+//! entries. And a fold copies the state, so it may lack memory: it comes before an event finds the window
+//! full, and where it is refused, that event is, with nothing changed.
 ghost use Rattle.std.specs.Prelude.{◌≡◌, ◌⊎◌, ◌↔◌, ◌++◌, ◌∷◌, ◌+◌, ◌-◌, ◌^◌, ◌≤◌, ◌<◌, [], None, false, length, map, vec_capacity, IfOk, IfErr, OnErr, OnOk, IsErrOf, slice_index_or, nat_le, is_some, true, All};
 ghost use Rattle.parts.specs.Parts.{holder, known, named, part_at};
 ghost use Rattle.std.specs.Option.{option_copied};

@@ -1,4 +1,15 @@
 //! Rounds of a random order, and what follows when a song ends.
+//!
+//! A random order is not a list that is shuffled once, since the queue changes while it is played. Each
+//! entry draws a rank when it comes, and keeps it; the order is by priority, then by rank, and the next
+//! song is the first that was not played in this round. So an edit of the queue needs no repair of an
+//! order: what leaves takes its rank along, and what comes has its own. A round is over when each entry was
+//! played; a new one begins with new ranks, by `repeat` or by hand.
+//!
+//! Two things are kept beside the queue, which the round does not own: the ranks by id, and the ids that
+//! were played, the last one last, so that `previous` has a way back. A call is handed the queue and speaks
+//! of any queue. What holds between the two, that the ids played are some of the queue's, is a law over all
+//! steps of a player (`PlayedStayQueued`), and not an invariant here.
 ghost use Rattle.std.specs.Prelude.{◌≡◌, ◌≤◌, ◌-◌, true, ◌≢◌, length, AllPairs, IfOk, OnOk, OnErr, None, is_some};
 ghost use Rattle.std.specs.Option.{option_copied};
 ghost use Rattle.rand_core.specs.Pcg32Seed.{pcg32_seed};

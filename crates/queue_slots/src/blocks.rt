@@ -1,4 +1,20 @@
 //! A sequence of slots in blocks.
+//!
+//! An edit in front of a long queue moves every entry behind it, and each gets the version of the edit as
+//! its stamp, since its place is another. In one list that is a write of each. Here a block says in one
+//! flag that all its slots are alike: they show the block's stamp and mark, whatever is written in them. So
+//! an edit cuts two blocks, changes the list of blocks, and flags those behind: a cost by blocks and not by
+//! entries. A flag is written down (settled) only where a block is joined to another or an entry of it gets
+//! a stamp of its own.
+//!
+//! The stamp of a block that is not alike is a bound: none of its slots has a greater one. To ask what
+//! changed since a version passes over each block whose bound is not greater. The bound is exact after an
+//! edit that writes the whole block, and may be too great after a slot has left, which costs a look and no
+//! answer.
+//!
+//! The key of an id's block is a hint, with no invariant: where it is wrong, all blocks are looked at. Ids
+//! are distinct, so what is found is the one entry, and no clause has to follow the keys through cuts and
+//! joins.
 ghost use Rattle.std.specs.Prelude.{◌≡◌, ◌≢◌, ◌≤◌, ◌+◌, ◌-◌, ◌^◌, ◌<◌, ◌==◌, ◌↔◌, [], All, AllPairs, IfOk, IfSome, IsTrue, OnOk, OnErr, position, slice_get, length, map, vec_len};
 ghost use Rattle.std.specs.List.{slice_range};
 ghost use Rattle.std.specs.Option.{option_copied};
