@@ -29,7 +29,7 @@ set-append_left [] ys i x l = absurd (omega arith)
 set-append_left (z ∷ zs) ys zero x l = refl
 set-append_left (z ∷ zs) ys (suc i) x l = λ t. z ∷ set-append_left zs ys i x (omega arith) t
 
-set-append_right : (xs ys : List Slot) (n i : ℕ) (x : Slot) → n ≡ length xs + i → set (xs ++ ys) n x ≡ xs ++ set ys i x
+pub set-append_right : (xs ys : List Slot) (n i : ℕ) (x : Slot) → n ≡ length xs + i → set (xs ++ ys) n x ≡ xs ++ set ys i x
 set-append_right [] ys n i x e = let same : n ≡ i = omega arith in ap (λ (m : ℕ). set ys m x) same
 set-append_right (z ∷ zs) ys zero i x e = absurd (omega arith)
 set-append_right (z ∷ zs) ys (suc n) i x e = λ t. z ∷ set-append_right zs ys n i x (omega arith) t
@@ -87,7 +87,7 @@ length-taken (b ∷ bs) i zero c e = refl
 length-taken (b ∷ bs) zero (suc j) c e = omega (arith, length-append c (joined (take j bs)), length-append b (joined (take j bs)), e)
 length-taken (b ∷ bs) (suc i) (suc j) c e = omega (arith, length-append b (joined (take j (set bs i c))), length-append b (joined (take j bs)), length-taken bs i j c e)
 
-take-changed : (bs : List (List Slot)) (i j : ℕ) (c : List Slot) → i ≤ j → take i (set bs j c) ≡ take i bs
+pub take-changed : (bs : List (List Slot)) (i j : ℕ) (c : List Slot) → i ≤ j → take i (set bs j c) ≡ take i bs
 take-changed [] i j c le = refl
 take-changed (b ∷ bs) zero j c le = refl
 take-changed (b ∷ bs) (suc i) zero c le = absurd (omega arith)
@@ -104,6 +104,14 @@ spot-inside bs from place at o le h less = elim h.inside [
 
 pub spot-sum : (bs : List (List Slot)) (place at o : ℕ) → IsSpot bs 0 place at o → length (joined (take at bs)) + o ≡ place
 spot-sum bs place at o h = let off : at - 0 ≡ at = omega arith in ap (λ (n : ℕ). length (joined (take n bs)) + o) (sym off) ∙ h.sum
+
+pub spot-total : (bs : List (List Slot)) (from place at o : ℕ) → IsSpot bs from place at o → length (joined (take at bs)) + o ≡ length (joined (take from bs)) + place
+spot-total bs from place at o h =
+    let parts : take at bs ≡ take from bs ++ slice_range bs from at = sym (take-append-drop from (take at bs)) ∙ (λ t. take-take from at bs h.low t ++ sym (slice_of_take bs from at h.low) t) in
+    let sizes : length (joined (take at bs)) ≡ length (joined (take from bs)) + length (joined (slice_range bs from at)) =
+    ap (λ x. length (joined x)) parts ∙ ap (λ x. length x) (joined-append (take from bs) (slice_range bs from at)) ∙ length-append (joined (take from bs)) (joined (slice_range bs from at)) in
+    let sum = h.sum in
+    omega arith
 
 -- both slots written, in either way to say it
 write_at-set : (v : ℕ) (w : Bool) (xs : List Slot) (h : ℕ) (x : Slot) → h < length xs → write_at v w (set xs h x) h ≡ set xs h (written v w x.entry)
@@ -146,13 +154,7 @@ module _ (bs : List (List Slot)) (low high i a j b : ℕ) (order : low < high) (
   second_inside = spot-inside bs i (a + (high - low)) j b one.high two (rest_fits bs low high i a order within one)
 
   high_at : length (joined (take j bs)) + b ≡ high
-  high_at =
-      let parts : take j bs ≡ take i bs ++ slice_range bs i j = sym (take-append-drop i (take j bs)) ∙ (λ t. take-take i j bs two.low t ++ sym (slice_of_take bs i j two.low) t) in
-      let sizes : length (joined (take j bs)) ≡ length (joined (take i bs)) + length (joined (slice_range bs i j)) =
-      ap (λ x. length (joined x)) parts ∙ ap (λ x. length x) (joined-append (take i bs) (slice_range bs i j)) ∙ length-append (joined (take i bs)) (joined (slice_range bs i j)) in
-      let sum = two.sum in
-      let first = low_at in
-      omega arith
+  high_at = let sum = spot-total bs i (a + (high - low)) j b two in let first = low_at in omega arith
 
   -- in one block the second is behind the first
   behind : i ≡ j → a < b

@@ -4,4 +4,5 @@ pub mod Joined
 pub mod Places
 pub mod Left
 pub mod Exchanges
+pub mod Parts
 pub mod Lent

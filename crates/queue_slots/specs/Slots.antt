@@ -1,6 +1,6 @@
 -- Slots of a queue: what edits write and keep (MPD protocol reference, The queue; the marks at a wrap are
 -- this profile's).
-use Rattle.std.specs.Prelude.{ℕ, zero, suc, ◌-◌, Bool, ◌||◌, nat_lt, ◌==◌, if◌then◌else◌, List, [], ◌∷◌, ◌++◌, length, map, filter, take, drop}
+use Rattle.std.specs.Prelude.{ℕ, zero, suc, ◌+◌, ◌-◌, Bool, ◌||◌, nat_lt, ◌==◌, if◌then◌else◌, List, [], ◌∷◌, ◌++◌, length, map, filter, take, drop}
 use Rattle.std.specs.List.{enumerate_from, slice_range}
 use Rattle.queue_slots.specs.declared.entry.Entry.{Entry}
 use Rattle.queue_slots.specs.declared.entry.Slot.{Slot}
@@ -52,6 +52,10 @@ abbrev pub with_parts_turned : ℕ → Bool → List Slot → ℕ → ℕ → �
 with_parts_turned version wraps slots low middle high =
     written_from version wraps slots low (entries_of (slice_range slots middle high ++ slice_range slots low middle))
     ++ map (kept wraps) (drop high slots)
+
+-- slots are put back from a place on, each in the place of another
+abbrev pub with_put_back : List Slot → ℕ → List Slot → List Slot
+with_put_back slots start part = take start slots ++ (part ++ drop (start + length part) slots)
 
 -- so many elements from a place on are moved to the end
 abbrev pub with_moved_to_end : {X : Type 0} → List X → ℕ → ℕ → List X

@@ -10,8 +10,8 @@ use crate::entry::{Entry, Slot};
 use crate::index::Index;
 use crate::shows::{push_all, push_shown, shows};
 use crate::slots::{
-    change_slot, copies, entry_at, mark, move_all, move_tail, place_in, prioritize, pull_slot,
-    push_slot, put_slot, settle, slots_from,
+    change_slot, copies, entry_at, mark, move_all, move_tail, part_of, place_in, prioritize,
+    pull_slot, push_slot, put_slot, settle, slots_from,
 };
 use std::alloc::{AllocError, Global};
 use std::marker::Model;
@@ -226,11 +226,11 @@ impl Block {
         slots_from(&self.slots, place)
     }
 
-    /// The same slots in a list, over the same songs.
-    pub fn copies(&self, alloc: Global) -> Result<Vec<Slot>, AllocError>
-        ensures { IfOk result (λ copies. copies.items ≡ self.now) }
+    /// The slots from a place on, at most so many, in a list, over the same songs.
+    pub fn copies(&self, alloc: Global, from: usize, most: usize) -> Result<Vec<Slot>, AllocError>
+        ensures { IfOk result (λ copies. copies.items ≡ take most (drop from self.now)) }
     {
-        let mut copies = copies(alloc, &self.slots)?;
+        let mut copies = copies(alloc, part_of(&self.slots, from, most))?;
         settle(&mut copies, self.alike, self.top, self.marked);
         Ok(copies)
     }

@@ -19,7 +19,7 @@ ghost use Rattle.std.specs.Prelude.{◌≡◌, ◌≢◌, ◌≤◌, ◌+◌, �
 ghost use Rattle.std.specs.List.{slice_range};
 ghost use Rattle.std.specs.Option.{option_copied};
 ghost use Rattle.queue_slots.specs.Blocks.{shown_from, with_exchanged, with_part_prioritized};
-ghost use Rattle.queue_slots.specs.Slots.{places_shown, with_parts_turned, with_put_in, with_taken_out};
+ghost use Rattle.queue_slots.specs.Slots.{places_shown, with_parts_turned, with_put_back, with_put_in, with_taken_out};
 ghost use Rattle.queue_slots.specs.Slots.{kept, entries_of};
 
 use crate::block::{Block, Spare};
@@ -28,7 +28,7 @@ use crate::index::Index;
 use crate::made::{build, make_room, splice, trim};
 use crate::many::{
     copies_of, drop_blocks, exchange, keep_blocks, mend, part, prioritize_blocks, push_all_changed,
-    restamp, seek, seek_id, turn_blocks,
+    put_back, restamp, seek, seek_id, turn_blocks,
 };
 use crate::slots::all_have_priority;
 use std::alloc::{AllocError, Global};
@@ -90,11 +90,12 @@ impl Blocks {
         })
     }
 
-    /// The same slots in a list, over the same songs.
-    pub fn copies(&self) -> Result<Vec<Slot>, AllocError>
-        ensures { IfOk result (λ copies. copies.items ≡ self.now) }
+    /// The slots from `start` up to `end` in a list, over the same songs.
+    pub fn copies(&self, start: usize, end: usize) -> Result<Vec<Slot>, AllocError>
+        requires { start ≤ end }
+        ensures { IfOk result (λ copies. copies.items ≡ slice_range self.now start end) }
     {
-        let copies = copies_of(self.allocator(), &self.blocks, self.len)?;
+        let copies = copies_of(self.allocator(), &self.blocks, start, end - start)?;
         Ok(copies)
     }
 
@@ -298,6 +299,16 @@ impl Blocks {
     {
         keep_blocks(&mut self.blocks, wraps);
         exchange(&mut self.blocks, low, high, version, wraps);
+        mend(&mut self.blocks, &mut self.spare, &mut self.index);
+    }
+
+    /// Puts slots back from a place on, each in the place of another. The others are kept.
+    pub fn put_back(&mut self, start: usize, part: Vec<Slot>, wraps: bool)
+        requires { start + vec_len part ≤ length self.old }
+        ensures { self.new ≡ with_put_back (map (kept wraps) self.old) start part.items }
+    {
+        keep_blocks(&mut self.blocks, wraps);
+        put_back(&mut self.blocks, &mut self.index, start, part);
         mend(&mut self.blocks, &mut self.spare, &mut self.index);
     }
 }

@@ -1,9 +1,9 @@
 //! Blocks that stand one behind another.
 ghost use Rattle.queue_slots.specs.declared.entry.Slot.{Slot};
-ghost use Rattle.std.specs.Prelude.{◌≡◌, OnOk, IfOk, IfSome, IfNone, None, ◌++◌, ◌≤◌, ◌+◌, ◌<◌, [], slice_index_or, slice_set, length, map, take, drop, vec_capacity, vec_len};
+ghost use Rattle.std.specs.Prelude.{◌≡◌, OnOk, IfOk, IfSome, IfNone, None, ◌++◌, ◌≤◌, ◌+◌, ◌^◌, ◌<◌, [], slice_index_or, slice_set, length, map, take, drop, vec_capacity, vec_len};
 ghost use Rattle.std.specs.List.{insert};
 ghost use Rattle.queue_slots.specs.Slots.{kept, written, entries_of, prioritized_slot};
-ghost use Rattle.queue_slots.specs.Slots.{with_moved_to_end};
+ghost use Rattle.queue_slots.specs.Slots.{with_moved_to_end, with_put_back};
 ghost use Rattle.queue_slots.specs.Blocks.{joined, block_len, with_block_cut, shown_from, with_joined_next, written_behind, with_blocks_turned, with_blocks_prioritized, with_exchanged, with_slot_changed, with_slot_pulled, with_slot_put, HasIdAt, NoneHas, IsCut, IsPaired, IsParted, IsSpot};
 
 use crate::block::{Block, Spare};
@@ -436,14 +436,40 @@ fn put(blocks: &mut Vec<Block>, at: usize, offset: usize, slot: Slot)
     block.put(offset, slot);
 }
 
-/// The slots of blocks in a list, over the same songs.
-pub fn copies_of(alloc: Global, blocks: &[Block], len: usize) -> Result<Vec<Slot>, AllocError>
-    ensures { IfOk result (λ copies. copies.items ≡ joined blocks.now) }
+/// The slots of blocks from a place on, at most so many, in a list, over the same songs.
+pub fn copies_of(
+    alloc: Global,
+    blocks: &[Block],
+    start: usize,
+    count: usize,
+) -> Result<Vec<Slot>, AllocError>
+    ensures { IfOk result (λ copies. copies.items ≡ take count (drop start (joined blocks.now))) }
 {
-    let mut copies = Vec::with_capacity(alloc, len)?;
+    let mut copies = Vec::with_capacity(alloc, count)?;
+    let mut before = start;
     for block in blocks {
-        let mut part = block.copies(alloc)?;
+        let mut part = block.copies(alloc, before, count - copies.len())?;
         copies.append(&mut part)?;
+        before = before.saturating_sub(block.len());
     }
     Ok(copies)
+}
+
+/// Puts slots back from a place on, each in the place of another.
+pub fn put_back(blocks: &mut Vec<Block>, index: &mut Index, start: usize, part: Vec<Slot>)
+    requires within { start + vec_len part ≤ length (joined blocks.old.items) }
+    requires fits { start + vec_len part < 2 ^ 64 }
+    ensures blocks { joined blocks.new.items ≡ with_put_back (joined blocks.old.items) start part.items }
+    ensures len { vec_len blocks.new ≡ vec_len blocks.old }
+    ensures room { vec_capacity blocks.new ≡ vec_capacity blocks.old }
+{
+    let mut at = 0usize;
+    let mut offset = start;
+    for slot in part {
+        let (next, inside) = seek(blocks, at, offset);
+        index.note_one(slot.entry.id, blocks[next].key());
+        change(blocks, next, inside, slot);
+        at = next;
+        offset = inside + 1;
+    }
 }

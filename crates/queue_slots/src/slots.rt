@@ -197,6 +197,14 @@ pub fn entry_at(slots: &[Slot], place: usize) -> Option<&Entry>
     }
 }
 
+/// The slots from a place on, at most so many.
+pub fn part_of(slots: &[Slot], from: usize, most: usize) -> &[Slot]
+    ensures { result.now ≡ take most (drop from slots.now) }
+{
+    let rest = &slots[from.min(slots.len())..];
+    &rest[..most.min(rest.len())]
+}
+
 /// The slots from a place on.
 pub fn slots_from(slots: &[Slot], place: usize) -> &[Slot]
     requires { place ≤ length slots.now }

@@ -6,6 +6,7 @@ pub mod Lists
 pub mod Edits
 pub mod Swaps
 pub mod Shuffles
+pub mod Parts
 pub mod Moves
 pub mod Priorities
 pub mod Runs

@@ -9,7 +9,7 @@ ghost use Rattle.song_queue.specs.Laws.{PatchesEarlier};
 
 use crate::entry::{Entry, Slot};
 use crate::slots::{
-    have_ids, have_priority, ids_of, move_part, new_slots, prioritize, shuffle_part, stamp_others,
+    have_ids, have_priority, ids_of, move_part, new_slots, prioritize, shuffle_slots, stamp_others,
     version_after,
 };
 use queue_slots::Blocks;
@@ -89,7 +89,8 @@ impl Queue {
     pub fn try_clone(&self) -> Result<Queue, AllocError>
         ensures { IfOk result (λ copy. copy ≡ self.now) }
     {
-        let slots = Blocks::from_slots(self.slots.allocator(), self.slots.copies()?)?;
+        let copies = self.slots.copies(0, self.slots.len())?;
+        let slots = Blocks::from_slots(self.slots.allocator(), copies)?;
         Ok(Queue {
             slots,
             version: self.version,
@@ -322,16 +323,15 @@ impl Queue {
         if lies_outside(start, end, self.slots.len()) {
             return Err(QueueFault::BadIndex);
         }
-        let alloc = self.slots.allocator();
-        let mut slots = self.slots.copies()?;
-        let ids = ids_of(alloc, &slots)?;
-        shuffle_part(slots.as_mut_slice(), start, end, words);
-        if have_ids(&slots, &ids) {
+        let mut part = self.slots.copies(start, end)?;
+        let ids = ids_of(self.slots.allocator(), &part)?;
+        shuffle_slots(part.as_mut_slice(), words);
+        if have_ids(&part, &ids) {
             return Ok(());
         }
         let (version, wraps) = version_after(self.version, self.max_version);
-        stamp_others(slots.as_mut_slice(), &ids, version, wraps);
-        self.slots = Blocks::from_slots(alloc, slots)?;
+        stamp_others(part.as_mut_slice(), &ids, version, wraps);
+        self.slots.put_back(start, part, wraps);
         self.version = version;
         self.parity = !self.parity;
         Ok(())

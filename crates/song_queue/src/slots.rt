@@ -104,18 +104,17 @@ pub fn ids_of(alloc: Global, slots: &[Slot]) -> Result<Vec<u32>, AllocError>
     slots.iter().map(|slot| slot.entry.id).collect(alloc)
 }
 
-/// Shuffles the slots from `start` up to `end` by words. Each keeps its stamp and mark for now.
-pub fn shuffle_part(slots: &mut [Slot], start: usize, mut end: usize, words: &[u32])
-    requires order { start ≤ end }
-    requires within { end ≤ length slots.old }
-    ensures { slots.new ≡ shuffled slots.old start end words.now }
+/// Shuffles slots by words. Each keeps its stamp and mark for now.
+pub fn shuffle_slots(slots: &mut [Slot], words: &[u32])
+    ensures { slots.new ≡ shuffled slots.old 0 (length slots.old) words.now }
 {
+    let mut end = slots.len();
     for word in words {
-        if end - start <= 1 {
+        if end <= 1 {
             return;
         }
         end -= 1;
-        let chosen = start + *word as usize % (end - start + 1);
+        let chosen = *word as usize % (end + 1);
         slots.swap(end, chosen);
     }
 }

@@ -1,7 +1,0 @@
-use Rattle.std.proofs.Common.{sym, ◌∙◌, drop, arith}
-use Rattle.song_queue.proofs.Shuffles.{shuffled-few}
-use Rattle.song_queue.proofs.slots.shuffle_part.Goals as goal
-
-pub returns-then-end-start-le1 : goal.returns-then-end-start-le1
-returns-then-end-start-le1 c =
-    sym (shuffled-few c.loop-word.slots c.args.start c.loop-word.end (drop c.loop-word.word-index c.args.words.now) (omega arith)) ∙ c.loop-word.invariant.shuffles
