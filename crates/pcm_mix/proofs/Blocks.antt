@@ -1,5 +1,5 @@
 -- A block frame by frame is what is faded as a whole and then set to the volume as a whole.
-use Rattle.std.proofs.Common.{ℕ, zero, suc, ◌+◌, ◌<◌, ◌≡◌, List, [], ◌∷◌, length, get_or, ℤ, refl, ap, sym, ◌∙◌, arith, map, Option, Some, None, add-one, add-zero}
+use Rattle.std.proofs.Common.{ℕ, suc, ◌+◌, ◌<◌, ◌≡◌, List, [], ◌∷◌, length, get_or, ℤ, refl, ap, sym, ◌∙◌, arith, map, Some, None}
 use Rattle.std.specs.List.{range_with_len}
 use Rattle.pcm_mix.specs.Samples.{faded_frame, faded_frames, gained}
 use Rattle.pcm_mix.specs.Blocks.{FadingData, block_of}

@@ -1,12 +1,12 @@
--- Samples of 24 bits: the upper two bytes of each, out of two vectors that overlap.
-use Rattle.std.proofs.Common.{◌≡◌, ℕ, zero, suc, ◌+◌, ◌*◌, ◌/◌, ◌%◌, ◌<◌, ◌≤◌, ◌++◌, ◌-◌, List, [], ◌∷◌, length, map, get_or, refl, ap, ◌∙◌, arith, pos}
+-- Samples out of vectors of bytes: of those of 24 bits the upper two bytes, out of two vectors that overlap.
+use Rattle.std.proofs.Common.{◌≡◌, ℕ, zero, suc, ◌+◌, ◌*◌, ◌/◌, ◌%◌, ◌<◌, ◌≤◌, ◌++◌, ◌-◌, List, [], ◌∷◌, length, map, take, get_or, refl, ap, sym, ◌∙◌, arith, pos}
 use Rattle.std.proofs.lemmas.Int.{ints}
 use Rattle.std.proofs.lemmas.Bool.Decides.{nat_tests}
-use Rattle.std.proofs.lemmas.List.{get_or_append_left, get_or-append_right}
-use Rattle.std.proofs.lemmas.Simd.{get_or-chunk, length-chunk}
+use Rattle.std.proofs.lemmas.List.{drop_more, get_or_append_left, get_or-append_right}
+use Rattle.std.proofs.lemmas.Simd.{get_or_wider, get_or-chunk, length-chunk}
 use Rattle.std.specs.Int.{int_div_euclid}
 use Rattle.std.specs.Simd.Lanes.{Each1, chunk, number_l, digits_l}
-use Rattle.pcm_mix.specs.declared.layout.Depth.TheVariants.{TwentyFour}
+use Rattle.pcm_mix.specs.declared.layout.Depth.TheVariants.{Sixteen, TwentyFour}
 use Rattle.pcm_mix.specs.Layouts.{signed, word_at, sample_at}
 
 -- the words of bytes, the low byte of each first
@@ -55,3 +55,24 @@ upper bytes fits m n is =
     let one : get_or bytes (m + 1) 0 ≡ get_or bytes (n + 2) 0 = ap (λ (k : ℕ). get_or bytes k 0) (omega arith) in
     let two : get_or bytes m 0 ≡ get_or bytes (n + 1) 0 = ap (λ (k : ℕ). get_or bytes k 0) (omega arith) in
     (λ t. signed 32768 (two t + 256 * one t)) ∙ upper_bits (get_or bytes n 0) (get_or bytes (n + 1) 0) (get_or bytes (n + 2) 0) (fits n) (fits (n + 1)) (fits (n + 2))
+
+-- of samples of 16 bits the whole: a word of a vector is that of its two bytes
+word_of : (xs : List ℕ) (j : ℕ) → j + 2 ≤ length xs → number_l 256 (chunk j 2 xs) ≡ get_or xs j 0 + 256 * get_or xs (j + 1) 0
+word_of xs j le =
+    let one = drop_more xs j 0 (omega arith) in
+    let two = drop_more xs (j + 1) 0 (omega arith) in
+    let is : chunk j 2 xs ≡ get_or xs j 0 ∷ get_or xs (j + 1) 0 ∷ [] = ap (take 2) (one ∙ ap (λ x. get_or xs j 0 ∷ x) two) in
+    ap (number_l 256) is ∙ (let e : get_or xs j 0 + 256 * (get_or xs (j + 1) 0 + 256 * 0) ≡ get_or xs j 0 + 256 * get_or xs (j + 1) 0 = omega arith in e)
+
+pub word_is : (bytes : List ℕ) (at j : ℕ) → at + 16 ≤ length bytes → j < 8 → Each1 (λ x. x < 256) (chunk at 16 bytes)
+    → get_or (digits_l 65536 8 (number_l 256 (chunk at 16 bytes))) j 0 ≡ word_at bytes (at + j * 2)
+word_is bytes at j le less fits =
+    let long : length (chunk at 16 bytes) ≡ 16 = length-chunk at 16 bytes le in
+    let low : at + 2 * j ≡ at + j * 2 = omega arith in
+    let high : at + (2 * j + 1) ≡ at + j * 2 + 1 = omega arith in
+    let a = get_or-chunk at 16 bytes (2 * j) 0 (omega arith) ∙ ap (λ (n : ℕ). get_or bytes n 0) low in
+    let b = get_or-chunk at 16 bytes (2 * j + 1) 0 (omega arith) ∙ ap (λ (n : ℕ). get_or bytes n 0) high in
+    get_or_wider 256 2 65536 8 (chunk at 16 bytes) j refl fits less ∙ word_of (chunk at 16 bytes) (2 * j) (omega arith) ∙ (λ i. a i + 256 * b i)
+
+pub whole : (bytes : List ℕ) (m n : ℕ) → n ≡ m → signed 32768 (word_at bytes m) ≡ sample_at Sixteen bytes n
+whole bytes m n is = ap (λ (k : ℕ). signed 32768 (word_at bytes k)) (sym is)

@@ -27,6 +27,10 @@ signed half n = if nat_lt n half then pos n else (pos n -ℤ pos (2 * half))
 abbrev pub word_at : List ℕ → ℕ → ℕ
 word_at bytes at = slice_index bytes at + 256 * slice_index bytes (at + 1)
 
+-- frame j of samples by their bits, the left one first
+abbrev pub pair_at : List ℕ → ℕ → List ℤ
+pair_at words j = signed 32768 (slice_index words (2 * j)) ∷ signed 32768 (slice_index words (2 * j + 1)) ∷ []
+
 -- The sample whose bytes begin at a place, the low byte first. 8 bits have silence at 128 and become the
 -- upper byte; of 24 bits the upper 16 are taken, so that the rest is rounded down.
 abbrev pub sample_at : Depth → List ℕ → ℕ → ℤ

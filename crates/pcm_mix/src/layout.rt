@@ -1,11 +1,12 @@
 //! How frames lie in bytes, in a WAVE file and at an output.
-ghost use Rattle.std.specs.Prelude.{◌≡◌, [], ◌∷◌, ◌*◌, ◌+◌, ◌≤◌, length, map, flat_map};
+ghost use Rattle.std.specs.Prelude.{◌≡◌, ◌*◌, ◌+◌, ◌≤◌, length, map, flat_map};
 ghost use Rattle.std.specs.List.{range_with_len};
-ghost use Rattle.pcm_mix.specs.declared.layout.Depth.TheVariants.{TwentyFour};
+ghost use Rattle.pcm_mix.specs.declared.layout.Depth.TheVariants.{Sixteen, TwentyFour};
 ghost use Rattle.pcm_mix.specs.declared.layout.Channels.TheVariants.{Mono, Stereo};
-ghost use Rattle.pcm_mix.specs.Layouts.{width, count, signed, word_at, sample_at, frame_at, frame_bytes};
+ghost use Rattle.pcm_mix.specs.Layouts.{width, count, word_at, sample_at, frame_at, frame_bytes};
 
 use crate::Frame;
+use crate::lanes::{both_sides, pairs, put_eight};
 use std::simd::prelude::*;
 
 /// Bits of a sample in a WAVE file.
@@ -83,32 +84,24 @@ fn read(bytes: &[u8], depth: Depth, channels: Channels, frames: &mut [Frame])
     requires { length frames.old * (width depth * count channels) ≤ length bytes.now }
     ensures { frames.new ≡ map (frame_at depth channels bytes.now) (range_with_len 0 (length frames.old)) }
 {
-    let eights = eights(frames.len(), depth);
+    let eights = eights(frames.len(), depth, channels);
     for step in 0..eights {
-        let i = 8 * step;
-        let [a, b, c, d, e, f, g, h] = eight_frames(bytes, i, depth, channels);
-        frames[i] = a;
-        frames[i + 1] = b;
-        frames[i + 2] = c;
-        frames[i + 3] = d;
-        frames[i + 4] = e;
-        frames[i + 5] = f;
-        frames[i + 6] = g;
-        frames[i + 7] = h;
+        let eight = eight_frames(bytes, 8 * step, depth, channels);
+        put_eight(frames, 8 * step, eight);
     }
     for i in 8 * eights..frames.len() {
         frames[i] = frame_at(bytes, i, depth, channels);
     }
 }
 
-// How many steps of eight frames. Of samples of 16 bits the compiler makes vectors in the plain loop.
+// How many steps of eight frames. Of one channel of 16 bits the compiler makes better vectors in the plain loop.
 #[inline(always)]
-fn eights(len: usize, depth: Depth) -> usize
+fn eights(len: usize, depth: Depth, channels: Channels) -> usize
     ensures { 8 * result ≤ len }
 {
-    match depth {
-        Depth::Sixteen => 0,
-        Depth::Eight | Depth::TwentyFour => len / 8,
+    match (depth, channels) {
+        (Depth::Sixteen, Channels::Mono) => 0,
+        _ => len / 8,
     }
 }
 
@@ -118,6 +111,7 @@ fn eight_frames(bytes: &[u8], place: usize, depth: Depth, channels: Channels) ->
     ensures { result ≡ map (λ j. frame_at depth channels bytes.now (place + j)) (range_with_len 0 8) }
 {
     match (depth, channels) {
+        (Depth::Sixteen, Channels::Stereo) => whole_stereo(bytes, place),
         (Depth::TwentyFour, Channels::Mono) => upper_mono(bytes, place),
         (Depth::TwentyFour, Channels::Stereo) => upper_stereo(bytes, place),
         _ => [
@@ -134,21 +128,30 @@ fn eight_frames(bytes: &[u8], place: usize, depth: Depth, channels: Channels) ->
 }
 
 #[inline(always)]
+fn whole_stereo(bytes: &[u8], place: usize) -> [Frame; 8]
+    requires { 4 * (place + 8) ≤ length bytes.now }
+    ensures { result ≡ map (λ j. frame_at Sixteen Stereo bytes.now (place + j)) (range_with_len 0 8) }
+{
+    let [a, b, c, d] = pairs(whole_words(bytes, 4 * place));
+    let [e, f, g, h] = pairs(whole_words(bytes, 4 * place + 16));
+    [a, b, c, d, e, f, g, h]
+}
+
+// Eight samples of two bytes.
+#[inline(always)]
+fn whole_words(bytes: &[u8], at: usize) -> [u16; 8]
+    requires { at + 16 ≤ length bytes.now }
+    ensures { result ≡ map (λ j. word_at bytes.now (at + j * 2)) (range_with_len 0 8) }
+{
+    u16x8::from_le_bytes(u8x16::from_slice(&bytes[at..])).to_array()
+}
+
+#[inline(always)]
 fn upper_mono(bytes: &[u8], place: usize) -> [Frame; 8]
     requires { 3 * (place + 8) ≤ length bytes.now }
     ensures { result ≡ map (λ j. frame_at TwentyFour Mono bytes.now (place + j)) (range_with_len 0 8) }
 {
-    let [a, b, c, d, e, f, g, h] = upper_words(bytes, 3 * place);
-    [
-        frame_of(a, a),
-        frame_of(b, b),
-        frame_of(c, c),
-        frame_of(d, d),
-        frame_of(e, e),
-        frame_of(f, f),
-        frame_of(g, g),
-        frame_of(h, h),
-    ]
+    both_sides(upper_words(bytes, 3 * place))
 }
 
 #[inline(always)]
@@ -156,25 +159,9 @@ fn upper_stereo(bytes: &[u8], place: usize) -> [Frame; 8]
     requires { 6 * (place + 8) ≤ length bytes.now }
     ensures { result ≡ map (λ j. frame_at TwentyFour Stereo bytes.now (place + j)) (range_with_len 0 8) }
 {
-    let [a, b, c, d, e, f, g, h] = upper_words(bytes, 6 * place);
-    let [i, j, k, l, m, n, o, p] = upper_words(bytes, 6 * place + 24);
-    [
-        frame_of(a, b),
-        frame_of(c, d),
-        frame_of(e, f),
-        frame_of(g, h),
-        frame_of(i, j),
-        frame_of(k, l),
-        frame_of(m, n),
-        frame_of(o, p),
-    ]
-}
-
-// The frame whose samples have these bits.
-fn frame_of(left: u16, right: u16) -> Frame
-    ensures { result ≡ signed 32768 left ∷ signed 32768 right ∷ [] }
-{
-    [left.cast_signed(), right.cast_signed()]
+    let [a, b, c, d] = pairs(upper_words(bytes, 6 * place));
+    let [e, f, g, h] = pairs(upper_words(bytes, 6 * place + 24));
+    [a, b, c, d, e, f, g, h]
 }
 
 // Of eight samples of three bytes the upper two. They are taken out of two vectors that overlap, since the

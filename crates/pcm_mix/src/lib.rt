@@ -5,6 +5,7 @@
 
 pub mod block;
 pub mod crossfade;
+mod lanes;
 pub mod layout;
 pub mod volume;
 

@@ -182,6 +182,129 @@ fn layouts_at_each_length(rt: HostRuntime) {
     }
 }
 
+// A frame of the bytes above, by its place.
+fn frame_before(place: usize) -> [i16; 2] {
+    let at = place.wrapping_mul(4);
+    let left = [byte_at(at), byte_at(at.wrapping_add(1))];
+    let right = [byte_at(at.wrapping_add(2)), byte_at(at.wrapping_add(3))];
+    [i16::from_le_bytes(left), i16::from_le_bytes(right)]
+}
+
+fn frames_before(first: usize) -> [[i16; 2]; 68] {
+    let mut frames = [[0i16; 2]; 68];
+    for place in 0..68usize {
+        frames[place] = frame_before(place.wrapping_add(first));
+    }
+    frames
+}
+
+// So many frames at a volume, before others that are left.
+fn frames_gained(volume: u8, count: usize) -> [[i16; 2]; 68] {
+    let mut frames = frames_before(0);
+    gain(&mut frames[..count.min(67)], volume.min(100));
+    frames
+}
+
+fn wanted_gained(sample: i16, volume: u8) -> i64 {
+    i64::from(sample).wrapping_mul(i64::from(volume)) / 100
+}
+
+fn are_gained_as_wanted(volume: u8, count: usize) -> bool {
+    let frames = frames_gained(volume, count);
+    for place in 0..68usize {
+        let found = [i64::from(frames[place][0]), i64::from(frames[place][1])];
+        let [left, right] = frame_before(place);
+        let by = if place < count { volume } else { 100 };
+        if found != [wanted_gained(left, by), wanted_gained(right, by)] {
+            return false;
+        }
+    }
+    true
+}
+
+#[test]
+fn volumes_at_each_length(rt: HostRuntime) {
+    for volume in [0u8, 1, 33, 50, 57, 99, 100] {
+        for count in 0..68usize {
+            let wanted = are_gained_as_wanted(volume, count);
+            assert!(rt; wanted, "{count} frames at {volume}");
+        }
+    }
+}
+
+// So many frames, faded into those from place 100 on, from frame 1,000 of a second on.
+fn frames_faded(count: usize) -> [[i16; 2]; 68] {
+    let mut frames = frames_before(0);
+    let others = frames_before(100);
+    let count = count.min(67);
+    fade(&mut frames[..count], &others[..count], 1_000, 44_100);
+    frames
+}
+
+fn wanted_faded(from: i16, to: i16, place: i64) -> i64 {
+    let from = i64::from(from).wrapping_mul(44_100i64.wrapping_sub(place));
+    let to = i64::from(to).wrapping_mul(place);
+    from.wrapping_add(to) / 44_100
+}
+
+fn are_faded_as_wanted(count: usize) -> bool {
+    let frames = frames_faded(count);
+    let mut faded = 1_000i64;
+    for place in 0..68usize {
+        let found = [i64::from(frames[place][0]), i64::from(frames[place][1])];
+        let [left, right] = frame_before(place);
+        let [other_left, other_right] = frame_before(place.wrapping_add(100));
+        // an unfaded frame is one of a fade's front
+        let by = if place < count { faded } else { 0 };
+        let wanted = [
+            wanted_faded(left, other_left, by),
+            wanted_faded(right, other_right, by),
+        ];
+        if found != wanted {
+            return false;
+        }
+        faded = faded.wrapping_add(1);
+    }
+    true
+}
+
+#[test]
+fn fades_at_each_length(rt: HostRuntime) {
+    for count in 0..68usize {
+        let wanted = are_faded_as_wanted(count);
+        assert!(rt; wanted, "{count} frames");
+    }
+}
+
+// The bytes of so many frames, before others that are not written.
+fn bytes_written(count: usize) -> [u8; 272] {
+    let frames = frames_before(0);
+    let mut bytes = [7u8; 272];
+    let count = count.min(67);
+    to_bytes(&frames[..count], &mut bytes[..4 * count]);
+    bytes
+}
+
+// The frames are those of the bytes above, so these come again.
+fn are_written_as_wanted(count: usize) -> bool {
+    let bytes = bytes_written(count);
+    for at in 0..272usize {
+        let wanted = if at / 4 < count { byte_at(at) } else { 7 };
+        if bytes[at] != wanted {
+            return false;
+        }
+    }
+    true
+}
+
+#[test]
+fn bytes_at_each_length(rt: HostRuntime) {
+    for count in 0..68usize {
+        let wanted = are_written_as_wanted(count);
+        assert!(rt; wanted, "{count} frames");
+    }
+}
+
 #[test]
 fn bytes_of_frames(rt: HostRuntime) {
     let mut bytes = [0; 12];

@@ -11,3 +11,6 @@ returns-in_default c =
     let first = c.frame_at.ensures ∙ ap (frame_at c.args.depth c.args.channels c.args.bytes.now) here in
     λ t. first t ∷ c.frame_at-in_default.ensures t ∷ c.frame_at-in_default-2.ensures t ∷ c.frame_at-in_default-3.ensures t ∷
     c.frame_at-in_default-4.ensures t ∷ c.frame_at-in_default-5.ensures t ∷ c.frame_at-in_default-6.ensures t ∷ c.frame_at-in_default-7.ensures t ∷ []
+
+pub returns-in-Sixteen-Stereo : goal.returns-in-Sixteen-Stereo
+returns-in-Sixteen-Stereo c = rw (c.in-Sixteen-Stereo.is-0, c.in-Sixteen-Stereo.is-1) c.whole_stereo.ensures

@@ -1,6 +1,7 @@
-use Rattle.std.proofs.Common.{ℕ, ℤ, ◌+◌, ◌*◌, [], ◌∷◌, get_or, ◌∙◌, arith}
+use Rattle.std.proofs.Common.{ℕ, ℤ, ◌+◌, ◌*◌, [], ◌∷◌, map, get_or, ◌∙◌, arith}
 use Rattle.pcm_mix.specs.Layouts.{signed}
 use Rattle.pcm_mix.proofs.Words.{upper}
+use Rattle.pcm_mix.proofs.Eights.{eight_are}
 use Rattle.pcm_mix.proofs.layout.upper_mono.Goals as goal
 
 pub returns : goal.returns
@@ -17,12 +18,5 @@ returns c =
     let s5 = (λ t. sample (get_or (words t) 5 0)) ∙ upper bytes fits _ ((c.args.place + 5) * 3) (omega arith) in
     let s6 = (λ t. sample (get_or (words t) 6 0)) ∙ upper bytes fits _ ((c.args.place + 6) * 3) (omega arith) in
     let s7 = (λ t. sample (get_or (words t) 7 0)) ∙ upper bytes fits _ ((c.args.place + 7) * 3) (omega arith) in
-    let f0 = c.frame_of.ensures ∙ (λ t. s0 t ∷ s0 t ∷ []) in
-    let f1 = c.frame_of-2.ensures ∙ (λ t. s1 t ∷ s1 t ∷ []) in
-    let f2 = c.frame_of-3.ensures ∙ (λ t. s2 t ∷ s2 t ∷ []) in
-    let f3 = c.frame_of-4.ensures ∙ (λ t. s3 t ∷ s3 t ∷ []) in
-    let f4 = c.frame_of-5.ensures ∙ (λ t. s4 t ∷ s4 t ∷ []) in
-    let f5 = c.frame_of-6.ensures ∙ (λ t. s5 t ∷ s5 t ∷ []) in
-    let f6 = c.frame_of-7.ensures ∙ (λ t. s6 t ∷ s6 t ∷ []) in
-    let f7 = c.frame_of-8.ensures ∙ (λ t. s7 t ∷ s7 t ∷ []) in
-    λ t. f0 t ∷ f1 t ∷ f2 t ∷ f3 t ∷ f4 t ∷ f5 t ∷ f6 t ∷ f7 t ∷ []
+    c.both_sides.ensures ∙ (λ t. map (λ word. sample word ∷ sample word ∷ []) (eight_are c.upper_words.result 0 (omega arith) t))
+    ∙ (λ t. (s0 t ∷ s0 t ∷ []) ∷ (s1 t ∷ s1 t ∷ []) ∷ (s2 t ∷ s2 t ∷ []) ∷ (s3 t ∷ s3 t ∷ []) ∷ (s4 t ∷ s4 t ∷ []) ∷ (s5 t ∷ s5 t ∷ []) ∷ (s6 t ∷ s6 t ∷ []) ∷ (s7 t ∷ s7 t ∷ []) ∷ [])
