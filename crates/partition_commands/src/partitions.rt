@@ -8,7 +8,7 @@ ghost use Rattle.partition_commands.specs.Partitions.{IsPlanned, LeavesAtMost, b
 use crate::names::{is_partition_name, lines};
 use mpd_command::PartitionCommand;
 use mpd_text::{Answer, ErrorNumber, SharedText};
-use parts::{Crossing, MAX_PARTS, Openings, Parts, opened};
+use parts::{Crossing, MAX_PARTS, NewPart, Openings, Parts, opened};
 use player_state::{Client, Outputs};
 use std::alloc::{AllocError, Global};
 use transitions::{Asked, Transition};
@@ -127,7 +127,7 @@ fn open(
     let own_name = SharedText::new(alloc, name)?;
     let outputs = no_outputs_of(alloc, parts)?;
     let part = opened(alloc, openings, place, own_name, outputs);
-    Transition::crosses(alloc, asked, Crossing::Opens(part))
+    Transition::crosses(alloc, asked, Crossing::Opens(NewPart::new(alloc, part)?))
 }
 
 /// The names of all outputs, none of which is there.

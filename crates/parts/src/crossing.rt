@@ -1,16 +1,55 @@
 //! What an event does beyond the partition that it happens in.
-ghost use Rattle.std.specs.Prelude.{◌≡◌, ◌<◌, ◌≤◌, ◌==◌, false, true, not, map, filter, vec_capacity};
+ghost use Rattle.std.specs.Prelude.{◌≡◌, ◌<◌, ◌≤◌, ◌==◌, false, true, not, map, filter, vec_capacity, IfOk};
 ghost use Rattle.parts.specs.declared.crossing.Crossing.{Crossing};
 ghost use Rattle.parts.specs.Parts.{crosses_beyond, is_beyond as is_beyond_lem, known, moved_output, once_more as once_more_lem, outputs_moved, parts_moved, with_part};
 
 use crate::parts::{MAX_PARTS, carried_in};
 use player_state::{Carried, Outputs, Part};
+use std::alloc::{AllocError, Global};
+use std::marker::Model;
+
+/// A partition that is not among the others yet. It lies apart: few events open one, and every event hands a crossing on.
+pub struct NewPart {
+    part: Box<Part>,
+}
+
+// Written out, so that a proof goes through one call where it lets one go (docs/DECISIONS.md).
+impl Drop for NewPart {
+    fn drop(self) {
+        let NewPart { part: _ } = self;
+    }
+}
+
+impl Model for NewPart {
+    ghost use Rattle.player_state.specs.declared.state.Part.{Part};
+
+    ghost Value = { Part };
+
+    ghost view = { λ new. new.part.value };
+}
+
+impl NewPart {
+    pub fn new(alloc: Global, part: Part) -> Result<NewPart, AllocError>
+        ensures { IfOk result (λ new. new ≡ part) }
+    {
+        Ok(NewPart {
+            part: Box::new(alloc, part)?,
+        })
+    }
+
+    fn into_part(self) -> Part
+        ensures { result ≡ self }
+    {
+        let NewPart { part } = self;
+        Box::into_inner(part)
+    }
+}
 
 /// What an event does beyond the partition that it happens in.
 pub enum Crossing {
     Stays,
     /// A new partition comes behind the others, if there are fewer than 16.
-    Opens(Part),
+    Opens(NewPart),
     /// The partition of this number ends.
     Closes(u8),
     /// An output comes, from wherever it is, to the partition of this number.
@@ -54,7 +93,7 @@ impl Crossing {
     {
         match self {
             Crossing::Stays => {}
-            Crossing::Opens(part) => add(parts, part),
+            Crossing::Opens(new) => add(parts, new.into_part()),
             Crossing::Closes(place) => close(parts, place),
             Crossing::Brings(output, to) => {
                 let carried = carried_in(parts, output, to);

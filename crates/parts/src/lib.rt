@@ -5,6 +5,6 @@ mod crossing;
 mod openings;
 mod parts;
 
-pub use crossing::Crossing;
+pub use crossing::{Crossing, NewPart};
 pub use openings::{Greatest, Openings, opened};
 pub use parts::{MAX_PARTS, Parts};
