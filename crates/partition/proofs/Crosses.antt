@@ -18,7 +18,7 @@ pub partition_send : IsSend Partition.the_row
 partition_send = view_send _ _ _ _ _ (declared_send Inside.the_type (
     search parts depth 60 fits 20000 ⨟
     search parts depth 60 fits 20000 ⨟
-    state.the_send ⨟
+    search parts depth 60 fits 20000 ⨟
     state.the_send ⨟
     search (log_entry_send, parts) depth 60 fits 20000 ⨟
     search parts depth 60 fits 20000 ⨟

@@ -9,7 +9,7 @@ use Rattle.partition.specs.Image.{Image, image_of_state, opening}
 use Rattle.player_events.specs.Sizes.{window_bytes}
 
 abbrev pub chronicle_of : Inside → Chronicle
-chronicle_of p = record { base = image_of_state p.base; window = p.history.items; present = image_of_state p.state; limit = p.limit }
+chronicle_of p = record { base = image_of_state p.base.value; window = p.history.items; present = image_of_state p.state; limit = p.limit }
 
 -- events that led from some opening to an image, and each was told what the player of one thread tells at its
 -- place
@@ -26,7 +26,7 @@ pub record Came (i : Image) : Type 0 where
 pub record IsReplayed (p : Inside) : Type 0 where
   pub room : 1 ≤ p.limit
   pub few : length p.history.items ≤ p.limit
-  pub came : Came (image_of_state p.base)
-  pub present : image_of_state p.state ≡ replay (image_of_state p.base) p.history.items
-  pub told : AreTold (image_of_state p.base) p.history.items
+  pub came : Came (image_of_state p.base.value)
+  pub present : image_of_state p.state ≡ replay (image_of_state p.base.value) p.history.items
+  pub told : AreTold (image_of_state p.base.value) p.history.items
   pub bytes : p.bytes ≡ window_bytes p.history.items

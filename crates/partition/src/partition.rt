@@ -43,6 +43,7 @@ use player_state::{Client, FrameCounts, Library, Part};
 use shelf::Shelf;
 use std::alloc::{AllocError, Global};
 use std::marker::Model;
+use std::snapshot::Snapshot;
 use transitions::Stand;
 
 /// Why an event was not applied.
@@ -98,13 +99,17 @@ impl PartitionFault {
     }
 }
 
+/// The events that a new window has room for.
+const FIRST_ROOM: usize = 64;
+
 /// A player of one thread: a base, a window of the events that happened since, and the present state. A
 /// window that is full is folded before the next event: the present state becomes the base.
 pub struct Partition {
     alloc: Global,
     /// The most events of the window.
     limit: usize,
-    base: State,
+    /// The state that the window began with. It has no bytes: contracts alone read it.
+    base: Snapshot<State>,
     state: State,
     history: Vec<LogEntry>,
     /// The bytes of the window's texts.
@@ -152,7 +157,7 @@ impl Partition {
     {
         let limit = setup.limits.history as usize;
         let state = State::opening(alloc, setup, library)?;
-        let base = state.image(alloc)?;
+        let base = Snapshot::of(&state);
         Ok(Partition {
             alloc,
             limit,
@@ -297,17 +302,18 @@ impl Partition {
     ///
     /// # Errors
     ///
-    /// `HistoryFull` where there is no memory to copy the state; nothing changed.
+    /// `HistoryFull` where there is no memory for a new window; nothing changed.
     pub fn fold(&mut self) -> Result<(), PartitionFault>
         ensures ok { OnOk result (self.new ≡ folded self.old) }
         ensures err { OnErr result (self.new ≡ self.old) }
         ensures fault { IfErr result (λ fault. fault ≡ PartitionFault.HistoryFull) }
     {
-        let Ok(base) = self.state.image(self.alloc) else {
+        // The room of the old window goes back.
+        let Ok(window) = Vec::with_capacity(self.alloc, self.limit.min(FIRST_ROOM)) else {
             return Err(PartitionFault::HistoryFull);
         };
-        self.base = base;
-        self.history.clear();
+        self.base = Snapshot::of(&self.state);
+        self.history = window;
         self.bytes = 0;
         Ok(())
     }

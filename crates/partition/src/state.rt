@@ -89,22 +89,6 @@ impl State {
             clients: Vec::new(alloc),
         })
     }
-
-    /// The state, a second time: what becomes of either leaves the other as it is. No song and no text is
-    /// copied.
-    pub(crate) fn image(&self, alloc: Global) -> Result<State, AllocError>
-        ensures { IfOk result (λ image. image_of_state image ≡ image_of_state self.now) }
-    {
-        Ok(State {
-            parts: self.parts.image(alloc)?,
-            library: self.library.shared()?,
-            made: self.made,
-            books: self.books.copied(),
-            ended: self.ended,
-            openings: self.openings,
-            clients: self.clients.clone()?,
-        })
-    }
 }
 
 /// What each partition is opened with, by the settings.

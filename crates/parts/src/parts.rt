@@ -48,18 +48,6 @@ impl Parts {
         Ok(Parts { items })
     }
 
-    /// All partitions, a second time: what becomes of either leaves the other as it is. No song and no message
-    /// is copied.
-    pub fn image(&self, alloc: Global) -> Result<Parts, AllocError>
-        ensures { IfOk result (λ image. image ≡ self.now) }
-    {
-        let mut items = Vec::with_capacity(alloc, MAX_PARTS)?;
-        for part in &self.items {
-            items.push(part.image(alloc)?)?;
-        }
-        Ok(Parts { items })
-    }
-
     pub fn items(&self) -> &[Part]
         ensures { result.now ≡ self.now }
     {

@@ -240,20 +240,6 @@ impl Outputs {
             self.failed[number] = true;
         }
     }
-
-    /// A second owner of the same names, with the same flags.
-    pub fn shared(&self, alloc: Global) -> Result<Outputs, AllocError>
-        ensures { IfOk result (λ outputs. outputs ≡ self.now) }
-    {
-        Ok(Outputs {
-            names: shared_names(alloc, &self.names)?,
-            here: self.here,
-            enabled: self.enabled,
-            failed: self.failed,
-            moves: self.moves,
-            asked: self.asked,
-        })
-    }
 }
 
 fn shared_names(alloc: Global, names: &[SharedText]) -> Result<Vec<SharedText>, AllocError>

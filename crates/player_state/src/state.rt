@@ -35,20 +35,6 @@ pub struct Library {
     pub updated: u64,
 }
 
-impl Library {
-    /// A second owner of the same songs.
-    pub fn shared(&self) -> Result<Library, AllocError>
-        ensures { IfOk result (λ library. library ≡ self.now) }
-    {
-        Ok(Library {
-            songs: self.songs.clone()?,
-            rate: self.rate.copied(),
-            scan: self.scan.copied(),
-            updated: self.updated,
-        })
-    }
-}
-
 /// What one player owns: one partition of the daemon.
 #[derive(Drop)]
 pub struct Part {
@@ -62,23 +48,4 @@ pub struct Part {
     pub channels: Channels,
     /// How many frames were decoded of all songs. The count stops at its greatest value, 2^64-1.
     pub played: u64,
-}
-
-impl Part {
-    /// What it owns, a second time: what becomes of either leaves the other as it is. No song and no message
-    /// is copied.
-    pub fn image(&self, alloc: Global) -> Result<Part, AllocError>
-        ensures { IfOk result (λ image. image ≡ self.now) }
-    {
-        Ok(Part {
-            place: self.place,
-            name: self.name.clone()?,
-            queue: self.queue.try_clone()?,
-            player: self.player.image()?,
-            volume: self.volume.copied(),
-            outputs: self.outputs.shared(alloc)?,
-            channels: self.channels.image()?,
-            played: self.played,
-        })
-    }
 }

@@ -15,7 +15,7 @@ invariant_of-self-2 g c =
     let p = c.self.inside in
     let did = c.in_ok-outcome.ensures.ok in
     let h : LogEntry = record { seat = c.args.seat; event = with_store_reply c.args.event did.heard; told = c.in_ok-outcome.outcome } in
-    let on = goes_on (image_of_state p.base) (image_of_state p.state) (image_of_state c.record_event.new.state) p.history.items c.record_event.new.history.items h
+    let on = goes_on (image_of_state p.base.value) (image_of_state p.state) (image_of_state c.record_event.new.state) p.history.items c.record_event.new.history.items h
     c.self.invariant.present c.self.invariant.told did.present did.told_is did.window in
     record {
       room = c.self.invariant.room;

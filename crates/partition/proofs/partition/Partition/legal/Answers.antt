@@ -14,7 +14,7 @@ use Rattle.partition.proofs.partition.Partition.legal.Goals as goal
 pub returns-clause-legal : goal.returns-clause-legal
 returns-clause-legal c =
     let p = c.self.inside in
-    let base : Image = image_of_state p.base in
+    let base : Image = image_of_state p.base.value in
     let present : Image = image_of_state p.state in
     let was : Came base = c.self.invariant.came in
     let first : Image = opening was.setup was.library in
@@ -40,8 +40,8 @@ returns-clause-legal c =
 pub returns-clause-settled : goal.returns-clause-settled
 returns-clause-settled c =
     let p = c.self.inside in
-    let was : Came (image_of_state p.base) = c.self.invariant.came in
+    let was : Came (image_of_state p.base.value) = c.self.invariant.came in
     let first : Image = opening was.setup was.library in
-    let on = leads_on first (image_of_state p.base) (image_of_state p.state) was.earlier p.history.items was.leads was.told c.self.invariant.present c.self.invariant.told in
+    let on = leads_on first (image_of_state p.base.value) (image_of_state p.state) was.earlier p.history.items was.leads was.told c.self.invariant.present c.self.invariant.told in
     rw (← c.self.view_is)
     (subst (λ (i : Image). AllSettled i.clients) (sym on.0) (replay_settled (was.earlier ++ p.history.items) first tt tt))

@@ -12,7 +12,7 @@ invariant_of-self-2 c =
     let p = c.self.inside in
     let did = c.in_ok-outcome.ensures in
     let h : LogEntry = entry c.args.seat c.args.event c.in_ok-outcome.outcome in
-    let on = goes_on (image_of_state p.base) (image_of_state p.state) (image_of_state c.record_step.new.state) p.history.items c.record_step.new.history.items h
+    let on = goes_on (image_of_state p.base.value) (image_of_state p.state) (image_of_state c.record_step.new.state) p.history.items c.record_step.new.history.items h
     c.self.invariant.present c.self.invariant.told did.next did.told did.kept in
     record {
       room = c.self.invariant.room;
