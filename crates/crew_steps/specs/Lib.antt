@@ -2,6 +2,7 @@ pub mod Each
 pub mod Feeding
 pub mod OpenSongs
 pub mod OutputSetups
+pub mod Rounds
 pub mod Shown
 pub mod Songs
 pub mod Sounds

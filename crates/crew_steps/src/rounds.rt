@@ -1,5 +1,6 @@
 //! The numbers of the partitions, which have their turns one after the other.
-ghost use Rattle.std.specs.Prelude.{◌≡◌, ◌⊎◌, true, false, filter, length, slice_index_or};
+ghost use Rattle.std.specs.Prelude.{◌≡◌, false, filter, length, slice_index_or};
+ghost use Rattle.crew_steps.specs.Rounds.{first_from as first_from_lem, next_of};
 
 /// Whether a partition has this number, of sixteen numbers of which these have one.
 pub(crate) fn is_there(places: [bool; 16], place: u8) -> bool
@@ -14,12 +15,24 @@ pub(crate) fn is_there(places: [bool; 16], place: u8) -> bool
 /// The number of the partition that has its turn after the one of this number: the next that is there, and
 /// behind the last the first again.
 pub(crate) fn next_place(places: [bool; 16], before: u8) -> u8
-    ensures { (result ≡ 0) ⊎ (slice_index_or places result false ≡ true) }
+    ensures { result ≡ next_of places before }
 {
-    match (before.saturating_add(1)..16).find(|place| is_there(places, *place)) {
+    match first_from(places, before.saturating_add(1)) {
         Some(place) => place,
-        None => (0..16).find(|place| is_there(places, *place)).unwrap_or(0),
+        None => first_from(places, 0).unwrap_or(0),
     }
+}
+
+/// The least number from one on that is there.
+fn first_from(places: [bool; 16], from: u8) -> Option<u8>
+    ensures { result ≡ first_from_lem places from }
+{
+    for place in from..16 {
+        if is_there(places, place) {
+            return Some(place);
+        }
+    }
+    None
 }
 
 /// How many partitions there are.
