@@ -131,11 +131,11 @@ notified_settled r k =
     λ b. elim b as (λ b. is_nonempty (due p) ≡ b → is_nonempty (due (if b then fresh else p)) ≡ false) [ true ↦ λ e. refl | false ↦ λ e. e ] in
     cases (is_nonempty (due p)) refl
 
-all_notified : (r : Client → Subsystems) (ks : List Client) → AllSettled (map (notified r) ks)
+pub all_notified : (r : Client → Subsystems) (ks : List Client) → AllSettled (map (notified r) ks)
 all_notified r [] = tt
 all_notified r (k ∷ ks) = (notified_settled r k, all_notified r ks)
 
-settled_map : (f : Client → Client) → ((k : Client) → IsSettled k → IsSettled (f k)) → (ks : List Client) → AllSettled ks → AllSettled (map f ks)
+pub settled_map : (f : Client → Client) → ((k : Client) → IsSettled k → IsSettled (f k)) → (ks : List Client) → AllSettled ks → AllSettled (map f ks)
 settled_map f keeps [] all = tt
 settled_map f keeps (k ∷ ks) all = (keeps k all.0, settled_map f keeps ks all.1)
 
@@ -150,19 +150,19 @@ settled_insert [] (suc place) k all one = (one, tt)
 settled_insert (c ∷ cs) zero k all one = (one, all)
 settled_insert (c ∷ cs) (suc place) k all one = (all.0, settled_insert cs place k all.1 one)
 
-at_settled : (n : ℕ) (change : Pending → Pending) → ((p : Pending) → is_nonempty (due (change p)) ≡ false) → (k : Client) → IsSettled k → IsSettled (at n change k)
+pub at_settled : (n : ℕ) (change : Pending → Pending) → ((p : Pending) → is_nonempty (due (change p)) ≡ false) → (k : Client) → IsSettled k → IsSettled (at n change k)
 at_settled n change makes k one =
     elim (k.number == n) as (λ b. is_nonempty (due (if b then record k { pending = change k.pending } else k).pending) ≡ false) [ true ↦ makes k.pending | false ↦ one ]
 
-shown_settled : (n : ℕ) (tags : List TagName) (k : Client) → IsSettled k → IsSettled (shown n tags k)
+pub shown_settled : (n : ℕ) (tags : List TagName) (k : Client) → IsSettled k → IsSettled (shown n tags k)
 shown_settled n tags k one =
     elim (k.number == n) as (λ b. is_nonempty (due (if b then record k { tags = tags } else k).pending) ≡ false) [ true ↦ one | false ↦ one ]
 
-entered_settled : (n place : ℕ) (k : Client) → IsSettled k → IsSettled (entered n place k)
+pub entered_settled : (n place : ℕ) (k : Client) → IsSettled k → IsSettled (entered n place k)
 entered_settled n place k one =
     elim (k.number == n) as (λ b. is_nonempty (due (if b then record k { place = place; pending = everything } else k).pending) ≡ false) [ true ↦ refl | false ↦ one ]
 
-settled_joined : (n : ℕ) (ks : List Client) → AllSettled ks → AllSettled (joined n ks)
+pub settled_joined : (n : ℕ) (ks : List Client) → AllSettled ks → AllSettled (joined n ks)
 settled_joined n ks all =
     let place : ℕ = position_or_len (λ c. nat_lt n c.number) ks in
     let new : Client = newcomer n in
@@ -266,7 +266,7 @@ replay_settled (h ∷ hs) i rising all =
     let next = next_settled h.seat i h.event rising in
     replay_settled hs (next_image h.seat i h.event) next.0 next.1
 
-noted_none : (p : Pending) → noted none p ≡ p
+pub noted_none : (p : Pending) → noted none p ≡ p
 noted_none p = ap (λ (s : Subsystems). record p { changed = s }) (union_none p.changed)
 
 same_one : (k : Client) → IsSettled k → notified nothing k ≡ k

@@ -1,13 +1,11 @@
 -- Clients stay in the order of their numbers, and none waits for what is pending for it.
-use Rattle.std.proofs.Common.{◌≡◌, inl, inr, ℕ, zero, suc, ◌==◌, Bool, true, false, ◌||◌, nat_lt, List, [], ◌∷◌, Option, Some, None, is_some, map, refl, ap, sym, subst, ◌∙◌, if◌then◌else◌}
-use Rattle.std.specs.Prelude.{insert, unwrap_or}
-use Rattle.std.specs.List.{position_or_len}
+use Rattle.std.proofs.Common.{◌≡◌, inl, inr, ℕ, ◌==◌, Bool, true, false, List, [], ◌∷◌, Option, Some, None, map, refl, ap, sym, subst, ◌∙◌, if◌then◌else◌}
+use Rattle.std.specs.Prelude.{unwrap_or}
 use Rattle.std.proofs.lemmas.Bool.{eqb-true}
 use Rattle.idle_notes.specs.declared.pending.Pending.{Pending}
 use Rattle.idle_notes.specs.declared.sets.Subsystems.{Subsystems}
-use Rattle.idle_notes.specs.Notes.{cancelled, due, everything, fresh, noted, notice_of, settled, waits}
-use Rattle.idle_notes.specs.Sets.{is_nonempty, meet, none, union}
-use Rattle.mpd_text.specs.declared.songs.song.TagName.{TagName}
+use Rattle.idle_notes.specs.Notes.{cancelled, due, fresh, noted, notice_of, settled, waits}
+use Rattle.idle_notes.specs.Sets.{is_nonempty, meet, none}
 use Rattle.player_state.specs.declared.state.Client.{Client}
 use Rattle.player_state.specs.declared.state.Library.{Library}
 use Rattle.player_state.specs.declared.state.Part.{Part}
@@ -17,7 +15,7 @@ use Rattle.transitions.specs.declared.reply.Move.{Move}
 use Rattle.transitions.specs.declared.reply.Move.TheVariants.{Stay, Wait, Learn, Resume, Join, Show, Enter}
 use Rattle.status_commands.specs.Status.{idles}
 use Rattle.idle_clients.proofs.Rises.{rising_after}
-use Rattle.idle_clients.specs.Clients.{AllAbove, Rising, at, client_of, clients_after, entered, joined, move_of, moved, newcomer, notice_for, notice_to, notified, shown, staying}
+use Rattle.idle_clients.specs.Clients.{AllAbove, Rising, at, client_of, clients_after, entered, move_of, moved, notice_for, notice_to, notified, shown, staying}
 use Rattle.idle_clients.specs.Settled.{AllSettled, IsSettled}
 use Rattle.player_events.specs.declared.event.Event.{Event}
 use Rattle.partition.specs.Image.{Image, opening, overview}
@@ -25,50 +23,11 @@ use Rattle.partition.specs.Step.{client_among, mover, next_image, place_at, rais
 use Rattle.partition_laws.specs.Apart.{LeadsToLegal, Legal, OpensLegal, StaysLegal, no_shelf_changes}
 use Rattle.player_events.specs.declared.event.LogEntry.{LogEntry}
 use Rattle.partition.specs.History.{replay}
+use Rattle.partition.proofs.Settled.{all_notified, at_settled, entered_settled, noted_none, settled_joined, settled_map, shown_settled}
 use Rattle.partition_laws.proofs.Clients.{above_none}
 use Rattle.partition_laws.proofs.Raised.{raised_is, spoken, unspoken}
 use Rattle.partition_laws.proofs.Rebuilt.{rests}
 use Rattle.partition_laws.proofs.Transitions.{IsCalm, calm_or_idles}
-
--- a client that heard is settled
-notified_settled : (r : Client → Subsystems) (k : Client) → IsSettled (notified r k)
-notified_settled r k =
-    let p : Pending = noted (r k) k.pending in
-    let cases : (b : Bool) → is_nonempty (due p) ≡ b → is_nonempty (due (if b then fresh else p)) ≡ false =
-    λ b. elim b as (λ b. is_nonempty (due p) ≡ b → is_nonempty (due (if b then fresh else p)) ≡ false) [ true ↦ λ e. refl | false ↦ λ e. e ] in
-    cases (is_nonempty (due p)) refl
-
-all_notified : (r : Client → Subsystems) (ks : List Client) → AllSettled (map (notified r) ks)
-all_notified r [] = tt
-all_notified r (k ∷ ks) = (notified_settled r k, all_notified r ks)
-
-settled_map : (f : Client → Client) → ((k : Client) → IsSettled k → IsSettled (f k)) → (ks : List Client) → AllSettled ks → AllSettled (map f ks)
-settled_map f keeps [] all = tt
-settled_map f keeps (k ∷ ks) all = (keeps k all.0, settled_map f keeps ks all.1)
-
-settled_insert : (ks : List Client) (place : ℕ) (k : Client) → AllSettled ks → IsSettled k → AllSettled (insert ks place k)
-settled_insert [] zero k all one = (one, tt)
-settled_insert [] (suc place) k all one = (one, tt)
-settled_insert (c ∷ cs) zero k all one = (one, all)
-settled_insert (c ∷ cs) (suc place) k all one = (all.0, settled_insert cs place k all.1 one)
-
-at_settled : (n : ℕ) (change : Pending → Pending) → ((p : Pending) → is_nonempty (due (change p)) ≡ false) → (k : Client) → IsSettled k → IsSettled (at n change k)
-at_settled n change makes k one =
-    elim (k.number == n) as (λ b. is_nonempty (due (if b then record k { pending = change k.pending } else k).pending) ≡ false) [ true ↦ makes k.pending | false ↦ one ]
-
-shown_settled : (n : ℕ) (tags : List TagName) (k : Client) → IsSettled k → IsSettled (shown n tags k)
-shown_settled n tags k one =
-    elim (k.number == n) as (λ b. is_nonempty (due (if b then record k { tags = tags } else k).pending) ≡ false) [ true ↦ one | false ↦ one ]
-
-entered_settled : (n place : ℕ) (k : Client) → IsSettled k → IsSettled (entered n place k)
-entered_settled n place k one =
-    elim (k.number == n) as (λ b. is_nonempty (due (if b then record k { place = place; pending = everything } else k).pending) ≡ false) [ true ↦ refl | false ↦ one ]
-
-settled_joined : (n : ℕ) (ks : List Client) → AllSettled ks → AllSettled (joined n ks)
-settled_joined n ks all =
-    let place : ℕ = position_or_len (λ (c : Client). nat_lt n c.number) ks in
-    let new : Client = newcomer n in
-    elim (is_some (client_of n ks)) as (λ b. AllSettled (if b then ks else insert ks place new)) [ true ↦ all | false ↦ settled_insert ks place new all refl ]
 
 -- a move by which no client begins to wait keeps each settled
 settled_moved : (n : ℕ) (move : Move) (ks : List Client) → IsCalm move → AllSettled ks → AllSettled (moved n move ks)
@@ -79,29 +38,6 @@ settled_moved n Resume ks calm all = settled_map (at n cancelled) (at_settled n 
 settled_moved n Join ks calm all = settled_joined n ks all
 settled_moved n (Show tags) ks calm all = settled_map (shown n tags) (shown_settled n tags) ks all
 settled_moved n (Enter place) ks calm all = settled_map (entered n place) (entered_settled n place) ks all
-
-or_false : (b : Bool) → (b || false) ≡ b
-or_false true = refl
-or_false false = refl
-
-union_none : (s : Subsystems) → union s none ≡ s
-union_none s = λ i. record {
-  database = or_false s.database i;
-  update = or_false s.update i;
-  stored_playlist = or_false s.stored_playlist i;
-  playlist = or_false s.playlist i;
-  player = or_false s.player i;
-  mixer = or_false s.mixer i;
-  output = or_false s.output i;
-  options = or_false s.options i;
-  sticker = or_false s.sticker i;
-  subscription = or_false s.subscription i;
-  message = or_false s.message i;
-  partition = or_false s.partition i;
-}
-
-noted_none : (p : Pending) → noted none p ≡ p
-noted_none p = ap (λ (s : Subsystems). record p { changed = s }) (union_none p.changed)
 
 -- where nothing is raised for it, a settled client is as it was, and is not told
 module _ (r : Client → Subsystems) (k : Client) (nothing : r k ≡ none) (one : IsSettled k) where
