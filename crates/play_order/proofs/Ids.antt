@@ -40,21 +40,21 @@ among-left q gone (x ∷ ids) =
     ] refl
 
 -- one more id leaves
-pub left-more : (id : ℕ) (gone ids : List ℕ) → others id (filter (λ other. not (is_among other gone)) ids) ≡ filter (λ other. not (is_among other (gone ++ id ∷ []))) ids
-left-more id gone [] = refl
-left-more id gone (x ∷ ids) =
-    let rest : List ℕ = filter (λ other. not (is_among other gone)) ids in
-    let more = left-more id gone ids in
-    let split : is_among x (gone ++ id ∷ []) ≡ (is_among x gone || is_among x (id ∷ [])) = list_any-append (λ other. other == x) gone (id ∷ []) in
-    elim (is_among x gone) as (λ v. is_among x gone ≡ v → others id (cond (not v) (x ∷ rest) rest) ≡ filter (λ other. not (is_among other (gone ++ id ∷ []))) (x ∷ ids)) [
-      | true ↦ λ e. let there : is_among x (gone ++ id ∷ []) ≡ true = split ∙ ap (λ b. b || is_among x (id ∷ [])) e in rw there more
-      | false ↦ λ e. elim (x == id) as (λ w. (x == id) ≡ w → cond (not w) (x ∷ others id rest) (others id rest) ≡ filter (λ other. not (is_among other (gone ++ id ∷ []))) (x ∷ ids)) [
+pub left-more : {X : Type 0} (key : X → ℕ) (id : ℕ) (gone : List ℕ) (xs : List X) → filter (λ x. not (key x == id)) (filter (λ x. not (is_among (key x) gone)) xs) ≡ filter (λ x. not (is_among (key x) (gone ++ id ∷ []))) xs
+left-more key id gone [] = refl
+left-more {X} key id gone (x ∷ xs) =
+    let rest : List X = filter (λ y. not (is_among (key y) gone)) xs in
+    let more = left-more key id gone xs in
+    let split : is_among (key x) (gone ++ id ∷ []) ≡ (is_among (key x) gone || is_among (key x) (id ∷ [])) = list_any-append (λ other. other == key x) gone (id ∷ []) in
+    elim (is_among (key x) gone) as (λ v. is_among (key x) gone ≡ v → filter (λ y. not (key y == id)) (cond (not v) (x ∷ rest) rest) ≡ filter (λ y. not (is_among (key y) (gone ++ id ∷ []))) (x ∷ xs)) [
+      | true ↦ λ e. let there : is_among (key x) (gone ++ id ∷ []) ≡ true = split ∙ ap (λ b. b || is_among (key x) (id ∷ [])) e in rw there more
+      | false ↦ λ e. elim (key x == id) as (λ w. (key x == id) ≡ w → cond (not w) (x ∷ filter (λ y. not (key y == id)) rest) (filter (λ y. not (key y == id)) rest) ≡ filter (λ y. not (is_among (key y) (gone ++ id ∷ []))) (x ∷ xs)) [
         | true ↦ λ g.
-            let there : is_among x (gone ++ id ∷ []) ≡ true = split ∙ ap (λ b. b || is_among x (id ∷ [])) e ∙ ap (λ b. b || false) (eq-eqb id x (sym (eqb-true x id g))) in
+            let there : is_among (key x) (gone ++ id ∷ []) ≡ true = split ∙ ap (λ b. b || is_among (key x) (id ∷ [])) e ∙ ap (λ b. b || false) (eq-eqb id (key x) (sym (eqb-true (key x) id g))) in
             rw there more
         | false ↦ λ g.
-            let stays : is_among x (gone ++ id ∷ []) ≡ false = split ∙ ap (λ b. b || is_among x (id ∷ [])) e ∙ ap (λ b. b || false) (ne_eqb id x (λ t. eqb-false x id g (sym t))) in
-            rw stays (ap (λ (r : List ℕ). x ∷ r) more)
+            let stays : is_among (key x) (gone ++ id ∷ []) ≡ false = split ∙ ap (λ b. b || is_among (key x) (id ∷ [])) e ∙ ap (λ b. b || false) (ne_eqb id (key x) (λ t. eqb-false (key x) id g (sym t))) in
+            rw stays (ap (λ (r : List X). x ∷ r) more)
       ] refl
     ] refl
 

@@ -4,7 +4,6 @@ pub mod Firsts
 pub mod Places
 pub mod Scanning
 pub mod Drawing
-pub mod Keeping
 pub mod Plays
 pub mod Going
 pub mod Inserting

@@ -1,7 +1,7 @@
 -- What is kept beside the lists of a round, so that an id is found in them at once, and how a queue is gone
 -- through.
-use Rattle.std.specs.Prelude.{ℕ, ◌≡◌, ◌≤◌, false, ◌==◌, nat_eq, if◌then◌else◌, All, List, [], ◌∷◌, ◌++◌, filter, find, fold, is_some, Option, Some, None}
-use Rattle.std.specs.List.{list_any, slice_range}
+use Rattle.std.specs.Prelude.{ℕ, ◌≡◌, ◌==◌, nat_eq, if◌then◌else◌, List, [], ◌∷◌, filter, find, fold, Option, Some, None}
+use Rattle.std.specs.List.{slice_range}
 use Rattle.std.specs.Option.{option_map, option_or}
 use Rattle.std.specs.HashMap.{HashMap, get}
 use Rattle.std.specs.BTreeMap.{BTreeMap, IsOrdered}
@@ -14,28 +14,6 @@ use Rattle.play_order.specs.Order.{comes_before, unplayed}
 -- the map has the rank of each id that drew one
 abbrev pub FindsRanks : {S : Type 0} → HashMap ℕ ℕ S → List Rank → Type 0
 FindsRanks by_id ranks = (id : ℕ) → get nat_eq by_id id ≡ option_map (λ r. r.rank) (find (λ r. r.id == id) ranks)
-
--- the ranks of the ids that the map has; those of others are gone
-abbrev pub ranks_left : {S : Type 0} → HashMap ℕ ℕ S → List Rank → List Rank
-ranks_left by_id drawn = filter (λ r. is_some (get nat_eq by_id r.id)) drawn
-
--- the map has the rank of each id that drew one of those that are left, and no id that drew is above another
-abbrev pub KeepsRanks : {S : Type 0} → HashMap ℕ ℕ S → List Rank → ℕ → Type 0
-KeepsRanks by_id drawn greatest = FindsRanks by_id (ranks_left by_id drawn) × All (λ r. r.id ≤ greatest) drawn
-
--- a list of ranks was shortened: the same are left of it, and no id is above one that none was above
-abbrev pub KeepsLeft : {S : Type 0} → HashMap ℕ ℕ S → List Rank → List Rank → Type 0
-KeepsLeft by_id old new =
-    (ranks_left by_id new ≡ ranks_left by_id old)
-    × ((greatest : ℕ) → All (λ r. r.id ≤ greatest) old → All (λ r. r.id ≤ greatest) new)
-
--- beside the ranks that were left, more are
-abbrev pub LeavesMore : {S : Type 0} → HashMap ℕ ℕ S → List Rank → HashMap ℕ ℕ S → List Rank → List Rank → Type 0
-LeavesMore by_id old new_by_id new more = ranks_left new_by_id new ≡ ranks_left by_id old ++ more
-
--- where the map does not have one of these ids, it drew none of the ranks
-abbrev pub KeepsNoGone : {S : Type 0} → HashMap ℕ ℕ S → List Rank → List ℕ → Type 0
-KeepsNoGone by_id drawn ids = All (λ id. get nat_eq by_id id ≡ None → list_any (λ r. r.id == id) drawn ≡ false) ids
 
 -- the play of an id, by its number, if it has one
 abbrev pub play_with : Option ℕ → ℕ → List (ℕ × ℕ)

@@ -2,6 +2,7 @@
 #![tactic(auto)]
 
 mod ending;
+mod history;
 mod laws;
 mod modes;
 mod played;

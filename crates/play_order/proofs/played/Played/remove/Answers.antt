@@ -12,5 +12,5 @@ pub loop-id-preserved : goal.loop-id-preserved
 loop-id-preserved c =
     let ids = c.args.ids.now in
     let i = c.loop-id.id-index in
-    c.remove_one.ensures ∙ ap (others (get_or ids i 0)) c.loop-id.invariant ∙ left-more (get_or ids i 0) (take i ids) c.args.self.now
+    c.remove_one.ensures ∙ ap (others (get_or ids i 0)) c.loop-id.invariant ∙ left-more (λ (id : ℕ). id) (get_or ids i 0) (take i ids) c.args.self.now
     ∙ ap (λ (gone : List ℕ). filter (λ (id : ℕ). not (is_among id gone)) c.args.self.now) (sym (take_more ids i 0 (omega arith)))
