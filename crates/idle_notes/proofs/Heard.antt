@@ -6,9 +6,9 @@ use Rattle.std.specs.List.Sorted.{IsStrictlySortedBy}
 use Rattle.std.specs.Str.{bytes_eq}
 use Rattle.std.specs.Cmp.Lexicographic.{texts_ties}
 use Rattle.idle_notes.specs.declared.channels.Member.{Member}
-use Rattle.idle_notes.specs.Texts.{by_bytes}
+use Rattle.mpd_text.specs.Texts.{by_bytes}
 use Rattle.idle_notes.specs.Channels.{MemberData, data_of, channel_names, has_name, hears}
-use Rattle.idle_notes.proofs.Ascending.{among, among_from, among_gives, ascending-rises, has-each}
+use Rattle.mpd_text.proofs.Ascending.{among, among_from, among_gives, ascending-rises, has-each}
 
 pub names-rise : (members : List MemberData) → IsStrictlySortedBy by_bytes (channel_names members)
 unfolding channel_names

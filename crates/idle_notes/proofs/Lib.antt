@@ -1,4 +1,3 @@
-pub mod Ascending
 pub mod Members
 pub mod Heard
 pub mod Apart

@@ -8,7 +8,7 @@ use Rattle.idle_notes.specs.declared.channels.Message.{Message}
 use Rattle.idle_notes.specs.declared.channels.Member.{Member}
 use Rattle.idle_notes.specs.declared.channels.ChannelFault.{ChannelFault}
 use Rattle.idle_notes.specs.declared.channels.ChannelFault.TheVariants.{Already, TooMany, NotSubscribed, Nobody, NoRoom, NoMemory}
-use Rattle.idle_notes.specs.Texts.{ascending}
+use Rattle.mpd_text.specs.Texts.{ascending}
 
 -- a client that came to listen: the channels that it listens to, in the order in which it subscribed, and the
 -- messages that wait for it, the oldest first

@@ -1,5 +1,4 @@
 pub mod Sets
 pub mod Names
 pub mod Notes
-pub mod Texts
 pub mod Channels

@@ -4,10 +4,10 @@ ghost use Rattle.std.specs.List.{flat_map, list_all, list_any, position_or_len};
 ghost use Rattle.std.specs.List.Sorted.{IsStrictlySortedBy};
 ghost use Rattle.std.specs.Option.{option_map};
 ghost use Rattle.std.specs.Str.{bytes_eq};
-ghost use Rattle.idle_notes.specs.Texts.{by_bytes, ascending};
+ghost use Rattle.mpd_text.specs.Texts.{by_bytes, ascending};
 ghost use Rattle.idle_notes.specs.Channels.{MemberData, data_of, is_name_byte as is_name_byte_lem, is_channel_name as is_channel_name_lem, has_name as has_name_lem, member_of, names_of, messages_of, clients_with_messages, is_listening, has_messages_beyond, listens, hears, receives as receives_lem, has_room, channel_names, with_name, without_name, without_messages, subscribed, unsubscribed, given, sent, emptied, left, subscribe_refusal, unsubscribe_refusal, send_refusal, IsReady, changed, AnyFaultIs, KeepsClientsApart, IsNamedWhereHeard, HearsWhereOneListens, Subscribes, receiver_count, copies_taken, ClientsDiffer};
 
-use mpd_text::{SharedText, Text};
+use mpd_text::{SharedText, Text, sort_once};
 use std::alloc::{AllocError, Global};
 use std::marker::Model;
 use std::mem;
@@ -562,14 +562,6 @@ fn push_names<'a>(all: &mut Vec<&'a str>, names: &'a [Text]) -> Result<(), Alloc
         all.push(name.as_str()).map_err(AllocError::from)?;
     }
     Ok(())
-}
-
-/// Puts names in byte order, and keeps each once.
-fn sort_once(names: &mut Vec<&str>)
-    ensures { map (λ name. name.now) names.new.items ≡ ascending (map (λ name. name.now) names.old.items) }
-{
-    names.sort_unstable();
-    names.dedup();
 }
 
 /// What is known of the same clients, a second time.

@@ -10,3 +10,4 @@ pub mod ExactWords
 pub mod Digits
 pub mod TagNumbers
 pub mod QuotedWords
+pub mod Ascending

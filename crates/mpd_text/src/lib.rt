@@ -1,9 +1,10 @@
-//! The byte edges of the player: lines, words, answers and songs.
+//! The byte edges of the player: lines, words, answers and songs, and texts in order.
 #![tactic(auto)]
 
 mod answers;
 mod lines;
 mod songs;
+mod texts;
 
 pub use answers::{Answer, ErrorNumber, Millis, Range, Sequence, SharedText, Text, number};
 pub use lines::{
@@ -11,3 +12,4 @@ pub use lines::{
     one_reading, pieces_do_not_matter, quote, some_reading, words, words_read_quotes,
 };
 pub use songs::{Song, TAG_NAMES, Tag, TagName};
+pub use texts::{ascending_has_each_once, sort_once};

@@ -9,7 +9,7 @@ use Rattle.mpd_text.specs.declared.answers.answer.ErrorNumber.{ErrorNumber}
 use Rattle.mpd_text.specs.declared.answers.answer.ErrorNumber.TheVariants.{Argument, Exist, NoExist, System}
 use Rattle.mpd_command.specs.declared.partitions.PartitionCommand.{PartitionCommand}
 use Rattle.mpd_command.specs.declared.partitions.PartitionCommand.TheVariants.{DelPartition, ListPartitions, MoveOutput, NewPartition, Partition}
-use Rattle.song_search.specs.Texts.{ascending}
+use Rattle.mpd_text.specs.Texts.{ascending}
 use Rattle.player_state.specs.Outputs.{OutputsData, all_elsewhere, no_outputs}
 use Rattle.player_state.specs.declared.effect.Effect.TheVariants.{ByCommand}
 use Rattle.player_state.specs.declared.effect.CommandEffect.TheVariants.{Leaves, Rests}

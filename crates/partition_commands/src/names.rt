@@ -4,9 +4,8 @@ ghost use Rattle.std.specs.List.{list_all};
 ghost use Rattle.parts.specs.Parts.{known};
 ghost use Rattle.partition_commands.specs.Partitions.{is_name_byte as is_name_byte_lem, is_partition_name as is_partition_name_lem, lines_of_names, names_in};
 
-use mpd_text::Answer;
+use mpd_text::{Answer, sort_once};
 use player_state::Part;
-use song_search::sort_once;
 use std::alloc::{AllocError, Global};
 
 /// The most bytes of a partition's name.

@@ -15,7 +15,7 @@ use Rattle.mpd_text.specs.Songs.Song.{SongData}
 use Rattle.mpd_text.specs.declared.songs.song.TagName.{TagName}
 use Rattle.filters.specs.Truth.{text_of_tag}
 use Rattle.song_search.specs.Answers.{tag_texts}
-use Rattle.song_search.specs.Texts.{ascending, by_bytes, key_of as text_key}
+use Rattle.mpd_text.specs.Texts.{ascending, by_bytes, key_of as text_key}
 use Rattle.song_groups.specs.Tuples.{ascending_tuples, by_texts, key_of as tuple_key, labelled, lines_after, lines_of_tuples, listed_tuples, tuples, unchanged}
 
 -- a text as a tuple

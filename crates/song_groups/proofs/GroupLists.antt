@@ -9,7 +9,7 @@ use Rattle.std.proofs.lemmas.List.Sums.{sum_by-cons}
 use Rattle.std.proofs.lemmas.List.{take-map, drop-map, length-map, length-drop, append_assoc, append-nil, map-append}
 use Rattle.mpd_text.specs.Songs.Song.{SongData}
 use Rattle.mpd_text.specs.declared.songs.song.TagName.{TagName}
-use Rattle.song_search.specs.Texts.{by_bytes, ascending}
+use Rattle.mpd_text.specs.Texts.{by_bytes, ascending}
 use Rattle.song_search.specs.declared.search.Count.{Count}
 use Rattle.song_groups.specs.Columns.{text_in, texts_in, has_text, with_text}
 use Rattle.song_groups.specs.Order.{by_text, IsStablyOrdered}

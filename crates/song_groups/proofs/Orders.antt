@@ -13,7 +13,7 @@ use Rattle.std.proofs.lemmas.List.MinMax.{ranks_by}
 use Rattle.std.proofs.lemmas.List.Sorted.{IsPermutation-map, IsPermutation-reverse, list_any-IsPermutation}
 use Rattle.mpd_text.specs.Songs.Song.{SongData}
 use Rattle.mpd_text.specs.declared.songs.song.TagName.{TagName}
-use Rattle.song_search.specs.Texts.{by_bytes, ascending}
+use Rattle.mpd_text.specs.Texts.{by_bytes, ascending}
 use Rattle.song_groups.specs.Columns.{text_in, texts_in, has_text, with_text}
 use Rattle.song_groups.specs.Order.{by_text, ordered, IsStablyOrdered}
 use Rattle.song_groups.proofs.Once.{among, among-once, once-rises}

@@ -6,7 +6,7 @@ use Rattle.mpd_text.specs.Answers.Answer.{pair_line}
 use Rattle.mpd_text.specs.Songs.Song.{SongData}
 use Rattle.mpd_text.specs.declared.songs.song.TagName.{TagName}
 use Rattle.song_search.specs.Answers.{playtime}
-use Rattle.song_search.specs.Texts.{ascending}
+use Rattle.mpd_text.specs.Texts.{ascending}
 use Rattle.song_search.specs.declared.search.Count.{Count}
 use Rattle.song_groups.specs.Columns.{texts_in, with_text}
 use Rattle.song_groups.specs.declared.counting.Group.{Group}

@@ -6,7 +6,7 @@ use Rattle.std.specs.List.Sorted.{IsSorted}
 use Rattle.std.specs.declared.cmp.Ordering.{Ordering}
 use Rattle.mpd_text.specs.Songs.Song.{SongData}
 use Rattle.mpd_text.specs.declared.songs.song.TagName.{TagName}
-use Rattle.song_search.specs.Texts.{by_bytes, ascending}
+use Rattle.mpd_text.specs.Texts.{by_bytes, ascending}
 use Rattle.song_groups.specs.Columns.{text_in, texts_in, with_text}
 
 -- the order of two songs: by the bytes of their texts, from the lowest or, where they fall, from the highest

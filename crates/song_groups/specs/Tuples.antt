@@ -13,7 +13,7 @@ use lib.Pointwise.{pointwise}
 use Rattle.mpd_text.specs.Answers.Answer.{pair_line}
 use Rattle.mpd_text.specs.Songs.Song.{SongData}
 use Rattle.mpd_text.specs.declared.songs.song.TagName.{TagName}
-use Rattle.song_search.specs.Texts.{by_bytes, values_now}
+use Rattle.mpd_text.specs.Texts.{by_bytes, values_now}
 use Rattle.song_groups.specs.Columns.{text_in}
 
 -- what a song has in each column

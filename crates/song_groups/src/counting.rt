@@ -5,15 +5,15 @@ ghost use Rattle.mpd_text.specs.Songs.Song.{SongData};
 ghost use Rattle.mpd_text.specs.declared.songs.song.TagName.{TagName};
 ghost use Rattle.song_db.specs.Lines.{millis};
 ghost use Rattle.song_search.specs.Answers.{tag_texts as tag_texts_lem};
-ghost use Rattle.song_search.specs.Texts.{ascending, values_now};
+ghost use Rattle.mpd_text.specs.Texts.{ascending, values_now};
 ghost use Rattle.song_groups.specs.Order.{by_text};
 ghost use Rattle.song_groups.specs.Counts.{count_of as count_of_lem, groups, groups_now, group_lines, lines_of_groups, CountsEachOnce};
 
 use crate::columns::text_in;
 use crate::sorting::order;
-use mpd_text::{Answer, Song, TagName};
+use mpd_text::{Answer, Song, TagName, sort_once};
 use song_db::{Rate, SharedSong};
-use song_search::{Count, millis_of, sort_once};
+use song_search::{Count, millis_of};
 use std::alloc::{AllocError, Global};
 
 /// The songs that have one text of a tag.

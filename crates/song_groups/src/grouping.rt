@@ -4,7 +4,7 @@ ghost use lib.Pointwise.{pointwise};
 ghost use Rattle.std.specs.List.{common_prefix_len};
 ghost use Rattle.mpd_text.specs.Songs.Song.{SongData};
 ghost use Rattle.mpd_text.specs.declared.songs.song.TagName.{TagName};
-ghost use Rattle.song_search.specs.Texts.{values_now};
+ghost use Rattle.mpd_text.specs.Texts.{values_now};
 ghost use Rattle.song_groups.specs.Tuples.{tuple_of as tuple_of_lem, has_last, ascending_tuples, tuples as tuples_lem, tuples_now, unchanged as unchanged_lem, labelled, tuple_lines_now, lines_after_now, lines_of_tuples, TuplesRise, StandsIfASongs, HasLineIfChanged, AreTuplesOf};
 
 use crate::columns::text_in;

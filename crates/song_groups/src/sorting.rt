@@ -2,7 +2,7 @@
 ghost use Rattle.std.specs.Prelude.{◌≡◌, Bool, List, OnOk, OnErr, Option};
 ghost use Rattle.mpd_text.specs.Songs.Song.{SongData};
 ghost use Rattle.mpd_text.specs.declared.songs.song.TagName.{TagName};
-ghost use Rattle.song_search.specs.Texts.{values_now};
+ghost use Rattle.mpd_text.specs.Texts.{values_now};
 ghost use Rattle.song_groups.specs.Order.{by_text, ordered, IsStablyOrdered, HasOneOrder};
 
 use crate::columns::text_in;

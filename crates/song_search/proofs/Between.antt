@@ -14,7 +14,7 @@ use Rattle.std.proofs.lemmas.List.{append-nil, append_assoc, append_cancel_left,
 use Rattle.std.proofs.lemmas.List.Kept.{AllPairs-filter}
 use Rattle.mpd_text.specs.Songs.Song.{SongData}
 use Rattle.song_db.specs.Library.{by_uri, InByteOrder}
-use Rattle.song_search.specs.Texts.{by_bytes}
+use Rattle.mpd_text.specs.Texts.{by_bytes}
 use Rattle.song_search.specs.Truth.{front_of, is_under}
 use Rattle.song_search.specs.Folders.{lies_in, under, is_folder}
 use Rattle.song_search.proofs.Fronts.{begins_from, begins_rest}

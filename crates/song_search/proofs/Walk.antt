@@ -15,8 +15,8 @@ use Rattle.mpd_text.specs.Songs.Song.{SongData}
 use Rattle.song_db.specs.Library.{InByteOrder}
 use Rattle.song_search.specs.Truth.{front_of, is_under}
 use Rattle.song_search.specs.Folders.{path_in, has_slash, is_direct, lies_in, folder_below, under, direct_songs, direct_folders}
-use Rattle.song_search.specs.Texts.{by_bytes, ascending}
-use Rattle.song_search.proofs.Ascending.{among, same_ascending}
+use Rattle.mpd_text.specs.Texts.{by_bytes, ascending}
+use Rattle.mpd_text.proofs.Ascending.{among, same_ascending}
 use Rattle.song_search.proofs.Between.{order_drop, in_first_part}
 use Rattle.song_search.proofs.Fronts.{begins_from, begins_rest}
 

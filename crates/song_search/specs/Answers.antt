@@ -9,7 +9,7 @@ use Rattle.filters.specs.Expressions.{Expression}
 use Rattle.filters.specs.Truth.{text_of_tag}
 use Rattle.song_db.specs.Lines.{millis}
 use Rattle.song_search.specs.Truth.{meets}
-use Rattle.song_search.specs.Texts.{ascending}
+use Rattle.mpd_text.specs.Texts.{ascending}
 
 -- the songs that meet an expression, in the order that they have
 abbrev pub found : Case → Expression → List SongData → List SongData

@@ -4,7 +4,7 @@ use Rattle.std.specs.Prelude.{ℕ, ◌≡◌, ◌+◌, ◌<◌, ◌≤◌, Bool,
 use Rattle.std.specs.List.{filter, filter_map, list_any, position_or_len, starts_with, before_first}
 use Rattle.mpd_text.specs.Songs.Song.{SongData}
 use Rattle.song_search.specs.Truth.{front_of, is_under}
-use Rattle.song_search.specs.Texts.{ascending}
+use Rattle.mpd_text.specs.Texts.{ascending}
 
 -- the songs under a folder
 abbrev pub under : List ℕ → List SongData → List SongData

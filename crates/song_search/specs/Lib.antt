@@ -1,4 +1,3 @@
 pub mod Truth
 pub mod Answers
-pub mod Texts
 pub mod Folders

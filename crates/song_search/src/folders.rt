@@ -8,11 +8,11 @@ ghost use Rattle.std.specs.Ordering.{is_lt};
 ghost use Rattle.mpd_text.specs.Songs.Song.{SongData};
 ghost use Rattle.filters.specs.Truth.{LacksPrefix};
 ghost use Rattle.song_db.specs.Library.{InByteOrder};
-ghost use Rattle.song_search.specs.Texts.{by_bytes, values_now};
+ghost use Rattle.mpd_text.specs.Texts.{by_bytes, values_now};
 ghost use Rattle.song_search.specs.Truth.{front_of, is_under as is_under_lem};
 ghost use Rattle.song_search.specs.Folders.{under as under_lem, is_folder as is_folder_lem, folder_below as folder_below_lem, direct_songs, direct_folders, lies_in, has_slash, IsPathStart, IsFirstSlash, IsFirstSlashFrom};
 
-use crate::texts::sort_once;
+use mpd_text::sort_once;
 use song_db::{Db, SharedSong};
 use std::alloc::{AllocError, Global};
 

@@ -4,8 +4,6 @@
 
 mod folders;
 mod search;
-mod texts;
 
 pub use folders::{Listing, is_folder, list_folder, under};
 pub use search::{Count, counted, does_meet, find, meets_is_truth, millis_of, text_of_tag};
-pub use texts::{ascending_has_each_once, sort_once};

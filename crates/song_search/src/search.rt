@@ -7,7 +7,7 @@ ghost use Rattle.filters.specs.declared.matching.Case.TheVariants.{Heeded};
 ghost use Rattle.song_db.specs.Lines.{millis};
 ghost use Rattle.song_search.specs.Truth.{meets};
 ghost use Rattle.song_search.specs.Answers.{found, playtime};
-ghost use Rattle.song_search.specs.Texts.{values_now};
+ghost use Rattle.mpd_text.specs.Texts.{values_now};
 
 use filters::{Case, Filter};
 use mpd_text::{Song, Tag, TagName};

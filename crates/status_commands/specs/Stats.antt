@@ -6,7 +6,7 @@ use Rattle.mpd_text.specs.Songs.Song.{SongData}
 use Rattle.mpd_text.specs.declared.songs.song.TagName.{TagName}
 use Rattle.mpd_text.specs.declared.songs.song.TagName.TheVariants.{Artist, Album}
 use Rattle.song_search.specs.Answers.{playtime, tag_texts}
-use Rattle.song_search.specs.Texts.{ascending}
+use Rattle.mpd_text.specs.Texts.{ascending}
 use Rattle.player_state.specs.declared.state.Library.{Library}
 use Rattle.player_state.specs.declared.state.Part.{Part}
 use Rattle.transitions.specs.CommandResults.{shows}

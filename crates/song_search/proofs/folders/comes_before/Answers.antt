@@ -1,6 +1,6 @@
 use Rattle.std.proofs.Common.{◌∙◌, ◌++◌, ◌∷◌, [], List, ℕ, ap, sym}
 use Rattle.std.specs.Ordering.{is_lt}
-use Rattle.song_search.specs.Texts.{by_bytes}
+use Rattle.mpd_text.specs.Texts.{by_bytes}
 use Rattle.song_search.proofs.Between.{apart_before, behind_front}
 use Rattle.song_search.proofs.folders.comes_before.Goals as goal
 

@@ -2,7 +2,7 @@ use Rattle.std.proofs.Common.{◌∙◌, ap, List, map, arith}
 use Rattle.std.specs.List.{flat_map}
 use Rattle.std.proofs.lemmas.List.{take_all}
 use Rattle.idle_notes.specs.declared.channels.Member.{Member}
-use Rattle.idle_notes.specs.Texts.{ascending}
+use Rattle.mpd_text.specs.Texts.{ascending}
 use Rattle.idle_notes.specs.Channels.{MemberData, data_of, channel_names}
 use Rattle.idle_notes.proofs.Heard.{flat-data}
 use Rattle.idle_notes.proofs.channels.Channels.channels.Goals as goal

@@ -1,8 +1,8 @@
 use Rattle.std.specs.Cmp.Lexicographic.{on_texts, texts_ties}
 use Rattle.std.proofs.lemmas.List.Filters.{dedup_is}
 use Rattle.std.proofs.lemmas.List.Kept.{IsStrictlySortedBy-dedup}
-use Rattle.idle_notes.proofs.Ascending.{sorts}
-use Rattle.idle_notes.proofs.channels.sort_once.Goals as goal
+use Rattle.mpd_text.proofs.Ascending.{sorts}
+use Rattle.mpd_text.proofs.texts.sort_once.Goals as goal
 
 pub returns : goal.returns
 returns c =

@@ -2,7 +2,7 @@
 ghost use Rattle.std.specs.Prelude.{◌≡◌, ◌↔◌, ℕ, List};
 ghost use Rattle.std.specs.List.{Contains};
 ghost use Rattle.std.specs.List.Sorted.{IsStrictlySortedBy};
-ghost use Rattle.song_search.specs.Texts.{by_bytes, ascending, values_now};
+ghost use Rattle.mpd_text.specs.Texts.{by_bytes, ascending, values_now};
 
 /// The law that `ascending` is the list of the texts of a list in byte order, each before all that follow it.
 pub fn ascending_has_each_once()

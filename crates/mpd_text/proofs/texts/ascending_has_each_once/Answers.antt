@@ -1,5 +1,5 @@
-use Rattle.song_search.proofs.Ascending.{ascending-rises, has-each}
-use Rattle.song_search.proofs.texts.ascending_has_each_once.Goals as goal
+use Rattle.mpd_text.proofs.Ascending.{ascending-rises, has-each}
+use Rattle.mpd_text.proofs.texts.ascending_has_each_once.Goals as goal
 
 pub returns-clause-order : goal.returns-clause-order
 returns-clause-order c = ascending-rises

@@ -14,7 +14,7 @@ use Rattle.std.specs.FinMap.Entries.{find, below_all, is_sorted, is_some-find}
 use Rattle.std.proofs.lemmas.List.Kept.{Contains-dedup, Contains-from_dedup}
 use Rattle.std.proofs.lemmas.List.Sorted.{IsPermutation-map, list_any-IsPermutation}
 use Rattle.std.proofs.lemmas.Map.Views.{list_any-from_Contains, Contains-from_any}
-use Rattle.idle_notes.specs.Texts.{by_bytes, key_of, ascending}
+use Rattle.mpd_text.specs.Texts.{by_bytes, key_of, ascending}
 
 order : IsTotalOrder by_bytes
 order = nat_list_cmp_total
