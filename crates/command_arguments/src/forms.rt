@@ -307,7 +307,8 @@ impl Form for Seeking {
     }
 }
 
-pub(crate) fn after_sign(word: &str, sign: char) -> Option<&str>
+/// The rest of a word after a sign, if the word begins with that.
+pub fn after_sign(word: &str, sign: char) -> Option<&str>
     requires { sign < 128 }
     ensures { IsAfterSign result sign word.now }
 {

@@ -8,10 +8,14 @@ mod volume;
 mod wanted;
 
 pub use fade::FadeSeconds;
-pub use forms::{Form, Place, ReplayGain, Seeking, SongMode, Uri, VolumeChange, Window};
+pub use forms::{
+    Form, Place, ReplayGain, Seeking, SongMode, Uri, VolumeChange, Window, after_sign,
+};
 pub use readers::{
     Misread, none, number_or_none, one, one_many, one_perhaps, perhaps, read_word, some,
     subsystems, three, two,
 };
 pub use volume::Volume;
-pub use wanted::{FilterHandle, Wanted, filter, filter_window, one_filter};
+pub use wanted::{
+    FilterHandle, Wanted, filter, filter_window, is_alone, one_filter, perhaps_filter,
+};

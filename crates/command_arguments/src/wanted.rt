@@ -77,7 +77,7 @@ pub fn filter(
 }
 
 /// Whether a word is a filter alone.
-fn is_alone(word: &str) -> bool
+pub fn is_alone(word: &str) -> bool
     ensures { result ≡ is_alone_lem word.now }
 {
     after_sign(word, '(').is_some()
@@ -207,7 +207,7 @@ fn perhaps_window(alloc: Global, words: &[String]) -> Result<Option<Window>, Mis
 }
 
 /// A filter or no words.
-fn perhaps_filter(
+pub fn perhaps_filter(
     alloc: Global,
     vocabulary: Vocabulary,
     words: &[String],

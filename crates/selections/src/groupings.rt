@@ -1,7 +1,7 @@
 //! What `list` and `count` ask for: a filter or none, and the tags that group the answer.
 ghost use Rattle.std.specs.Prelude.{◌≡◌, ◌≤◌, ◌∷◌, [], codes, length, map, string_bytes};
 ghost use Rattle.command_arguments.specs.Readers.{Gives};
-ghost use Rattle.command_arguments.specs.Wanted.{filter_of, perhaps_filter_of, is_alone as is_alone_lem};
+ghost use Rattle.command_arguments.specs.Wanted.{filter_of};
 ghost use Rattle.known_tags.specs.KnownTags.{tag_of};
 ghost use Rattle.filters.specs.declared.expression.Test.TheVariants.{Equals};
 ghost use Rattle.filters.specs.declared.words.Vocabulary.TheVariants.{Known};
@@ -9,8 +9,7 @@ ghost use Rattle.selections.specs.Groupings.{groups_start as groups_start_lem, n
 
 use crate::asked::{Counting, Grouping};
 use crate::options::{front_length, option_argument};
-use crate::sort_by::after_sign;
-use command_arguments::{Misread, Wanted, filter, one_filter, read_word};
+use command_arguments::{Misread, Wanted, filter, is_alone, one_filter, perhaps_filter, read_word};
 use filters::{Test, Vocabulary};
 use known_tags::KnownTag;
 use mpd_text::{Sequence, TagName, Text};
@@ -111,7 +110,7 @@ fn counted(alloc: Global, words: &[String]) -> Result<Counting, Misread>
     ensures { Gives result (counted_of (map string_bytes words.now)) }
 {
     let (front, back) = words.split_at(front_length("group", 0, words));
-    let wanted = perhaps_filter(alloc, front)?;
+    let wanted = perhaps_filter(alloc, Vocabulary::Known, front, Test::Equals)?;
     let group = option_argument(alloc, back)?;
     Ok(Counting { group, wanted })
 }
@@ -131,16 +130,6 @@ fn groups_start(words: &[String]) -> usize
     rest.len()
 }
 
-/// FILTER or nothing.
-fn perhaps_filter(alloc: Global, words: &[String]) -> Result<Option<Wanted>, Misread>
-    ensures { Gives result (perhaps_filter_of Known Equals (map string_bytes words.now)) }
-{
-    if words.is_empty() {
-        return Ok(None);
-    }
-    Ok(Some(filter(alloc, Vocabulary::Known, words, Test::Equals)?))
-}
-
 /// The filter of `list`, whose words are before the groups.
 fn listed_filter(
     alloc: Global,
@@ -154,7 +143,7 @@ fn listed_filter(
         [text] if groups.is_empty() && is_album(first) && !is_alone(text.as_str()) => {
             Ok(Some(by_artist(alloc, text.as_str())?))
         }
-        _ => perhaps_filter(alloc, front),
+        _ => perhaps_filter(alloc, Vocabulary::Known, front, Test::Equals),
     }
 }
 
@@ -173,13 +162,6 @@ fn is_album(word: &str) -> bool
     ensures { result ≡ names_album (tag_of word.now) }
 {
     matches!(KnownTag::of_word(word), Some(KnownTag::Album))
-}
-
-/// Whether a word is a filter alone.
-fn is_alone(word: &str) -> bool
-    ensures { result ≡ is_alone_lem word.now }
-{
-    after_sign(word, '(').is_some()
 }
 
 /// The tag that is listed, then those of the groups.

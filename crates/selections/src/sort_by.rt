@@ -1,9 +1,7 @@
 //! The order of songs: a tag, and a minus in front of it where the greatest text comes first.
-ghost use Rattle.std.specs.Prelude.{◌<◌};
-ghost use Rattle.command_arguments.specs.Forms.{IsAfterSign};
 ghost use Rattle.selections.specs.Options.{sort_of};
 
-use command_arguments::Form;
+use command_arguments::{Form, after_sign};
 use known_tags::KnownTag;
 use std::alloc::{AllocError, Global};
 
@@ -27,12 +25,4 @@ impl Form for SortBy {
             falling: false,
         }))
     }
-}
-
-/// The rest of a word after a sign, if the word begins with that.
-pub(crate) fn after_sign(word: &str, sign: char) -> Option<&str>
-    requires { sign < 128 }
-    ensures { IsAfterSign result sign word.now }
-{
-    word.strip_prefix(sign)
 }
