@@ -10,9 +10,8 @@ use Rattle.mpd_text.specs.declared.answers.answer.ErrorNumber.TheVariants.{Argum
 use Rattle.parts.specs.Openings.{OpeningsData}
 use Rattle.parts.specs.Parts.{Known, free_place, holder, named, opening_part}
 use Rattle.parts.specs.declared.crossing.Crossing.{Crossing}
-use Rattle.parts.specs.declared.crossing.Crossing.TheVariants.{Stays, Opens, Closes, Brings}
+use Rattle.parts.specs.declared.crossing.Crossing.TheVariants.{Opens, Closes, Brings}
 use Rattle.partition_commands.specs.Partitions.{Seated, begins, brings, by_name, done, ends, goes, is_partition_name, is_used, moves, output_named, outputs_elsewhere, planned, refused}
-use Rattle.player_events.specs.Events.{name_of}
 use Rattle.player_events.specs.declared.event.Event.{Event}
 use Rattle.player_events.specs.declared.event.Event.TheVariants.{Connect, Disconnect, Line, ScanQuestion, ScanResult, Want, Have, Failed, OutputTurn, End}
 use Rattle.player_state.specs.Outputs.{OutputsData, is_output}

@@ -1,5 +1,5 @@
 -- What the fingerprint of a daemon tells of a transition.
-use Rattle.std.proofs.Common.{◌≡◌, ◌≢◌, inl, inr, ℕ, ◌==◌, nat_eq, nat_lt, Bool, true, false, not, ◌&&◌, List, [], ◌∷◌, ◌++◌, length, map, filter, Option, Some, None, is_some, option_map, refl, ap, sym, subst, ◌∙◌, arith, if◌then◌else◌}
+use Rattle.std.proofs.Common.{◌≡◌, ◌≢◌, inl, inr, ℕ, ◌==◌, nat_eq, nat_lt, Bool, true, false, not, ◌&&◌, List, [], ◌∷◌, ◌++◌, length, map, Option, Some, None, option_map, refl, ap, sym, subst, ◌∙◌, arith, if◌then◌else◌}
 use Rattle.std.proofs.lemmas.Bool.{eq-eqb, eqb-true}
 use Rattle.idle_notes.specs.Channels.{MemberData, clients_with_messages, pairs}
 use Rattle.idle_notes.specs.Sets.{all, none}
@@ -9,26 +9,25 @@ use Rattle.song_queue.specs.State.{QueueState, queue_of, differ}
 use Rattle.song_queue.proofs.Parity.{edited_tells, parity_tells_changes}
 use Rattle.song_queue.proofs.Same.{same_queue-refl}
 use Rattle.parts.proofs.Looks.{if_new, or_else, other_changed, own_changed, own_moved, part_moved}
-use Rattle.parts.specs.Parts.{Known, carried_in, changed, known, moved_output, outputs_moved, part_at, parts_moved}
+use Rattle.parts.specs.Parts.{Known, carried_in, changed, known, moved_output, part_at, parts_moved}
 use Rattle.parts.specs.declared.crossing.Crossing.{Crossing}
 use Rattle.parts.specs.declared.crossing.Crossing.TheVariants.{Stays, Opens, Closes, Brings}
 use Rattle.player_state.specs.declared.effect.Effect.{Effect}
 use Rattle.player_state.specs.declared.outputs.Carried.{Carried}
 use Rattle.player_state.specs.declared.state.Part.{Part}
 use Rattle.player_events.specs.declared.event.Event.{Event}
-use Rattle.idle_clients.specs.declared.fingerprint.EnabledAt.{EnabledAt}
 use Rattle.idle_clients.specs.declared.notices.Notice.{Notice}
 use Rattle.player_state.specs.declared.state.Client.{Client}
 use Rattle.transitions.specs.Answers.{ResponseData}
 use Rattle.player_state.specs.declared.state.Library.{Library}
-use Rattle.idle_clients.specs.Clients.{Watched, begins_to_have, clients_after, has_messages, is_this, names_of, notices_after, options, playing, raised_between, raised_for_all, raised_there, raised_within, same_enabled, same_names, watched_all, watched_at, watched_of}
+use Rattle.idle_clients.specs.Clients.{Watched, begins_to_have, clients_after, has_messages, is_this, names_of, notices_after, options, playing, raised_between, raised_there, raised_within, same_enabled, same_names, watched_all, watched_at, watched_of}
 use Rattle.player_state.specs.Libraries.{same_songs}
 use Rattle.player_state.specs.Outputs.{FrameBooks, books_after}
 use Rattle.player_state.specs.Effects.{Change, ByEdit, ByStep, change_of, channels_after, part_after, queue_after}
 use Rattle.partition.specs.Image.{Image}
 use Rattle.transitions.specs.Transitions.{TransitionData, parts_after}
 use Rattle.player_state.specs.Libraries.{library_after, songs_after}
-use Rattle.idle_clients.specs.Fingerprint.{FingerprintData, PartReadings, RaisedData, begins_between, changes_listeners_in, changes_subscriptions, common_by_fingerprint, enabled_at, enabled_before, enabled_in, fingerprint, has_messages_in, is_among, own_by_readings, raised_by_fingerprint, raised_in, readings, switches, switches_from}
+use Rattle.idle_clients.specs.Fingerprint.{FingerprintData, RaisedData, begins_between, changes_listeners_in, changes_subscriptions, enabled_at, enabled_before, enabled_in, fingerprint, is_among, own_by_readings, raised_by_fingerprint, raised_in, readings, switches, switches_from}
 use Rattle.transitions.specs.Shelves.{changes_lists, changes_stickers}
 use Rattle.transitions.specs.declared.shelf_calls.ShelfWrite.{ShelfWrite}
 use Rattle.idle_clients.specs.Settled.{HasRoom}

@@ -3,7 +3,7 @@
 use Rattle.std.proofs.Common.{◌≡◌, inl, inr, ℕ, zero, suc, ◌==◌, ◌≤◌, Bool, true, false, not, ◌&&◌, ◌||◌, nat_lt, List, [], ◌∷◌, ◌++◌, Option, Some, None, is_some, map, refl, ap, sym, subst, ◌∙◌, arith, if◌then◌else◌}
 use Rattle.std.specs.Prelude.{filter, insert, count_by}
 use Rattle.std.specs.List.{flat_map, position_or_len}
-use Rattle.std.proofs.lemmas.Bool.{eq-eqb, eqb-true}
+use Rattle.std.proofs.lemmas.Bool.{eqb-true}
 use Rattle.idle_notes.specs.declared.pending.Pending.{Pending}
 use Rattle.idle_notes.specs.declared.sets.Subsystems.{Subsystems}
 use Rattle.idle_notes.specs.Sets.{none, union, meet, is_nonempty}
@@ -40,7 +40,6 @@ use Rattle.idle_clients.specs.Settled.{IsSettled, AllSettled, HasRoom, nothing}
 use Rattle.transitions.specs.Shelves.{is_written}
 use Rattle.transitions.specs.declared.shelf_calls.ShelfWrite.{ShelfWrite}
 use Rattle.transitions.specs.declared.shelf_calls.ShelfWrite.TheVariants.{Nothing as Unwritten, Put, Create, Rename, Remove, SetSticker, DeleteSticker, DeleteStickers}
-use Rattle.idle_clients.proofs.Alike.{same_pairs-refl}
 use Rattle.partition.specs.Applying.{GoesNowhere, RaisesNothing}
 use Rattle.partition.specs.Image.{overview}
 use Rattle.partition.specs.Step.{asked_by, ends_by, goer, mover, place_at, raised_by, raised_of, speaker_in, transition, transition_line, transition_of, transition_there, transition_wished, next_image, written_transition}

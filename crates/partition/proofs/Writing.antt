@@ -1,5 +1,5 @@
 -- Events that write to the shelf.
-use Rattle.std.proofs.Common.{◌≡◌, Bool, true, false, List, Option, Some, None, refl, ap, sym, ◌∙◌, if◌then◌else◌}
+use Rattle.std.proofs.Common.{◌≡◌, Bool, true, false, Option, Some, None, refl, ap, sym, ◌∙◌, if◌then◌else◌}
 use Rattle.mpd_command.specs.declared.request.Request.{Request}
 use Rattle.shelf.specs.declared.faults.ShelfFault.{ShelfFault}
 use Rattle.player_events.specs.declared.event.Event.{Event}

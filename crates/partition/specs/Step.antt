@@ -20,7 +20,7 @@ use Rattle.player_state.specs.declared.effect.AudioStep.{AudioStep}
 use Rattle.player_state.specs.declared.report.Report.{Report}
 use Rattle.player_state.specs.declared.report.Report.TheVariants.{ToDecode, ToScan, ScanEnded, ToFeed, ToPlay, Ended}
 use Rattle.parts.specs.Parts.{Known, holder, known, part_at}
-use Rattle.partition_commands.specs.Partitions.{Seated, planned, seated}
+use Rattle.partition_commands.specs.Partitions.{Seated, planned}
 use Rattle.player_state.specs.declared.scan.ScanMove.TheVariants.{End as EndsScan}
 use Rattle.player_state.specs.declared.state.Client.{Client}
 use Rattle.player_state.specs.declared.state.Library.{Library}

@@ -1,5 +1,5 @@
 -- Frames are fed to no output in whose ring frames waited when their job was given.
-use Rattle.std.proofs.Common.{◌≡◌, ℕ, zero, suc, ◌==◌, ◌≤◌, ◌+◌, Bool, true, false, not, ◌&&◌, ◌||◌, nat_lt, List, [], ◌∷◌, ◌++◌, length, map, Option, Some, None, refl, ap, sym, ◌∙◌, subst, if◌then◌else◌}
+use Rattle.std.proofs.Common.{◌≡◌, ℕ, zero, suc, ◌==◌, ◌+◌, Bool, true, false, not, ◌&&◌, ◌||◌, nat_lt, List, [], ◌∷◌, ◌++◌, length, map, Option, Some, None, refl, ap, sym, ◌∙◌, subst, if◌then◌else◌}
 use native.Mathlib.Omega.{arith}
 use Rattle.std.specs.Prelude.{filter, slice_index_or, slice_set}
 use Rattle.std.proofs.lemmas.Bool.{eq-eqb, eqb-true}
@@ -8,18 +8,17 @@ use Rattle.player_core.specs.Decoding as decoding
 use Rattle.player_core.specs.Player.{is_playing}
 use Rattle.player_core.specs.declared.state.Job.{Job}
 use Rattle.player_state.specs.Effects.{asked_for, entries, outputs_after, part_after, report_after, wanted}
-use Rattle.player_state.specs.Outputs.{OutputsData, any_enabled, brought, fed, fed_at, is_enabled, is_output, owes_any, released, turned}
+use Rattle.player_state.specs.Outputs.{OutputsData, any_enabled, brought, fed, is_enabled, is_output, owes_any, released, turned}
 use Rattle.player_state.specs.declared.effect.AudioStep.TheVariants.{Settles, Wants}
 use Rattle.player_state.specs.declared.effect.CommandEffect.TheVariants.{Switches}
 use Rattle.player_state.specs.declared.effect.Effect.{Effect}
 use Rattle.player_state.specs.declared.effect.Effect.TheVariants.{ByAudio, ByCommand}
 use Rattle.player_state.specs.declared.outputs.Carried.{Carried}
-use Rattle.player_state.specs.declared.report.Feed.{Feed}
 use Rattle.player_state.specs.declared.report.Report.{Report}
-use Rattle.player_state.specs.declared.report.Report.TheVariants.{ToDecode, ToFeed}
+use Rattle.player_state.specs.declared.report.Report.TheVariants.{ToDecode}
 use Rattle.player_state.specs.declared.state.Part.{Part}
 use Rattle.parts.specs.Openings.{OpeningsData}
-use Rattle.parts.specs.Parts.{Known, carried_in, changed, known, known_at, moved_output, once_more, opening_part, outputs_moved, part_at, parts_moved, report_in, shown_outputs}
+use Rattle.parts.specs.Parts.{carried_in, changed, known, known_at, moved_output, once_more, opening_part, outputs_moved, part_at, parts_moved, report_in, shown_outputs}
 use Rattle.parts.specs.declared.crossing.Crossing.{Crossing}
 use Rattle.parts.specs.declared.crossing.Crossing.TheVariants.{Stays, Opens, Closes, Brings}
 use Rattle.transitions.specs.Transitions.{TransitionData}

@@ -1,5 +1,5 @@
 -- A ring is fed only where it owed no frames when their job was given, over the events of a daemon.
-use Rattle.std.specs.Prelude.{◌≡◌, ℕ, ◌==◌, Bool, true, false, ◌&&◌, List, [], ◌∷◌, Option, Some, None, slice_index_or}
+use Rattle.std.specs.Prelude.{◌≡◌, ℕ, ◌==◌, Bool, true, false, ◌&&◌, List, [], ◌∷◌, Some, slice_index_or}
 use Rattle.player_state.specs.declared.report.Feed.{Feed}
 use Rattle.player_state.specs.declared.report.Report.{Report}
 use Rattle.player_state.specs.declared.report.Report.TheVariants.{ToDecode, ToFeed}

@@ -1,4 +1,4 @@
-use Rattle.std.proofs.Common.{ℕ, ◌<◌, [], ◌∷◌, List, Bool}
+use Rattle.std.proofs.Common.{[], ◌∷◌}
 use Rattle.std.specs.Prelude.{is_some}
 use Rattle.parts.specs.Parts.{part_at}
 use Rattle.counted_player.proofs.Sixteen.{at_places}

@@ -1,4 +1,4 @@
-use Rattle.std.proofs.Common.{◌+◌, ◌<◌, ◌≤◌, length, rules, subst, vec_capacity, vec_len}
+use Rattle.std.proofs.Common.{◌+◌, ◌≤◌, length, rules, subst, vec_capacity, vec_len}
 use Rattle.std.specs.Prelude.{IfOk}
 use Rattle.partition.specs.History.{Chronicle, with_room}
 use Rattle.counted_player.specs.Seats.{SeatCount}

@@ -1,6 +1,5 @@
-use Rattle.std.proofs.Common.{◌≡◌, List, inl, inr, ap, arith, rules}
+use Rattle.std.proofs.Common.{◌≡◌, inl, inr, ap, arith, rules}
 use Rattle.std.specs.Prelude.{count_by}
-use Rattle.player_state.specs.declared.state.Client.{Client}
 use Rattle.idle_clients.specs.Rooms.{is_waiting}
 use Rattle.partition.proofs.prepare.room_wanted.Goals as goal
 

@@ -1,8 +1,6 @@
-use Rattle.std.proofs.Common.{◌≡◌, ◌+◌, ◌<◌, ◌^◌, ◌∙◌, ℕ, ap, sym, subst}
+use Rattle.std.proofs.Common.{◌+◌, ◌<◌, ◌^◌, ◌∙◌, sym, subst}
 use Rattle.std.specs.Prelude.{slice_index_or}
 use Rattle.partition.specs.History.{Chronicle}
-use Rattle.partition.specs.Image.{Image}
-use Rattle.counted_player.specs.Seats.{SeatCount}
 use Rattle.counted_player.proofs.Booked.{own_below}
 use Rattle.counted_player.proofs.Owns.{Grows, count_fits, counts_on, many_counts, next_grows}
 use Rattle.counted_player.proofs.counted.Counted.step.Goals as goal
