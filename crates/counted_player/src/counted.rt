@@ -12,16 +12,13 @@ use command_lists::ListForm;
 use mpd_command::Request;
 use partition::{ListFault, ListOutcome, Partition, PartitionFault};
 use player_core::Playback;
-use player_events::{Event, LogEntry, Outcome};
+use player_events::{Event, Logged, Outcome};
 use player_state::{Client, Part};
 use shelf::Shelf;
 use song_db::SharedSong;
 use song_queue::Queue;
 use std::alloc::AllocError;
 use std::marker::Model;
-
-/// The most bytes of the window's texts, after which the history is folded early.
-const MOST_BYTES: u64 = 16_777_216;
 
 /// The player, each of whose events is one of a seat. Contracts see it as its history.
 #[derive(Drop)]
@@ -49,8 +46,8 @@ impl<L: Ledgers> Model for Counted<L> {
 }
 
 impl<L: Ledgers> Counted<L> {
-    ghost use Rattle.std.specs.Prelude.{◌≡◌, ◌⊎◌, ◌+◌, ◌<◌, ◌↔◌, [], ◌∷◌, ◌++◌, None, true, false, IfErr, IfOk, OnErr, OnOk};
-    ghost use Rattle.partition.specs.History.{folded, joined_by, with_room};
+    ghost use Rattle.std.specs.Prelude.{◌≡◌, ◌+◌, ◌<◌, ◌↔◌, [], ◌∷◌, ◌++◌, None, true, false, IfErr, IfOk, OnErr, OnOk};
+    ghost use Rattle.partition.specs.History.{joined_by, with_room};
     ghost use Rattle.partition.specs.Legal.{IsPast};
     ghost use Rattle.partition.specs.Lent.{Refuses, RecordsOnce};
     ghost use Rattle.partition.specs.Lists.{RunsList, StopsList};
@@ -126,17 +123,6 @@ impl<L: Ledgers> Counted<L> {
         Ok(outcome)
     }
 
-    /// Folds the history where the texts of its window take more than 16 MiB. Where there is no memory for
-    /// that, nothing changes.
-    pub fn compact_if_large(&mut self)
-        ensures { (self.new ≡ self.old) ⊎ (self.new ≡ folded self.old) }
-    {
-        if self.partition.window_bytes() <= MOST_BYTES {
-            return;
-        }
-        let _folded = self.partition.fold();
-    }
-
     /// The requests of a command list, each as an event of the seat.
     pub fn run_list<S: Shelf>(
         &mut self,
@@ -162,7 +148,7 @@ impl<L: Ledgers> Counted<L> {
     }
 
     /// The events of the window.
-    pub fn history(&self) -> &[LogEntry]
+    pub fn history(&self) -> &[Logged]
         ensures window { result.now ≡ self.now.window }
         ensures legal { IsPast self.now }
     {

@@ -11,7 +11,7 @@ use frame_ledger::{Blanks as FrameBlanks, Books, OutputShares};
 use idle_clients::Notice;
 use mpd_command::Request;
 use partition::{Partition, PartitionFault};
-use player_events::LogEntry;
+use player_events::Logged;
 use shelf::Shelf;
 use song_db::SharedSong;
 use std::alloc::{AllocError, Global};
@@ -87,11 +87,11 @@ impl<L: Ledgers> Model for Held<L> {
 }
 
 impl<L: Ledgers> Held<L> {
-    ghost use Rattle.std.specs.Prelude.{◌≡◌, ◌⊎◌, ◌+◌, ◌-◌, ◌<◌, ◌↔◌, [], ◌∷◌, ◌++◌, None, true, false, IfErr, IfOk, IfSome, IsErr, OnErr, OnOk, map};
+    ghost use Rattle.std.specs.Prelude.{◌≡◌, ◌+◌, ◌-◌, ◌<◌, ◌↔◌, [], ◌∷◌, ◌++◌, None, true, false, IfErr, IfOk, IfSome, IsErr, OnErr, OnOk, map};
     ghost use Rattle.frame_ledger.specs.Shares.{HasAllParts, HasNoFrames};
     ghost use Rattle.held_player.specs.Views.{AnswersClient, AnswersLine, IsRefusedFor, IsUnchangedOrFolded, IsUnwritten, Joins, JoinsAs, KeepsBooks, StopsLine, TellsSomewhere, notices_at, opened};
     ghost use Rattle.held_player.specs.Blanks.{AreFor};
-    ghost use Rattle.partition.specs.History.{folded, with_room};
+    ghost use Rattle.partition.specs.History.{with_room};
     ghost use Rattle.partition.specs.Legal.{IsPast};
     ghost use Rattle.partition.specs.Step.{limit_of, told as told_of};
     ghost use Rattle.player_events.specs.declared.event.Event.TheVariants.{End};
@@ -153,7 +153,7 @@ impl<L: Ledgers> Held<L> {
 
     /// The events of the window. The value is a past's, and the books of frames are its numbers; once the
     /// outputs were settled, those of written and discarded frames also count what no event told of.
-    pub fn history(&self) -> &[LogEntry]
+    pub fn history(&self) -> &[Logged]
         ensures window { result.now ≡ self.now.player.window }
         ensures legal { IsPast self.now.player }
         ensures decoded { self.now.books.decoded ≡ self.now.player.present.shared.books.decoded }
@@ -293,25 +293,6 @@ impl<L: Ledgers> Held<L> {
         put_all(waiting, outcome.notices());
         count_change(changes, true);
         Ok(())
-    }
-
-    /// Folds the history where the texts of its window take more than 16 MiB. Where there is no memory for
-    /// that, nothing changes.
-    pub fn compact_if_large(&mut self)
-        ensures player { (self.new.player ≡ self.old.player) ⊎ (self.new.player ≡ folded self.old.player) }
-        ensures waiting { self.new.waiting ≡ self.old.waiting }
-        ensures books { KeepsBooks self.old self.new }
-    {
-        let Held {
-            alloc: _alloc,
-            counted,
-            waiting: _waiting,
-            books: _books,
-            free: _free,
-            closed: _closed,
-            changes: _changes,
-        } = self;
-        counted.compact_if_large();
     }
 
     /// Whether the daemon has ended.

@@ -117,7 +117,6 @@ impl<L: Ledgers> House<L> {
         let (told, rung) = {
             let mut held = self.held.lock(rt);
             let before = held.changes();
-            held.compact_if_large();
             let told = held.command(seat, shelf, client, request);
             (told, rung_since(&*held, before))
         };
@@ -148,7 +147,6 @@ impl<L: Ledgers> House<L> {
         let (told, rung) = {
             let mut held = self.held.lock(rt);
             let before = held.changes();
-            held.compact_if_large();
             let told = held.list(seat, shelf, client, form, requests);
             (told, rung_since(&*held, before))
         };
@@ -175,7 +173,6 @@ impl<L: Ledgers> House<L> {
         let (told, rung) = {
             let mut held = self.held.lock(rt);
             let before = held.changes();
-            held.compact_if_large();
             let told = held.notice(seat, news);
             (told, rung_since(&*held, before))
         };
@@ -219,7 +216,6 @@ impl<L: Ledgers> House<L> {
         let (told, rung) = {
             let mut held = self.held.lock(rt);
             let before = held.changes();
-            held.compact_if_large();
             let told = held.have(seat, place, number, frames, share);
             (told, rung_since(&*held, before))
         };
@@ -251,7 +247,6 @@ impl<L: Ledgers> House<L> {
         let (told, rung) = {
             let mut held = self.held.lock(rt);
             let before = held.changes();
-            held.compact_if_large();
             let told = held.turn(seat, output, fates, failed, shares);
             (told, rung_since(&*held, before))
         };

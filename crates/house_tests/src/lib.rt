@@ -15,5 +15,3 @@ mod own_songs;
 mod rests;
 #[cfg(test)]
 mod wanted;
-#[cfg(test)]
-mod windows;

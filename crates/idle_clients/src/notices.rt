@@ -1,5 +1,5 @@
 //! The notices of an event. Few events tell anybody, so that a list of none is one pointer.
-ghost use Rattle.std.specs.Prelude.{◌≡◌, ◌++◌, ◌∷◌, ◌+◌, ◌<◌, ◌≤◌, [], length, IfOk};
+ghost use Rattle.std.specs.Prelude.{◌≡◌, ◌++◌, ◌∷◌, ◌<◌, ◌≤◌, [], length, IfOk};
 ghost use Rattle.idle_clients.specs.Rooms.{listed, room_in};
 
 use idle_notes::Subsystems;
@@ -57,16 +57,6 @@ impl Notices {
     {
         if let Some(list) = &mut self.list {
             let _ = list.push(notice);
-        }
-    }
-
-    /// Puts these notices after the others.
-    pub fn push_all(&mut self, more: &[Notice])
-        requires { length (listed self.old) + length more.now ≤ room_in self.old }
-        ensures { listed self.new ≡ listed self.old ++ more.now }
-    {
-        for notice in more {
-            self.push(*notice);
         }
     }
 

@@ -5,7 +5,6 @@ use Rattle.partition.proofs.state.State.TheSendSync as state
 use Rattle.partition.specs.contracts.partition.Partition as Partition
 use Rattle.partition.specs.contracts.partition.Partition.TheInside as Inside
 use denote.Param.SendFields.{declared_send}
-use Rattle.player_events.proofs.Crosses.{log_entry_send}
 
 -- One field, or one variant, and the next.
 infixr 30 ◌⨟◌
@@ -20,6 +19,6 @@ partition_send = view_send _ _ _ _ _ (declared_send Inside.the_type (
     search parts depth 60 fits 20000 ⨟
     search parts depth 60 fits 20000 ⨟
     state.the_send ⨟
-    search (log_entry_send, parts) depth 60 fits 20000 ⨟
+    search parts depth 60 fits 20000 ⨟
     search parts depth 60 fits 20000 ⨟
     tt))

@@ -47,7 +47,7 @@ pub(crate) fn transition_of_event(
     let part = state.parts.at(place_of(&state.parts, client, event));
     match event {
         Event::Connect(_) => Ok(Transition::only(connect(alloc, &state.clients, client)?)),
-        Event::Disconnect(number) => Transition::departs(alloc, *number),
+        Event::Disconnect(number) => Ok(Transition::departs(alloc, *number)),
         Event::Line(_, stand, request, heard) => {
             let transition = answer_line(alloc, state, part, client, *stand, request, &heard.read)?;
             Ok(transition.once_written())
@@ -58,7 +58,7 @@ pub(crate) fn transition_of_event(
             } else {
                 Report::ToScan(state.library.scan.running())
             };
-            Transition::reports(alloc, ScanMove::Stay, report)
+            Ok(Transition::reports(alloc, ScanMove::Stay, report))
         }
         Event::ScanResult(songs, second) => end_scan(
             alloc,
@@ -66,14 +66,14 @@ pub(crate) fn transition_of_event(
             songs.as_ref(),
             *second,
         ),
-        Event::Want(_, owes) => want(alloc, state.ended, part, *owes),
-        Event::Have(_, number, frames) => have(alloc, state.ended, part, *number, *frames),
-        Event::Failed(_, number, partner) => failure(alloc, part, *number, *partner),
+        Event::Want(_, owes) => Ok(want(alloc, state.ended, part, *owes)),
+        Event::Have(_, number, frames) => Ok(have(alloc, state.ended, part, *number, *frames)),
+        Event::Failed(_, number, partner) => Ok(failure(alloc, part, *number, *partner)),
         Event::OutputTurn(output, written, discarded, failed) => {
             let turn = AudioStep::Settles(*output, *written, *discarded, *failed);
-            Ok(settle(alloc, part, *output, turn)?.or_ended(state.ended))
+            Ok(settle(alloc, part, *output, turn).or_ended(state.ended))
         }
-        Event::End => Transition::reports(alloc, ScanMove::Stay, Report::Nothing),
+        Event::End => { Ok(Transition::reports(alloc, ScanMove::Stay, Report::Nothing)) }
     }
 }
 
@@ -124,13 +124,8 @@ fn place_in(client: Option<Client>) -> u8
 }
 
 /// The decoder wants a job of a partition.
-fn want(
-    alloc: Global,
-    ended: bool,
-    part: Option<&Part>,
-    owes: [bool; 8],
-) -> Result<Transition, AllocError>
-    ensures transition { OkGives result (want_lem ended (option_copied part.entry) owes) }
+fn want(alloc: Global, ended: bool, part: Option<&Part>, owes: [bool; 8]) -> Transition
+    ensures { result ≡ want_lem ended (option_copied part.entry) owes }
 {
     let Some(part) = part else {
         let report = if ended {
@@ -145,14 +140,8 @@ fn want(
 }
 
 /// Frames of a job of a partition are decoded.
-fn have(
-    alloc: Global,
-    ended: bool,
-    part: Option<&Part>,
-    number: u64,
-    frames: u64,
-) -> Result<Transition, AllocError>
-    ensures transition { OkGives result (have_lem ended (option_copied part.entry) number frames) }
+fn have(alloc: Global, ended: bool, part: Option<&Part>, number: u64, frames: u64) -> Transition
+    ensures { result ≡ have_lem ended (option_copied part.entry) number frames }
 {
     if part.is_none() {
         return Transition::reports(alloc, ScanMove::Stay, Report::ToFeed(None));
@@ -162,13 +151,8 @@ fn have(
 }
 
 /// The song of a job of a partition cannot be read.
-fn failure(
-    alloc: Global,
-    part: Option<&Part>,
-    number: u64,
-    partner: bool,
-) -> Result<Transition, AllocError>
-    ensures transition { OkGives result (failure_lem (option_copied part.entry) number partner) }
+fn failure(alloc: Global, part: Option<&Part>, number: u64, partner: bool) -> Transition
+    ensures { result ≡ failure_lem (option_copied part.entry) number partner }
 {
     if part.is_none() {
         return Transition::reports(alloc, ScanMove::Stay, Report::Nothing);
@@ -191,21 +175,16 @@ fn end_scan(
         None => None,
     };
     let ended = library.scan.running().is_some();
-    Transition::reports(
+    Ok(Transition::reports(
         alloc,
         ScanMove::End(found, second),
         Report::ScanEnded(ended),
-    )
+    ))
 }
 
 /// An output has its turn; one that is not there has nothing to play.
-fn settle(
-    alloc: Global,
-    part: Option<&Part>,
-    output: usize,
-    turn: AudioStep,
-) -> Result<Transition, AllocError>
-    ensures transition { OkGives result (output_turn (option_copied part.entry) output turn) }
+fn settle(alloc: Global, part: Option<&Part>, output: usize, turn: AudioStep) -> Transition
+    ensures { result ≡ output_turn (option_copied part.entry) output turn }
 {
     if let Some(part) = part {
         if part.outputs.is_output(output) {
@@ -232,12 +211,12 @@ fn connect(
     ensures { IfOk result (λ response. response ≡ response_to_new (map seated clients.now) client) }
 {
     if client.is_some() {
-        return tells(String::new(alloc), Move::Stay);
+        return Ok(tells(String::new(alloc), Move::Stay));
     }
     if clients.len() >= MAX_CLIENTS {
-        return shut(alloc);
+        return Ok(shut(alloc));
     }
-    tells(String::from_str(alloc, "OK MPD 0.23.0\n")?, Move::Join)
+    Ok(tells(String::from_str(alloc, "OK MPD 0.23.0\n")?, Move::Join))
 }
 
 /// Answers a line of a client, if it is there. While it waits, any other line than `noidle` closes it.
@@ -255,10 +234,10 @@ fn answer_line(
     ensures command { IfOk result (λ transition. IsOfCommand transition.effect) }
 {
     let Some(client) = client else {
-        return Ok(Transition::only(shut(alloc)?));
+        return Ok(Transition::only(shut(alloc)));
     };
     if client.pending.is_waiting() && !ends_waiting(stand, request) {
-        return Transition::departs(alloc, client.number);
+        return Ok(Transition::departs(alloc, client.number));
     }
     answer_request(alloc, state, part, client, stand, request, read)
 }
@@ -359,7 +338,7 @@ fn run_in(
 {
     match part {
         Some(part) => run(alloc, asked, state, part, read, command),
-        None => Ok(Transition::only(shut(alloc)?)),
+        None => Ok(Transition::only(shut(alloc))),
     }
 }
 

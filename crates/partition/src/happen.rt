@@ -42,45 +42,30 @@ use idle_clients::{
     notify_all,
 };
 use parts::Parts;
-use player_events::{Event, LogEntry, Outcome};
+use player_events::{Event, LogEntry, Logged, Outcome};
 use player_state::{Client, Effect, done};
 use shelf::{Shelf, ShelfFault};
 use std::alloc::{AllocError, Global};
 use transitions::{Move, Refusals, Response, ShelfWrite, StoreReply, Telling, Transition};
 
-/// What an event made clients hear; the notices twice, to hand out and to keep.
+/// What an event made clients hear.
 #[derive(Drop)]
 struct Applied {
     telling: Telling,
-    given: Notices,
-    kept: Notices,
+    notices: Notices,
 }
 
 impl Applied {
-    /// What is handed out, and what is kept.
-    fn into_outcomes(self) -> (Outcome, Outcome)
-        ensures given { result.0 ≡ outcome_with self.telling self.given }
-        ensures kept { result.1 ≡ outcome_with self.telling self.kept }
+    fn into_outcome(self) -> Outcome
+        ensures { result ≡ outcome_with self.telling self.notices }
     {
-        let Applied {
-            telling,
-            given,
-            kept,
-        } = self;
+        let Applied { telling, notices } = self;
         let Telling { response, report } = telling;
-        let (reply, kept_reply) = response.into_replies();
-        (
-            Outcome {
-                reply,
-                notices: given,
-                report,
-            },
-            Outcome {
-                reply: kept_reply,
-                notices: kept,
-                report,
-            },
-        )
+        Outcome {
+            reply: response.into_reply(),
+            notices,
+            report,
+        }
     }
 }
 
@@ -90,7 +75,7 @@ impl Applied {
 pub(crate) fn record_event<S: Shelf>(
     alloc: Global,
     state: &mut State,
-    history: &mut Vec<LogEntry>,
+    history: &mut Vec<Logged>,
     shelf: &mut S,
     seat: u8,
     event: Event,
@@ -117,7 +102,7 @@ pub(crate) fn record_event<S: Shelf>(
 pub(crate) fn record_step(
     alloc: Global,
     state: &mut State,
-    history: &mut Vec<LogEntry>,
+    history: &mut Vec<Logged>,
     seat: u8,
     event: Event,
 ) -> Result<Outcome, PartitionFault>
@@ -145,7 +130,7 @@ pub(crate) fn record_step(
 /// Counts an event of a seat that was applied, and keeps it with what it made clients hear.
 fn keep(
     state: &mut State,
-    history: &mut Vec<LogEntry>,
+    history: &mut Vec<Logged>,
     seat: u8,
     event: Event,
     applied: Applied,
@@ -154,17 +139,21 @@ fn keep(
     requires count { nat_le 9223372036854775807 (slice_index_or state.old.made seat 0) ≡ false }
     requires room { vec_len history.old < vec_capacity history.old }
     ensures state { image_of_state state.new ≡ counted seat (image_of_state state.old) }
-    ensures outcome { result ≡ outcome_with applied.telling applied.given }
-    ensures history { AddsEntry history.old.items history.new.items seat event (outcome_with applied.telling applied.kept) }
+    ensures outcome { result ≡ outcome_with applied.telling applied.notices }
+    ensures history { AddsEntry history.old.items history.new.items seat event (outcome_with applied.telling applied.notices) }
 {
     state.made[usize::from(seat)] += 1;
-    let (given, told) = applied.into_outcomes();
-    history.push_reserved(LogEntry { seat, event, told });
-    given
+    let entry = LogEntry {
+        seat,
+        event,
+        told: applied.into_outcome(),
+    };
+    history.push_reserved(Logged::of(&entry));
+    entry.told
 }
 
 /// Makes room for one more event and one more client.
-fn reserve(history: &mut Vec<LogEntry>, clients: &mut Vec<Client>) -> Result<(), AllocError>
+fn reserve(history: &mut Vec<Logged>, clients: &mut Vec<Client>) -> Result<(), AllocError>
     ensures history { history.new.items ≡ history.old.items }
     ensures clients { clients.new.items ≡ clients.old.items }
     ensures event { OnOk result (vec_len history.new < vec_capacity history.new) }
@@ -189,8 +178,7 @@ fn apply_event<S: Shelf>(
     ensures image { OnOk result (image_of_state state.new ≡ image_after state.old event.new) }
     ensures answer { IfOk result (λ applied. applied.telling.response.answer ≡ answer_to state.old event.new) }
     ensures report { IfOk result (λ applied. applied.telling.report ≡ (telling_of state.old event.new).report) }
-    ensures given { IfOk result (λ applied. listed applied.given ≡ (telling_of state.old event.new).notices) }
-    ensures kept { IfOk result (λ applied. listed applied.kept ≡ (telling_of state.old event.new).notices) }
+    ensures notices { IfOk result (λ applied. listed applied.notices ≡ (telling_of state.old event.new).notices) }
     ensures within { OnOk result (IsWithinLimits state.old event.new) }
     ensures shelf { OnOk result (ServesEvent S.standing S.failed shelf.old shelf.new state.old event.old event.new) }
     ensures refused { IfErr result (RefusesEvent state.old event.new) }
@@ -219,8 +207,7 @@ fn apply_step(alloc: Global, state: &mut State, event: &Event) -> Result<Applied
     ensures image { OnOk result (image_of_state state.new ≡ image_after state.old event.now) }
     ensures answer { IfOk result (λ applied. applied.telling.response.answer ≡ answer_to state.old event.now) }
     ensures report { IfOk result (λ applied. applied.telling.report ≡ (telling_of state.old event.now).report) }
-    ensures given { IfOk result (λ applied. listed applied.given ≡ (telling_of state.old event.now).notices) }
-    ensures kept { IfOk result (λ applied. listed applied.kept ≡ (telling_of state.old event.now).notices) }
+    ensures notices { IfOk result (λ applied. listed applied.notices ≡ (telling_of state.old event.now).notices) }
     ensures within { OnOk result (IsWithinLimits state.old event.now) }
     ensures refused { IfErr result (RefusesEvent state.old event.now) }
     ensures err { OnErr result (image_of_state state.new ≡ image_of_state state.old) }
@@ -244,8 +231,7 @@ fn apply_transition(
     ensures image { OnOk result (IsImageAfter state.old event.now transition state.new) }
     ensures answer { IfOk result (λ applied. applied.telling.response.answer ≡ transition.response.answer) }
     ensures report { IfOk result (λ applied. applied.telling.report ≡ report_by state.old event.now transition) }
-    ensures given { IfOk result (λ applied. listed applied.given ≡ notices_by state.old event.now transition) }
-    ensures kept { IfOk result (λ applied. listed applied.kept ≡ notices_by state.old event.now transition) }
+    ensures notices { IfOk result (λ applied. listed applied.notices ≡ notices_by state.old event.now transition) }
     ensures within { OnOk result (PassesNoLimit state.old event.now transition) }
     ensures refused { IfErr result (λ fault. RefusesTransition (image_of_state state.old) event.now transition fault) }
     ensures err { OnErr result (image_of_state state.new ≡ image_of_state state.old) }
@@ -258,11 +244,7 @@ fn apply_transition(
             return Err(fault);
         }
     };
-    let Prepared {
-        given,
-        kept,
-        before,
-    } = prepared;
+    let Prepared { notices, before } = prepared;
     let database = changes_songs(&transition, &state.library);
     let subscription = changes_listeners(&state.parts, place, &transition.effect);
     let goer = goer(number, &transition.response);
@@ -278,7 +260,7 @@ fn apply_transition(
         &state.parts,
         &state.library,
     );
-    Ok(tell(&mut state.clients, number, &raised, telling, given, kept))
+    Ok(tell(&mut state.clients, number, &raised, telling, notices))
 }
 
 /// Whether an event makes other clients of its partition listen, or to other channels.
@@ -323,8 +305,7 @@ fn write_transition<S: Shelf>(
     ensures image { OnOk result (image_of_state state.new ≡ image_after state.old event.new) }
     ensures answer { IfOk result (λ applied. applied.telling.response.answer ≡ answer_to state.old event.new) }
     ensures report { IfOk result (λ applied. applied.telling.report ≡ (telling_of state.old event.new).report) }
-    ensures given { IfOk result (λ applied. listed applied.given ≡ (telling_of state.old event.new).notices) }
-    ensures kept { IfOk result (λ applied. listed applied.kept ≡ (telling_of state.old event.new).notices) }
+    ensures notices { IfOk result (λ applied. listed applied.notices ≡ (telling_of state.old event.new).notices) }
     ensures within { OnOk result (IsWithinLimits state.old event.new) }
     ensures turns { OnOk result (TurnsByWriteOf S.standing shelf.old shelf.new transition.written event.new) }
     ensures answers { OnOk result (IsWriteReply S.standing S.failed shelf.old shelf.new transition.written event.new) }
@@ -354,23 +335,16 @@ fn tell_written(
     requires alone { IsAlone transition }
     requires place { place ≡ place_in_state state.old event.now }
     requires before { prepared.before ≡ readings_in state.old Crossing.Stays place }
-    requires given { count_by is_waiting state.old.clients.items ≤ room_in prepared.given }
-    requires kept { count_by is_waiting state.old.clients.items ≤ room_in prepared.kept }
-    requires none_given { listed prepared.given ≡ [] }
-    requires none_kept { listed prepared.kept ≡ [] }
+    requires room { count_by is_waiting state.old.clients.items ≤ room_in prepared.notices }
+    requires none { listed prepared.notices ≡ [] }
     ensures image { image_of_state state.new ≡ after_transition (image_of_state state.old) event.now transition }
     ensures answer { result.telling.response.answer ≡ transition.response.answer }
     ensures report { result.telling.report ≡ (told_by (image_of_state state.old) event.now transition).report }
-    ensures given { listed result.given ≡ (told_by (image_of_state state.old) event.now transition).notices }
-    ensures kept { listed result.kept ≡ (told_by (image_of_state state.old) event.now transition).notices }
+    ensures notices { listed result.notices ≡ (told_by (image_of_state state.old) event.now transition).notices }
     ensures counts { counts_frames (image_of_state state.old) event.now transition ≡ true }
     ensures limits { keeps_limits (image_of_state state.old) event.now transition ≡ true }
 {
-    let Prepared {
-        given,
-        kept,
-        before,
-    } = prepared;
+    let Prepared { notices, before } = prepared;
     state.books.rest();
     state.ended = ended_after(state.ended, event);
     is_within_still(&state.parts, place);
@@ -385,7 +359,7 @@ fn tell_written(
         &state.library,
     );
     let telling = transition.into_telling();
-    tell(&mut state.clients, number, &raised, telling, given, kept)
+    tell(&mut state.clients, number, &raised, telling, notices)
 }
 
 /// What is true of each partition: its numbers are within their limit.
@@ -435,26 +409,20 @@ fn tell(
     number: u32,
     raised: &Raised,
     telling: Telling,
-    mut given: Notices,
-    mut kept: Notices,
+    mut notices: Notices,
 ) -> Applied
     requires room { vec_len clients.old < vec_capacity clients.old }
     requires settled { AllSettled clients.old.items }
-    requires given { HasRoom (raised_in raised.now) clients.old.items (room_in given) }
-    requires kept { HasRoom (raised_in raised.now) clients.old.items (room_in kept) }
-    requires none_given { listed given ≡ [] }
-    requires none_kept { listed kept ≡ [] }
+    requires notices { HasRoom (raised_in raised.now) clients.old.items (room_in notices) }
+    requires none { listed notices ≡ [] }
     ensures clients { clients.new.items ≡ clients_told number raised.now telling.response clients.old.items }
     ensures telling { result.telling ≡ telling }
-    ensures given { listed result.given ≡ notices_told number raised.now telling.response clients.old.items }
-    ensures kept { listed result.kept ≡ notices_told number raised.now telling.response clients.old.items }
+    ensures notices { listed result.notices ≡ notices_told number raised.now telling.response clients.old.items }
 {
-    tell_clients(clients, number, raised, &telling.response, &mut given);
-    kept.push_all(given.as_slice());
+    tell_clients(clients, number, raised, &telling.response, &mut notices);
     Applied {
         telling,
-        given: given.trimmed(),
-        kept: kept.trimmed(),
+        notices: notices.trimmed(),
     }
 }
 

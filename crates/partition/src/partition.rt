@@ -38,7 +38,7 @@ use command_lists::ListForm;
 use idle_clients::find_client;
 use mpd_command::Request;
 use player_core::PlayerFault;
-use player_events::{Event, LogEntry, Outcome, event_bytes};
+use player_events::{Event, Logged, Outcome};
 use player_state::{Client, FrameCounts, Library, Part};
 use shelf::Shelf;
 use std::alloc::{AllocError, Global};
@@ -111,7 +111,7 @@ pub struct Partition {
     /// The state that the window began with. It has no bytes: contracts alone read it.
     base: Snapshot<State>,
     state: State,
-    history: Vec<LogEntry>,
+    history: Vec<Logged>,
     /// The bytes of the window's texts.
     bytes: u64,
 }
@@ -415,7 +415,7 @@ impl Partition {
     }
 
     /// The events of the window, the first one first.
-    pub fn history(&self) -> &[LogEntry]
+    pub fn history(&self) -> &[Logged]
         ensures window { result.now ≡ self.now.window }
         // Every reply is the one-thread player's at its place in the history.
         ensures told { AreTold self.now.base self.now.window }
@@ -539,11 +539,11 @@ fn are_distinct(parts: &[Part])
 }
 
 /// The bytes of the last event's texts.
-fn last_bytes(history: &[LogEntry]) -> u64
+fn last_bytes(history: &[Logged]) -> u64
     ensures { AreBytesOfLast history.now result }
 {
     match history {
-        [.., last] => event_bytes(last),
+        [.., last] => last.bytes(),
         [] => 0,
     }
 }

@@ -19,18 +19,15 @@ use player_state::FrameCounts;
 use std::alloc::{AllocError, Global};
 use transitions::{Move, Refusals, Stand, Transition};
 
-/// Lists for the notices of an event, one to hand out and one to keep, and what tells whether it changed a
-/// part of the player.
+/// A list for the notices of an event, and what tells whether it changed a part of the player.
 #[derive(Drop)]
 pub(crate) struct Prepared {
-    pub(crate) given: Notices,
-    pub(crate) kept: Notices,
+    pub(crate) notices: Notices,
     pub(crate) before: Fingerprint,
 }
 
 impl Prepared {
-    /// With room for so many notices in each list, before an event of a partition by which this passes between
-    /// partitions.
+    /// With room for so many notices, before an event of a partition by which this passes between partitions.
     fn with_room(
         alloc: Global,
         crossing: &Crossing,
@@ -38,15 +35,12 @@ impl Prepared {
         state: &State,
         room: usize,
     ) -> Result<Prepared, AllocError>
-        ensures given { IfOk result (λ prepared. listed prepared.given ≡ []) }
-        ensures kept { IfOk result (λ prepared. listed prepared.kept ≡ []) }
-        ensures given_room { IfOk result (λ prepared. room ≤ room_in prepared.given) }
-        ensures kept_room { IfOk result (λ prepared. room ≤ room_in prepared.kept) }
+        ensures notices { IfOk result (λ prepared. listed prepared.notices ≡ []) }
+        ensures room { IfOk result (λ prepared. room ≤ room_in prepared.notices) }
         ensures before { IfOk result (λ prepared. prepared.before ≡ readings_in state.now crossing.now place) }
     {
         Ok(Prepared {
-            given: Notices::with_room(alloc, room)?,
-            kept: Notices::with_room(alloc, room)?,
+            notices: Notices::with_room(alloc, room)?,
             before: Fingerprint::of(alloc, crossing, place, &state.parts, &state.library)?,
         })
     }
@@ -67,10 +61,8 @@ pub(crate) fn prepare_step(
 ) -> Result<(Prepared, FrameCounts), PartitionFault>
     requires unwritten { is_written transition.now.written ≡ false }
     requires acts { ActsAt state.now place transition.now }
-    ensures given { IfOk result (λ made. listed made.0.given ≡ []) }
-    ensures kept { IfOk result (λ made. listed made.0.kept ≡ []) }
-    ensures given_room { IfOk result (λ made. HasRoomIn state.now number place transition.now made.0.given) }
-    ensures kept_room { IfOk result (λ made. HasRoomIn state.now number place transition.now made.0.kept) }
+    ensures notices { IfOk result (λ made. listed made.0.notices ≡ []) }
+    ensures room { IfOk result (λ made. HasRoomIn state.now number place transition.now made.0.notices) }
     ensures before { IfOk result (λ made. made.0.before ≡ readings_in state.now transition.now.crossing place) }
     ensures counted { OnOk result (can_count_all (books_in state.now place transition.now) ≡ true) }
     ensures books { IfOk result (λ made. made.1 ≡ books_in state.now place transition.now) }
@@ -105,10 +97,8 @@ pub(crate) fn prepare_write(
     place: u8,
     event: &Event,
 ) -> Result<(Prepared, Refusals), AllocError>
-    ensures given { IfOk result (λ made. listed made.0.given ≡ []) }
-    ensures kept { IfOk result (λ made. listed made.0.kept ≡ []) }
-    ensures given_room { IfOk result (λ made. count_by is_waiting state.now.clients.items ≤ room_in made.0.given) }
-    ensures kept_room { IfOk result (λ made. count_by is_waiting state.now.clients.items ≤ room_in made.0.kept) }
+    ensures notices { IfOk result (λ made. listed made.0.notices ≡ []) }
+    ensures room { IfOk result (λ made. count_by is_waiting state.now.clients.items ≤ room_in made.0.notices) }
     ensures before { IfOk result (λ made. made.0.before ≡ readings_in state.now Crossing.Stays place) }
     ensures refusals { IfOk result (λ made. made.1 ≡ (stand_of event.now, name_at event.now)) }
 {

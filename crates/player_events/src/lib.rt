@@ -2,7 +2,8 @@
 #![tactic(auto)]
 
 mod event;
+mod logged;
 mod sizes;
 
 pub use event::{Event, LogEntry, Outcome};
-pub use sizes::event_bytes;
+pub use logged::Logged;

@@ -9,7 +9,7 @@ use shelf::Entry;
 use transitions::Read;
 
 /// The bytes that a client was answered at an event, and that the shelf answered to it; at most 2^64-1.
-pub fn event_bytes(log_entry: &LogEntry) -> u64
+pub(crate) fn event_bytes(log_entry: &LogEntry) -> u64
     ensures { result ≡ min (event_bytes_lem log_entry.now) (2 ^ 64 - 1) }
 {
     let answer = log_entry.told.reply().text().len() as u64;

@@ -247,15 +247,6 @@ fn entries(player: &Partition, alloc: Global) -> Result<String, AllocError> {
     Ok(all)
 }
 
-/// What clients heard of the last event that is kept.
-fn last_kept(player: &Partition, alloc: Global) -> Result<String, AllocError> {
-    let mut all = String::new(alloc);
-    if let Some(last) = player.history().last() {
-        add_heard(&mut all, alloc, &last.told)?;
-    }
-    Ok(all)
-}
-
 /// Adds the frames of an output: those that it was given, wrote and discarded.
 fn add_book(
     all: &mut String,
@@ -297,8 +288,6 @@ fn shown(player: &Partition, alloc: Global, what: &str) -> Result<String, AllocE
         entries(player, alloc)
     } else if what == "window" {
         window(player, alloc)
-    } else if what == "kept" {
-        last_kept(player, alloc)
     } else if what == "books" {
         books(player, alloc)
     } else {

@@ -19,7 +19,6 @@ comes 1
 2 ping
 show counts
 show 2
-show kept
 show pending";
 
 const WAITING_TELLS: &str = "OK MPD 0.23.0
@@ -37,7 +36,6 @@ waits
 closed
 seat 15: 2, seat 3: 9, all: 11, entries: 1, clients: 1, volume: 40
 not there
-closed
 client: 1
 changed: playlist
 changed: mixer

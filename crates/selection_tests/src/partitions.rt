@@ -131,8 +131,7 @@ fn done(daemon: &mut Daemon, number: u32, transition: Transition) -> Response {
 }
 
 fn text_of(alloc: Global, response: Response) -> Result<String, AllocError> {
-    let (reply, _) = response.into_replies();
-    String::from_str(alloc, reply.text())
+    String::from_str(alloc, response.into_reply().text())
 }
 
 fn ran(

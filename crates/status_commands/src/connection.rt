@@ -22,19 +22,19 @@ pub fn run(alloc: Global, asked: Asked, command: &ConnectionCommand) -> Result<T
     ensures fits { IfOk result (λ transition. (part : Part) → Fits part transition.effect) }
 {
     match command {
-        ConnectionCommand::AllTags => Ok(Transition::only(shut(alloc)?)),
-        ConnectionCommand::Close => Transition::closes_client(alloc, asked),
+        ConnectionCommand::AllTags => Ok(Transition::only(shut(alloc))),
+        ConnectionCommand::Close => Ok(Transition::closes_client(alloc, asked)),
         ConnectionCommand::Commands(set) => Ok(Transition::only(commands(alloc, asked, *set)?)),
         ConnectionCommand::Decoders => Ok(Transition::only(decoders(alloc, asked)?)),
-        ConnectionCommand::Kill => Transition::ends_daemon(alloc, asked),
+        ConnectionCommand::Kill => Ok(Transition::ends_daemon(alloc, asked)),
         ConnectionCommand::ListMounts => Ok(Transition::only(mounts(alloc, asked)?)),
-        ConnectionCommand::NoTags => Ok(Transition::only(shut(alloc)?)),
+        ConnectionCommand::NoTags => Ok(Transition::only(shut(alloc))),
         ConnectionCommand::NotCommands(set) => Ok(Transition::only(not_commands(alloc, asked, *set)?)),
         ConnectionCommand::Ping => Ok(Transition::only(ping(alloc, asked)?)),
         ConnectionCommand::TagTypes => Ok(Transition::only(tag_types(alloc, asked)?)),
         ConnectionCommand::UrlHandlers => Ok(Transition::only(url_handlers(alloc, asked)?)),
-        ConnectionCommand::WithTags(_) => Ok(Transition::only(shut(alloc)?)),
-        ConnectionCommand::WithoutTags(_) => Ok(Transition::only(shut(alloc)?)),
+        ConnectionCommand::WithTags(_) => Ok(Transition::only(shut(alloc))),
+        ConnectionCommand::WithoutTags(_) => Ok(Transition::only(shut(alloc))),
     }
 }
 

@@ -14,7 +14,7 @@ use crate::stats::stats;
 use idle_notes::Subsystems;
 use known_tags::TagSet;
 use mpd_command::{Command, ConnectionCommand, StatusCommand};
-use mpd_text::{Answer, ErrorNumber, SharedText};
+use mpd_text::{Answer, ErrorNumber};
 use play_order::{Consume, Modes, Single};
 use player_core::Playback;
 use player_state::{Client, Library, Part};
@@ -36,8 +36,8 @@ pub fn run(alloc: Global, asked: Asked, part: &Part, library: &Library, command:
     match command {
         StatusCommand::ClearError => clear_error(alloc, asked),
         StatusCommand::CurrentSong => current_song(alloc, asked, part, library),
-        StatusCommand::Idle(_) => Ok(Transition::only(shut(alloc)?)),
-        StatusCommand::NoIdle => Ok(Transition::only(shut(alloc)?)),
+        StatusCommand::Idle(_) => Ok(Transition::only(shut(alloc))),
+        StatusCommand::NoIdle => Ok(Transition::only(shut(alloc))),
         StatusCommand::Stats => stats(alloc, asked, part, library),
         StatusCommand::Status(everyday) => status(alloc, asked, part, library, *everyday),
     }
@@ -404,13 +404,13 @@ fn wait_for(alloc: Global, client: Client, named: Subsystems) -> Result<Response
 {
     let mut pending = client.pending;
     let Some(names) = pending.wait(named) else {
-        let nothing = SharedText::of(String::new(alloc))?;
-        return Response::of(nothing, Next::Waits, false, Move::Wait(named));
+        let nothing = String::new(alloc);
+        return Ok(Response::of(nothing, Next::Waits, false, Move::Wait(named)));
     };
     let mut answer = Answer::new(alloc);
     names.push_lines(&mut answer)?;
     answer.ok()?;
-    tells(answer.into_string(), Move::Learn)
+    Ok(tells(answer.into_string(), Move::Learn))
 }
 
 fn no_idle(alloc: Global, asked: Asked, client: Client) -> Result<Response, AllocError>
@@ -426,9 +426,9 @@ fn go_on(alloc: Global, client: Client) -> Result<Response, AllocError>
     ensures { Responds result (resumes client) }
 {
     if !client.pending.is_waiting() {
-        return tells(String::new(alloc), Move::Stay);
+        return Ok(tells(String::new(alloc), Move::Stay));
     }
-    tells(String::from_str(alloc, "OK\n")?, Move::Resume)
+    Ok(tells(String::from_str(alloc, "OK\n")?, Move::Resume))
 }
 
 fn not_in_list(alloc: Global, asked: Asked) -> Result<Response, AllocError>

@@ -3,7 +3,6 @@ ghost use Rattle.std.specs.Prelude.{◌≡◌};
 
 use idle_notes::Subsystems;
 use known_tags::TagSet;
-use mpd_text::SharedText;
 use std::marker::Model;
 
 /// What becomes of a client after a reply.
@@ -54,17 +53,18 @@ pub enum Move {
 /// The bytes for the client that spoke, what becomes of it, and whether it was refused something.
 #[derive(Drop)]
 pub struct Reply {
-    pub(crate) text: SharedText,
+    pub(crate) text: String,
     pub(crate) next: Next,
     pub(crate) refused: bool,
 }
 
 impl Model for Reply {
+    ghost use Rattle.std.specs.String.{string_bytes};
     ghost use Rattle.transitions.specs.Answers.{Answer};
 
     ghost Value = { Answer };
 
-    ghost view = { λ r. record { text = r.text; next = r.next; refused = r.refused } };
+    ghost view = { λ r. record { text = string_bytes r.text; next = r.next; refused = r.refused } };
 }
 
 impl Reply {

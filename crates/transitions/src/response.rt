@@ -8,69 +8,49 @@ use crate::asked::{Asked, Stand};
 use crate::reply::{Move, Next, Reply};
 use command_lists::ListForm;
 use mpd_command::Name;
-use mpd_text::{Answer, ErrorNumber, SharedText};
+use mpd_text::{Answer, ErrorNumber};
 use std::alloc::{AllocError, Global};
 use std::marker::Model;
 
-/// What an event answers, and what its client does. The reply is there twice, over one text: a second owner
-/// of the text has to be made before anything changes, since to make it can fail.
+/// What an event answers, and what its client does.
 pub struct Response {
-    given: Reply,
-    kept: Reply,
+    reply: Reply,
     moves: Move,
 }
 
 // Written out, so that a proof goes through one call where it lets one go (docs/DECISIONS.md).
 impl Drop for Response {
     fn drop(self) {
-        let Response {
-            given: _,
-            kept: _,
-            moves: _,
-        } = self;
+        let Response { reply: _, moves: _ } = self;
     }
 }
 
 impl Model for Response {
-    ghost use Rattle.std.specs.Prelude.{◌≡◌};
     ghost use Rattle.transitions.specs.Answers.{ResponseData};
 
     ghost Value = { ResponseData };
 
-    ghost view = { λ t. record { answer = t.given; move = t.moves } };
-
-    ghost invariant = { λ t. t.kept ≡ t.given };
+    ghost view = { λ t. record { answer = t.reply; move = t.moves } };
 }
 
 impl Response {
-    pub fn of(
-        text: SharedText,
-        next: Next,
-        refused: bool,
-        moves: Move,
-    ) -> Result<Response, AllocError>
-        ensures { Responds result (response_of text next refused moves) }
+    pub fn of(text: String, next: Next, refused: bool, moves: Move) -> Response
+        ensures { result ≡ response_of (string_bytes text) next refused moves }
     {
-        let kept = text.clone()?;
-        Ok(Response {
-            given: Reply {
+        Response {
+            reply: Reply {
                 text,
                 next,
                 refused,
             },
-            kept: Reply {
-                text: kept,
-                next,
-                refused,
-            },
             moves,
-        })
+        }
     }
 
     pub fn next(&self) -> Next
         ensures { result ≡ self.now.answer.next }
     {
-        self.given.next
+        self.reply.next
     }
 
     pub fn moves(&self) -> Move
@@ -79,25 +59,19 @@ impl Response {
         self.moves
     }
 
-    /// The reply to hand out, and the one to keep.
-    pub fn into_replies(self) -> (Reply, Reply)
-        ensures given { result.0 ≡ self.answer }
-        ensures kept { result.1 ≡ self.answer }
+    pub fn into_reply(self) -> Reply
+        ensures { result ≡ self.answer }
     {
-        let Response {
-            given,
-            kept,
-            moves: _,
-        } = self;
-        (given, kept)
+        let Response { reply, moves: _ } = self;
+        reply
     }
 }
 
 /// These lines, after which the client's next line may come.
-pub fn tells(text: String, moves: Move) -> Result<Response, AllocError>
-    ensures { Responds result (record { answer = tells_lem (string_bytes text); move = moves }) }
+pub fn tells(text: String, moves: Move) -> Response
+    ensures { result ≡ record { answer = tells_lem (string_bytes text); move = moves } }
 {
-    Response::of(SharedText::of(text)?, Next::Goes, false, moves)
+    Response::of(text, Next::Goes, false, moves)
 }
 
 /// A success that shows no lines.
@@ -113,7 +87,7 @@ pub fn succeeds_and(alloc: Global, asked: Asked, moves: Move) -> Result<Response
 {
     let mut nothing = Answer::new(alloc);
     end(&mut nothing, asked.stand)?;
-    tells(nothing.into_string(), moves)
+    Ok(tells(nothing.into_string(), moves))
 }
 
 /// A success that shows these lines.
@@ -122,7 +96,7 @@ pub fn shows(asked: Asked, lines: Answer) -> Result<Response, AllocError>
 {
     let mut lines = lines;
     end(&mut lines, asked.stand)?;
-    tells(lines.into_string(), Move::Stay)
+    Ok(tells(lines.into_string(), Move::Stay))
 }
 
 /// Ends the lines of a success.
@@ -161,12 +135,7 @@ pub fn refuses_line(
     let mut answer = Answer::new(alloc);
     let place = stand.place();
     answer.ack(number, place, name_text(name), text)?;
-    Response::of(
-        SharedText::of(answer.into_string())?,
-        Next::Goes,
-        true,
-        Move::Stay,
-    )
+    Ok(Response::of(answer.into_string(), Next::Goes, true, Move::Stay))
 }
 
 fn name_text(name: Option<Name>) -> &'static str
@@ -179,23 +148,22 @@ fn name_text(name: Option<Name>) -> &'static str
 }
 
 /// Closed, without bytes.
-pub fn shut(alloc: Global) -> Result<Response, AllocError>
-    ensures { Responds result (stays shut_lem) }
+pub fn shut(alloc: Global) -> Response
+    ensures { result ≡ stays shut_lem }
 {
     silence(alloc, Next::Closes)
 }
 
 /// Closed, without bytes, where the daemon ends as well.
-pub fn shut_down(alloc: Global) -> Result<Response, AllocError>
-    ensures { Responds result (stays shut_down_lem) }
+pub fn shut_down(alloc: Global) -> Response
+    ensures { result ≡ stays shut_down_lem }
 {
     silence(alloc, Next::Kills)
 }
 
 /// No bytes, and what becomes of the client.
-fn silence(alloc: Global, next: Next) -> Result<Response, AllocError>
-    ensures { Responds result (stays (silence_lem next)) }
+fn silence(alloc: Global, next: Next) -> Response
+    ensures { result ≡ stays (silence_lem next) }
 {
-    let nothing = SharedText::of(String::new(alloc))?;
-    Response::of(nothing, next, false, Move::Stay)
+    Response::of(String::new(alloc), next, false, Move::Stay)
 }

@@ -6,7 +6,7 @@ ghost use Rattle.player_state.specs.Libraries.{library_after, second_after};
 ghost use Rattle.player_state.specs.declared.scan.ScanMove.TheVariants.{End};
 ghost use Rattle.transitions.specs.Shelves.{is_written};
 ghost use Rattle.player_state.specs.declared.report.Report.{Report};
-ghost use Rattle.transitions.specs.Transitions.{IsDecidedBy, acts as acts_lem, acts_unless as acts_unless_lem, crosses as crosses_lem, departs as departs_lem, enters as enters_lem, keeps_all_numbers, leaves as leaves_lem, max_cut_in, only_written, or_ended as or_ended_lem, parts_after, quiet, report_of, no_response};
+ghost use Rattle.transitions.specs.Transitions.{IsDecidedBy, acts as acts_lem, acts_unless as acts_unless_lem, crosses as crosses_lem, departs as departs_lem, enters as enters_lem, keeps_all_numbers, leaves as leaves_lem, max_cut_in, only_written, or_ended as or_ended_lem, parts_after, quiet, report_of, no_response, transition_by};
 
 use crate::asked::Asked;
 use crate::reply::Move;
@@ -70,27 +70,22 @@ impl Transition {
     }
 
     /// A step of the decoder or of an output.
-    pub fn acts(alloc: Global, step: AudioStep) -> Result<Transition, AllocError>
-        ensures { IfOk result (λ transition. transition ≡ acts_lem step) }
+    pub fn acts(alloc: Global, step: AudioStep) -> Transition
+        ensures { result ≡ acts_lem step }
     {
-        Ok(Transition {
+        Transition {
             effect: Effect::ByAudio(step),
             scan: ScanMove::Stay,
             written: ShelfWrite::Nothing,
-            response: tells(String::new(alloc), Move::Stay)?,
+            response: tells(String::new(alloc), Move::Stay),
             report: Report::Nothing,
             crossing: Crossing::Stays,
-        })
+        }
     }
 
     /// A step of the decoder; after the end it does nothing, and is told so.
-    pub fn acts_unless(
-        alloc: Global,
-        ended: bool,
-        report: Report,
-        step: AudioStep,
-    ) -> Result<Transition, AllocError>
-        ensures { IfOk result (λ transition. transition ≡ acts_unless_lem ended report step) }
+    pub fn acts_unless(alloc: Global, ended: bool, report: Report, step: AudioStep) -> Transition
+        ensures { result ≡ acts_unless_lem ended report step }
     {
         if ended {
             return Transition::reports(alloc, ScanMove::Stay, report);
@@ -167,24 +162,24 @@ impl Transition {
     }
 
     /// The client is gone, without an answer.
-    pub fn departs(alloc: Global, client: u32) -> Result<Transition, AllocError>
-        ensures { IfOk result (λ transition. transition ≡ departs_lem client) }
+    pub fn departs(alloc: Global, client: u32) -> Transition
+        ensures { result ≡ departs_lem client }
     {
-        Ok(Transition::leaves(client, shut(alloc)?))
+        Transition::leaves(client, shut(alloc))
     }
 
     /// The client that asks is gone, without an answer.
-    pub fn closes_client(alloc: Global, asked: Asked) -> Result<Transition, AllocError>
-        ensures { IsDecidedBy result (closes_client_lem asked) }
+    pub fn closes_client(alloc: Global, asked: Asked) -> Transition
+        ensures { result ≡ transition_by (closes_client_lem asked) }
     {
         Transition::departs(alloc, asked.client)
     }
 
     /// The client that asks is gone, without an answer, and the daemon ends.
-    pub fn ends_daemon(alloc: Global, asked: Asked) -> Result<Transition, AllocError>
-        ensures { IsDecidedBy result (ends_daemon_lem asked) }
+    pub fn ends_daemon(alloc: Global, asked: Asked) -> Transition
+        ensures { result ≡ transition_by (ends_daemon_lem asked) }
     {
-        Ok(Transition::leaves(asked.client, shut_down(alloc)?))
+        Transition::leaves(asked.client, shut_down(alloc))
     }
 
     /// A client is gone, which is answered so.
@@ -242,17 +237,17 @@ impl Transition {
     }
 
     /// The part stays as it is, and this is told to a part of the daemon that is no client.
-    pub fn reports(alloc: Global, scan: ScanMove, report: Report) -> Result<Transition, AllocError>
-        ensures { IfOk result (λ transition. transition ≡ record (quiet no_response) { scan = scan; report = report }) }
+    pub fn reports(alloc: Global, scan: ScanMove, report: Report) -> Transition
+        ensures { result ≡ record (quiet no_response) { scan = scan; report = report } }
     {
-        Ok(Transition {
+        Transition {
             effect: Effect::ByCommand(CommandEffect::Rests),
             scan,
             written: ShelfWrite::Nothing,
-            response: tells(String::new(alloc), Move::Stay)?,
+            response: tells(String::new(alloc), Move::Stay),
             report,
             crossing: Crossing::Stays,
-        })
+        }
     }
 
     /// The end, whatever else is told.

@@ -1,4 +1,4 @@
-use Rattle.std.proofs.Common.{◌≡◌, ℕ, Bool, true, false, Option, Some, None, ap, sym, subst, ◌∙◌, rules, if◌then◌else◌}
+use Rattle.std.proofs.Common.{◌≡◌, ℕ, Bool, List, true, false, Option, Some, None, ap, sym, subst, ◌∙◌, rules, if◌then◌else◌}
 use Rattle.std.specs.Option.{option_copied}
 use Rattle.transitions.specs.Shelves.{is_written}
 use Rattle.transitions.specs.Transitions.{TransitionData, acts, or_ended, quiet}
@@ -8,7 +8,7 @@ use Rattle.player_state.specs.declared.effect.AudioStep.TheVariants.{Settles}
 use Rattle.player_state.specs.declared.state.Part.{Part}
 use Rattle.player_state.specs.Outputs.{is_output}
 use Rattle.partition.specs.Applying.{WritesAlone, place_in_state}
-use Rattle.partition.specs.Step.{absent, output_turn}
+use Rattle.partition.specs.Step.{absent, output_turn, want}
 use Rattle.partition.proofs.event_transitions.transition_of_event.Goals as goal
 
 -- what writes to the shelf does nothing else
@@ -28,6 +28,12 @@ turn_fits ended None output step = tt
 turn_fits ended (Some part) output step =
     elim (is_output part.outputs output) as (λ b. FitsIn (Some part) (or_ended ended (if b then acts step else absent)).effect) [ true ↦ tt | false ↦ tt ]
 
+-- the want of a job fits
+want_fits : (ended : Bool) (part : Option Part) (owes : List Bool) → FitsIn part (want ended part owes).effect
+want_fits ended None owes = tt
+want_fits true (Some part) owes = tt
+want_fits false (Some part) owes = tt
+
 pub returns-in_ok-transition-in-Line-clause-fits : goal.returns-in_ok-transition-in-Line-clause-fits
 returns-in_ok-transition-in-Line-clause-fits c =
     let t : TransitionData = c.in_ok-transition-in-Line.transition in
@@ -36,17 +42,25 @@ returns-in_ok-transition-in-Line-clause-fits c =
     subst (λ (u : TransitionData). FitsIn here u.effect) (sym c.once_written.ensures.transition)
     (fits_once here (is_written t.written) t (subst (λ (o : Option Part). FitsIn o t.effect) is c.in_ok-transition-in-Line.ensures.fits))
 
-pub returns-in_ok-settle-in-OutputTurn-clause-alone : goal.returns-in_ok-settle-in-OutputTurn-clause-alone
-returns-in_ok-settle-in-OutputTurn-clause-alone c =
+pub returns-in-Want-clause-fits : goal.returns-in-Want-clause-fits
+returns-in-Want-clause-fits c =
+    let here : Option Part = part_at (place_in_state c.args.state.now c.args.event.now) c.args.state.now.parts in
+    let is : option_copied c.at-part.result ≡ here = search rules in
+    subst (λ (u : TransitionData). FitsIn here u.effect)
+    (sym (c.want.ensures ∙ ap (λ o. want c.args.state.now.ended o c.in-Want.owes) is))
+    (want_fits c.args.state.now.ended here c.in-Want.owes)
+
+pub returns-in-OutputTurn-clause-alone : goal.returns-in-OutputTurn-clause-alone
+returns-in-OutputTurn-clause-alone c =
     let turn : AudioStep = Settles c.in-OutputTurn.output c.in-OutputTurn.written c.in-OutputTurn.discarded c.in-OutputTurn.failed in
-    subst WritesAlone (sym (c.or_ended.ensures ∙ ap (or_ended c.args.state.now.ended) c.in_ok-settle-in-OutputTurn.ensures.transition))
+    subst WritesAlone (sym (c.or_ended.ensures ∙ ap (or_ended c.args.state.now.ended) c.settle.ensures))
     (turn_alone c.args.state.now.ended (option_copied c.at-part.result) c.in-OutputTurn.output turn)
 
-pub returns-in_ok-settle-in-OutputTurn-clause-fits : goal.returns-in_ok-settle-in-OutputTurn-clause-fits
-returns-in_ok-settle-in-OutputTurn-clause-fits c =
+pub returns-in-OutputTurn-clause-fits : goal.returns-in-OutputTurn-clause-fits
+returns-in-OutputTurn-clause-fits c =
     let turn : AudioStep = Settles c.in-OutputTurn.output c.in-OutputTurn.written c.in-OutputTurn.discarded c.in-OutputTurn.failed in
     let here : Option Part = part_at (place_in_state c.args.state.now c.args.event.now) c.args.state.now.parts in
     let is : option_copied c.at-part.result ≡ here = search rules in
     subst (λ (u : TransitionData). FitsIn here u.effect)
-    (sym (c.or_ended.ensures ∙ ap (or_ended c.args.state.now.ended) (c.in_ok-settle-in-OutputTurn.ensures.transition ∙ ap (λ o. output_turn o c.in-OutputTurn.output turn) is)))
+    (sym (c.or_ended.ensures ∙ ap (or_ended c.args.state.now.ended) (c.settle.ensures ∙ ap (λ o. output_turn o c.in-OutputTurn.output turn) is)))
     (turn_fits c.args.state.now.ended here c.in-OutputTurn.output turn)

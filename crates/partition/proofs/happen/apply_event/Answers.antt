@@ -59,17 +59,11 @@ returns-clause-event g c =
     heard_so c.args.event.now c.hear.new.self (heard_read c.in_ok-read.read)
     c.hear.ensures
 
-pub returns-clause-given : goal.returns-clause-given
-returns-clause-given g c =
+pub returns-clause-notices : goal.returns-clause-notices
+returns-clause-notices g c =
     let i : Image = image_of_state c.args.state.now in
-    subst (λ (t : TransitionData). IfOk c.apply_transition.result (λ applied. listed applied.given ≡ (told_by i c.hear.new.self t).notices))
-    c.in_ok-transition.ensures.transition c.apply_transition.ensures.given
-
-pub returns-clause-kept : goal.returns-clause-kept
-returns-clause-kept g c =
-    let i : Image = image_of_state c.args.state.now in
-    subst (λ (t : TransitionData). IfOk c.apply_transition.result (λ applied. listed applied.kept ≡ (told_by i c.hear.new.self t).notices))
-    c.in_ok-transition.ensures.transition c.apply_transition.ensures.kept
+    subst (λ (t : TransitionData). IfOk c.apply_transition.result (λ applied. listed applied.notices ≡ (told_by i c.hear.new.self t).notices))
+    c.in_ok-transition.ensures.transition c.apply_transition.ensures.notices
 
 pub returns-clause-shelf : goal.returns-clause-shelf
 returns-clause-shelf g c =

@@ -7,23 +7,14 @@ use Rattle.partition.proofs.Raised.{Shown, stepped, noticed, roomy, shown_by}
 use Rattle.partition.proofs.Settled.{unwritten}
 use Rattle.partition.proofs.happen.apply_transition.Goals as goal
 
-pub tell-requires-clause-given : goal.tell-requires-clause-given
-tell-requires-clause-given c =
+pub tell-requires-clause-notices : goal.tell-requires-clause-notices
+tell-requires-clause-notices c =
     let i : Image = image_of_state c.args.state.now in
     let shown : Shown i c.args.event.now c.args.transition c.carry_out.new.parts c.carry_out.new.library (raised_in c.changed-raised.result) c.args.transition.response =
     shown_by i c.args.event.now c.args.transition c.carry_out.new.parts c.carry_out.new.library (raised_in c.changed-raised.result) c.args.transition.response
     c.goer-goer.result c.changes_songs-database.result c.changes_listeners-subscription.result Nothing c.in-Ok.made.0.before c.changed-raised.result (search rules) (search rules) (search rules) (search rules) (sym (unwritten c.args.transition.written c.requires.unwritten)) (search rules) in
     roomy i c.args.event.now c.args.transition c.carry_out.new.parts c.carry_out.new.library (raised_in c.changed-raised.result) c.args.transition.response
-    (room_in c.in-Ok.made.0.given) (search rules) (search rules) shown (search rules)
-
-pub tell-requires-clause-kept : goal.tell-requires-clause-kept
-tell-requires-clause-kept c =
-    let i : Image = image_of_state c.args.state.now in
-    let shown : Shown i c.args.event.now c.args.transition c.carry_out.new.parts c.carry_out.new.library (raised_in c.changed-raised.result) c.args.transition.response =
-    shown_by i c.args.event.now c.args.transition c.carry_out.new.parts c.carry_out.new.library (raised_in c.changed-raised.result) c.args.transition.response
-    c.goer-goer.result c.changes_songs-database.result c.changes_listeners-subscription.result Nothing c.in-Ok.made.0.before c.changed-raised.result (search rules) (search rules) (search rules) (search rules) (sym (unwritten c.args.transition.written c.requires.unwritten)) (search rules) in
-    roomy i c.args.event.now c.args.transition c.carry_out.new.parts c.carry_out.new.library (raised_in c.changed-raised.result) c.args.transition.response
-    (room_in c.in-Ok.made.0.kept) (search rules) (search rules) shown (search rules)
+    (room_in c.in-Ok.made.0.notices) (search rules) (search rules) shown (search rules)
 
 pub returns-clause-image : goal.returns-clause-image
 returns-clause-image c =
@@ -34,20 +25,11 @@ returns-clause-image c =
     stepped i c.args.event.now c.args.transition c.carry_out.new.parts c.carry_out.new.library (raised_in c.changed-raised.result) c.in_ok-telling.telling.response c.in-Ok.made.1 c.ended_after-state.result c.tell.new.clients.items
     (search rules) (search rules) (search rules) c.ended_after-state.ensures (search rules) shown (search rules)
 
-pub returns-clause-given : goal.returns-clause-given
-returns-clause-given c =
+pub returns-clause-notices : goal.returns-clause-notices
+returns-clause-notices c =
     let i : Image = image_of_state c.args.state.now in
     let shown : Shown i c.args.event.now c.args.transition c.carry_out.new.parts c.carry_out.new.library (raised_in c.changed-raised.result) c.args.transition.response =
     shown_by i c.args.event.now c.args.transition c.carry_out.new.parts c.carry_out.new.library (raised_in c.changed-raised.result) c.args.transition.response
     c.goer-goer.result c.changes_songs-database.result c.changes_listeners-subscription.result Nothing c.in-Ok.made.0.before c.changed-raised.result (search rules) (search rules) (search rules) (search rules) (sym (unwritten c.args.transition.written c.requires.unwritten)) (search rules) in
-    noticed i c.args.event.now c.args.transition c.carry_out.new.parts c.carry_out.new.library (raised_in c.changed-raised.result) c.in_ok-telling.telling.response (listed c.tell.result.given)
-    (search rules) (search rules) (search rules) shown (search rules)
-
-pub returns-clause-kept : goal.returns-clause-kept
-returns-clause-kept c =
-    let i : Image = image_of_state c.args.state.now in
-    let shown : Shown i c.args.event.now c.args.transition c.carry_out.new.parts c.carry_out.new.library (raised_in c.changed-raised.result) c.args.transition.response =
-    shown_by i c.args.event.now c.args.transition c.carry_out.new.parts c.carry_out.new.library (raised_in c.changed-raised.result) c.args.transition.response
-    c.goer-goer.result c.changes_songs-database.result c.changes_listeners-subscription.result Nothing c.in-Ok.made.0.before c.changed-raised.result (search rules) (search rules) (search rules) (search rules) (sym (unwritten c.args.transition.written c.requires.unwritten)) (search rules) in
-    noticed i c.args.event.now c.args.transition c.carry_out.new.parts c.carry_out.new.library (raised_in c.changed-raised.result) c.in_ok-telling.telling.response (listed c.tell.result.kept)
+    noticed i c.args.event.now c.args.transition c.carry_out.new.parts c.carry_out.new.library (raised_in c.changed-raised.result) c.in_ok-telling.telling.response (listed c.tell.result.notices)
     (search rules) (search rules) (search rules) shown (search rules)

@@ -8,7 +8,7 @@ use Rattle.partition.specs.Step.{goer, mover, place_at}
 use Rattle.transitions.specs.Transitions.{TransitionData}
 use Rattle.idle_clients.specs.Rooms.{listed}
 use Rattle.idle_clients.specs.Fingerprint.{fingerprint, raised_by_fingerprint, raised_in}
-use Rattle.partition.proofs.Written.{written_limits, written_notices, written_step}
+use Rattle.partition.proofs.Written.{written_notices, written_step}
 use Rattle.partition.proofs.happen.tell_written.Goals as goal
 
 pub returns-clause-image : goal.returns-clause-image
@@ -23,8 +23,8 @@ returns-clause-image c =
     written_step i c.args.event.now c.args.transition c.requires.alone raised shown c.ended_after-state.result c.tell.new.clients.items c.ended_after-state.ensures c.rest.ensures.same
     (c.tell.ensures.clients ∙ (λ j. clients_after (c.mover-number.ensures j) raised (c.into_telling-telling.ensures.response j) i.clients))
 
-pub returns-clause-given : goal.returns-clause-given
-returns-clause-given c =
+pub returns-clause-notices : goal.returns-clause-notices
+returns-clause-notices c =
     let i : Image = image_of_state c.args.state.now in
     let raised : Client → Subsystems = raised_in c.changed-raised.result in
     let written_is : c.transition.inside.written ≡ c.args.transition.written = ap (λ (t : TransitionData). t.written) c.transition.view_is in
@@ -32,17 +32,5 @@ returns-clause-given c =
     let before : c.args.prepared.before ≡ fingerprint Stays (place_at i c.args.event.now) i.parts i.shared.library = search rules in
     let shown : raised ≡ raised_in (raised_by_fingerprint (goer (mover c.args.event.now) c.args.transition.response) false false c.args.transition.written (fingerprint Stays (place_at i c.args.event.now) i.parts i.shared.library) i.parts i.shared.library) =
     ap raised_in c.changed-raised.ensures ∙ (λ j. raised_in (raised_by_fingerprint (goes j) false false (written_is j) (before j) i.parts i.shared.library)) in
-    written_notices i c.args.event.now c.args.transition c.requires.alone raised shown (listed c.tell.result.given)
-    (c.tell.ensures.given ∙ (λ j. notices_after (c.mover-number.ensures j) raised (c.into_telling-telling.ensures.response j) i.clients))
-
-pub returns-clause-kept : goal.returns-clause-kept
-returns-clause-kept c =
-    let i : Image = image_of_state c.args.state.now in
-    let raised : Client → Subsystems = raised_in c.changed-raised.result in
-    let written_is : c.transition.inside.written ≡ c.args.transition.written = ap (λ (t : TransitionData). t.written) c.transition.view_is in
-    let goes : c.goer-goer.result ≡ goer (mover c.args.event.now) c.args.transition.response = search rules in
-    let before : c.args.prepared.before ≡ fingerprint Stays (place_at i c.args.event.now) i.parts i.shared.library = search rules in
-    let shown : raised ≡ raised_in (raised_by_fingerprint (goer (mover c.args.event.now) c.args.transition.response) false false c.args.transition.written (fingerprint Stays (place_at i c.args.event.now) i.parts i.shared.library) i.parts i.shared.library) =
-    ap raised_in c.changed-raised.ensures ∙ (λ j. raised_in (raised_by_fingerprint (goes j) false false (written_is j) (before j) i.parts i.shared.library)) in
-    written_notices i c.args.event.now c.args.transition c.requires.alone raised shown (listed c.tell.result.kept)
-    (c.tell.ensures.kept ∙ (λ j. notices_after (c.mover-number.ensures j) raised (c.into_telling-telling.ensures.response j) i.clients))
+    written_notices i c.args.event.now c.args.transition c.requires.alone raised shown (listed c.tell.result.notices)
+    (c.tell.ensures.notices ∙ (λ j. notices_after (c.mover-number.ensures j) raised (c.into_telling-telling.ensures.response j) i.clients))
