@@ -23,7 +23,7 @@ TESTS = re.compile(r'_tests$|^(?:worked_rows|house_rooms)$')
 
 # the rooms, the highest first
 ROOMS = [
-    ('the program', 'music_daemon shelf_file serving kept_state scan_report settings command_line'),
+    ('the program', 'music_daemon shelf_file serving state_laws kept_state scan_report settings command_line'),
     ('clients', 'mpd_server mpd_session mpd_answers'),
     ("the house's threads", 'crew crew_steps'),
     ('the house', 'house held_player counted_player'),
@@ -145,6 +145,7 @@ THEOREMS = [
     ('pcm_mix', 'mix', '', 'pcm_mix/Blocks', 'block_of', ''),
     ('shelf_database', 'SqlShelf::over', 'opened', 'shelf_database/Opens', 'Opens', ''),
     ('settings', 'settings', 'taken', 'settings/Values', 'Says', 'settings: one_cause'),
+    ('kept_state', 'state_text', '', 'kept_state/Texts', 'state_text', 'kept_state: gives_back; state_laws: players_come_back'),
     ('command_line', 'command_line', 'asks', 'command_line/Programs', 'Asks', 'command_line: readings'),
 ]
 

@@ -1,0 +1,15 @@
+mod Outputs
+mod Queue
+mod Player
+mod Lines
+mod Events
+mod Back
+mod Whole
+mod Words
+mod Bytes
+mod Opened
+mod Happened
+mod Times
+mod Own
+mod Limits
+mod Within

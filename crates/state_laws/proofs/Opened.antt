@@ -1,0 +1,49 @@
+-- A player that was just opened.
+use Rattle.std.proofs.Common.{◌≡◌, ℕ, ◌+◌, ◌==◌, Bool, true, [], ◌∷◌, length, Some, None, refl, ap, arith, if◌then◌else◌}
+use Rattle.std.proofs.lemmas.Bool.{eq-eqb}
+use Rattle.idle_clients.specs.Clients.{client_of, newcomer}
+use Rattle.kept_state.specs.Lines.{state_steps}
+use Rattle.kept_state.specs.Reading.{opened}
+use Rattle.mpd_text.specs.Answers.Number.{number_of}
+use Rattle.partition.specs.Image.{first_part}
+use Rattle.partition.specs.Step.{next_image}
+use Rattle.partition.specs.declared.state.Setup.{Setup}
+use Rattle.state_laws.specs.Bytes.{OpenedComesBack, read_bytes}
+use Rattle.state_laws.specs.Having.{AreOptions, Has}
+use Rattle.state_laws.specs.Saying.{OpensEmpty, begun, first_options, songs_of}
+use Rattle.state_laws.proofs.Bytes.{bytes_are_read}
+use Rattle.state_laws.proofs.Whole.{state_comes_back}
+
+options_told : (setup : Setup) → AreOptions (first_part setup) first_options
+unfolding number_of
+options_told setup = record { volume = refl; repeat = refl; random = refl; single = refl; consume = refl; crossfade = refl }
+
+has_first : (rate : ℕ) (setup : Setup) → length setup.outputs.enabled ≡ length setup.outputs.here → Has rate (first_part setup) (opened first_options)
+has_first rate setup known = record {
+  options = options_told setup;
+  outputs = record { known = known; as_said = λ n on e here fine. cc };
+  queue = refl;
+  song = (refl, refl);
+}
+
+pub own : (number : ℕ) → client_of number (newcomer number ∷ []) ≡ Some (newcomer number)
+own number = let same : (number == number) ≡ true = eq-eqb number number refl in ap (λ (b : Bool). if b then Some (newcomer number) else None) same
+
+pub opens_empty : OpensEmpty
+unfolding next_image
+opens_empty seat number songs setup library h = record {
+  same = refl;
+  client = newcomer number;
+  there = own number;
+  listens = refl;
+  part = first_part setup;
+  placed = refl;
+  has = has_first library.rate setup h.known;
+  room = (omega (arith, h.queue), omega (arith, h.ids));
+}
+
+pub opened_comes_back : OpenedComesBack
+opened_comes_back seat number setup library kept ask h =
+    let songs : ℕ = songs_of (state_steps kept) in
+    state_comes_back seat number 0 library read_bytes (begun seat number setup library) kept first_options bytes_are_read ask
+    (opens_empty seat number (songs + 0) setup library (record { known = h.known; queue = omega (arith, h.queue); ids = omega (arith, h.ids) }))

@@ -1,0 +1,5 @@
+pub mod Having
+pub mod Saying
+pub mod Bytes
+pub mod Own
+pub mod Limits

@@ -1,0 +1,31 @@
+//! The laws of states. A caller that calls one may use it; each does nothing.
+ghost use Rattle.state_laws.specs.Bytes.{BytesAreRead, LinesEnd, OpenedComesBack};
+ghost use Rattle.state_laws.specs.Limits.{OpenedStaysWithin};
+ghost use Rattle.state_laws.specs.Own.{PlacesComeBack, PlayersComeBack};
+ghost use Rattle.state_laws.specs.Saying.{LineIsRead, OpensEmpty, StateComesBack, StepsHappen};
+
+/// A line of a state is to the player of one thread what it is to a reading of kept states. So a player with an
+/// empty queue that is told all lines of a state has what is kept, of the songs that there are; and what it is told
+/// are events of its history.
+pub fn states_come_back()
+    ensures line { LineIsRead }
+    ensures state { StateComesBack }
+    ensures events { StepsHappen }
+{}
+
+/// The bytes of a state's lines are read as the commands that these ask for. So a player that was just opened, and
+/// is told the text of a state, has what is kept; and no line passes a limit, where there may be as many cuts.
+pub fn texts_come_back()
+    ensures opening { OpensEmpty }
+    ensures ends { LinesEnd }
+    ensures bytes { BytesAreRead }
+    ensures opened { OpenedComesBack }
+    ensures within { OpenedStaysWithin }
+{}
+
+/// A player that was just opened, and is told what another one told of itself, is as that one was, but for ids and
+/// versions; a place in a song may be up to a thousandth of a second earlier.
+pub fn players_come_back()
+    ensures places { PlacesComeBack }
+    ensures players { PlayersComeBack }
+{}

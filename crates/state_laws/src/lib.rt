@@ -1,0 +1,6 @@
+//! What the player of one thread makes of the lines of a state, proved of the definitions.
+#![tactic(auto)]
+
+mod laws;
+
+pub use laws::{players_come_back, states_come_back, texts_come_back};
