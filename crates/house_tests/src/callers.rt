@@ -1,19 +1,18 @@
 //! Two threads add songs to one queue.
 ghost use Rattle.std.specs.Prelude.{◌≡◌, ◌+◌, ◌<◌, IfOk};
-ghost use Rattle.held_player.specs.Blanks.{AreFor};
 
+use crate::rooms::{Day, alone, seat_of, told};
 use crate::wanted::wants;
 use counted_player::{Ledgers, Seat};
-use held_player::Blanks;
 use house::House;
-use house_rooms::{adds_a_song, blanks, comes, player, says};
+use house_rooms::{adds_a_song, comes};
 use partition::PartitionFault;
 use std::alloc::{AllocError, Global};
-use std::marker::Brand;
 use std::sync::Wait;
 use std::test::Fail;
 use std::thread;
 use std::thread::Threads;
+use std::time::Clock;
 
 /// A client comes, and adds a song a hundred times.
 fn adds<L: Ledgers>(
@@ -32,17 +31,6 @@ fn adds<L: Ledgers>(
         adds_a_song(rt, alloc, house, &mut seat, client)?;
     }
     Ok(seat)
-}
-
-/// The events of two callers' seats, whether a fourth seat was given and a fifth, and the last client's
-/// status.
-#[derive(Drop)]
-struct Counts {
-    first: u64,
-    second: u64,
-    fourth: bool,
-    fifth: bool,
-    status: String,
 }
 
 /// Both clients add their songs, each in a thread of its own.
@@ -81,72 +69,46 @@ fn both_add<L: Ledgers + Send + Sync, R: Threads + Wait + Sync>(
 ) -> Result<(u64, u64), PartitionFault>
     ensures { IfOk result (λ made. (made.0 ≡ 101) × (made.1 ≡ 101)) }
 {
-    let (Ok(one), Ok(two)) = (house.seat(rt), house.seat(rt)) else {
-        return Err(PartitionFault::NoMemory);
-    };
+    let one = seat_of(rt, house)?;
+    let two = seat_of(rt, house)?;
     let (one, two) = add_at_once(rt, alloc, house, one, two);
     Ok((one?.made(), two?.made()))
 }
 
-/// What a third client hears of the status.
-fn status<L: Ledgers>(
+/// Adds how many events each of the two made.
+fn add_made(alloc: Global, made: (u64, u64), told: &mut String) -> Result<(), AllocError> {
+    let (first, second) = made;
+    told.push_str(format!(in alloc; "events made: {first} and {second}\n")?.as_str())
+}
+
+/// Adds whether a fourth seat is given and a fifth.
+fn add_seats<L: Ledgers>(
     rt: &impl Wait,
     alloc: Global,
     house: &House<L>,
-) -> Result<String, PartitionFault> {
-    let Ok(mut three) = house.seat(rt) else {
-        return Err(PartitionFault::NoMemory);
-    };
-    comes(rt, house, &mut three, 3)?;
-    says(rt, alloc, house, &mut three, 3, "status")
+    told: &mut String,
+) -> Result<(), AllocError> {
+    let fourth = house.seat(rt).is_ok();
+    let fifth = house.seat(rt).is_ok();
+    told.push_str(format!(in alloc; "a fourth seat: {fourth}, a fifth: {fifth}\n")?.as_str())
 }
 
-fn race<L: Ledgers + Send + Sync, R: Threads + Wait + Sync>(
+/// Adds the events of two callers' seats, what a third client hears of the status, and which seats are left.
+pub(crate) fn race<L: Ledgers + Send + Sync, R: Threads + Wait + Clock + Sync>(
     rt: &R,
     alloc: Global,
     house: &House<L>,
-) -> Result<Counts, PartitionFault>
-    ensures { IfOk result (λ e. (e.first ≡ 101) × (e.second ≡ 101)) }
-{
-    let (first, second) = both_add(rt, alloc, house)?;
-    let status = status(rt, alloc, house)?;
-    Ok(Counts {
-        first,
-        second,
-        fourth: house.seat(rt).is_ok(),
-        fifth: house.seat(rt).is_ok(),
-        status,
-    })
+    told: &mut String,
+) -> Result<(), PartitionFault> {
+    let made = both_add(rt, alloc, house)?;
+    add_made(alloc, made, told)?;
+    alone(rt, alloc, house, "comes 3\n3 status", told)?;
+    Ok(add_seats(rt, alloc, house, told)?)
 }
 
-fn evening<L: Ledgers + Send + Sync, R: Threads + Wait + Sync>(
-    rt: &R,
-    alloc: Global,
-    blanks: Blanks,
-    history: u32,
-) -> Result<Counts, PartitionFault>
-    requires blanks { AreFor L.names blanks }
-    ensures { IfOk result (λ e. (e.first ≡ 101) × (e.second ≡ 101)) }
-{
-    let (house, _shares) = House::<L>::open(alloc, blanks, player(alloc, history)?)?;
-    race(rt, alloc, &house)
-}
-
-fn told<R: Threads + Wait + Sync>(
-    rt: &R,
-    alloc: Global,
-    history: u32,
-) -> Result<String, PartitionFault> {
-    let counts = evening::<Brand, R>(rt, alloc, blanks(), history)?;
-    let (first, second) = (counts.first, counts.second);
-    let (fourth, fifth) = (counts.fourth, counts.fifth);
-    let status = counts.status.as_str();
-    Ok(format!(in alloc;
-        "events made: {first} and {second}, a fourth seat: {fourth}, a fifth: {fifth}\n{status}"
-    )?)
-}
-
-const WANTED: &str = "events made: 101 and 101, a fourth seat: true, a fifth: false
+const WANTED: &str = "events made: 101 and 101
+OK MPD 0.23.0
+heard
 volume: 100
 repeat: 0
 random: 0
@@ -157,16 +119,17 @@ playlist: 201
 playlistlength: 200
 state: stop
 OK
+a fourth seat: true, a fifth: false
 ";
 
 #[test]
 fn two_threads_add_songs(rt: HostRuntime) -> Result<(), Fail> {
-    wants(&rt, told(&rt, rt.alloc(), 4096), WANTED);
+    wants(&rt, told(&rt, rt.alloc(), 4096, Day::Callers), WANTED);
     Ok(())
 }
 
 #[test]
 fn a_window_of_three_is_folded(rt: HostRuntime) -> Result<(), Fail> {
-    wants(&rt, told(&rt, rt.alloc(), 3), WANTED);
+    wants(&rt, told(&rt, rt.alloc(), 3, Day::Callers), WANTED);
     Ok(())
 }

@@ -1,95 +1,44 @@
 //! Frames of a job under the lock: fed, written, and settled.
 ghost use Rattle.frame_ledger.specs.Shares.{HasAllParts, KeepsParts};
 ghost use Rattle.std.specs.Prelude.{◌≡◌, ◌<◌, ◌≤◌, [], IfOk, vec_len, vec_capacity};
-ghost use Rattle.held_player.specs.Blanks.{AreFor};
 ghost use Rattle.output_ring.specs.Rings.{SameDrainer};
 
+use crate::rooms::{Day, seat_of, told};
+use crate::session::{add_report, session};
 use crate::wanted::wants;
 use counted_devices::{FailAt, FailurePoint};
 use counted_player::{Decoded, Discarded, Ledgers, Seat, Written};
-use frame_ledger::OutputShares;
-use held_player::{Blanks, CrewShares, EndedRing, News, Settlement};
+use frame_ledger::{OutputShares, SettleFault, Settled};
+use held_player::{CrewShares, EndedRing, Settlement};
 use house::House;
-use house_rooms::{blanks, comes, opened, says};
 use output_ring::{Cut, Drainer, Fates, Live, ring};
 use partition::PartitionFault;
-use player_state::{Feed, Report};
 use std::alloc::{AllocError, Global};
-use std::marker::Brand;
 use std::sync::Wait;
 use std::sync::ledger::Share;
 use std::test::Fail;
+use std::time::Clock;
 
-/// What a decoder is told: the job's number, its first frame and its frames.
-fn job_told(alloc: Global, report: Report) -> Result<String, PartitionFault> {
-    match report {
-        Report::ToDecode(Some(job)) => {
-            Ok(format!(in alloc;
-                "job {} from frame {}: {} frames\n",
-                job.number, job.from, job.count
-            )?)
-        }
-        _ => Ok(String::from_str(alloc, "no job\n")?),
-    }
-}
+/// A song plays, and the decoder wants a job.
+const STEPS: &str = "comes 1
+1 add a.wav
+1 play
+wants";
 
-/// How frames are fed, and to which of three outputs.
-fn fed_told(alloc: Global, report: Report) -> Result<String, PartitionFault> {
-    match report {
-        Report::ToFeed(Some(feed)) => {
-            let outputs = (is_for(&feed, 0), is_for(&feed, 1), is_for(&feed, 8));
-            Ok(format!(in alloc;
-                "feed at cut {} and volume {} to output 0: {}, 1: {}, 8: {}\n",
-                feed.cut, feed.volume, outputs.0, outputs.1, outputs.2
-            )?)
-        }
-        _ => Ok(String::from_str(alloc, "stale\n")?),
-    }
-}
-
-/// Whether frames are for this output, which was never moved.
-fn is_for(feed: &Feed, output: usize) -> bool {
-    matches!(feed.outputs.get(output), Some(Some(0)))
-}
-
-fn live_told(alloc: Global, report: Report) -> Result<String, PartitionFault> {
-    match report {
-        Report::ToPlay(heard) => {
-            let live = heard.live;
-            Ok(format!(in alloc;
-                "live at cut {}, enabled {}, paused {}\n",
-                live.cut, live.enabled, live.paused
-            )?)
-        }
-        _ => Ok(String::from_str(alloc, "nothing\n")?),
-    }
-}
-
-/// A decoder asks for a job.
-fn wants_job<L: Ledgers>(
-    rt: &impl Wait,
-    alloc: Global,
-    house: &House<L>,
-    seat: &mut Seat<L>,
-) -> Result<String, PartitionFault> {
-    let told = house.notice(rt, seat, News::Wants(0, [false; 8]))?;
-    job_told(alloc, told.report())
-}
-
-/// A decoder has frames of a job.
+/// The decoder has the frames of the first job.
 fn has<L: Ledgers>(
     rt: &impl Wait,
     alloc: Global,
     house: &House<L>,
     seat: &mut Seat<L>,
     share: &mut Share<Decoded<L>>,
-    number: u64,
-) -> Result<String, PartitionFault>
+    told: &mut String,
+) -> Result<(), PartitionFault>
     requires { 0 < share.old.parts }
     ensures { share.new.parts ≡ share.old.parts }
 {
-    let told = house.have(rt, seat, 0, number, 1024, share)?;
-    fed_told(alloc, told.report())
+    let reported = house.have(rt, seat, 0, 1, 1024, share)?;
+    Ok(add_report(alloc, &reported, told)?)
 }
 
 /// An output has its turn.
@@ -101,12 +50,13 @@ fn turns<L: Ledgers>(
     shares: &mut OutputShares<Written<L>, Discarded<L>>,
     output: usize,
     fates: Fates,
-) -> Result<String, PartitionFault>
+    told: &mut String,
+) -> Result<(), PartitionFault>
     requires { (0 < shares.old.written.parts) × (0 < shares.old.discarded.parts) }
     ensures { KeepsParts shares.old shares.new }
 {
-    let told = house.turn(rt, seat, output, fates, false, shares)?;
-    live_told(alloc, told.report())
+    let reported = house.turn(rt, seat, output, fates, false, shares)?;
+    Ok(add_report(alloc, &reported, told)?)
 }
 
 /// Fills the hand and writes it out at a cut.
@@ -126,6 +76,28 @@ fn writes_out(drainer: &mut Drainer, out: &mut FailAt, cut: u64)
     let _fates = drainer.write_out(out, live);
 }
 
+/// Of the frames of a ring 512 are written and told of, and 512 more are discarded after it.
+fn writes_twice<L: Ledgers>(
+    rt: &impl Wait,
+    alloc: Global,
+    house: &House<L>,
+    seat: &mut Seat<L>,
+    shares: &mut OutputShares<Written<L>, Discarded<L>>,
+    drainer: &mut Drainer,
+    told: &mut String,
+) -> Result<(), PartitionFault>
+    requires { (0 < shares.old.written.parts) × (0 < shares.old.discarded.parts) }
+    ensures parts { KeepsParts shares.old shares.new }
+    ensures same { SameDrainer drainer.old drainer.new }
+{
+    let mut out = FailAt::new(Vec::new(alloc), FailurePoint::Never);
+    writes_out(drainer, &mut out, 1);
+    turns(rt, alloc, house, seat, shares, 0, drainer.fates(), told)?;
+    drainer.reported();
+    writes_out(drainer, &mut out, 2);
+    Ok(())
+}
+
 /// The ends of a ring of which 512 frames were written and told of, and 512 more were discarded since.
 fn ends_told<L: Ledgers>(
     rt: &impl Wait,
@@ -133,11 +105,11 @@ fn ends_told<L: Ledgers>(
     house: &House<L>,
     seat: &mut Seat<L>,
     shares: &mut OutputShares<Written<L>, Discarded<L>>,
+    told: &mut String,
 ) -> Result<EndedRing, PartitionFault>
     requires { (0 < shares.old.written.parts) × (0 < shares.old.discarded.parts) }
     ensures { KeepsParts shares.old shares.new }
 {
-    let mut out = FailAt::new(Vec::new(alloc), FailurePoint::Never);
     let (mut feeder, mut drainer) = ring(alloc, 8192, 512)?;
     feeder.take(
         &[[1, -1]; 1_024],
@@ -147,10 +119,7 @@ fn ends_told<L: Ledgers>(
         },
     );
     let _pushed = feeder.push();
-    writes_out(&mut drainer, &mut out, 1);
-    turns(rt, alloc, house, seat, shares, 0, drainer.fates())?;
-    drainer.reported();
-    writes_out(&mut drainer, &mut out, 2);
+    writes_twice(rt, alloc, house, seat, shares, &mut drainer, told)?;
     Ok(EndedRing {
         end: feeder.finish(),
         drainer,
@@ -177,53 +146,63 @@ fn two_rings<L: Ledgers>(
     Ok((rings, room))
 }
 
-/// What two outputs are settled with: their frames decoded, written, discarded and left.
-fn settled<L: Ledgers>(
+/// What an output is settled with: its frames decoded, written, discarded and left.
+fn settled_told(
+    alloc: Global,
+    settled: &Result<Settled, SettleFault>,
+) -> Result<String, AllocError> {
+    match settled {
+        Ok(s) => format!(in alloc;
+            "decoded {}, written {}, discarded {}, left {}\n",
+            s.decoded, s.written, s.discarded, s.left
+        ),
+        Err(_) => String::from_str(alloc, "not settled\n"),
+    }
+}
+
+/// Adds what outputs are settled with.
+fn add_settled<L: Ledgers>(
+    alloc: Global,
+    settlements: &[Settlement<L>],
+    told: &mut String,
+) -> Result<(), AllocError> {
+    for settlement in settlements {
+        told.push_str(settled_told(alloc, &settlement.result)?.as_str())?;
+    }
+    Ok(())
+}
+
+/// Adds what two outputs are settled with, of which the second took nothing.
+fn settles<L: Ledgers>(
     rt: &impl Wait,
     alloc: Global,
     house: &House<L>,
-    seat: &mut Seat<L>,
     shares: CrewShares<L>,
-) -> Result<String, PartitionFault>
+    first: EndedRing,
+    told: &mut String,
+) -> Result<(), PartitionFault>
     requires { HasAllParts shares.decoded.parts shares.outputs }
 {
-    let mut shares = shares;
-    let first = ends_told(rt, alloc, house, seat, &mut shares.outputs)?;
     let (rings, room) = two_rings::<L>(alloc, first)?;
-    let mut told = String::new(alloc);
-    for settlement in &house.settle_all(rt, shares, rings, room) {
-        let line = match &settlement.result {
-            Ok(s) => {
-                format!(in alloc;
-                    "decoded {}, written {}, discarded {}, left {}\n",
-                    s.decoded, s.written, s.discarded, s.left
-                )?
-            }
-            Err(_) => String::from_str(alloc, "not settled\n")?,
-        };
-        told.push_str(line.as_str())?;
-    }
-    Ok(told)
+    let settlements = house.settle_all(rt, shares, rings, room);
+    Ok(add_settled(alloc, &settlements, told)?)
 }
 
 /// A song plays, and its first frames are decoded once.
-fn decoded<L: Ledgers>(
-    rt: &impl Wait,
+fn decoded<L: Ledgers, R: Wait + Clock>(
+    rt: &R,
     alloc: Global,
     house: &House<L>,
     seat: &mut Seat<L>,
     share: &mut Share<Decoded<L>>,
-) -> Result<String, PartitionFault>
+    told: &mut String,
+) -> Result<(), PartitionFault>
     requires { 0 < share.old.parts }
     ensures { share.new.parts ≡ share.old.parts }
 {
-    comes(rt, house, seat, 1)?;
-    says(rt, alloc, house, seat, 1, "add a.wav")?;
-    says(rt, alloc, house, seat, 1, "play")?;
-    let mut heard = wants_job(rt, alloc, house, seat)?;
-    heard.push_str(has(rt, alloc, house, seat, share, 1)?.as_str())?;
-    heard.push_str(has(rt, alloc, house, seat, share, 1)?.as_str())?;
-    Ok(heard)
+    session(rt, alloc, house, seat, STEPS, told)?;
+    has(rt, alloc, house, seat, share, told)?;
+    has(rt, alloc, house, seat, share, told)
 }
 
 const NOTHING: Fates = Fates {
@@ -231,96 +210,71 @@ const NOTHING: Fates = Fates {
     discarded: 0,
 };
 
-/// An output that is not there has its turn, and one that is.
-fn two_turns<L: Ledgers>(
+/// An output that is not there has its turn, and one that is, which then writes.
+fn written<L: Ledgers>(
     rt: &impl Wait,
     alloc: Global,
     house: &House<L>,
     seat: &mut Seat<L>,
     shares: &mut OutputShares<Written<L>, Discarded<L>>,
-) -> Result<String, PartitionFault>
+    told: &mut String,
+) -> Result<EndedRing, PartitionFault>
     requires { (0 < shares.old.written.parts) × (0 < shares.old.discarded.parts) }
     ensures { KeepsParts shares.old shares.new }
 {
-    let absent = turns(rt, alloc, house, seat, shares, 5, NOTHING)?;
-    let live = turns(rt, alloc, house, seat, shares, 0, NOTHING)?;
-    Ok(format!(in alloc; "{absent}{live}")?)
+    turns(rt, alloc, house, seat, shares, 5, NOTHING, told)?;
+    turns(rt, alloc, house, seat, shares, 0, NOTHING, told)?;
+    ends_told(rt, alloc, house, seat, shares, told)
 }
 
-/// A song is decoded and two outputs have their turns.
-fn day<L: Ledgers>(
-    rt: &impl Wait,
+/// A song is decoded and two outputs have their turns. The ends of the first one's ring.
+fn plays<L: Ledgers, R: Wait + Clock>(
+    rt: &R,
     alloc: Global,
     house: &House<L>,
-    seat: &mut Seat<L>,
     shares: &mut CrewShares<L>,
-) -> Result<String, PartitionFault>
+    told: &mut String,
+) -> Result<EndedRing, PartitionFault>
     requires { HasAllParts shares.old.decoded.parts shares.old.outputs }
     ensures { HasAllParts shares.new.decoded.parts shares.new.outputs }
 {
-    let decoded = decoded(rt, alloc, house, seat, &mut shares.decoded)?;
-    let turns = two_turns(rt, alloc, house, seat, &mut shares.outputs)?;
-    Ok(format!(in alloc; "{decoded}{turns}")?)
+    let mut seat = seat_of(rt, house)?;
+    decoded(rt, alloc, house, &mut seat, &mut shares.decoded, told)?;
+    written(rt, alloc, house, &mut seat, &mut shares.outputs, told)
 }
 
-/// That, and what the outputs are settled with.
-fn day_to_its_end<L: Ledgers>(
-    rt: &impl Wait,
+/// Adds what is told of frames, and what the outputs are settled with.
+pub(crate) fn frames<L: Ledgers, R: Wait + Clock>(
+    rt: &R,
     alloc: Global,
     house: &House<L>,
-    seat: &mut Seat<L>,
     shares: CrewShares<L>,
-) -> Result<String, PartitionFault>
+    told: &mut String,
+) -> Result<(), PartitionFault>
     requires { HasAllParts shares.decoded.parts shares.outputs }
 {
     let mut shares = shares;
-    match day(rt, alloc, house, seat, &mut shares) {
-        Ok(day) => {
-            let last = settled(rt, alloc, house, seat, shares)?;
-            Ok(format!(in alloc; "{day}{last}")?)
-        }
+    match plays(rt, alloc, house, &mut shares, told) {
+        Ok(first) => settles(rt, alloc, house, shares, first, told),
         Err(fault) => Err(fault),
     }
 }
 
-fn day_of_a_seat<L: Ledgers>(
-    rt: &impl Wait,
-    alloc: Global,
-    house: &House<L>,
-    shares: CrewShares<L>,
-) -> Result<String, PartitionFault>
-    requires { HasAllParts shares.decoded.parts shares.outputs }
-{
-    match house.seat(rt) {
-        Ok(mut seat) => day_to_its_end(rt, alloc, house, &mut seat, shares),
-        Err(_) => Err(PartitionFault::NoMemory),
-    }
-}
-
-fn evening<L: Ledgers>(
-    rt: &impl Wait,
-    alloc: Global,
-    blanks: Blanks,
-) -> Result<String, PartitionFault>
-    requires blanks { AreFor L.names blanks }
-{
-    let (house, shares) = opened::<L>(alloc, blanks, 64)?;
-    day_of_a_seat(rt, alloc, &house, shares)
-}
-
-fn told(rt: &impl Wait, alloc: Global) -> Result<String, PartitionFault> {
-    evening::<Brand>(rt, alloc, blanks())
-}
-
+// No step between the two turns of the first output changes how it plays, so both are told the same.
 #[test]
 fn frames_are_booked_and_settled(rt: HostRuntime) -> Result<(), Fail> {
     wants(
         &rt,
-        told(&rt, rt.alloc()),
-        "job 1 from frame 0: 1024 frames
+        told(&rt, rt.alloc(), 64, Day::Frames),
+        "OK MPD 0.23.0
+heard
+OK
+OK
+job 1 from frame 0: 1024 frames
 feed at cut 1 and volume 100 to output 0: true, 1: false, 8: false
 stale
 live at cut 0, enabled false, paused false
+live at cut 1, enabled true, paused false
 live at cut 1, enabled true, paused false
 decoded 1024, written 512, discarded 512, left 0
 decoded 0, written 0, discarded 0, left 0

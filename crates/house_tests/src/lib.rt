@@ -12,6 +12,12 @@ mod notices;
 #[cfg(test)]
 mod own_songs;
 #[cfg(test)]
+mod reports;
+#[cfg(test)]
 mod rests;
+#[cfg(test)]
+mod rooms;
+#[cfg(test)]
+mod session;
 #[cfg(test)]
 mod wanted;

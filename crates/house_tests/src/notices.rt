@@ -1,15 +1,11 @@
 //! A client waits while another thread makes a hundred changes: each notice is handed out once.
-ghost use Rattle.std.specs.Prelude.{◌≡◌};
-ghost use Rattle.held_player.specs.Blanks.{AreFor};
-
+use crate::rooms::{Day, seat_of, told};
 use crate::wanted::wants;
 use counted_player::{Ledgers, Seat};
-use held_player::Blanks;
 use house::House;
-use house_rooms::{blanks, comes, hears, opened, says};
+use house_rooms::{comes, hears, says};
 use partition::PartitionFault;
-use std::alloc::Global;
-use std::marker::Brand;
+use std::alloc::{AllocError, Global};
 use std::sync::Wait;
 use std::sync::atomic::{AtomicU32, Ordering};
 use std::test::Fail;
@@ -54,20 +50,51 @@ fn comes_by_outbox<L: Ledgers>(rt: &impl Wait, house: &House<L>, client: u32) ->
     false
 }
 
-/// A client waits for each of a hundred changes, and is told of it from the outbox, or in front of the answer
-/// to its `noidle` or to a list.
+/// Whether a client that waits hears first of a change that was made, in front of the answer to `noidle`, or
+/// to a list.
+fn hears_first<L: Ledgers>(
+    rt: &impl Wait,
+    alloc: Global,
+    house: &House<L>,
+    seat: &mut Seat<L>,
+    in_list: bool,
+) -> Result<bool, PartitionFault> {
+    let line = if in_list { "ping" } else { "noidle" };
+    let heard = hears(rt, alloc, house, seat, 1, line, in_list)?;
+    Ok(heard.as_str().starts_with("told\n"))
+}
+
+/// Waits for a change, of which the client is told from the outbox, or in front of an answer.
+fn waits_once<L: Ledgers>(
+    rt: &impl Wait,
+    house: &House<L>,
+    seat: &mut Seat<L>,
+    counts: &Counts,
+    change: u32,
+    notices: &mut Notices,
+) -> Result<(), PartitionFault> {
+    says(rt, counts.alloc, house, seat, 1, "idle mixer")?;
+    counts.waiting.store(change, Ordering::SeqCst);
+    if change % 2 == 0 {
+        let is_told = comes_by_outbox(rt, house, 1);
+        notices.by_outbox = notices.by_outbox.saturating_add(u32::from(is_told));
+    } else {
+        meets(&counts.changed, change);
+        let is_told = hears_first(rt, counts.alloc, house, seat, change % 4 == 3)?;
+        notices.in_front = notices.in_front.saturating_add(u32::from(is_told));
+    }
+    let is_again = house.outbox(rt, 1).is_some();
+    notices.again = notices.again.saturating_add(u32::from(is_again));
+    Ok(())
+}
+
+/// A client waits for each of a hundred changes.
 fn waits<L: Ledgers>(
     rt: &impl Wait,
     house: &House<L>,
     seat: Seat<L>,
     counts: &Counts,
 ) -> Result<Notices, PartitionFault> {
-    let Counts {
-        alloc,
-        waiting,
-        changed,
-    } = counts;
-    let alloc = *alloc;
     let mut seat = seat;
     let mut notices = Notices {
         by_outbox: 0,
@@ -76,26 +103,24 @@ fn waits<L: Ledgers>(
     };
     comes(rt, house, &mut seat, 1)?;
     for change in 1..101u32 {
-        says(rt, alloc, house, &mut seat, 1, "idle mixer")?;
-        waiting.store(change, Ordering::SeqCst);
-        if change % 2 == 0 {
-            if comes_by_outbox(rt, house, 1) {
-                notices.by_outbox = notices.by_outbox.saturating_add(1);
-            }
-        } else {
-            meets(changed, change);
-            let in_list = change % 4 == 3;
-            let line = if in_list { "ping" } else { "noidle" };
-            let heard = hears(rt, alloc, house, &mut seat, 1, line, in_list)?;
-            if heard.as_str().starts_with("told\n") {
-                notices.in_front = notices.in_front.saturating_add(1);
-            }
-        }
-        if house.outbox(rt, 1).is_some() {
-            notices.again = notices.again.saturating_add(1);
-        }
+        waits_once(rt, house, &mut seat, counts, change, &mut notices)?;
     }
     Ok(notices)
+}
+
+/// Changes the volume once the first client waits for the change of this number.
+fn changes_once<L: Ledgers>(
+    rt: &impl Wait,
+    house: &House<L>,
+    seat: &mut Seat<L>,
+    counts: &Counts,
+    change: u32,
+) -> Result<(), PartitionFault> {
+    meets(&counts.waiting, change);
+    let line = format!(in counts.alloc; "setvol {}", change % 100)?;
+    says(rt, counts.alloc, house, seat, 2, line.as_str())?;
+    counts.changed.store(change, Ordering::SeqCst);
+    Ok(())
 }
 
 /// Another client changes the volume each time that the first waits.
@@ -105,19 +130,10 @@ fn changes<L: Ledgers>(
     seat: Seat<L>,
     counts: &Counts,
 ) -> Result<(), PartitionFault> {
-    let Counts {
-        alloc,
-        waiting,
-        changed,
-    } = counts;
-    let alloc = *alloc;
     let mut seat = seat;
     comes(rt, house, &mut seat, 2)?;
     for change in 1..101u32 {
-        meets(waiting, change);
-        let line = format!(in alloc; "setvol {}", change % 100)?;
-        says(rt, alloc, house, &mut seat, 2, line.as_str())?;
-        changed.store(change, Ordering::SeqCst);
+        changes_once(rt, house, &mut seat, counts, change)?;
     }
     Ok(())
 }
@@ -138,14 +154,27 @@ fn meet<L: Ledgers + Send + Sync, R: Threads + Wait + Sync>(
 }
 
 /// How many notices came by the outbox, in front of a reply, and twice.
-fn counted<L: Ledgers + Send + Sync, R: Threads + Wait + Sync>(
+fn add_notices(alloc: Global, notices: &Notices, told: &mut String) -> Result<(), AllocError> {
+    let Notices {
+        by_outbox,
+        in_front,
+        again,
+    } = notices;
+    let line = format!(in alloc;
+        "by the outbox {by_outbox}, in front {in_front}, again {again}\n"
+    )?;
+    told.push_str(line.as_str())
+}
+
+/// Adds how the notices of two clients came, which wait and change things side by side.
+pub(crate) fn race<L: Ledgers + Send + Sync, R: Threads + Wait + Sync>(
     rt: &R,
     alloc: Global,
     house: &House<L>,
-) -> Result<String, PartitionFault> {
-    let (Ok(one), Ok(two)) = (house.seat(rt), house.seat(rt)) else {
-        return Err(PartitionFault::NoMemory);
-    };
+    told: &mut String,
+) -> Result<(), PartitionFault> {
+    let one = seat_of(rt, house)?;
+    let two = seat_of(rt, house)?;
     let counts = Counts {
         alloc,
         waiting: AtomicU32::new(0),
@@ -153,34 +182,14 @@ fn counted<L: Ledgers + Send + Sync, R: Threads + Wait + Sync>(
     };
     let (notices, ended) = meet(rt, house, one, two, &counts);
     ended?;
-    let notices = notices?;
-    let (by_outbox, in_front) = (notices.by_outbox, notices.in_front);
-    Ok(format!(in alloc;
-        "by the outbox {by_outbox}, in front {in_front}, again {}\n",
-        notices.again
-    )?)
-}
-
-fn race<L: Ledgers + Send + Sync, R: Threads + Wait + Sync>(
-    rt: &R,
-    alloc: Global,
-    blanks: Blanks,
-) -> Result<String, PartitionFault>
-    requires blanks { AreFor L.names blanks }
-{
-    let (house, _shares) = opened::<L>(alloc, blanks, 64)?;
-    counted(rt, alloc, &house)
-}
-
-fn told<R: Threads + Wait + Sync>(rt: &R, alloc: Global) -> Result<String, PartitionFault> {
-    race::<Brand, R>(rt, alloc, blanks())
+    Ok(add_notices(alloc, &notices?, told)?)
 }
 
 #[test]
 fn every_notice_comes_once(rt: HostRuntime) -> Result<(), Fail> {
     wants(
         &rt,
-        told(&rt, rt.alloc()),
+        told(&rt, rt.alloc(), 64, Day::Notices),
         "by the outbox 50, in front 50, again 0\n",
     );
     Ok(())

@@ -1,16 +1,12 @@
 //! Two threads add songs by turns, and each looks up the id that it was given.
-ghost use Rattle.std.specs.Prelude.{◌≡◌};
-ghost use Rattle.held_player.specs.Blanks.{AreFor};
-
+use crate::rooms::{Day, seat_of, told};
 use crate::wanted::wants;
 use counted_player::{Ledgers, Seat};
-use held_player::Blanks;
 use house::House;
-use house_rooms::{blanks, comes, hears, opened};
+use house_rooms::{comes, hears};
 use mpd_text::number;
 use partition::PartitionFault;
 use std::alloc::{AllocError, Global};
-use std::marker::Brand;
 use std::sync::Wait;
 use std::test::Fail;
 use std::thread;
@@ -41,7 +37,49 @@ struct Caller<L: Ledgers> {
     in_list: bool,
 }
 
-/// Adds a song and looks up its id, and gives the id and whether it is this song's.
+/// Adds a song, and gives its id.
+fn adds<L: Ledgers>(
+    rt: &impl Wait,
+    alloc: Global,
+    house: &House<L>,
+    caller: &mut Caller<L>,
+    client: u32,
+    uri: &str,
+) -> Result<u32, PartitionFault> {
+    let Caller { seat, in_list } = caller;
+    let line = format!(in alloc; "addid {uri}")?;
+    let added = hears(rt, alloc, house, seat, client, line.as_str(), *in_list)?;
+    Ok(id_in(added.as_str()))
+}
+
+/// Whether an answer to `playlistid` begins with this song.
+fn begins_with(answer: &str, uri: &str) -> bool {
+    let Some(rest) = answer.strip_prefix("file: ") else {
+        return false;
+    };
+    match rest.strip_prefix(uri) {
+        Some(rest) => rest.starts_with('\n'),
+        None => false,
+    }
+}
+
+/// Whether the id is this song's.
+fn is_own<L: Ledgers>(
+    rt: &impl Wait,
+    alloc: Global,
+    house: &House<L>,
+    caller: &mut Caller<L>,
+    client: u32,
+    id: u32,
+    uri: &str,
+) -> Result<bool, PartitionFault> {
+    let Caller { seat, in_list } = caller;
+    let line = format!(in alloc; "playlistid {id}")?;
+    let shown = hears(rt, alloc, house, seat, client, line.as_str(), *in_list)?;
+    Ok(begins_with(shown.as_str(), uri))
+}
+
+/// Adds a song and looks up its id.
 fn looks_up_once<L: Ledgers>(
     rt: &impl Wait,
     alloc: Global,
@@ -49,15 +87,13 @@ fn looks_up_once<L: Ledgers>(
     caller: &mut Caller<L>,
     client: u32,
     uri: &str,
-) -> Result<(u32, bool), PartitionFault> {
-    let Caller { seat, in_list } = caller;
-    let line = format!(in alloc; "addid {uri}")?;
-    let added = hears(rt, alloc, house, seat, client, line.as_str(), *in_list)?;
-    let id = id_in(added.as_str());
-    let line = format!(in alloc; "playlistid {id}")?;
-    let shown = hears(rt, alloc, house, seat, client, line.as_str(), *in_list)?;
-    let own = format!(in alloc; "file: {uri}\n")?;
-    Ok((id, shown.as_str().starts_with(own.as_str())))
+    found: &mut Found,
+) -> Result<(), PartitionFault> {
+    let id = adds(rt, alloc, house, caller, client, uri)?;
+    let is_own = is_own(rt, alloc, house, caller, client, id, uri)?;
+    found.times = found.times.saturating_add(u32::from(is_own));
+    found.ids.push(id).ok();
+    Ok(())
 }
 
 /// Adds a song a hundred times, and looks up the id each time.
@@ -76,9 +112,7 @@ fn looks_up<L: Ledgers>(
     };
     comes(rt, house, &mut caller.seat, client)?;
     for _ in 0..100u32 {
-        let (id, is_own) = looks_up_once(rt, alloc, house, &mut caller, client, uri)?;
-        found.ids.push(id).ok();
-        found.times = found.times.saturating_add(u32::from(is_own));
+        looks_up_once(rt, alloc, house, &mut caller, client, uri, &mut found)?;
     }
     Ok(found)
 }
@@ -114,64 +148,33 @@ fn look_up_at_once<L: Ledgers + Send + Sync, R: Threads + Wait + Sync>(
     )
 }
 
-/// How often each of two callers found its own song, and how many ids were given once.
-fn found_told(alloc: Global, one: &Found, two: &Found) -> Result<String, AllocError> {
+/// Adds how often each of two callers found its own song, and how many ids were given once.
+fn add_found(alloc: Global, one: &Found, two: &Found, told: &mut String) -> Result<(), AllocError> {
     let once = given_once(&one.ids, &two.ids);
-    format!(in alloc;
-        "found {} and {}, given once {once}\n",
-        one.times, two.times
-    )
+    let (ones, twos) = (one.times, two.times);
+    let line = format!(in alloc; "found {ones} and {twos}, given once {once}\n")?;
+    told.push_str(line.as_str())
 }
 
-fn both_told(
-    alloc: Global,
-    one: Result<Found, PartitionFault>,
-    two: Result<Found, PartitionFault>,
-) -> Result<String, PartitionFault> {
-    match (one, two) {
-        (Ok(one), Ok(two)) => Ok(found_told(alloc, &one, &two)?),
-        _ => Err(PartitionFault::NoMemory),
-    }
-}
-
-fn look_up<L: Ledgers + Send + Sync, R: Threads + Wait + Sync>(
+/// Adds what two callers found that look up their songs side by side.
+pub(crate) fn race<L: Ledgers + Send + Sync, R: Threads + Wait + Sync>(
     rt: &R,
     alloc: Global,
     house: &House<L>,
     in_list: bool,
-) -> Result<String, PartitionFault> {
-    let (Ok(one), Ok(two)) = (house.seat(rt), house.seat(rt)) else {
-        return Err(PartitionFault::NoMemory);
-    };
+    told: &mut String,
+) -> Result<(), PartitionFault> {
+    let one = seat_of(rt, house)?;
+    let two = seat_of(rt, house)?;
     let (one, two) = look_up_at_once(rt, alloc, house, one, two, in_list);
-    both_told(alloc, one, two)
-}
-
-fn race<L: Ledgers + Send + Sync, R: Threads + Wait + Sync>(
-    rt: &R,
-    alloc: Global,
-    blanks: Blanks,
-    in_list: bool,
-) -> Result<String, PartitionFault>
-    requires blanks { AreFor L.names blanks }
-{
-    let (house, _shares) = opened::<L>(alloc, blanks, 4096)?;
-    look_up(rt, alloc, &house, in_list)
-}
-
-fn told<R: Threads + Wait + Sync>(
-    rt: &R,
-    alloc: Global,
-    in_list: bool,
-) -> Result<String, PartitionFault> {
-    race::<Brand, R>(rt, alloc, blanks(), in_list)
+    Ok(add_found(alloc, &one?, &two?, told)?)
 }
 
 #[test]
 fn each_finds_its_own_song(rt: HostRuntime) -> Result<(), Fail> {
     wants(
         &rt,
-        told(&rt, rt.alloc(), false),
+        told(&rt, rt.alloc(), 4096, Day::OwnSongs(false)),
         "found 100 and 100, given once 200\n",
     );
     Ok(())
@@ -181,7 +184,7 @@ fn each_finds_its_own_song(rt: HostRuntime) -> Result<(), Fail> {
 fn each_finds_its_own_song_by_lists(rt: HostRuntime) -> Result<(), Fail> {
     wants(
         &rt,
-        told(&rt, rt.alloc(), true),
+        told(&rt, rt.alloc(), 4096, Day::OwnSongs(true)),
         "found 100 and 100, given once 200\n",
     );
     Ok(())

@@ -1,16 +1,13 @@
 //! Threads at rest: which changes end a rest, and what wakes who rests or waits for a notice.
-ghost use Rattle.std.specs.Prelude.{◌≡◌};
-ghost use Rattle.held_player.specs.Blanks.{AreFor};
-
 use crate::notices::meets;
+use crate::rooms::{Day, seat_of, told};
+use crate::session::{changes, session};
 use crate::wanted::wants;
 use counted_player::{Ledgers, Seat};
-use held_player::{Blanks, News};
 use house::House;
-use house_rooms::{blanks, comes, opened, says};
+use house_rooms::says;
 use partition::PartitionFault;
 use std::alloc::Global;
-use std::marker::Brand;
 use std::sync::Wait;
 use std::sync::atomic::{AtomicU32, Ordering};
 use std::test::Fail;
@@ -18,18 +15,32 @@ use std::thread;
 use std::thread::Threads;
 use std::time::{Clock, Duration};
 
+/// Two clients come, of whom the first waits for another volume than the one that is set at once, and the
+/// second has two songs played.
+const BEGINS: &str = "comes 1
+comes 2
+1 idle mixer
+show notice
+2 setvol 39
+2 add a.wav
+2 add b.wav
+2 play
+show notice
+1 noidle
+show notice";
+
 /// What the second client says while a song is played, which ends no rest, or ends one.
-const LINES: &str = "setvol 40
-seekcur 0.5
-next
-enableoutput 1
-disableoutput 0
-update
-status
-pause 1
-pause 0
-stop
-play";
+const SEEN: &str = "rest setvol 40
+rest seekcur 0.5
+rest next
+rest enableoutput 1
+rest disableoutput 0
+rest update
+rest status
+rest pause 1
+rest pause 0
+rest stop
+rest play";
 
 /// What a thread waits for, and the line that ends it; `end` is the end of the daemon.
 const WAITS: &str = "a change: enableoutput 1
@@ -38,32 +49,6 @@ a change: seekcur 0.25
 a notice: setvol 41
 a notice: end
 a change: end";
-
-/// How often the house has changed, as a scanner is told that asks.
-fn changes<L: Ledgers>(
-    rt: &impl Wait,
-    house: &House<L>,
-    seat: &mut Seat<L>,
-) -> Result<u64, PartitionFault> {
-    Ok(house.notice(rt, seat, News::AsksToScan)?.changes())
-}
-
-/// Says each line, and tells whether a thread need not rest after it that saw all changes before.
-fn seen<L: Ledgers, R: Wait + Clock>(
-    rt: &R,
-    alloc: Global,
-    house: &House<L>,
-    seat: &mut Seat<L>,
-) -> Result<String, PartitionFault> {
-    let mut told = String::new(alloc);
-    for line in LINES.lines() {
-        let before = changes(rt, house, seat)?;
-        says(rt, alloc, house, seat, 2, line)?;
-        let is_seen = house.rest(rt, before, Duration::from_millis(1)) != before;
-        told.push_str(format!(in alloc; "{line}: {is_seen}\n")?.as_str())?;
-    }
-    Ok(told)
-}
 
 /// Says a line, or ends the daemon.
 fn acts<L: Ledgers>(
@@ -119,106 +104,55 @@ fn woken<L: Ledgers + Send + Sync, R: Threads + Wait + Clock + Sync>(
     Ok(is_there)
 }
 
-/// Waits for each change or notice in turn. The first client waits for another volume, and its notice is
-/// taken out after each.
+/// Waits for a change or a notice, whose notice is taken out, and adds whether it came and whether that was
+/// one.
+fn waking<L: Ledgers + Send + Sync, R: Threads + Wait + Clock + Sync>(
+    rt: &R,
+    alloc: Global,
+    house: &House<L>,
+    before: Option<u64>,
+    line: &str,
+    told: &mut String,
+) -> Result<(), PartitionFault> {
+    let is_there = woken(rt, alloc, house, before, line)?;
+    let waits = house.outbox(rt, 1).is_some();
+    told.push_str(format!(in alloc; "{line}: {is_there} {waits}\n")?.as_str())?;
+    Ok(())
+}
+
+/// Waits for each change or notice in turn. The first client waits for another volume.
 fn wakings<L: Ledgers + Send + Sync, R: Threads + Wait + Clock + Sync>(
     rt: &R,
     alloc: Global,
     house: &House<L>,
     seat: &mut Seat<L>,
-) -> Result<String, PartitionFault> {
-    let mut told = String::new(alloc);
-    says(rt, alloc, house, seat, 1, "idle mixer")?;
+    told: &mut String,
+) -> Result<(), PartitionFault> {
+    session(rt, alloc, house, seat, "1 idle mixer", told)?;
     for wait in WAITS.lines() {
-        let Some((what, line)) = wait.split_once(": ") else {
-            continue;
-        };
+        let (what, line) = wait.split_once(": ").unwrap_or((wait, ""));
         let count = changes(rt, house, seat)?;
         let before = (what == "a change").then_some(count);
-        let is_there = woken(rt, alloc, house, before, line)?;
-        let waits = house.outbox(rt, 1).is_some();
-        told.push_str(format!(in alloc; "{line}: {is_there} {waits}\n")?.as_str())?;
+        waking(rt, alloc, house, before, line, told)?;
     }
-    Ok(told)
+    Ok(())
 }
 
-/// Whether a notice waits, as is looked for a millisecond.
-fn looks<L: Ledgers, R: Wait + Clock>(rt: &R, house: &House<L>) -> &'static str {
-    if house.await_notice(rt, Duration::from_millis(1)) {
-        "a notice\n"
+/// Adds the morning, and then what is waited for or which changes are seen.
+pub(crate) fn rests<L: Ledgers + Send + Sync, R: Threads + Wait + Clock + Sync>(
+    rt: &R,
+    alloc: Global,
+    house: &House<L>,
+    on_threads: bool,
+    told: &mut String,
+) -> Result<(), PartitionFault> {
+    let mut seat = seat_of(rt, house)?;
+    session(rt, alloc, house, &mut seat, BEGINS, told)?;
+    if on_threads {
+        wakings(rt, alloc, house, &mut seat, told)
     } else {
-        "none\n"
+        session(rt, alloc, house, &mut seat, SEEN, told)
     }
-}
-
-/// Two clients come, of whom the first waits for another volume than the one that is set at once, and the
-/// second has two songs played.
-fn begins<L: Ledgers, R: Wait + Clock>(
-    rt: &R,
-    alloc: Global,
-    house: &House<L>,
-    seat: &mut Seat<L>,
-) -> Result<String, PartitionFault> {
-    comes(rt, house, seat, 1)?;
-    comes(rt, house, seat, 2)?;
-    says(rt, alloc, house, seat, 1, "idle mixer")?;
-    let mut told = String::from_str(alloc, looks(rt, house))?;
-    for line in "setvol 39\nadd a.wav\nadd b.wav\nplay".lines() {
-        says(rt, alloc, house, seat, 2, line)?;
-    }
-    told.push_str(looks(rt, house))?;
-    told.push_str(says(rt, alloc, house, seat, 1, "noidle")?.as_str())?;
-    told.push_str(looks(rt, house))?;
-    Ok(told)
-}
-
-/// The morning, and then what is waited for or which changes are seen.
-fn day<L: Ledgers + Send + Sync, R: Threads + Wait + Clock + Sync>(
-    rt: &R,
-    alloc: Global,
-    house: &House<L>,
-    seat: &mut Seat<L>,
-    on_threads: bool,
-) -> Result<String, PartitionFault> {
-    let begun = begins(rt, alloc, house, seat)?;
-    let more = if on_threads {
-        wakings(rt, alloc, house, seat)?
-    } else {
-        seen(rt, alloc, house, seat)?
-    };
-    Ok(format!(in alloc; "{begun}{more}")?)
-}
-
-fn day_of_a_seat<L: Ledgers + Send + Sync, R: Threads + Wait + Clock + Sync>(
-    rt: &R,
-    alloc: Global,
-    house: &House<L>,
-    on_threads: bool,
-) -> Result<String, PartitionFault> {
-    match house.seat(rt) {
-        Ok(mut seat) => day(rt, alloc, house, &mut seat, on_threads),
-        Err(_) => Err(PartitionFault::NoMemory),
-    }
-}
-
-fn evening<L: Ledgers + Send + Sync, R: Threads + Wait + Clock + Sync>(
-    rt: &R,
-    alloc: Global,
-    blanks: Blanks,
-    on_threads: bool,
-) -> Result<String, PartitionFault>
-    requires blanks { AreFor L.names blanks }
-{
-    let (house, _shares) = opened::<L>(alloc, blanks, 4096)?;
-    day_of_a_seat(rt, alloc, &house, on_threads)
-}
-
-fn told<R: Threads + Wait + Clock + Sync>(
-    rt: &R,
-    alloc: Global,
-    on_threads: bool,
-) -> Result<String, PartitionFault> {
-    evening::<Brand, R>(rt, alloc, blanks(), on_threads)
 }
 
 // A rest is ended by what is played, the outputs, a scan and the end, and by no other change.
@@ -226,8 +160,16 @@ fn told<R: Threads + Wait + Clock + Sync>(
 fn changes_end_rests(rt: HostRuntime) -> Result<(), Fail> {
     wants(
         &rt,
-        told(&rt, rt.alloc(), false),
-        "none
+        told(&rt, rt.alloc(), 4096, Day::Rests(false)),
+        "OK MPD 0.23.0
+heard
+OK MPD 0.23.0
+heard
+none
+OK
+OK
+OK
+OK
 a notice
 told
 none
@@ -251,8 +193,16 @@ play: true
 fn who_waits_is_woken(rt: HostRuntime) -> Result<(), Fail> {
     wants(
         &rt,
-        told(&rt, rt.alloc(), true),
-        "none
+        told(&rt, rt.alloc(), 4096, Day::Rests(true)),
+        "OK MPD 0.23.0
+heard
+OK MPD 0.23.0
+heard
+none
+OK
+OK
+OK
+OK
 a notice
 told
 none

@@ -1,0 +1,120 @@
+//! Opens a house for a test. Each opening is proved, so all tests open theirs here.
+ghost use Rattle.frame_ledger.specs.Shares.{HasAllParts};
+ghost use Rattle.std.specs.Prelude.{◌≡◌, ◌<◌, IfOk};
+ghost use Rattle.held_player.specs.Blanks.{AreFor};
+
+use crate::session::session;
+use crate::{callers, days, frames, notices, own_songs, rests};
+use counted_player::{Ledgers, Seat};
+use held_player::{Blanks, CrewShares};
+use house::House;
+use house_rooms::{blanks, opened};
+use partition::PartitionFault;
+use std::alloc::Global;
+use std::marker::Brand;
+use std::sync::Wait;
+use std::thread::Threads;
+use std::time::Clock;
+
+/// What is done in a house.
+#[derive(Clone, Copy)]
+pub(crate) enum Day {
+    /// Clients come and go, one after the other.
+    Clients,
+    /// Two threads add songs.
+    Callers,
+    /// A client waits while another makes changes.
+    Notices,
+    /// Two threads look up their own songs, by lists where this is so.
+    OwnSongs(bool),
+    /// Frames are decoded, written and settled.
+    Frames,
+    /// Threads rest, side by side with who wakes them where this is so.
+    Rests(bool),
+}
+
+/// One of the four seats of a house.
+pub(crate) fn seat_of<L: Ledgers>(
+    rt: &impl Wait,
+    house: &House<L>,
+) -> Result<Seat<L>, PartitionFault>
+    ensures { IfOk result (λ s. (s.number < 4) × (s.made ≡ 0)) }
+{
+    match house.seat(rt) {
+        Ok(seat) => Ok(seat),
+        Err(_) => Err(PartitionFault::NoMemory),
+    }
+}
+
+/// Adds what a session tells that has a seat of its own.
+pub(crate) fn alone<L: Ledgers, R: Wait + Clock>(
+    rt: &R,
+    alloc: Global,
+    house: &House<L>,
+    steps: &str,
+    told: &mut String,
+) -> Result<(), PartitionFault> {
+    let mut seat = seat_of(rt, house)?;
+    session(rt, alloc, house, &mut seat, steps, told)
+}
+
+/// Adds what is told of a day without frames.
+fn without_frames<L: Ledgers + Send + Sync, R: Threads + Wait + Clock + Sync>(
+    rt: &R,
+    alloc: Global,
+    house: &House<L>,
+    which: Day,
+    told: &mut String,
+) -> Result<(), PartitionFault> {
+    match which {
+        Day::Callers => callers::race(rt, alloc, house, told),
+        Day::Notices => notices::race(rt, alloc, house, told),
+        Day::OwnSongs(in_list) => own_songs::race(rt, alloc, house, in_list, told),
+        Day::Rests(on_threads) => rests::rests(rt, alloc, house, on_threads, told),
+        _ => alone(rt, alloc, house, days::STEPS, told),
+    }
+}
+
+/// Adds what is told of a day, of which that with frames takes the shares.
+fn day_of<L: Ledgers + Send + Sync, R: Threads + Wait + Clock + Sync>(
+    rt: &R,
+    alloc: Global,
+    house: &House<L>,
+    shares: CrewShares<L>,
+    which: Day,
+    told: &mut String,
+) -> Result<(), PartitionFault>
+    requires { HasAllParts shares.decoded.parts shares.outputs }
+{
+    match which {
+        Day::Frames => frames::frames(rt, alloc, house, shares, told),
+        _ => without_frames(rt, alloc, house, which, told),
+    }
+}
+
+/// Opens a house, and adds what is told of a day in it.
+fn evening<L: Ledgers + Send + Sync, R: Threads + Wait + Clock + Sync>(
+    rt: &R,
+    alloc: Global,
+    blanks: Blanks,
+    history: u32,
+    which: Day,
+    told: &mut String,
+) -> Result<(), PartitionFault>
+    requires blanks { AreFor L.names blanks }
+{
+    let (house, shares) = opened::<L>(alloc, blanks, history)?;
+    day_of(rt, alloc, &house, shares, which, told)
+}
+
+/// What is told of a day in a house over two songs, whose window has at most so many events.
+pub(crate) fn told<R: Threads + Wait + Clock + Sync>(
+    rt: &R,
+    alloc: Global,
+    history: u32,
+    which: Day,
+) -> Result<String, PartitionFault> {
+    let mut told = String::new(alloc);
+    evening::<Brand, R>(rt, alloc, blanks(), history, which, &mut told)?;
+    Ok(told)
+}
