@@ -97,12 +97,12 @@ def check_load(table, program, folder, music, seconds):
     table.row('listpartitions', '%d names' % len(names), right=len(names) == MOST)
     for tenant in tenants:
         tenant.client.close()
-    balances(table, daemon, pacers)
+    balances(table, daemon, pacers, first)
 
 
-def balances(table, daemon, pacers=()):
-    """The daemon ends, and each output's frames are those written, discarded or left."""
-    client = daemon.client()
+def balances(table, daemon, pacers=(), client=None):
+    """The daemon ends, and each output's frames are those written, discarded or left. A client that is there has a place for sure."""
+    client = client or daemon.client()
     for line in client.must('listpartitions'):
         client.must('partition %s' % line.partition(': ')[2])
         client.must('stop')
