@@ -133,7 +133,7 @@ def check_played(program, folder, music):
         client = daemon.client()
         for line in ('add ""', 'seek 3 1'):
             client.must(line)
-        time.sleep(7)
+        time.sleep(5)
         wanted = state_of(client)
         if ends == 'kill':
             daemon.end()
