@@ -35,7 +35,7 @@ ROOMS = [
     ('the shelf', 'shelf_database shelf'),
     ('what is played', 'player_core play_order song_queue queue_slots idle_notes'),
     ('songs', 'song_groups song_search filters known_tags library_scan song_db'),
-    ('sound', 'frame_ledger output_ring wave pcm_mix'),
+    ('sound', 'frame_ledger output_ring patient_output wave pcm_mix'),
     ('texts, devices', 'mpd_text counted_devices'),
 ]
 

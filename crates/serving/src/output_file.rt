@@ -1,49 +1,40 @@
 //! The files and FIFOs of the outputs.
-ghost use Rattle.std.specs.Prelude.{◌≡◌, IfOk, length, vec_len};
-
-use counted_devices::Counting;
-use settings::OutputSettings;
-use std::alloc::{AllocError, Global};
+use patient_output::{PatientWriter, Reopening};
 use std::io::Write;
 use std::rt::Files;
+use std::sync::Wait;
 use std::{fs, io};
 
 /// A path that is opened at its first write; a fault of opening is that write's.
 #[derive(Drop)]
-pub(crate) struct OutputFile<R: Files + Drop> {
-    rt: R,
+pub(crate) struct OutputFile<F: Files + Drop> {
+    files: F,
     path: String,
-    file: Option<R::File>,
+    file: Option<F::File>,
 }
 
-/// What each output writes to.
-pub(crate) fn output_files<R: Files + Copy + Drop>(
-    rt: R,
-    alloc: Global,
-    outputs: &[OutputSettings],
-) -> Result<Vec<Counting<OutputFile<R>>>, AllocError>
+impl<F: Files + Drop> OutputFile<F>
 where
-    R::File: Write + Drop,
-    ensures { IfOk result (λ files. vec_len files ≡ length outputs.now) }
+    F::File: Drop,
 {
-    let mut files = Vec::new(alloc);
-    'outputs: for output in outputs {
-        let path = String::from_str(alloc, output.path.as_str())?;
-        let file = None;
-        files.push(Counting::new(OutputFile { rt, path, file }))?;
+    pub(crate) fn new(files: F, path: String) -> OutputFile<F> {
+        OutputFile {
+            files,
+            path,
+            file: None,
+        }
     }
-    Ok(files)
 }
 
-impl<R: Files + Drop> Write for OutputFile<R>
+impl<F: Files + Drop> Write for OutputFile<F>
 where
-    R::File: Write + Drop,
+    F::File: Write + Drop,
 {
     fn write(&mut self, buf: &[u8]) -> io::Result<usize> {
         if let Some(file) = &mut self.file {
             return file.write(buf);
         }
-        let mut file = fs::create(&self.rt, self.path.as_str())?;
+        let mut file = fs::create(&self.files, self.path.as_str())?;
         let written = file.write(buf);
         self.file = Some(file);
         written
@@ -53,6 +44,43 @@ where
         match &mut self.file {
             Some(file) => file.flush(),
             None => Ok(()),
+        }
+    }
+}
+
+impl<F: Files + Drop> Reopening for OutputFile<F>
+where
+    F::File: Write + Drop,
+{
+    fn let_go(&mut self) {
+        self.file = None;
+    }
+}
+
+/// What an output writes to.
+#[derive(Drop)]
+pub(crate) enum OutputPath<F: Files + Drop, R: Wait + Copy> {
+    /// Its path, for which it waits.
+    Direct(OutputFile<F>),
+    /// A ring, from which a thread of its own writes to the path.
+    Patient(PatientWriter<R>),
+}
+
+impl<F: Files + Drop, R: Wait + Copy> Write for OutputPath<F, R>
+where
+    F::File: Write + Drop,
+{
+    fn write(&mut self, buf: &[u8]) -> io::Result<usize> {
+        match self {
+            OutputPath::Direct(file) => file.write(buf),
+            OutputPath::Patient(writer) => writer.write(buf),
+        }
+    }
+
+    fn flush(&mut self) -> io::Result<()> {
+        match self {
+            OutputPath::Direct(file) => file.flush(),
+            OutputPath::Patient(writer) => writer.flush(),
         }
     }
 }
