@@ -20,16 +20,17 @@ use library_commands::asking::ask;
 use library_commands::{database, playlists, stickers};
 use mpd_command::{Command, Name, Request, StatusCommand};
 use parts::Parts;
-use player_core::Live;
 use player_events::Event;
-use player_state::{AudioStep, Client, Heard, Library, Part, Report, ScanMove};
+use player_state::{AudioStep, Client, Library, Part, ScanMove};
 use queue_commands::{playback, queue};
 use shelf::Shelf;
 use song_db::SharedDb;
 use status_commands::status::wish;
 use status_commands::{connection, messages, options, outputs, status};
 use std::alloc::{AllocError, Global};
-use transitions::{Asked, Move, Read, Response, Stand, Transition, refuses_line, shut, tells};
+use transitions::{
+    Asked, EarlyReport, Move, Read, Response, Stand, Transition, refuses_line, shut, tells,
+};
 
 /// What an event asks for.
 pub(crate) fn transition_of_event(
@@ -54,9 +55,9 @@ pub(crate) fn transition_of_event(
         }
         Event::ScanQuestion => {
             let report = if state.ended {
-                Report::Ended
+                EarlyReport::Ended
             } else {
-                Report::ToScan(state.library.scan.running())
+                EarlyReport::ToScan(state.library.scan.running())
             };
             Ok(Transition::reports(alloc, ScanMove::Stay, report))
         }
@@ -73,7 +74,7 @@ pub(crate) fn transition_of_event(
             let turn = AudioStep::Settles(*output, *written, *discarded, *failed);
             Ok(settle(alloc, part, *output, turn).or_ended(state.ended))
         }
-        Event::End => { Ok(Transition::reports(alloc, ScanMove::Stay, Report::Nothing)) }
+        Event::End => { Ok(Transition::reports(alloc, ScanMove::Stay, EarlyReport::Nothing)) }
     }
 }
 
@@ -129,14 +130,14 @@ fn want(alloc: Global, ended: bool, part: Option<&Part>, owes: [bool; 8]) -> Tra
 {
     let Some(part) = part else {
         let report = if ended {
-            Report::Ended
+            EarlyReport::Ended
         } else {
-            Report::ToDecode(None)
+            EarlyReport::NoJob
         };
         return Transition::reports(alloc, ScanMove::Stay, report);
     };
     let step = AudioStep::Wants(part.outputs.owes(owes));
-    Transition::acts_unless(alloc, ended, Report::Ended, step)
+    Transition::acts_unless(alloc, ended, EarlyReport::Ended, step)
 }
 
 /// Frames of a job of a partition are decoded.
@@ -144,10 +145,10 @@ fn have(alloc: Global, ended: bool, part: Option<&Part>, number: u64, frames: u6
     ensures { result ≡ have_lem ended (option_copied part.entry) number frames }
 {
     if part.is_none() {
-        return Transition::reports(alloc, ScanMove::Stay, Report::ToFeed(None));
+        return Transition::reports(alloc, ScanMove::Stay, EarlyReport::NoFeed);
     }
     let step = AudioStep::Accepts(number, frames);
-    Transition::acts_unless(alloc, ended, Report::ToFeed(None), step)
+    Transition::acts_unless(alloc, ended, EarlyReport::NoFeed, step)
 }
 
 /// The song of a job of a partition cannot be read.
@@ -155,7 +156,7 @@ fn failure(alloc: Global, part: Option<&Part>, number: u64, partner: bool) -> Tr
     ensures { result ≡ failure_lem (option_copied part.entry) number partner }
 {
     if part.is_none() {
-        return Transition::reports(alloc, ScanMove::Stay, Report::Nothing);
+        return Transition::reports(alloc, ScanMove::Stay, EarlyReport::Nothing);
     }
     Transition::acts(alloc, AudioStep::Fails(number, partner))
 }
@@ -178,7 +179,7 @@ fn end_scan(
     Ok(Transition::reports(
         alloc,
         ScanMove::End(found, second),
-        Report::ScanEnded(ended),
+        EarlyReport::ScanEnded(ended),
     ))
 }
 
@@ -191,16 +192,7 @@ fn settle(alloc: Global, part: Option<&Part>, output: usize, turn: AudioStep) ->
             return Transition::acts(alloc, turn);
         }
     }
-    let live = Live {
-        cut: 0,
-        enabled: false,
-        paused: false,
-    };
-    Transition::reports(
-        alloc,
-        ScanMove::Stay,
-        Report::ToPlay(Heard { moves: 0, live }),
-    )
+    Transition::reports(alloc, ScanMove::Stay, EarlyReport::NoOutput)
 }
 
 fn connect(

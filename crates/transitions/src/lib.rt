@@ -3,6 +3,7 @@
 #![tactic(auto)]
 
 mod asked;
+mod early_report;
 mod refusals;
 mod reply;
 mod response;
@@ -10,6 +11,7 @@ mod shelf_calls;
 mod transition;
 
 pub use asked::{Asked, Stand};
+pub use early_report::EarlyReport;
 pub use refusals::{Refusals, shelf_refuses};
 pub use reply::{Move, Next, Reply};
 pub use response::{

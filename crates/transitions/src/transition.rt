@@ -4,11 +4,13 @@ ghost use Rattle.transitions.specs.CommandResults.{begins_scan as begins_scan_le
 ghost use Rattle.parts.specs.Parts.{FitsIn, part_at};
 ghost use Rattle.player_state.specs.Libraries.{library_after, second_after};
 ghost use Rattle.player_state.specs.declared.scan.ScanMove.TheVariants.{End};
+ghost use Rattle.transitions.specs.EarlyReports.{report_of as report_of_early};
 ghost use Rattle.transitions.specs.Shelves.{is_written};
 ghost use Rattle.player_state.specs.declared.report.Report.{Report};
 ghost use Rattle.transitions.specs.Transitions.{IsDecidedBy, acts as acts_lem, acts_unless as acts_unless_lem, crosses as crosses_lem, departs as departs_lem, enters as enters_lem, keeps_all_numbers, leaves as leaves_lem, max_cut_in, only_written, or_ended as or_ended_lem, parts_after, quiet, report_of, no_response, transition_by};
 
 use crate::asked::Asked;
+use crate::early_report::EarlyReport;
 use crate::reply::Move;
 use crate::response::{Response, refuses, shows, shut, shut_down, succeeds, succeeds_and, tells};
 use crate::shelf_calls::ShelfWrite;
@@ -27,7 +29,7 @@ pub struct Transition {
     pub scan: ScanMove,
     pub written: ShelfWrite,
     pub response: Response,
-    pub report: Report,
+    pub report: EarlyReport,
     /// What passes between the partitions.
     pub crossing: Crossing,
 }
@@ -47,11 +49,12 @@ impl Drop for Transition {
 }
 
 impl Model for Transition {
+    ghost use Rattle.transitions.specs.EarlyReports.{report_of as report_of_early};
     ghost use Rattle.transitions.specs.Transitions.{TransitionData, transition_from};
 
     ghost Value = { TransitionData };
 
-    ghost view = { λ p. transition_from p.effect p.scan p.written p.response p.report p.crossing };
+    ghost view = { λ p. transition_from p.effect p.scan p.written p.response (report_of_early p.report) p.crossing };
 }
 
 impl Transition {
@@ -64,7 +67,7 @@ impl Transition {
             scan: ScanMove::Stay,
             written: ShelfWrite::Nothing,
             response,
-            report: Report::Nothing,
+            report: EarlyReport::Nothing,
             crossing: Crossing::Stays,
         }
     }
@@ -78,14 +81,19 @@ impl Transition {
             scan: ScanMove::Stay,
             written: ShelfWrite::Nothing,
             response: tells(String::new(alloc), Move::Stay),
-            report: Report::Nothing,
+            report: EarlyReport::Nothing,
             crossing: Crossing::Stays,
         }
     }
 
     /// A step of the decoder; after the end it does nothing, and is told so.
-    pub fn acts_unless(alloc: Global, ended: bool, report: Report, step: AudioStep) -> Transition
-        ensures { result ≡ acts_unless_lem ended report step }
+    pub fn acts_unless(
+        alloc: Global,
+        ended: bool,
+        report: EarlyReport,
+        step: AudioStep,
+    ) -> Transition
+        ensures { result ≡ acts_unless_lem ended (report_of_early report) step }
     {
         if ended {
             return Transition::reports(alloc, ScanMove::Stay, report);
@@ -102,7 +110,7 @@ impl Transition {
             scan: ScanMove::Stay,
             written: ShelfWrite::Nothing,
             response: shows(asked, lines)?,
-            report: Report::Nothing,
+            report: EarlyReport::Nothing,
             crossing: Crossing::Stays,
         })
     }
@@ -120,7 +128,7 @@ impl Transition {
             scan: ScanMove::Stay,
             written: ShelfWrite::Nothing,
             response: succeeds(alloc, asked)?,
-            report: Report::Nothing,
+            report: EarlyReport::Nothing,
             crossing: Crossing::Stays,
         })
     }
@@ -138,7 +146,7 @@ impl Transition {
             scan: ScanMove::Stay,
             written,
             response: succeeds(alloc, asked)?,
-            report: Report::Nothing,
+            report: EarlyReport::Nothing,
             crossing: Crossing::Stays,
         })
     }
@@ -156,7 +164,7 @@ impl Transition {
             scan: ScanMove::Stay,
             written: ShelfWrite::Nothing,
             response: shows(asked, lines)?,
-            report: Report::Nothing,
+            report: EarlyReport::Nothing,
             crossing: Crossing::Stays,
         })
     }
@@ -191,7 +199,7 @@ impl Transition {
             scan: ScanMove::Stay,
             written: ShelfWrite::Nothing,
             response,
-            report: Report::Nothing,
+            report: EarlyReport::Nothing,
             crossing: Crossing::Stays,
         }
     }
@@ -217,7 +225,7 @@ impl Transition {
             scan: ScanMove::Stay,
             written,
             response,
-            report: Report::Nothing,
+            report: EarlyReport::Nothing,
             crossing: Crossing::Stays,
         }
     }
@@ -231,14 +239,14 @@ impl Transition {
             scan: ScanMove::Begin,
             written: ShelfWrite::Nothing,
             response: shows(asked, lines)?,
-            report: Report::Nothing,
+            report: EarlyReport::Nothing,
             crossing: Crossing::Stays,
         })
     }
 
     /// The part stays as it is, and this is told to a part of the daemon that is no client.
-    pub fn reports(alloc: Global, scan: ScanMove, report: Report) -> Transition
-        ensures { result ≡ record (quiet no_response) { scan = scan; report = report } }
+    pub fn reports(alloc: Global, scan: ScanMove, report: EarlyReport) -> Transition
+        ensures { result ≡ record (quiet no_response) { scan = scan; report = report_of_early report } }
     {
         Transition {
             effect: Effect::ByCommand(CommandEffect::Rests),
@@ -256,7 +264,7 @@ impl Transition {
     {
         let mut transition = self;
         if ended {
-            transition.report = Report::Ended;
+            transition.report = EarlyReport::Ended;
         }
         transition
     }
@@ -381,7 +389,7 @@ impl Transition {
             report,
             crossing,
         } = self;
-        let report = parts.carry_out(place, &library.rate, effect, report)?;
+        let report = parts.carry_out(place, &library.rate, effect, report.into_report())?;
         parts.cross(crossing);
         move_scan(library, scan);
         Ok(Telling { response, report })
