@@ -26,13 +26,21 @@ impl Drop for Notices {
 }
 
 impl Notices {
+    /// No notices, and no room for any.
+    pub fn none() -> Notices
+        ensures list { listed result ≡ [] }
+        ensures room { room_in result ≡ 0 }
+    {
+        Notices { list: None }
+    }
+
     /// No notices, with room for so many.
     pub fn with_room(alloc: Global, room: usize) -> Result<Notices, AllocError>
         ensures list { IfOk result (λ notices. listed notices ≡ []) }
         ensures room { IfOk result (λ notices. room ≤ room_in notices) }
     {
         if room == 0 {
-            return Ok(Notices { list: None });
+            return Ok(Notices::none());
         }
         let list = Vec::with_capacity(alloc, room)?;
         Ok(Notices {
@@ -66,7 +74,7 @@ impl Notices {
         ensures room { listed self ≡ [] → room_in result ≡ 0 }
     {
         if self.as_slice().is_empty() {
-            return Notices { list: None };
+            return Notices::none();
         }
         self
     }

@@ -21,6 +21,7 @@ pub mod Serving
 pub mod Settled
 pub mod Since
 pub mod Stands
+pub mod Still
 pub mod Stepped
 pub mod Stepping
 pub mod Whole

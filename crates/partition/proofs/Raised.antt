@@ -1,5 +1,5 @@
 -- What the fingerprint of a daemon tells of a transition.
-use Rattle.std.proofs.Common.{◌≡◌, ◌≢◌, inl, inr, ℕ, ◌==◌, nat_eq, nat_lt, Bool, true, false, not, ◌&&◌, List, [], ◌∷◌, ◌++◌, length, map, Option, Some, None, option_map, refl, ap, sym, subst, ◌∙◌, arith, if◌then◌else◌}
+use Rattle.std.proofs.Common.{◌≡◌, ◌≢◌, ℕ, ◌==◌, nat_eq, nat_lt, Bool, true, false, not, ◌&&◌, List, [], ◌∷◌, ◌++◌, length, map, Option, Some, None, option_map, refl, ap, sym, subst, ◌∙◌, arith, if◌then◌else◌}
 use Rattle.std.proofs.lemmas.Bool.{eq-eqb, eqb-true}
 use Rattle.idle_notes.specs.Channels.{MemberData, clients_with_messages, pairs}
 use Rattle.idle_notes.specs.Sets.{all, none}
@@ -30,7 +30,6 @@ use Rattle.player_state.specs.Libraries.{library_after, songs_after}
 use Rattle.idle_clients.specs.Fingerprint.{FingerprintData, RaisedData, begins_between, changes_listeners_in, changes_subscriptions, enabled_at, enabled_before, enabled_in, fingerprint, is_among, own_by_readings, raised_by_fingerprint, raised_in, readings, switches, switches_from}
 use Rattle.transitions.specs.Shelves.{changes_lists, changes_stickers}
 use Rattle.transitions.specs.declared.shelf_calls.ShelfWrite.{ShelfWrite}
-use Rattle.idle_clients.specs.Settled.{HasRoom}
 use Rattle.idle_clients.proofs.Alike.{same_enabled-refl, same_names-refl, same_names-true, same_options-refl, same_pairs-refl, same_playing-refl}
 use Rattle.idle_clients.proofs.Listeners.{among_waiting, changes}
 use Rattle.partition.specs.Step.{ended_after, goer, mover, place_at, raised_by, raised_of, report_at, after_transition, told_by}
@@ -347,11 +346,6 @@ module _ (i : Image) (event : Event) (t : TransitionData) (parts : List Part) (l
   noticed notices parts_are library_is said_is raised_is notices_are =
       let all_of : raised ≡ raised_of i event t = is_raised parts_are library_is raised_is in
       notices_are ∙ ap (λ r. notices_after (mover event) r response i.clients) all_of ∙ ap (λ s. notices_after (mover event) (raised_of i event t) s i.clients) said_is
-
-  -- there is room for the notices of what was raised
-  pub roomy : (room : ℕ) → PartsAre → LibraryIs → Shown → HasRoom (raised_of i event t) i.clients room → HasRoom raised i.clients room
-  roomy room parts_are library_is raised_is (inl none) = inl (is_raised parts_are library_is raised_is ∙ none)
-  roomy room parts_are library_is raised_is (inr few) = inr few
 
   -- what was told by readings that are alike
   pub shown_by : (goes : Option ℕ) (database listening : Bool) (written : ShelfWrite) (before : FingerprintData) (r : RaisedData)

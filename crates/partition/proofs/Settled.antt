@@ -23,12 +23,10 @@ use Rattle.idle_clients.specs.Clients.{entered, entering, names_of, notified, no
 use Rattle.mpd_text.specs.declared.songs.song.TagName.{TagName}
 use Rattle.status_commands.specs.Status.{Wish, idles}
 use Rattle.partition.specs.History.{replay}
-use Rattle.player_state.specs.declared.effect.Effect.{Effect}
 use Rattle.player_state.specs.declared.effect.Effect.TheVariants.{ByCommand}
 use Rattle.player_state.specs.declared.effect.CommandEffect.TheVariants.{Rests}
 use Rattle.player_state.specs.declared.report.Report.{Report}
 use Rattle.player_state.specs.declared.report.Report.TheVariants.{Nothing}
-use Rattle.player_state.specs.declared.scan.ScanMove.{ScanMove}
 use Rattle.player_state.specs.declared.scan.ScanMove.TheVariants.{Stay as StayScan}
 use Rattle.player_state.proofs.Songs.{same_songs-refl}
 use Rattle.partition.specs.Image.{Image}
@@ -40,11 +38,10 @@ use Rattle.idle_clients.specs.Settled.{IsSettled, AllSettled, HasRoom, nothing}
 use Rattle.transitions.specs.Shelves.{is_written}
 use Rattle.transitions.specs.declared.shelf_calls.ShelfWrite.{ShelfWrite}
 use Rattle.transitions.specs.declared.shelf_calls.ShelfWrite.TheVariants.{Nothing as Unwritten, Put, Create, Rename, Remove, SetSticker, DeleteSticker, DeleteStickers}
-use Rattle.partition.specs.Applying.{GoesNowhere, RaisesNothing}
+use Rattle.partition.specs.Applying.{GoesNowhere}
 use Rattle.partition.specs.Image.{overview}
 use Rattle.partition.specs.Step.{asked_by, ends_by, goer, mover, place_at, raised_by, raised_of, speaker_in, transition, transition_line, transition_of, transition_there, transition_wished, next_image, written_transition}
 use Rattle.parts.specs.Parts.{part_at}
-use Rattle.parts.specs.declared.crossing.Crossing.{Crossing}
 use Rattle.parts.specs.declared.crossing.Crossing.TheVariants.{Stays}
 use Rattle.partition.proofs.Raised.{same_between}
 use Rattle.partition.proofs.Written.{rests_changed}
@@ -89,12 +86,12 @@ unwritten (DeleteSticker kind target name) e = cc
 unwritten (DeleteStickers kind target) e = cc
 
 -- a client that goes nowhere
-stays_put : (number : ℕ) (response : ResponseData) → GoesNowhere response.move → goer number response ≡ None
+pub stays_put : (number : ℕ) (response : ResponseData) → GoesNowhere response.move → goer number response ≡ None
 stays_put number response nowhere =
     elim (closes response.answer.next) as (λ b. entering number (if b then Stay else response.move) ≡ None) [ true ↦ refl | false ↦ nowhere number ]
 
 -- what leaves the partitions and the scans as they are, and lets no client go, raises nothing
-rest_raises : (number place : ℕ) (parts : List Part) (library : Library) (response : ResponseData) (report : Report) → goer number response ≡ None
+pub rest_raises : (number place : ℕ) (parts : List Part) (library : Library) (response : ResponseData) (report : Report) → goer number response ≡ None
     → raised_by number place parts library (record { effect = ByCommand Rests; scan = StayScan; written = Unwritten; response = response; report = report; crossing = Stays }) ≡ nothing
 rest_raises number place parts library response report nobody =
     let common_is : raised_for_all Unwritten (watched_all library parts) (watched_all library parts) ≡ none =
@@ -110,14 +107,6 @@ rest_raises number place parts library response report nobody =
     ap (λ (ps : List Part). raised (goer number response) Unwritten (watched_all library parts) (watched_all library ps)) (rests_changed library.rate place parts)
     ∙ ap (λ (g : Option ℕ). raised g Unwritten (watched_all library parts) (watched_all library parts)) nobody
     ∙ (λ i client. there client i)
-
-pub same_raises : (t : TransitionData) → t.scan ≡ StayScan → t.effect ≡ (ByCommand Rests) → t.crossing ≡ Stays → GoesNowhere t.response.move → is_written t.written ≡ false → RaisesNothing t
-same_raises t scan effect crossing nowhere written = λ number place parts library.
-    ap (λ (d : Effect). raised_by number place parts library (record t { effect = d })) effect
-    ∙ ap (λ (m : ScanMove). raised_by number place parts library (record t { effect = ByCommand Rests; scan = m })) scan
-    ∙ ap (λ (c : Crossing). raised_by number place parts library (record t { effect = ByCommand Rests; scan = StayScan; crossing = c })) crossing
-    ∙ ap (λ (w : ShelfWrite). raised_by number place parts library (record t { effect = ByCommand Rests; scan = StayScan; crossing = Stays; written = w })) (unwritten t.written written)
-    ∙ rest_raises number place parts library t.response t.report (stays_put number t.response nowhere)
 
 pub quiet_raises : (i : Image) (event : Event) (response : ResponseData) → goer (mover event) response ≡ None → raised_of i event (quiet response) ≡ nothing
 quiet_raises i event response nobody = rest_raises (mover event) (place_at i event) i.parts i.shared.library response Nothing nobody
@@ -294,8 +283,3 @@ fewer_wanted raised number ks room (inl e) = inl e
 fewer_wanted raised number ks room (inr e) =
     let less : count_by is_waiting (filter (is_other number) ks) ≤ count_by is_waiting ks = fewer_wait number ks in
     inr (omega (arith, less, e))
-
--- more room does as well
-pub more_room : (raised : Client → Subsystems) (clients : List Client) (most room : ℕ) → HasRoom raised clients most → most ≤ room → HasRoom raised clients room
-more_room raised clients most room (inl none) fits = inl none
-more_room raised clients most room (inr few) fits = inr (omega (arith, few, fits))

@@ -9,6 +9,7 @@ use Rattle.player_state.specs.declared.effect.Effect.TheVariants.{ByCommand}
 use Rattle.player_state.specs.declared.effect.CommandEffect.TheVariants.{Rests}
 use Rattle.player_events.specs.declared.event.Event.{Event}
 use Rattle.idle_clients.specs.declared.notices.Notice.{Notice}
+use Rattle.player_state.specs.declared.report.Report.{Report}
 use Rattle.player_state.specs.declared.report.Report.TheVariants.{Nothing}
 use Rattle.player_state.specs.declared.scan.ScanMove.{ScanMove}
 use Rattle.player_state.specs.declared.scan.ScanMove.TheVariants.{Stay}
@@ -32,9 +33,9 @@ rests_changed rate place (p ∷ ps) =
     elim (p.place == place) as (λ b. (if b then p ∷ ps else p ∷ changed rate place (ByCommand Rests) ps) ≡ p ∷ ps)
     [ true ↦ refl | false ↦ ap (λ (l : List Part). p ∷ l) (rests_changed rate place ps) ]
 
-rests_report : (rate : ℕ) (o : Option Part) → report_in rate o (ByCommand Rests) Nothing ≡ Nothing
-rests_report rate None = refl
-rests_report rate (Some p) = refl
+pub rests_report : (rate : ℕ) (o : Option Part) (report : Report) → report_in rate o (ByCommand Rests) report ≡ report
+rests_report rate None report = refl
+rests_report rate (Some p) report = refl
 
 rests_listeners : (o : Option Part) → changes_listeners_in o (ByCommand Rests) ≡ false
 rests_listeners None = refl
@@ -55,7 +56,7 @@ module _ (i : Image) (event : Event) (t : TransitionData) (alone : t ≡ record 
   crossing_is = ap (λ (u : TransitionData). u.crossing) alone
 
   pub told_nothing : Nothing ≡ report_at i event t
-  told_nothing = sym (ap (report_at i event) alone ∙ rests_report i.shared.library.rate (part_at place i.parts))
+  told_nothing = sym (ap (report_at i event) alone ∙ rests_report i.shared.library.rate (part_at place i.parts) Nothing)
 
   parts_are : i.parts ≡ parts_after i.shared.library.rate place t i.parts
   parts_are = sym (ap (λ (u : TransitionData). parts_after i.shared.library.rate place u i.parts) alone ∙ rests_changed i.shared.library.rate place i.parts)

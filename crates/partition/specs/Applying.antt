@@ -5,11 +5,9 @@ use Rattle.idle_clients.specs.declared.notices.Notice.{Notice}
 use Rattle.idle_clients.specs.declared.notices.Notices.{Notices}
 use Rattle.idle_clients.specs.Clients.{clients_after, entering, notice_for, notices_after}
 use Rattle.idle_clients.specs.Fingerprint.{FingerprintData, RaisedData, fingerprint, raised_in}
-use Rattle.idle_clients.specs.Rooms.{listed, room_in}
-use Rattle.idle_clients.specs.Settled.{HasRoom, nothing}
+use Rattle.idle_clients.specs.Rooms.{listed}
 use Rattle.partition.specs.Image.{Image, image_of_state, overview}
 use Rattle.partition.specs.Refusals.{RefusesFrames, RefusesTransition}
-use Rattle.idle_notes.specs.declared.sets.Subsystems.{Subsystems}
 use Rattle.mpd_command.specs.declared.command.Command.{Command}
 use Rattle.mpd_command.specs.declared.name.Name.{Name}
 use Rattle.mpd_command.specs.declared.request.Request.{Request}
@@ -19,7 +17,7 @@ use Rattle.transitions.specs.declared.asked.Asked.{Asked}
 use Rattle.transitions.specs.declared.asked.Stand.{Stand}
 use Rattle.transitions.specs.declared.shelf_calls.Read.{Read}
 use Rattle.partition.specs.Steps.{entry}
-use Rattle.partition.specs.Step.{after_transition, books_by, counts_frames, keeps_limits, place_at, raised_by, report_at, told_by, transition, transition_command, transition_line, transition_request, transition_run, transition_there}
+use Rattle.partition.specs.Step.{after_transition, books_by, counts_frames, keeps_limits, place_at, report_at, told_by, transition, transition_command, transition_line, transition_request, transition_run, transition_there}
 use Rattle.partition.specs.declared.partition.PartitionFault.{PartitionFault}
 use Rattle.partition.specs.declared.state.State.{State}
 use Rattle.player_events.specs.Events.{store_reply_at, with_store_reply}
@@ -31,7 +29,6 @@ use Rattle.player_state.specs.declared.effect.Effect.{Effect}
 use Rattle.player_state.specs.declared.report.Report.{Report}
 use Rattle.player_state.specs.Outputs.{FrameBooks}
 use Rattle.player_state.specs.declared.state.Client.{Client}
-use Rattle.player_state.specs.declared.state.Library.{Library}
 use Rattle.player_state.specs.declared.state.Part.{Part}
 use Rattle.transitions.specs.Answers.{Answer, ResponseData}
 use Rattle.transitions.specs.Shelves.{is_written}
@@ -86,10 +83,6 @@ run_in state part asked read command = transition_run (overview (image_of_state 
 abbrev pub readings_in : State → Crossing → ℕ → FingerprintData
 readings_in state crossing place = fingerprint crossing place state.parts state.library
 
--- what a transition of an event of a partition raises in a state
-abbrev pub raised_in_state : State → ℕ → ℕ → TransitionData → Client → Subsystems
-raised_in_state state number place t = raised_by number place state.parts state.library t
-
 -- its frames could not be counted any more, or there was no memory for what it needs
 abbrev pub RefusesFramesIn : State → ℕ → TransitionData → PartitionFault → Type 0
 RefusesFramesIn state place t fault = RefusesFrames state.books place state.parts state.library t fault
@@ -142,10 +135,6 @@ AddsEntry old new seat event told = new ≡ old ++ entry seat event told ∷ []
 abbrev pub outcome_with : Telling → Notices → OutcomeData
 outcome_with telling notices = record { answer = telling.response.answer; notices = listed notices; report = telling.report }
 
--- notices have room for all that a transition of an event of a partition raises
-abbrev pub HasRoomIn : State → ℕ → ℕ → TransitionData → Notices → Type 0
-HasRoomIn state number place t notices = HasRoom (raised_by number place state.parts state.library t) state.clients.items (room_in notices)
-
 -- the frames of the outputs after it
 abbrev pub books_in : State → ℕ → TransitionData → FrameBooks
 books_in state place t = books_by state.books place state.parts state.library t
@@ -154,9 +143,9 @@ books_in state place t = books_by state.books place state.parts state.library t
 abbrev pub GoesNowhere : Move → Type 0
 GoesNowhere move = (number : ℕ) → entering number move ≡ None
 
--- whatever state it finds, and whoever asks
-abbrev pub RaisesNothing : TransitionData → Type 0
-RaisesNothing t = (number place : ℕ) (parts : List Part) (library : Library) → raised_by number place parts library t ≡ nothing
+-- a transition does nothing but answer its client, which goes to no other partition, and report what was known before
+abbrev pub IsStill : TransitionData → Type 0
+IsStill t = (t ≡ record (quiet t.response) { report = t.report }) × GoesNowhere t.response.move
 
 -- the partition that an event of a state happens in
 abbrev pub place_in_state : State → Event → ℕ

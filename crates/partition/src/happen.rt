@@ -1,12 +1,18 @@
-//! One event after the other, each kept with what it made clients hear.
+//! One event after the other, each counted and kept.
 //!
-//! An event is applied in three stretches. First its transition is found: what is answered, the effect on
-//! its partition, what passes between partitions, what is written to the shelf. That only reads. Then all
-//! that may fail is done: the limits are looked at, the frames counted, and room is taken for the entry in
-//! the history, for each notice and for what the effect needs; a write to the shelf is the last of it. From
-//! there on nothing can fail: the effect is carried out, what it raised is read off fingerprints of before
-//! and after, each client is told or keeps it as pending, and the event is kept with what it made clients
-//! hear.
+//! Room is taken first, for the entry in the history and for one more client. Then an event's transition is
+//! found: what is answered, the effect on its partition, what passes between partitions, what is written to
+//! the shelf. That only reads; of the shelf a line asks at most one question. A transition that changes
+//! nothing, as most lines make it, is at its end there: its client is answered and makes its move.
+//!
+//! For any other a fingerprint is taken of what clients are told of, and all that may fail is done: frames
+//! are counted, and room is taken for each notice. The effect itself is the last of it, which is refused at
+//! a limit or for want of memory with nothing changed, or the write to the shelf, which no effect has beside
+//! it. From there on nothing can fail: what was raised is read off the fingerprint and what is there now,
+//! and each client is told or keeps it as pending.
+//!
+//! Of an event that was applied, and of what it made clients hear, a snapshot is kept for contracts to read,
+//! with the count of its texts' bytes.
 //!
 //! So the invariant needs no case of an event that is half done: the present state is always the image of
 //! the base after the events of the window, as the definition `next_image` has it, and a refused event
@@ -14,10 +20,10 @@
 //! found by comparing: a command that changes something and forgets to say so cannot be written.
 ghost use Rattle.std.specs.Prelude.{◌≡◌, ◌⊎◌, ◌<◌, ◌≤◌, ◌+◌, ◌++◌, ◌∷◌, ℕ, [], None, count_by, length, map, vec_len, vec_capacity, IfErr, IfOk, OnErr, OnOk, not, true, false, nat_le, slice_index_or};
 ghost use Rattle.partition.specs.declared.partition.PartitionFault.{PartitionFault};
-ghost use Rattle.idle_clients.specs.Clients.{notified};
+ghost use Rattle.idle_clients.specs.Clients.{move_of, moved, notified, staying};
 ghost use Rattle.partition.specs.Image.{counted, image_of_state};
 ghost use Rattle.partition.specs.Lent.{HasCause, IsRefusedIn, IsUnwrittenBy, IsWriteReply, RecordsIn, ServesEvent, TurnsByWriteOf};
-ghost use Rattle.partition.specs.Applying.{ActsAt, AddsEntry, FitsAt, GrowsBy, HearsRefusal, IsAlone, IsImageAfter, IsWithinLimits, PassesNoLimit, RefusesEvent, answer_to, clients_told, image_after, notices_by, notices_of, notices_told, outcome_with, place_in_state, readings_in, report_by, telling_of};
+ghost use Rattle.partition.specs.Applying.{ActsAt, AddsEntry, FitsAt, GrowsBy, HearsRefusal, IsAlone, IsImageAfter, IsStill, IsWithinLimits, PassesNoLimit, RefusesEvent, answer_to, clients_told, image_after, notices_by, notices_of, notices_told, outcome_with, place_in_state, readings_in, report_by, telling_of};
 ghost use Rattle.parts.specs.Parts.{is_within_in, part_at};
 ghost use Rattle.parts.specs.declared.crossing.Crossing.{Crossing};
 ghost use Rattle.player_state.specs.declared.effect.CommandEffect.TheVariants.{Rests};
@@ -35,7 +41,7 @@ ghost use Rattle.player_events.specs.Events.{is_line};
 use crate::event_transitions::{ask_shelf, place_of_event, transition_of_event};
 use crate::lent::write;
 use crate::partition::PartitionFault;
-use crate::prepare::{Prepared, prepare_step, prepare_write};
+use crate::prepare::{Prepared, changes, prepare_step, prepare_write};
 use crate::state::State;
 use idle_clients::{
     Notices, Raised, changes_songs, changes_subscriptions, leave, list_notices, make_move,
@@ -236,9 +242,12 @@ fn apply_transition(
     ensures refused { IfErr result (λ fault. RefusesTransition (image_of_state state.old) event.now transition fault) }
     ensures err { OnErr result (image_of_state state.new ≡ image_of_state state.old) }
 {
+    if !changes(&transition) {
+        return Ok(apply_still(state, event, transition));
+    }
     let number = mover(event);
     let place = place_of_event(state, event);
-    let (prepared, books) = match prepare_step(alloc, state, number, place, &transition) {
+    let (prepared, books) = match prepare_step(alloc, state, place, &transition) {
         Ok(made) => made,
         Err(fault) => {
             return Err(fault);
@@ -261,6 +270,61 @@ fn apply_transition(
         &state.library,
     );
     Ok(tell(&mut state.clients, number, &raised, telling, notices))
+}
+
+/// Applies what changes nothing: nobody hears of it but the client that it comes from.
+fn apply_still(state: &mut State, event: &Event, transition: Transition) -> Applied
+    requires space { vec_len state.old.clients < vec_capacity state.old.clients }
+    requires settled { AllSettled state.old.clients.items }
+    requires still { IsStill transition }
+    ensures image { IsImageAfter state.old event.now transition state.new }
+    ensures answer { result.telling.response.answer ≡ transition.response.answer }
+    ensures report { result.telling.report ≡ report_by state.old event.now transition }
+    ensures notices { listed result.notices ≡ notices_by state.old event.now transition }
+    ensures within { PassesNoLimit state.old event.now transition }
+{
+    Applied {
+        telling: tell_speaker(state, event, transition),
+        notices: Notices::none(),
+    }
+}
+
+/// Tells the client that an event comes from what is answered to it, and nobody else: nothing changes but what
+/// the client does.
+fn tell_speaker(state: &mut State, event: &Event, transition: Transition) -> Telling
+    requires space { vec_len state.old.clients < vec_capacity state.old.clients }
+    requires settled { AllSettled state.old.clients.items }
+    requires still { IsStill transition }
+    ensures image { IsImageAfter state.old event.now transition state.new }
+    ensures answer { result.response.answer ≡ transition.response.answer }
+    ensures report { result.report ≡ report_by state.old event.now transition }
+    ensures notices { notices_by state.old event.now transition ≡ [] }
+    ensures counts { counts_frames (image_of_state state.old) event.now transition ≡ true }
+    ensures limits { keeps_limits (image_of_state state.old) event.now transition ≡ true }
+{
+    state.books.rest();
+    let place = place_of_event(state, event);
+    is_within_still(&state.parts, place);
+    state.ended = ended_after(state.ended, event);
+    let report = transition.report.into_report();
+    let Telling {
+        response,
+        report: _,
+    } = transition.into_telling();
+    move_speaker(&mut state.clients, mover(event), &response);
+    Telling { response, report }
+}
+
+/// Lets the client that an event comes from do what it does; one that the answer closes goes.
+fn move_speaker(clients: &mut Vec<Client>, speaker: u32, response: &Response)
+    requires { vec_len clients.old < vec_capacity clients.old }
+    ensures { clients.new.items ≡ moved speaker (move_of response.now) (staying speaker response.now clients.old.items) }
+{
+    if response.next().closes() {
+        leave(clients, speaker);
+    } else {
+        make_move(clients, speaker, response.moves());
+    }
 }
 
 /// Whether an event makes other clients of its partition listen, or to other channels.

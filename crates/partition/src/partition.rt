@@ -1,15 +1,20 @@
 //! The player with its history.
 //!
 //! The state could be replayed from the first event on, and that is what the definitions do; but a daemon
-//! that runs for a year cannot keep a year of events. So a player has a base, a window of the events since,
-//! and the present state, which is the base after the window. A fold makes the present state the base and
-//! empties the window. It is no event, and nobody hears of it: what is read of the history (stamps, pending
-//! sets, books, how many events each seat made) is read off base and window together, and each of these is
-//! the same before a fold and after it (the law `FoldsAreUnseen`).
+//! that runs for a year makes more events than it can keep. So a player has a base, a window of the events
+//! since, and the present state, which is the base after the window. A fold makes the present state the base
+//! and empties the window. It is no event, and nobody hears of it: what is read of the history (stamps,
+//! pending sets, books, how many events each seat made) is read off base and window together, and each of
+//! these is the same before a fold and after it (the law `FoldsAreUnseen`).
 //!
-//! That costs two rules. Whatever is to be read after a fold must be part of the image, and not only of the
-//! entries. And a fold copies the state, so it may lack memory: it comes before an event finds the window
-//! full, and where it is refused, that event is, with nothing changed.
+//! The base and what happened are read by contracts alone. So the base is a `Snapshot`, which has no bytes,
+//! and an entry of the window is a snapshot with the count of its texts' bytes (`Logged`). Nothing is copied
+//! for them, neither at an event nor at a fold.
+//!
+//! Two rules follow. Whatever is to be read after a fold must be part of the image, and not only of the
+//! entries. And a fold gives the room of the window back and takes a new one, for 64 entries at first, so it
+//! may lack memory: it comes before an event that finds the window full, and where it is refused, that event
+//! is (`HistoryFull`), with nothing changed.
 ghost use Rattle.std.specs.Prelude.{◌≡◌, ◌⊎◌, ◌↔◌, ◌++◌, ◌∷◌, ◌+◌, ◌-◌, ◌^◌, ◌≤◌, ◌<◌, [], None, false, length, map, vec_capacity, IfOk, IfErr, OnErr, OnOk, IsErrOf, slice_index_or, nat_le, is_some, true, All};
 ghost use Rattle.parts.specs.Parts.{holder, known, named, part_at};
 ghost use Rattle.std.specs.Option.{option_copied};

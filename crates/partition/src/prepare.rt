@@ -2,11 +2,10 @@
 ghost use Rattle.std.specs.Prelude.{◌≡◌, ◌≤◌, [], true, false, count_by, IfErr, IfOk, OnOk};
 ghost use Rattle.player_state.specs.Outputs.{can_count_all};
 ghost use Rattle.idle_clients.specs.Rooms.{is_waiting, listed, room_in};
-ghost use Rattle.idle_clients.specs.Settled.{HasRoom, nothing};
 ghost use Rattle.transitions.specs.Shelves.{is_written};
 ghost use Rattle.player_events.specs.Events.{name_at, name_of as name_of_lem, stand_of};
 ghost use Rattle.parts.specs.declared.crossing.Crossing.{Crossing};
-ghost use Rattle.partition.specs.Applying.{ActsAt, GoesNowhere, HasRoomIn, RaisesNothing, RefusesFramesIn, books_in, raised_in_state, readings_in};
+ghost use Rattle.partition.specs.Applying.{ActsAt, GoesNowhere, IsStill, RefusesFramesIn, books_in, readings_in};
 ghost use Rattle.player_state.specs.FrameCounts.{IsBooked};
 
 use crate::partition::PartitionFault;
@@ -27,20 +26,20 @@ pub(crate) struct Prepared {
 }
 
 impl Prepared {
-    /// With room for so many notices, before an event of a partition by which this passes between partitions.
+    /// With room for a notice to each client that waits, before an event of a partition by which this passes
+    /// between partitions.
     fn with_room(
         alloc: Global,
         crossing: &Crossing,
         place: u8,
         state: &State,
-        room: usize,
     ) -> Result<Prepared, AllocError>
         ensures notices { IfOk result (λ prepared. listed prepared.notices ≡ []) }
-        ensures room { IfOk result (λ prepared. room ≤ room_in prepared.notices) }
+        ensures room { IfOk result (λ prepared. count_by is_waiting state.now.clients.items ≤ room_in prepared.notices) }
         ensures before { IfOk result (λ prepared. prepared.before ≡ readings_in state.now crossing.now place) }
     {
         Ok(Prepared {
-            notices: Notices::with_room(alloc, room)?,
+            notices: Notices::with_room(alloc, waiting(&state.clients))?,
             before: Fingerprint::of(alloc, crossing, place, &state.parts, &state.library)?,
         })
     }
@@ -51,18 +50,15 @@ impl Prepared {
 ///
 /// A transition is lent, here and below, so that it isn't dropped at each way out: a proof would go through
 /// every kind of effect there.
-#[tactic(auto, using(crate::proofs::Settled::more_room))]
 pub(crate) fn prepare_step(
     alloc: Global,
     state: &State,
-    number: u32,
     place: u8,
     transition: &Transition,
 ) -> Result<(Prepared, FrameCounts), PartitionFault>
-    requires unwritten { is_written transition.now.written ≡ false }
     requires acts { ActsAt state.now place transition.now }
     ensures notices { IfOk result (λ made. listed made.0.notices ≡ []) }
-    ensures room { IfOk result (λ made. HasRoomIn state.now number place transition.now made.0.notices) }
+    ensures room { IfOk result (λ made. count_by is_waiting state.now.clients.items ≤ room_in made.0.notices) }
     ensures before { IfOk result (λ made. made.0.before ≡ readings_in state.now transition.now.crossing place) }
     ensures counted { OnOk result (can_count_all (books_in state.now place transition.now) ≡ true) }
     ensures books { IfOk result (λ made. made.1 ≡ books_in state.now place transition.now) }
@@ -71,8 +67,7 @@ pub(crate) fn prepare_step(
     let Some(books) = books_after(state, place, transition) else {
         return Err(PartitionFault::AtLimit);
     };
-    let room = room_wanted(transition, state, number, place);
-    let prepared = Prepared::with_room(alloc, &transition.crossing, place, state, room)?;
+    let prepared = Prepared::with_room(alloc, &transition.crossing, place, state)?;
     Ok((prepared, books))
 }
 
@@ -102,33 +97,15 @@ pub(crate) fn prepare_write(
     ensures before { IfOk result (λ made. made.0.before ≡ readings_in state.now Crossing.Stays place) }
     ensures refusals { IfOk result (λ made. made.1 ≡ (stand_of event.now, name_at event.now)) }
 {
-    let prepared = Prepared::with_room(
-        alloc,
-        &Crossing::Stays,
-        place,
-        state,
-        waiting(&state.clients),
-    )?;
+    let prepared = Prepared::with_room(alloc, &Crossing::Stays, place, state)?;
     let refusals = refusals_of(alloc, event)?;
     Ok((prepared, refusals))
 }
 
-/// How many notices a transition can give at most. For one that changes nothing no client is looked at.
-fn room_wanted(transition: &Transition, state: &State, number: u32, place: u8) -> usize
+/// Whether a transition may change anything that clients are told of. One that does not needs nothing here.
+pub(crate) fn changes(transition: &Transition) -> bool
     requires { is_written transition.now.written ≡ false }
-    ensures { HasRoom (raised_in_state state.now number place transition.now) state.now.clients.items result }
-{
-    if changes(transition) {
-        waiting(&state.clients)
-    } else {
-        0
-    }
-}
-
-/// Whether a transition may change what clients are told of.
-fn changes(transition: &Transition) -> bool
-    requires { is_written transition.now.written ≡ false }
-    ensures { result ≡ false → RaisesNothing transition.now }
+    ensures { result ≡ false → IsStill transition.now }
 {
     let still = transition.scan.stays() & transition.effect.rests() & transition.crossing.stays();
     !still | enters(transition.response.moves())

@@ -1,20 +1,11 @@
 use Rattle.std.proofs.Common.{sym, rules}
 use Rattle.partition.specs.Image.{Image, image_of_state}
 use Rattle.transitions.specs.declared.shelf_calls.ShelfWrite.TheVariants.{Nothing}
-use Rattle.idle_clients.specs.Rooms.{listed, room_in}
+use Rattle.idle_clients.specs.Rooms.{listed}
 use Rattle.idle_clients.specs.Fingerprint.{raised_in}
-use Rattle.partition.proofs.Raised.{Shown, stepped, noticed, roomy, shown_by}
+use Rattle.partition.proofs.Raised.{Shown, stepped, noticed, shown_by}
 use Rattle.partition.proofs.Settled.{unwritten}
 use Rattle.partition.proofs.happen.apply_transition.Goals as goal
-
-pub tell-requires-clause-notices : goal.tell-requires-clause-notices
-tell-requires-clause-notices c =
-    let i : Image = image_of_state c.args.state.now in
-    let shown : Shown i c.args.event.now c.args.transition c.carry_out.new.parts c.carry_out.new.library (raised_in c.changed-raised.result) c.args.transition.response =
-    shown_by i c.args.event.now c.args.transition c.carry_out.new.parts c.carry_out.new.library (raised_in c.changed-raised.result) c.args.transition.response
-    c.goer-goer.result c.changes_songs-database.result c.changes_listeners-subscription.result Nothing c.in-Ok.made.0.before c.changed-raised.result (search rules) (search rules) (search rules) (search rules) (sym (unwritten c.args.transition.written c.requires.unwritten)) (search rules) in
-    roomy i c.args.event.now c.args.transition c.carry_out.new.parts c.carry_out.new.library (raised_in c.changed-raised.result) c.args.transition.response
-    (room_in c.in-Ok.made.0.notices) (search rules) (search rules) shown (search rules)
 
 pub returns-clause-image : goal.returns-clause-image
 returns-clause-image c =

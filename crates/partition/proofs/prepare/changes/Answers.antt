@@ -5,7 +5,7 @@ use Rattle.player_state.specs.declared.effect.CommandEffect.TheVariants.{Rests}
 use Rattle.player_state.specs.declared.scan.ScanMove.TheVariants.{Stay}
 use Rattle.transitions.specs.Transitions.{TransitionData}
 use Rattle.partition.specs.Applying.{GoesNowhere}
-use Rattle.partition.proofs.Settled.{same_raises}
+use Rattle.partition.proofs.Still.{still_by}
 use Rattle.partition.proofs.prepare.changes.Goals as goal
 
 neither : (a b : Bool) → (a || b) ≡ false → (a ≡ false) × (b ≡ false)
@@ -29,4 +29,4 @@ returns c = λ e.
     let effect : c.args.transition.now.effect ≡ (ByCommand Rests) = ap (λ (t : TransitionData). t.effect) (sym c.transition.view_is) ∙ c.rests.ensures inner.1 in
     let crossing : c.args.transition.now.crossing ≡ Stays = ap (λ (t : TransitionData). t.crossing) (sym c.transition.view_is) ∙ c.stays-2.ensures all.1 in
     let move_is : c.moves.result ≡ c.args.transition.now.response.move = c.moves.ensures ∙ ap (λ (t : TransitionData). t.response.move) c.transition.view_is in
-    same_raises c.args.transition.now scan effect crossing (subst GoesNowhere move_is (c.enters.ensures parts.1)) c.requires
+    still_by c.args.transition.now scan effect crossing (subst GoesNowhere move_is (c.enters.ensures parts.1)) c.requires
