@@ -23,7 +23,7 @@ TESTS = re.compile(r'_tests$|^(?:worked_rows|house_rooms)$')
 
 # the rooms, the highest first
 ROOMS = [
-    ('the program', 'music_daemon shelf_file serving state_laws kept_state scan_report settings command_line'),
+    ('the program', 'music_daemon shelf_file serving patience state_laws kept_state scan_report settings command_line'),
     ('clients', 'mpd_server mpd_session mpd_answers'),
     ("the house's threads", 'crew crew_steps'),
     ('the house', 'house held_player counted_player'),
@@ -35,7 +35,7 @@ ROOMS = [
     ('the shelf', 'shelf_database shelf'),
     ('what is played', 'player_core play_order song_queue queue_slots idle_notes'),
     ('songs', 'song_groups song_search filters known_tags library_scan song_db'),
-    ('sound', 'frame_ledger output_ring wave pcm_mix'),
+    ('sound', 'frame_ledger output_ring patient_output wave pcm_mix'),
     ('texts, devices', 'mpd_text counted_devices'),
 ]
 

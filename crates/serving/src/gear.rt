@@ -2,11 +2,14 @@
 ghost use Rattle.std.specs.Prelude.{◌≤◌, length, vec_len};
 
 use crate::folder::FolderScanner;
-use crate::output_file::{OutputFile, output_files};
 use counted_devices::Counting;
 use crew_steps::Folder;
+use patience::{OutputPath, OutputPaths, PatientPath, output_paths};
 use settings::Settings;
 use std::alloc::AllocError;
+use std::sync::Wait;
+use std::thread::Threads;
+use std::time::Clock;
 
 /// What the outputs write to, where the songs are had, and who finds them anew.
 #[derive(Drop)]
@@ -14,27 +17,34 @@ pub(crate) struct Gear<O, N, C> {
     pub(crate) writers: Vec<O>,
     pub(crate) source: N,
     pub(crate) scanner: C,
+    /// What the outputs with patience write through.
+    pub(crate) patient: Vec<Option<PatientPath>>,
     ghost few: { vec_len writers ≤ 8 },
 }
 
 /// The gear of a daemon over the files of the system.
-pub(crate) type FileGear = Gear<
-    Counting<OutputFile<HostRuntime>>,
+pub(crate) type FileGear<R> = Gear<
+    Counting<OutputPath<HostRuntime, R>>,
     Folder<HostRuntime>,
     FolderScanner<HostRuntime>,
 >;
 
 /// The files and the folder that settings name.
-pub(crate) fn gear_of(host: HostRuntime, settings: &Settings) -> Result<FileGear, AllocError>
+pub(crate) fn gear_of<R: Threads + Wait + Clock + Copy + Send + 'static>(
+    rt: R,
+    host: HostRuntime,
+    settings: &Settings,
+) -> Result<FileGear<R>, AllocError>
     requires { vec_len settings.now.outputs ≤ 8 }
 {
     let alloc = host.alloc();
     let scanned = String::from_str(alloc, settings.music.as_str())?;
     let played = String::from_str(alloc, settings.music.as_str())?;
-    let writers = output_files(host, alloc, &settings.outputs)?;
+    let OutputPaths { writers, patient } = output_paths(rt, host, &settings.outputs)?;
     Ok(Gear {
         writers,
         source: Folder::new(host, played),
         scanner: FolderScanner::new(host, scanned, settings.rate.copied()),
+        patient,
     })
 }

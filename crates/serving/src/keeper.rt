@@ -1,13 +1,14 @@
 //! A client of the daemon's own that keeps the player's state in a file.
 use crate::folder::tell;
-use crate::restoring::{BASE, KEEPER};
+use crate::restoring::KEEPER;
 use crate::state_file::write_state;
 use command_lists::ListForm;
 use counted_player::{Ledgers, Seat};
 use held_player::News;
 use house::House;
-use kept_state::{KeptPlayback, kept_of, state_text};
-use mpd_command::Request;
+use kept_state::{Kept, KeptPlayback, kept_of, state_text};
+use mpd_command::{CommandSet, Request};
+use patience::Gates;
 use shelf::MemShelf;
 use std::alloc::{AllocError, Global};
 use std::sync::{Arc, Wait};
@@ -40,15 +41,16 @@ const QUESTIONS: &str = "status\noutputs\nplaylistinfo";
 /// started, that is told on standard error and nothing is kept.
 pub(crate) fn start_keeper_for<
     L: Ledgers + Send + Sync + 'static,
-    R: Threads + Wait + Clock + Copy + Send + 'static,
+    R: Threads + Wait + Clock + Copy + Send + Sync + 'static,
 >(
     rt: R,
     host: HostRuntime,
     house: &Arc<House<L>, Global>,
+    gates: &Arc<Gates<L, R>, Global>,
     path: Option<String>,
 ) -> Option<JoinHandle<()>> {
     let path = path?;
-    match start_keeper(rt, host, house, path) {
+    match start_keeper(rt, host, house, gates, path) {
         Ok(handle) => Some(handle),
         Err(_) => {
             tell(
@@ -62,26 +64,31 @@ pub(crate) fn start_keeper_for<
 
 fn start_keeper<
     L: Ledgers + Send + Sync + 'static,
-    R: Threads + Wait + Clock + Copy + Send + 'static,
+    R: Threads + Wait + Clock + Copy + Send + Sync + 'static,
 >(
     rt: R,
     host: HostRuntime,
     house: &Arc<House<L>, Global>,
+    gates: &Arc<Gates<L, R>, Global>,
     path: String,
 ) -> Result<JoinHandle<()>, AllocError> {
     let house = Arc::try_clone(house)?;
+    let gates = Arc::try_clone(gates)?;
     let Ok(seat) = house.seat(&rt) else {
         return Err(AllocError);
     };
-    let handle = thread::spawn(&rt, move || keep(&rt, &host, &*house, seat, path.as_str()))?;
+    let handle = thread::spawn(&rt, move || {
+        keep(&rt, &host, &*house, &*gates, seat, path.as_str())
+    })?;
     Ok(handle)
 }
 
 /// Keeps the state until the daemon has ended.
-fn keep<'h, L: Ledgers, R: Wait + Clock>(
+fn keep<'h, L: Ledgers, R: Wait + Clock + Copy>(
     rt: &'h R,
     host: &'h HostRuntime,
     house: &'h House<L>,
+    gates: &'h Gates<L, R>,
     seat: Seat<L>,
     path: &'h str,
 ) {
@@ -89,6 +96,7 @@ fn keep<'h, L: Ledgers, R: Wait + Clock>(
         rt,
         host,
         house,
+        gates,
         seat,
         shelf: MemShelf::new(host.alloc()),
         path,
@@ -133,10 +141,11 @@ fn rest<L: Ledgers, R: Wait + Clock>(rt: &R, house: &House<L>) {
 
 /// The client, and what it wrote last.
 #[derive(Drop)]
-struct Keeper<'h, L: Ledgers, R: Wait + Clock> {
+struct Keeper<'h, L: Ledgers, R: Wait + Clock + Copy> {
     rt: &'h R,
     host: &'h HostRuntime,
     house: &'h House<L>,
+    gates: &'h Gates<L, R>,
     seat: Seat<L>,
     /// None of its commands asks a shelf.
     shelf: MemShelf,
@@ -148,7 +157,7 @@ struct Keeper<'h, L: Ledgers, R: Wait + Clock> {
     plays: bool,
 }
 
-impl<'h, L: Ledgers, R: Wait + Clock> Keeper<'h, L, R> {
+impl<'h, L: Ledgers, R: Wait + Clock + Copy> Keeper<'h, L, R> {
     /// Looks at the player, and writes its state where that is another than the one that was written last.
     /// False where there was no memory for it, or it could not be written.
     fn look(&mut self) -> bool {
@@ -183,11 +192,15 @@ impl<'h, L: Ledgers, R: Wait + Clock> Keeper<'h, L, R> {
         }
     }
 
-    /// The state as it is now.
+    /// The state as it is now. An output that is off for its path alone is kept as one that is on; since the daemon
+    /// may switch it off or on while it is asked, it is looked at before and after.
     fn state(&mut self) -> Result<String, AllocError> {
         let alloc = self.host.alloc();
+        let before = self.gates.off_for_paths();
         let answers = self.ask()?;
-        let kept = kept_of(alloc, answers.as_str())?;
+        let mut kept = kept_of(alloc, answers.as_str())?;
+        switch_back(&mut kept, before);
+        switch_back(&mut kept, self.gates.off_for_paths());
         self.plays = match &kept.song {
             Some(song) => matches!(&song.playback, KeptPlayback::Play(_)),
             None => false,
@@ -200,7 +213,7 @@ impl<'h, L: Ledgers, R: Wait + Clock> Keeper<'h, L, R> {
         let alloc = self.host.alloc();
         let mut requests = Vec::new(alloc);
         for line in QUESTIONS.lines() {
-            requests.push(Request::of_line(alloc, line, BASE)?)?;
+            requests.push(Request::of_line(alloc, line, CommandSet::base())?)?;
         }
         let Ok(answered) = self.house.list(
             self.rt,
@@ -260,7 +273,7 @@ impl<'h, L: Ledgers, R: Wait + Clock> Keeper<'h, L, R> {
 
     /// Says a line of the client. None where there was no memory for it.
     fn tell_player(&mut self, line: &str) -> Option<Next> {
-        let Ok(request) = Request::of_line(self.host.alloc(), line, BASE) else {
+        let Ok(request) = Request::of_line(self.host.alloc(), line, CommandSet::base()) else {
             return None;
         };
         match self
@@ -269,6 +282,15 @@ impl<'h, L: Ledgers, R: Wait + Clock> Keeper<'h, L, R> {
         {
             Ok(answered) => Some(answered.reply().next()),
             Err(_) => None,
+        }
+    }
+}
+
+/// Has outputs on that are named.
+fn switch_back(kept: &mut Kept, named: [bool; 8]) {
+    for output in &mut kept.outputs {
+        if let Some(true) = named.get(output.number as usize).copied() {
+            output.is_on = true;
         }
     }
 }

@@ -8,7 +8,6 @@ mod folder;
 mod gear;
 mod hall;
 mod keeper;
-mod output_file;
 mod player;
 mod restoring;
 mod run;

@@ -14,12 +14,6 @@ use std::sync::Wait;
 /// of them are let in.
 pub(crate) const KEEPER: u32 = 65;
 
-/// A state has lines of the base profile alone.
-pub(crate) const BASE: CommandSet = CommandSet {
-    kill: false,
-    everyday: false,
-};
-
 /// How many refused lines are told, each by itself.
 const TOLD: u64 = 10;
 
@@ -122,7 +116,8 @@ fn run_line<L: Ledgers, S: Shelf, R: Wait>(
     if !is_of_state(line) {
         return Ok(Some(String::from_str(alloc, "no line of a state")?));
     }
-    let request = Request::of_line(alloc, line, BASE)?;
+    // A state has lines of the base profile alone.
+    let request = Request::of_line(alloc, line, CommandSet::base())?;
     let answered = house
         .command(rt, seat, shelf, KEEPER, request)
         .map_err(DaemonFault::Player)?;

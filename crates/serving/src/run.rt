@@ -10,12 +10,13 @@ use crate::summary::print_summary;
 use counted_devices::{Media, Sink};
 use counted_player::{Ledgers, Seat};
 use crew::{Crew, Scanner, close, let_go, start_decoder, start_outputs, start_scanner};
-use crew_steps::{Open, SongSource, output_setups};
+use crew_steps::{SongSource, output_setups};
 use held_player::{CrewShares, Settlement};
 use house::House;
 use mpd_command::CommandSet;
 use mpd_server::{ServeFault, Server, start_waker};
 use partition::PartitionFault;
+use patience::{Gates, gates_of};
 use shelf::Shelf;
 use std::alloc::{AllocError, Global};
 use std::sync::{Arc, Wait};
@@ -46,7 +47,7 @@ pub(crate) fn run<
     M: Media + Drop + Send + 'static,
     C: Scanner + Drop + Send + 'static,
     S: Shelf,
-    R: Threads + Wait + Clock + Copy + Send + 'static,
+    R: Threads + Wait + Clock + Copy + Send + Sync + 'static,
 >(
     rt: R,
     host: &HostRuntime,
@@ -67,12 +68,17 @@ pub(crate) fn run<
         writers,
         source,
         scanner,
+        patient,
     } = gear;
     let mut server = server;
-    let mut crew = start_crew::<L, O, N, M, R>(rt, alloc, &house, writers, source, shares, manner)?;
+    let gates = gates_of(rt, *host, &house, patient).map_err(DaemonFault::Player)?;
+    let gates = shared(alloc, gates)?;
+    let mut crew = start_crew::<L, O, N, M, R>(
+        rt, alloc, &house, &gates, writers, source, shares, manner,
+    )?;
     // Without this thread the server looks for notices by itself.
     let waking = start_waker(rt, &house, &mut server).ok();
-    let keeping = start_keeper_for(rt, *host, &house, state);
+    let keeping = start_keeper_for(rt, *host, &house, &gates, state);
     let served = match start_scanner(rt, alloc, &house, &mut crew, scanner) {
         Ok(()) => server.serve(&rt, alloc, &house, &mut seat, shelf, manner.commands),
         Err(_) => Err(ServeFault::NoMemory),
@@ -83,6 +89,7 @@ pub(crate) fn run<
         &house,
         &mut seat,
         crew,
+        &gates,
         [waking, keeping],
         served,
     )
@@ -95,11 +102,12 @@ fn start_crew<
     O: Sink + Drop + Send + 'static,
     N: SongSource<M> + Drop + Send + 'static,
     M: Media + Drop + Send + 'static,
-    R: Threads + Wait + Clock + Copy + Send + 'static,
+    R: Threads + Wait + Clock + Copy + Send + Sync + 'static,
 >(
     rt: R,
     alloc: Global,
     house: &Arc<House<L>, Global>,
+    gates: &Arc<Gates<L, R>, Global>,
     writers: Vec<O>,
     source: N,
     shares: CrewShares<L>,
@@ -111,24 +119,25 @@ fn start_crew<
 {
     let CrewShares { decoded, outputs } = shares;
     let rings = output_setups(alloc, manner.ring, writers)?;
-    let gate = shared(alloc, Open)?;
-    let outputs = start_outputs(rt, alloc, house, &gate, rings, outputs)?;
+    let outputs = start_outputs(rt, alloc, house, gates, rings, outputs)?;
     start_decoder::<L, N, M, R>(rt, alloc, house, source, manner.rate, outputs, decoded)
 }
 
 /// Ends the threads, and prints what became of each output's frames.
-fn end<L: Ledgers, R: Threads + Wait + Clock>(
+fn end<L: Ledgers, R: Threads + Wait + Clock + Copy>(
     rt: &R,
     host: &HostRuntime,
     house: &House<L>,
     seat: &mut Seat<L>,
     crew: Crew<L>,
+    gates: &Gates<L, R>,
     others: [Option<JoinHandle<()>>; 2],
     served: Result<(), ServeFault>,
 ) -> Result<(), DaemonFault> {
     match close_at_last(rt, house, seat, crew) {
         Ok(settled) => {
             join_all(rt, others);
+            gates.finish(host);
             let printed = print_summary(host, &settled);
             first_of(served, printed)
         }

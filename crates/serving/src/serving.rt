@@ -133,7 +133,7 @@ fn serve_with<
     }
     let listener = listen_at(&rt, alloc, settings.listen.as_str())?;
     let server = Server::open(&rt, alloc, listener)?;
-    let gear = gear_of(host, settings)?;
+    let gear = gear_of(rt, host, settings)?;
     tell(&host, told.as_str());
     let state = state_of(alloc, settings)?;
     run(

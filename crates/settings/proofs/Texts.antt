@@ -67,4 +67,8 @@ all = record {
   above_rate = refl;
   below_start = refl;
   most_start = refl;
+  below_patience = refl;
+  least_patience = refl;
+  most_patience = refl;
+  above_patience = refl;
 }

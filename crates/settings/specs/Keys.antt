@@ -77,6 +77,7 @@ output_keys =
     key (codes "name") is_text refused
     ∷ key (codes "path") is_text refused
     ∷ key (codes "enabled") is_flag (stands_for (boolean true))
+    ∷ key (codes "patience") (is_number 1 86400) nothing
     ∷ []
 
 abbrev pub is_output : Data → Bool

@@ -2,7 +2,7 @@
 use Rattle.std.specs.Prelude.{◌≡◌, ℕ, List, codes, pos, negsuc, Bool, true, false, Some, None}
 use Rattle.toml.specs.Data.{Data, Members, array, boolean, integer, member, no_items, no_members, string}
 use Rattle.toml.specs.Parse.{parse_document}
-use Rattle.settings.specs.Keys.{is_good, settings_keys}
+use Rattle.settings.specs.Keys.{is_good, output_keys, settings_keys}
 use Rattle.settings.specs.Refusals.{IsRefusedFor, IsTaken}
 use Rattle.settings.specs.Values.{value}
 
@@ -23,6 +23,9 @@ Refuses text name = IsRefusedFor (parse_document text) name
 -- a key takes this number, or does not
 abbrev pub takes : List ℕ → ℕ → Bool
 takes name number = is_good settings_keys name (integer (pos number))
+
+abbrev pub output_takes : List ℕ → ℕ → Bool
+output_takes name number = is_good output_keys name (integer (pos number))
 
 pub record Readings : Type 0 where
   pub is_read : parse_document least_text ≡ Some least_table
@@ -63,3 +66,7 @@ pub record Readings : Type 0 where
   pub above_rate : takes (codes "rate") 192001 ≡ false
   pub below_start : is_good settings_keys (codes "random_start") (integer (negsuc 0)) ≡ false
   pub most_start : takes (codes "random_start") 9223372036854775807 ≡ true
+  pub below_patience : output_takes (codes "patience") 0 ≡ false
+  pub least_patience : output_takes (codes "patience") 1 ≡ true
+  pub most_patience : output_takes (codes "patience") 86400 ≡ true
+  pub above_patience : output_takes (codes "patience") 86401 ≡ false

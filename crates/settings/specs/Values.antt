@@ -31,6 +31,10 @@ IsTextOrNoneAt name entries text =
 abbrev pub IsNumberAt : List ℕ → Members → ℕ → ℕ → Type 0
 IsNumberAt name entries default n = found_at name entries (stands_for (integer (pos default))) ≡ Some (integer (pos n))
 
+-- the whole number at a key of a table, or none where it is left out
+abbrev pub IsNumberOrNoneAt : List ℕ → Members → Option ℕ → Type 0
+IsNumberOrNoneAt name entries number = found_at name entries nothing ≡ option_map (λ n. integer (pos n)) number
+
 -- what is at a key of a table, where there is something, passes the test
 abbrev pub PassesAt : (Data → Bool) → List ℕ → Members → Type 0
 PassesAt test name entries = ForSome (get_member name entries) (λ d. test d ≡ true)
@@ -45,6 +49,7 @@ pub record SaysOutput (entries : Members) (output : OutputSettings) : Type 0 whe
   pub name : value output_keys (codes "name") entries ≡ Some (string (string_bytes output.name))
   pub path : value output_keys (codes "path") entries ≡ Some (string (string_bytes output.path))
   pub enabled : value output_keys (codes "enabled") entries ≡ Some (boolean output.enabled)
+  pub patience : value output_keys (codes "patience") entries ≡ option_map (λ n. integer (pos n)) output.patience
 
 -- the value is a table that says this output
 abbrev pub IsOutput : Data → OutputSettings → Type 0

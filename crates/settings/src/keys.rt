@@ -36,18 +36,23 @@ pub(crate) const RING: Span = Span {
     default: 8_192,
 };
 
+/// The least and the most of a number that no other stands for where it is left out.
+pub(crate) const LEAST_PATIENCE: u32 = 1;
+
+pub(crate) const MOST_PATIENCE: u32 = 86_400;
+
 /// Whether settings have this key, and it takes the value.
 pub(crate) fn is_good(name: &str, value: &Value) -> bool
     ensures { result ≡ keys.is_good settings_keys name.now (view value.now) }
 {
     match name {
         "everyday" | "kill" => value.is_bool(),
-        "history" => is_number(value, HISTORY),
+        "history" => is_number(value, HISTORY.least, HISTORY.most),
         "listen" | "music" | "shelf" | "state" => value.is_str(),
         "output" => are_outputs(value),
         "random_start" => natural(value).is_some(),
-        "rate" => is_number(value, RATE),
-        "ring" => is_number(value, RING),
+        "rate" => is_number(value, RATE.least, RATE.most),
+        "ring" => is_number(value, RING.least, RING.most),
         _ => false,
     }
 }
@@ -59,6 +64,7 @@ fn is_good_output(name: &str, value: &Value) -> bool
     match name {
         "name" | "path" => value.is_str(),
         "enabled" => value.is_bool(),
+        "patience" => is_number(value, LEAST_PATIENCE, MOST_PATIENCE),
         _ => false,
     }
 }
@@ -73,11 +79,11 @@ pub(crate) fn natural(value: &Value) -> Option<u64>
     }
 }
 
-fn is_number(value: &Value, span: Span) -> bool
-    ensures { result ≡ keys.is_number span.least span.most (view value.now) }
+fn is_number(value: &Value, least: u32, most: u32) -> bool
+    ensures { result ≡ keys.is_number least most (view value.now) }
 {
     match natural(value) {
-        Some(number) => u64::from(span.least) <= number && number <= u64::from(span.most),
+        Some(number) => u64::from(least) <= number && number <= u64::from(most),
         None => false,
     }
 }

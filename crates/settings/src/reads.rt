@@ -1,11 +1,11 @@
 //! What is read of a table that is taken.
-ghost use Rattle.std.specs.Prelude.{◌≡◌, ◌≤◌, Some, string_bytes, true, IfOk, IsSome, vec_len};
+ghost use Rattle.std.specs.Prelude.{◌≡◌, ◌≤◌, Some, string_bytes, true, IfOk, IfSome, IsSome, vec_len};
 ghost use Rattle.settings.specs.Keys.{are_outputs, each_output, is_flag, is_natural, is_number, is_output, is_text, stands_for};
-ghost use Rattle.settings.specs.Values.{AreOutputs, AreOutputsAt, IsNumberAt, IsOutput, IsTextAt, IsTextOrNoneAt, PassesAt, found_at};
+ghost use Rattle.settings.specs.Values.{AreOutputs, AreOutputsAt, IsNumberAt, IsOutput, IsNumberOrNoneAt, IsTextAt, IsTextOrNoneAt, PassesAt, found_at};
 ghost use Rattle.toml.specs.Data.{boolean, get_member};
 ghost use Rattle.toml.specs.View.{array_view, table_view, view};
 
-use crate::keys::{Span, natural, value_at};
+use crate::keys::{LEAST_PATIENCE, MOST_PATIENCE, Span, natural, value_at};
 use crate::values::OutputSettings;
 use std::alloc::{AllocError, Global};
 use toml::value::Array;
@@ -67,6 +67,21 @@ pub(crate) fn number_at(table: &Table, name: &str, span: Span) -> u32
     number as u32
 }
 
+/// The number at a key that may be left out.
+fn number_perhaps(table: &Table, name: &str, least: u32, most: u32) -> Option<u32>
+    requires { PassesAt (is_number least most) name.now (table_view table.now) }
+    ensures value { IsNumberOrNoneAt name.now (table_view table.now) result }
+    ensures range { IfSome result (λ n. (least ≤ n) × (n ≤ most)) }
+{
+    let Some(value) = value_at(table, name) else {
+        return None;
+    };
+    let Some(number) = natural(value) else {
+        unreachable!()
+    };
+    Some(number as u32)
+}
+
 /// The truth at a key, or the one that stands for it.
 pub(crate) fn flag_at(table: &Table, name: &str, default: bool) -> bool
     requires { PassesAt is_flag name.now (table_view table.now) }
@@ -120,5 +135,6 @@ fn output_of(alloc: Global, value: &Value) -> Result<OutputSettings, AllocError>
         name: text_at(alloc, table, "name")?,
         path: text_at(alloc, table, "path")?,
         enabled: flag_at(table, "enabled", true),
+        patience: number_perhaps(table, "patience", LEAST_PATIENCE, MOST_PATIENCE),
     })
 }

@@ -39,6 +39,9 @@ pub struct OutputSettings {
     pub path: String,
     /// Whether it plays from the start, as by default.
     pub enabled: bool,
+    /// For how many seconds its path may take nothing before it is off, 1 to 86,400; where there is none, for
+    /// ever.
+    pub patience: Option<u32>,
 }
 
 /// Why there are no settings.

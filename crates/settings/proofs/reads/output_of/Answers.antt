@@ -20,7 +20,12 @@ flag_at-requires c =
     let is : Some (table_view c.in-Some.table.now) ≡ as_table (view c.args.value.now) = c.in-Some.ensures in
     good_at output_keys (codes "enabled") (table_view c.in-Some.table.now) (output_keys_are_good _ _ c.requires (sym is)).good
 
+pub number_perhaps-requires : goal.number_perhaps-requires
+number_perhaps-requires c =
+    let is : Some (table_view c.in-Some.table.now) ≡ as_table (view c.args.value.now) = c.in-Some.ensures in
+    good_at output_keys (codes "patience") (table_view c.in-Some.table.now) (output_keys_are_good _ _ c.requires (sym is)).good
+
 pub returns : goal.returns
 returns c =
     let is : Some (table_view c.in-Some.table.now) ≡ as_table (view c.args.value.now) = c.in-Some.ensures in
-    output_is (view c.args.value.now) (table_view c.in-Some.table.now) _ (sym is) (record { name = c.in_ok-text_at.ensures; path = c.in_ok-text_at-2.ensures; enabled = c.flag_at.ensures })
+    output_is (view c.args.value.now) (table_view c.in-Some.table.now) _ (sym is) (record { name = c.in_ok-text_at.ensures; path = c.in_ok-text_at-2.ensures; enabled = c.flag_at.ensures; patience = c.number_perhaps.ensures.value })

@@ -1,0 +1,408 @@
+#!/usr/bin/env python3
+"""Outputs with patience: a reader that stands still is waited for so long and no longer, and an end never waits for it.
+
+    checks/serve/patience.py [PROGRAM]
+
+Three outputs with patience, of which one's reader stops for a minute: the gaps in the sound of the others, answers while it stands, who is off
+and on again, the books at the end; a FIFO that nobody reads; a reader that goes away and comes back; an output that its user switched off
+or on while its path stood still; a player that is stopped meanwhile; a moved output; `kill` within a second; and the state, which has an
+output on that is off for its path.
+"""
+import os
+import re
+import signal
+import subprocess
+import sys
+import tempfile
+import time
+
+sys.dont_write_bytecode = True
+
+from daemon import Client, Daemon, Pacer, Process, Table, free_port, program_of, put_songs
+
+RATE = 44100
+PATIENCE = 2        # seconds
+LATEST = 1.5        # seconds after its patience within which an output is off, and after its path's return within which it is on
+GAP = 0.5           # the most seconds by which the others may fall silent beyond the patience
+STEADY = 0.5        # the most seconds without sound of an output that nobody holds up
+SLOWEST = 0.5       # the seconds within which each answer is to come
+ENDS = 1.0          # the seconds within which a daemon is to end
+BOOKS = re.compile(r'output (\d+): decoded (\d+) written (\d+) discarded (\d+) left (\d+)')
+
+
+class Reader(Pacer):
+    """A paced reader that tells of each piece when it came, and can be made to stand still."""
+
+    CODE = 'import sys, time\nfile = open(sys.argv[1], "rb", 0)\nrate = int(sys.argv[2])\ntold = open(sys.argv[1] + ".times", "a", 1)\n' \
+        'start, done = time.monotonic(), 0\nwhile True:\n    piece = file.read(4096)\n    if not piece:\n        break\n' \
+        '    now = time.monotonic()\n    if now - start - done / (4 * rate) > 0.2:\n        start, done = now, 0\n' \
+        '    done += len(piece)\n    print(now, len(piece), file=told)\n    time.sleep(max(0, start + done / (4 * rate) - time.monotonic()))\n'
+
+    def __init__(self, path, rate=RATE):
+        if os.path.exists(path):
+            self.path = path
+            self.process = subprocess.Popen([sys.executable, '-c', self.CODE, path, str(rate)])
+        else:
+            super().__init__(path, rate)
+
+    def stands(self):
+        self.process.send_signal(signal.SIGSTOP)
+
+    def goes_on(self):
+        self.process.send_signal(signal.SIGCONT)
+
+    def pieces(self):
+        """When each piece came, and how many bytes it had."""
+        with open(self.path + '.times') as file:
+            return [(float(line.split()[0]), int(line.split()[1])) for line in file if line.endswith('\n')]
+
+    def longest_gap(self, start, end):
+        moments = [start] + [moment for moment, _ in self.pieces() if start < moment < end] + [end]
+        return max(later - earlier for earlier, later in zip(moments, moments[1:]))
+
+
+class Patient(Daemon):
+    """A daemon whose outputs have patience, where it is a number."""
+
+    def __init__(self, program, folder, music, outputs, more='', wait=True):
+        self.settings = os.path.join(folder, 'settings.toml')
+        port = free_port()
+        lines = ['music = "%s"' % music, 'listen = "127.0.0.1:%d"' % port, 'rate = %d' % RATE, 'kill = true', more]
+        for number, (path, patience) in enumerate(outputs):
+            lines += ['[[output]]', 'name = "out%d"' % number, 'path = "%s"' % path]
+            lines += ['patience = %s' % patience] * (patience is not None)
+        with open(self.settings, 'w') as file:
+            file.write('\n'.join(lines) + '\n')
+        Process.__init__(self, [program, 'serve', '--config', self.settings], port, folder, wait)
+
+
+def enabled(client):
+    return ''.join(line[15:] for line in client.must('outputs') if line.startswith('outputenabled: '))
+
+
+def becomes(asked, wanted, seconds):
+    """After how many seconds what is asked is what is wanted; None where it is not in time."""
+    start = time.monotonic()
+    while time.monotonic() < start + seconds:
+        if asked() == wanted:
+            return time.monotonic() - start
+        time.sleep(0.02)
+    return None
+
+
+def shown(seconds):
+    return 'never' if seconds is None else '%.2f s' % seconds
+
+
+def play(client, *lines):
+    for line in ('add ""', 'repeat 1', *lines, 'play'):
+        client.must(line)
+
+
+def end(table, daemon, readers=()):
+    """The daemon ends within a second, and the books of each output balance."""
+    client = daemon.client()
+    start = time.monotonic()
+    client.send('kill')
+    try:
+        status = daemon.process.wait(10)
+    except subprocess.TimeoutExpired:
+        daemon.kill()
+        status = None
+    took = time.monotonic() - start
+    table.row('`kill`', 'status %s after %.2f s' % (status, took), right=status == 0 and took < ENDS)
+    books = [[int(word) for word in BOOKS.match(line).groups()] for line in daemon.output().splitlines() if BOOKS.match(line)]
+    right = bool(books) and all(decoded == written + discarded + left for _, decoded, written, discarded, left in books)
+    table.row('the books', '; '.join('%d = %d + %d + %d' % tuple(book[1:]) for book in books), right=right)
+    for reader in readers:
+        reader.goes_on()
+        reader.close()
+    return books
+
+
+def slowest_answer(client, seconds):
+    slowest, until = 0.0, time.monotonic() + seconds
+    while time.monotonic() < until:
+        start = time.monotonic()
+        client.must('status')
+        slowest = max(slowest, time.monotonic() - start)
+        time.sleep(0.01)
+    return slowest
+
+
+def check_minute(table, program, folder, music):
+    """Of three readers one stops for a minute. The rings last longer than its patience: the others never fall silent."""
+    stand(table, program, folder, music, 'ring = 65536', 1, 60, STEADY)
+
+
+def check_stands(table, program, folder, music):
+    """With rings that do not, the others wait for it as long as it has patience, and no longer."""
+    stand(table, program, folder, music, '', PATIENCE, 5, PATIENCE + GAP)
+
+
+def stand(table, program, folder, music, more, patience, seconds, most):
+    readers = [Reader(os.path.join(folder, 'room%d' % number)) for number in range(3)]
+    daemon = Patient(program, folder, music, [(reader.path, patience) for reader in readers], more)
+    client, waiter = daemon.client(), daemon.client()
+    play(client)
+    time.sleep(3)
+    waiter.must('status')
+    waiter.send('idle output')
+    stopped = time.monotonic()
+    readers[1].stands()
+    off = becomes(lambda: enabled(client), '101', patience + 1 + LATEST)
+    table.row('%s patience %d: it is off after' % (more, patience), shown(off), right=off is not None and off >= patience - 0.1)
+    table.row('a client that waits is told', waiter.answer()[0], right=off is not None)
+    slowest = slowest_answer(client, stopped + seconds - time.monotonic())
+    now = time.monotonic()
+    table.row('slowest answer while it stands', '%.0f ms, for %.0f s' % (1000 * slowest, now - stopped), right=slowest < SLOWEST)
+    for number in (0, 2):
+        gap, later = readers[number].longest_gap(stopped, now), readers[number].longest_gap(now - 2, now)
+        table.row('output %d: longest gap' % number, '%.2f s, and once it is off %.2f s' % (gap, later), right=gap < most and later < STEADY)
+    readers[1].goes_on()
+    back = becomes(lambda: enabled(client), '111', LATEST)
+    table.row('its reader goes on: it is on after', shown(back), right=back is not None)
+    time.sleep(2)
+    now = time.monotonic()
+    for number in range(3):
+        gap = readers[number].longest_gap(now - 1, now)
+        table.row('output %d: longest gap' % number, '%.2f s' % gap, right=gap < STEADY)
+    books = end(table, daemon, readers)
+    discarded = [book[3] for book in books]
+    table.row('frames that were discarded', discarded, right=len(books) == 3 and discarded[0] == discarded[2] == 0 < discarded[1])
+
+
+def check_short(table, program, folder, music):
+    """A reader that stands still for less than the patience: all wait, nothing is lost, and none is off."""
+    readers = [Reader(os.path.join(folder, 'short%d' % number)) for number in range(2)]
+    daemon = Patient(program, folder, music, [(reader.path, 30) for reader in readers])
+    client = daemon.client()
+    play(client)
+    time.sleep(1)
+    readers[1].stands()
+    time.sleep(3)
+    table.row('within its patience', enabled(client), right=enabled(client) == '11')
+    readers[1].goes_on()
+    time.sleep(1)
+    books = end(table, daemon, readers)
+    table.row('frames that were discarded', [book[3] for book in books], right=all(book[3] == 0 for book in books))
+
+
+def check_unread(table, program, folder, music):
+    """A FIFO that nobody reads from the start: the other plays once its patience is over; a reader comes, goes and comes again."""
+    alone, paced = os.path.join(folder, 'alone'), Reader(os.path.join(folder, 'beside'))
+    os.mkfifo(alone)
+    daemon = Patient(program, folder, music, [(alone, PATIENCE), (paced.path, PATIENCE)])
+    client = daemon.client()
+    play(client)
+    off = becomes(lambda: enabled(client), '01', PATIENCE + 1 + LATEST)
+    table.row('a FIFO without a reader: off after', shown(off), right=off is not None and off >= PATIENCE - 0.1)
+    time.sleep(2)
+    gap = paced.longest_gap(time.monotonic() - 1, time.monotonic())
+    table.row('the other: longest gap', '%.2f s' % gap, right=gap < STEADY)
+    for word in ('a reader comes', 'another comes'):
+        reader = Reader(alone)
+        back = becomes(lambda: enabled(client), '11', LATEST)
+        table.row('%s: on after' % word, shown(back), right=back is not None)
+        time.sleep(1)
+        count = sum(size for _, size in reader.pieces())
+        table.row('', '%d bytes, whole frames' % count, right=count > 0 and count % 4 == 0)
+        reader.close()
+        off = becomes(lambda: enabled(client), '01', PATIENCE + 1 + LATEST)
+        table.row('it goes: off after', shown(off), right=off is not None and off >= PATIENCE - 0.5)
+    end(table, daemon, [paced])
+
+
+def check_by_hand(table, program, folder, music):
+    """A user switches an output on while its path stands: its patience begins anew. One that a user switched off stays off."""
+    readers = [Reader(os.path.join(folder, 'hand%d' % number)) for number in range(2)]
+    daemon = Patient(program, folder, music, [(reader.path, PATIENCE) for reader in readers])
+    client = daemon.client()
+    play(client)
+    time.sleep(1)
+    readers[0].stands()
+    becomes(lambda: enabled(client), '01', PATIENCE + 1 + LATEST)
+    for turn in range(3):
+        client.must('enableoutput 0')
+        off = becomes(lambda: enabled(client), '01', PATIENCE + 1 + LATEST)
+        table.row('on by hand, %d: off after' % (turn + 1), shown(off), right=off is not None and off >= PATIENCE - 0.1)
+    readers[0].goes_on()
+    back = becomes(lambda: enabled(client), '11', LATEST)
+    table.row('its reader goes on: on after', shown(back), right=back is not None)
+    refused = client.ask('enableoutput 0')[-1]
+    table.row('it has not failed', refused, right=refused == 'OK')
+    client.must('disableoutput 0')
+    time.sleep(0.5)
+    readers[0].stands()
+    time.sleep(PATIENCE + 2)
+    readers[0].goes_on()
+    time.sleep(LATEST)
+    table.row('off by hand, and its reader stands and goes on', enabled(client), right=enabled(client) == '01')
+    end(table, daemon, readers)
+
+
+def check_switches(table, program, folder, music):
+    """Of an output that is off for its path somebody's later word holds: on and off again, it stays off."""
+    reader = Reader(os.path.join(folder, 'switches'))
+    daemon = Patient(program, folder, music, [(reader.path, PATIENCE)])
+    client = daemon.client()
+    play(client)
+    time.sleep(1)
+    reader.stands()
+    becomes(lambda: enabled(client), '0', PATIENCE + 1 + LATEST)
+    client.must('enableoutput 0')
+    time.sleep(0.5)
+    client.must('disableoutput 0')
+    time.sleep(0.5)
+    reader.goes_on()
+    time.sleep(LATEST)
+    table.row('on and off by hand while its reader stands', enabled(client), right=enabled(client) == '0')
+    client.must('enableoutput 0')
+    time.sleep(1)
+    reader.stands()
+    becomes(lambda: enabled(client), '0', PATIENCE + 1 + LATEST)
+    for _ in range(500):
+        client.must('enableoutput 0')
+        client.must('disableoutput 0')
+    reader.goes_on()
+    time.sleep(LATEST)
+    refused = client.ask('enableoutput 0')[-1]
+    table.row('after 500 switches it has not failed', refused, right=refused == 'OK')
+    end(table, daemon, [reader])
+
+
+def check_stopped(table, program, folder, music):
+    """While nothing is played no output is switched off, however long its reader stands still."""
+    readers = [Reader(os.path.join(folder, 'stopped%d' % number)) for number in range(2)]
+    daemon = Patient(program, folder, music, [(reader.path, PATIENCE) for reader in readers])
+    client = daemon.client()
+    for word, again in (('stop', 'play'), ('pause 1', 'pause 0')):
+        play(client) if word == 'stop' else None
+        time.sleep(1)
+        readers[0].stands()
+        time.sleep(1)
+        client.must(word)
+        used = daemon.seconds()
+        off = becomes(lambda: enabled(client), '01', 2 * PATIENCE + 1)
+        table.row('`%s` while it stands: off after' % word, '%s, %.2f s of a processor' % (shown(off), daemon.seconds() - used), right=off is None)
+        readers[0].goes_on()
+        time.sleep(1)
+        client.must(again)
+        off = becomes(lambda: enabled(client), '01', PATIENCE + 1)
+        table.row('its reader goes on, `%s`: off after' % again, shown(off), right=off is None)
+    end(table, daemon, readers)
+
+
+def check_moved(table, program, folder, music):
+    """An output of another partition is switched off and on there."""
+    readers = [Reader(os.path.join(folder, 'moved%d' % number)) for number in range(2)]
+    daemon = Patient(program, folder, music, [(reader.path, PATIENCE) for reader in readers])
+    kitchen, upstairs = daemon.client(), daemon.client()
+    upstairs.must('newpartition upstairs')
+    upstairs.must('partition upstairs')
+    upstairs.must('moveoutput out1')
+    play(kitchen)
+    play(upstairs)
+    time.sleep(1)
+    readers[1].stands()
+    off = becomes(lambda: enabled(upstairs), '0', PATIENCE + 1 + LATEST)
+    table.row('in another partition: off after', shown(off), right=off is not None)
+    readers[1].goes_on()
+    back = becomes(lambda: enabled(upstairs), '1', LATEST)
+    table.row('on after', shown(back), right=back is not None)
+    end(table, daemon, readers)
+
+
+def check_end(table, program, folder, music):
+    """`kill` while the path stands, before and after its output is off; and what it did not take is told."""
+    for name, seconds in (('within its patience', 0.5), ('once it is off', PATIENCE + 2)):
+        path = os.path.join(folder, 'end %.1f' % seconds)
+        reader = Reader(path)
+        daemon = Patient(program, folder, music, [(path, PATIENCE)])
+        client = daemon.client()
+        play(client)
+        time.sleep(1)
+        reader.stands()
+        time.sleep(seconds + 1)
+        end(table, daemon, [reader])
+        told = [line for line in daemon.errors().splitlines() if 'did not take' in line]
+        table.row('the end %s' % name, ' '.join(told)[-60:], right=len(told) == 1)
+
+
+def check_without(table, program, folder, music):
+    """Without the key an output is waited for, as an output beside it with the key is not."""
+    readers = [Reader(os.path.join(folder, 'without%d' % number)) for number in range(2)]
+    daemon = Patient(program, folder, music, [(readers[0].path, None), (readers[1].path, PATIENCE)])
+    client = daemon.client()
+    play(client)
+    time.sleep(1)
+    readers[0].stands()
+    time.sleep(PATIENCE + 2)
+    before = client.value('status', 'elapsed')
+    time.sleep(1)
+    after = client.value('status', 'elapsed')
+    table.row('without the key', 'enabled %s, elapsed %s, a second later %s' % (enabled(client), before, after), right=enabled(client) == '11' and before == after)
+    readers[0].goes_on()
+    end(table, daemon, readers)
+
+
+def check_kept(table, program, folder, music):
+    """The state has an output on that is off for its path: after `kill`, and after `kill -9` while it is off."""
+    for word in ('kill', 'kill -9'):
+        kept, reader = os.path.join(folder, 'state of ' + word), Reader(os.path.join(folder, 'kept by ' + word))
+        daemon = Patient(program, folder, music, [(reader.path, PATIENCE)], 'state = "%s"' % kept)
+        client = daemon.client()
+        play(client)
+        time.sleep(1)
+        reader.stands()
+        off = becomes(lambda: enabled(client), '0', PATIENCE + 1 + LATEST)
+        time.sleep(3)
+        client.must('setvol 50')
+        time.sleep(3)
+        if word == 'kill':
+            end(table, daemon, [reader])
+        else:
+            daemon.kill()
+            reader.close()
+        with open(kept) as file:
+            lines = [line.strip() for line in file if 'output' in line or 'setvol' in line]
+        table.row('the state after `%s`' % word, ' '.join(lines), right=off is not None and lines == ['setvol 50', 'enableoutput 0'])
+
+
+def check_clients(table, program, folder, music):
+    """With patience 63 clients are served, and with a state 62."""
+    for more, wanted in (('', 63), ('state = "%s"' % os.path.join(folder, 'state of clients'), 62)):
+        daemon = Patient(program, folder, music, [('/dev/null', PATIENCE)], more)
+        time.sleep(1)
+        clients = []
+        for _ in range(64):
+            client = Client(daemon.port, greeted=False)
+            client.socket.settimeout(2)
+            try:
+                if client.line().startswith('OK MPD'):
+                    clients.append(client)
+            except OSError:
+                pass
+        table.row('clients that are served%s' % (' beside a state' if more else ''), len(clients), right=len(clients) == wanted)
+        for client in clients:
+            client.close()
+        time.sleep(0.5)
+        end(table, daemon)
+
+
+def main():
+    program, table = program_of(sys.argv[1] if len(sys.argv) > 1 else None), Table('Patience', 46, 80)
+    checks = [
+        check_minute, check_stands, check_short, check_unread, check_by_hand, check_switches, check_stopped, check_moved, check_end, check_without,
+        check_kept, check_clients]
+    for check in checks:
+        with tempfile.TemporaryDirectory() as folder:
+            music = os.path.join(folder, 'music')
+            put_songs(music, 3, 20 * RATE)
+            check(table, program, folder, music)
+    print('\n%d failed' % table.failed)
+    return 1 if table.failed else 0
+
+
+if __name__ == '__main__':
+    sys.exit(main())

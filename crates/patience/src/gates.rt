@@ -1,0 +1,217 @@
+//! What lets each output go on.
+ghost use Rattle.std.specs.Prelude.{◌≡◌, IfOk, None, Some, is_some, map, slice_get, true};
+
+use crate::own_client::{Off, OwnClient};
+use crate::paths::PatientPath;
+use counted_player::Ledgers;
+use crew_steps::Gate;
+use house::House;
+use partition::PartitionFault;
+use patient_output::{Mode, Sight, Step, Watch};
+use std::alloc::{AllocError, Global};
+use std::sync::{Arc, Mutex, Wait};
+use std::time::{Clock, Duration, Instant};
+
+/// How many milliseconds the end waits at most until all paths have taken what was written.
+const LAST: u64 = 500;
+
+/// An output with patience.
+pub(crate) struct Watched {
+    through: PatientPath,
+    watch: Mutex<Watch>,
+}
+
+impl Drop for Watched {
+    fn drop(self) {
+        let Watched {
+            through: _,
+            watch: _,
+        } = self;
+    }
+}
+
+/// The gates of all outputs. That of an output without patience is always open.
+pub struct Gates<L: Ledgers, R: Wait + Clock + Copy> {
+    rt: R,
+    /// From when on milliseconds are counted, where the clock can be read.
+    start: Option<Instant>,
+    outputs: Vec<Option<Watched>>,
+    /// One where an output has patience, else none.
+    client: Vec<OwnClient<L, R>>,
+}
+
+impl<L: Ledgers, R: Wait + Clock + Copy> Drop for Gates<L, R> {
+    fn drop(self) {
+        let Gates {
+            rt: _,
+            start: _,
+            outputs: _,
+            client: _,
+        } = self;
+    }
+}
+
+/// The gates of outputs, of which these have patience. They are watched, and no others.
+///
+/// # Errors
+///
+/// Where there is no memory or no seat, both as [`PartitionFault::NoMemory`]; or the player takes no client.
+pub fn gates_of<L: Ledgers, R: Wait + Clock + Copy>(
+    rt: R,
+    host: HostRuntime,
+    house: &Arc<House<L>, Global>,
+    patient: Vec<Option<PatientPath>>,
+) -> Result<Gates<L, R>, PartitionFault>
+    ensures { IfOk result (λ gates. map is_some gates.outputs.items ≡ map is_some patient.items) }
+{
+    let mut outputs = Vec::new(host.alloc());
+    let mut is_one_patient = false;
+    'patient: for through in patient {
+        is_one_patient = is_one_patient || through.is_some();
+        outputs.push(watched_of(through)).map_err(AllocError::from)?;
+    }
+    let mut client = Vec::new(host.alloc());
+    if is_one_patient {
+        client
+            .push(client_of(rt, host, house)?)
+            .map_err(AllocError::from)?;
+    }
+    Ok(Gates {
+        rt,
+        start: Instant::now(&rt).ok(),
+        outputs,
+        client,
+    })
+}
+
+fn watched_of(through: Option<PatientPath>) -> Option<Watched>
+    ensures { is_some result ≡ is_some through }
+{
+    let through = through?;
+    let watch = Mutex::new(Watch::new(through.seconds, 0));
+    Some(Watched { through, watch })
+}
+
+fn client_of<L: Ledgers, R: Wait + Copy>(
+    rt: R,
+    host: HostRuntime,
+    house: &Arc<House<L>, Global>,
+) -> Result<OwnClient<L, R>, PartitionFault> {
+    let house = Arc::try_clone(house)?;
+    let Ok(seat) = house.seat(&rt) else {
+        return Err(PartitionFault::NoMemory);
+    };
+    OwnClient::come(rt, host, house, seat)
+}
+
+impl<L: Ledgers, R: Wait + Clock + Copy> Gate for Gates<L, R> {
+    /// An output that is not watched always goes on.
+    fn ask(&self, output: usize) -> bool
+        ensures { slice_get self.now.outputs.items output ≡ Some None → result ≡ true }
+    {
+        match (self.outputs.get(output), self.client.first()) {
+            (Some(Some(watched)), Some(client)) => self.ask_for(output, watched, client),
+            _ => true,
+        }
+    }
+}
+
+impl<L: Ledgers, R: Wait + Clock + Copy> Gates<L, R> {
+    /// Whether an output with patience may go on. Its watch is held until it is known what came of it, so that who
+    /// sees the output off for its path alone sees also that it is.
+    fn ask_for(&self, output: usize, watched: &Watched, client: &OwnClient<L, R>) -> bool {
+        let mut watch = watched.watch.lock(&self.rt);
+        let now = self.now();
+        let sight = watched.through.passage.sight(&self.rt);
+        match watch.look(sight, now, client.has_ended()) {
+            Step::Opens => true,
+            Step::Waits => false,
+            Step::SwitchesOff => {
+                after_switch(&mut *watch, client.switch_off(output), sight, now);
+                // Whether it is off is looked at when it asks again.
+                false
+            }
+            Step::Returns => {
+                if !is_off_for_path(&*watch) || client.switch_on(output).is_some() {
+                    watch.plays(sight, now);
+                }
+                // Where it cannot be switched on now, that is tried when it asks again.
+                true
+            }
+            Step::Looks => goes_on_after(&mut *watch, client.is_on(output), sight, now),
+        }
+    }
+
+    /// Milliseconds since the start; 0 where the clock cannot be read, so that nothing stands still.
+    fn now(&self) -> u64 {
+        match &self.start {
+            Some(start) => match start.elapsed(&self.rt) {
+                Ok(passed) => milliseconds_of(passed),
+                Err(_) => 0,
+            },
+            None => 0,
+        }
+    }
+
+    /// Which outputs are off for their paths, and were on before.
+    pub fn off_for_paths(&self) -> [bool; 8] {
+        let mut off = [false; 8];
+        for (number, watched) in self.outputs.iter().enumerate() {
+            if let (Some(watched), Some(slot)) = (watched, off.get_mut(number)) {
+                *slot = is_off_for_path(&*watched.watch.lock(&self.rt));
+            }
+        }
+        off
+    }
+
+    /// The outputs give no more. Waits until the paths have taken what was written, half a second in all, and tells
+    /// on standard error what one of them did not take.
+    pub fn finish(&self, host: &HostRuntime) {
+        let start = self.now();
+        for (number, watched) in self.outputs.iter().enumerate() {
+            if let Some(watched) = watched {
+                let passed = self.now().saturating_sub(start);
+                let most = Duration::from_millis(LAST.saturating_sub(passed));
+                let left = watched.through.passage.finish(&self.rt, most);
+                if left > 0 {
+                    let _told = eprintln!(*host;
+                        "music_daemon: output {number}: {} did not take {left} bytes that were written",
+                        watched.through.path
+                    );
+                }
+            }
+        }
+    }
+}
+
+/// Whether an output is off for its path, and was on before.
+fn is_off_for_path(watch: &Watch) -> bool {
+    matches!(watch.mode(), Mode::IsOff(true))
+}
+
+/// The output was to be switched off. Where nothing is played its patience begins anew.
+fn after_switch(watch: &mut Watch, off: Option<Off>, sight: Sight, now: u64) {
+    match off {
+        Some(Off::IsOff(was_on)) => watch.is_off(was_on),
+        Some(Off::Rests) => watch.plays(sight, now),
+        None => {}
+    }
+}
+
+/// Whether an output goes on that was off for its path and is seen so. Where it is on, somebody wants it to play, and
+/// its patience begins anew.
+fn goes_on_after(watch: &mut Watch, is_on: Option<bool>, sight: Sight, now: u64) -> bool {
+    match is_on {
+        Some(is_on) => {
+            if is_on {
+                watch.plays(sight, now);
+            }
+            !is_on
+        }
+        None => false,
+    }
+}
+
+fn milliseconds_of(passed: Duration) -> u64 {
+    u64::try_from(passed.as_millis()).unwrap_or(u64::MAX)
+}

@@ -1,0 +1,216 @@
+//! A client of the daemon's own that switches outputs off and on.
+use command_lists::ListForm;
+use counted_player::{Ledgers, Seat};
+use held_player::News;
+use house::House;
+use kept_state::kept_of;
+use mpd_command::{CommandSet, Request};
+use mpd_text::quote;
+use partition::PartitionFault;
+use shelf::MemShelf;
+use std::alloc::Global;
+use std::sync::{Arc, Mutex, Wait};
+use transitions::Next;
+
+/// Its number; that of the client that keeps the state is 65.
+const SWITCHER: u32 = 66;
+
+/// Where the client is while it says nothing: no partition is kept from being deleted by it.
+const HOME: &str = "partition default";
+
+/// What came of it that an output was to be switched off.
+pub(crate) enum Off {
+    /// Nothing is played: it stays as it is.
+    Rests,
+    /// It is off, and was on before where this is true.
+    IsOff(bool),
+}
+
+/// The seat of the client, and whether it is in another partition than the first one.
+#[derive(Drop)]
+struct Voice<L: Ledgers> {
+    seat: Seat<L>,
+    is_away: bool,
+}
+
+/// The client. It says its lines as any client does, and is let in once, at the start.
+pub(crate) struct OwnClient<L: Ledgers, R: Wait + Copy> {
+    rt: R,
+    host: HostRuntime,
+    house: Arc<House<L>, Global>,
+    /// Held for as long as it takes to say what belongs together.
+    voice: Mutex<Voice<L>>,
+}
+
+impl<L: Ledgers, R: Wait + Copy> Drop for OwnClient<L, R> {
+    fn drop(self) {
+        let OwnClient {
+            rt: _,
+            host: _,
+            house: _,
+            voice: _,
+        } = self;
+    }
+}
+
+impl<L: Ledgers, R: Wait + Copy> OwnClient<L, R> {
+    /// Lets the client in.
+    ///
+    /// # Errors
+    ///
+    /// Where the player takes no client.
+    pub(crate) fn come(
+        rt: R,
+        host: HostRuntime,
+        house: Arc<House<L>, Global>,
+        seat: Seat<L>,
+    ) -> Result<Self, PartitionFault> {
+        let mut seat = seat;
+        house.notice(&rt, &mut seat, News::Comes(SWITCHER))?;
+        Ok(OwnClient {
+            rt,
+            host,
+            house,
+            voice: Mutex::new(Voice {
+                seat,
+                is_away: false,
+            }),
+        })
+    }
+
+    /// Whether the daemon has ended.
+    pub(crate) fn has_ended(&self) -> bool {
+        self.house.has_ended(&self.rt)
+    }
+
+    /// Whether an output is on. None where that cannot be told now.
+    pub(crate) fn is_on(&self, output: usize) -> Option<bool> {
+        let mut voice = self.voice.lock(&self.rt);
+        let is_on = self.look(&mut *voice, output);
+        self.go_home(&mut *voice);
+        is_on
+    }
+
+    /// Switches an output off where something is played in its partition. None where that cannot be done now.
+    pub(crate) fn switch_off(&self, output: usize) -> Option<Off> {
+        let mut voice = self.voice.lock(&self.rt);
+        let off = self.off(&mut *voice, output);
+        self.go_home(&mut *voice);
+        off
+    }
+
+    /// Switches an output on that is off. None where that cannot be done now.
+    pub(crate) fn switch_on(&self, output: usize) -> Option<()> {
+        let mut voice = self.voice.lock(&self.rt);
+        let switched = match self.look(&mut *voice, output) {
+            Some(true) => Some(()),
+            Some(false) => self.on(&mut *voice, output),
+            None => None,
+        };
+        self.go_home(&mut *voice);
+        switched
+    }
+
+    fn off(&self, voice: &mut Voice<L>, output: usize) -> Option<Off> {
+        self.look(voice, output)?;
+        let status = self.say(voice, "status")?;
+        if !status.as_str().lines().any(|line| line == "state: play") {
+            return Some(Off::Rests);
+        }
+        // Both at one moment, so that what another client switches off is not taken for what this one does.
+        let lines = format!(in self.host.alloc(); "outputs\ndisableoutput {output}").ok()?;
+        let shown = self.say(voice, lines.as_str())?;
+        let was_on = self.is_on_in(shown.as_str(), output)?;
+        Some(Off::IsOff(was_on))
+    }
+
+    fn on(&self, voice: &mut Voice<L>, output: usize) -> Option<()> {
+        let line = format!(in self.host.alloc(); "enableoutput {output}").ok()?;
+        self.say(voice, line.as_str())?;
+        Some(())
+    }
+
+    /// Whether an output is on. The client then is in the partition that has the output: first it looks where it
+    /// is, and then in all partitions.
+    fn look(&self, voice: &mut Voice<L>, output: usize) -> Option<bool> {
+        if let Some(is_on) = self.look_here(voice, output) {
+            return Some(is_on);
+        }
+        let names = self.say(voice, "listpartitions")?;
+        for line in names.as_str().lines() {
+            if let Some(name) = line.strip_prefix("partition: ") {
+                if let Some(is_on) = self.look_in(voice, name, output) {
+                    return Some(is_on);
+                }
+            }
+        }
+        None
+    }
+
+    /// The same in the partition of a name.
+    fn look_in(&self, voice: &mut Voice<L>, name: &str, output: usize) -> Option<bool> {
+        let alloc = self.host.alloc();
+        let name = quote(alloc, name).ok()?;
+        let line = format!(in alloc; "partition {}", name.as_str()).ok()?;
+        self.say(voice, line.as_str())?;
+        voice.is_away = true;
+        self.look_here(voice, output)
+    }
+
+    /// The same in the partition in which the client is. None where the output is not there.
+    fn look_here(&self, voice: &mut Voice<L>, output: usize) -> Option<bool> {
+        let shown = self.say(voice, "outputs")?;
+        self.is_on_in(shown.as_str(), output)
+    }
+
+    /// Whether an output is on in what `outputs` shows. None where it is not there.
+    fn is_on_in(&self, shown: &str, output: usize) -> Option<bool> {
+        let kept = kept_of(self.host.alloc(), shown).ok()?;
+        for shown in &kept.outputs {
+            if shown.number as usize == output {
+                return Some(shown.is_on);
+            }
+        }
+        None
+    }
+
+    /// Goes back from another partition; where that cannot be done now, the next time.
+    fn go_home(&self, voice: &mut Voice<L>) {
+        if voice.is_away && self.say(voice, HOME).is_some() {
+            voice.is_away = false;
+        }
+    }
+
+    /// Says lines, all at one moment, and gives their answers. None where one is refused.
+    fn say(&self, voice: &mut Voice<L>, lines: &str) -> Option<String> {
+        let alloc = self.host.alloc();
+        let mut requests = Vec::new(alloc);
+        for line in lines.lines() {
+            requests
+                .push(Request::of_line(alloc, line, CommandSet::base()).ok()?)
+                .ok()?;
+        }
+        // None of its commands asks a shelf.
+        let mut shelf = MemShelf::new(alloc);
+        let answered = self
+            .house
+            .list(
+                &self.rt,
+                &mut voice.seat,
+                &mut shelf,
+                SWITCHER,
+                ListForm::Plain,
+                requests,
+            )
+            .ok()?;
+        let mut text = String::new(alloc);
+        for outcome in answered.answers().outcomes() {
+            let reply = outcome.reply();
+            if reply.is_refusal() || reply.next() != Next::Goes {
+                return None;
+            }
+            text.push_str(reply.text()).ok()?;
+        }
+        Some(text)
+    }
+}

@@ -1,0 +1,77 @@
+//! The output's end of the ring.
+ghost use Rattle.std.specs.Prelude.{◌≡◌, [], Some, IfOk};
+ghost use Rattle.rtrb.specs.Ring.{IsPair, producer_capacity, received, sent};
+
+use crate::carrier::Load;
+use crate::passage::Passage;
+use crate::sight::MOST_BYTES;
+use rtrb::{Producer, RingBuffer};
+use std::alloc::{AllocError, Global};
+use std::io;
+use std::io::{ErrorKind, Write};
+use std::sync::{Arc, Wait};
+
+/// Takes bytes into a ring, and never waits for their path. Its contents are all bytes that went into the ring.
+#[derive(Drop)]
+pub struct PatientWriter<R: Wait + Copy> {
+    rt: R,
+    producer: Producer<u8>,
+    passage: Arc<Passage, Global>,
+}
+
+/// The two ends of a new ring: the writer for the output, and what the thread carries that writes to its path.
+pub fn patient_output<R: Wait + Copy>(
+    rt: R,
+    alloc: Global,
+    passage: &Arc<Passage, Global>,
+) -> Result<(PatientWriter<R>, Load), AllocError>
+    ensures pair { IfOk result (λ r. IsPair r.0.producer r.1.consumer) }
+    ensures room { IfOk result (λ r. producer_capacity r.0.producer ≡ 65536) }
+    ensures empty { IfOk result (λ r. (sent r.0.producer ≡ []) × (received r.1.consumer ≡ [])) }
+{
+    let to = Arc::try_clone(passage)?;
+    let from = Arc::try_clone(passage)?;
+    let (producer, consumer) = RingBuffer::new(alloc, MOST_BYTES as usize)?;
+    Ok((
+        PatientWriter {
+            rt,
+            producer,
+            passage: to,
+        },
+        Load {
+            consumer,
+            passage: from,
+        },
+    ))
+}
+
+impl<R: Wait + Copy> Write for PatientWriter<R> {
+    ghost use Rattle.std.specs.Prelude.{◌≡◌, Some, length, IfOk};
+    ghost use Rattle.std.specs.Io.{WritesAtMost};
+    ghost use Rattle.std.specs.Io.KnownBytes.{WriteAppends};
+
+    ghost contents = { λ w. Some (sent w.producer) };
+
+    /// All bytes, or none: as the path failed, or `WouldBlock` where the ring has no room for them.
+    fn write(&mut self, buf: &[u8]) -> io::Result<usize>
+        ensures bound { WritesAtMost result buf.now }
+        ensures bytes { WriteAppends (Some (sent self.old.producer)) (Some (sent self.new.producer)) result buf.now }
+        ensures whole { IfOk result (λ n. n ≡ length buf.now) }
+    {
+        if let Some(kind) = self.passage.fault(&self.rt) {
+            return Err(io::Error::from(kind));
+        }
+        match self.producer.push_entire_slice(buf) {
+            Ok(()) => {
+                self.passage.gave(&self.rt, buf.len());
+                Ok(buf.len())
+            }
+            Err(_) => Err(io::Error::from(ErrorKind::WouldBlock)),
+        }
+    }
+
+    /// Nothing is kept but in the ring, for which the end waits.
+    fn flush(&mut self) -> io::Result<()> {
+        Ok(())
+    }
+}
