@@ -71,7 +71,7 @@ fn outputs(alloc: Global) -> Result<Outputs, AllocError> {
 }
 
 /// A player over two songs, with a window of at most so many events.
-pub fn player(alloc: Global, history: u32) -> Result<Partition, AllocError>
+fn player(alloc: Global, history: u32) -> Result<Partition, AllocError>
     ensures { IfOk result (λ player. IsFresh player.present) }
 {
     let library = Library {
@@ -147,7 +147,7 @@ fn heard(alloc: Global, is_told: bool, answer: &str) -> Result<String, AllocErro
 }
 
 /// What a client hears of a list of one line: `told` where a notice stands in front, and the answer.
-pub fn lists<L: Ledgers>(
+fn lists<L: Ledgers>(
     rt: &impl Wait,
     alloc: Global,
     house: &House<L>,

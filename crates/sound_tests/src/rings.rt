@@ -146,7 +146,7 @@ fn totals_told(alloc: Global, drainer: &Drainer) -> Result<String, AllocError> {
         discarded,
         torn,
     } = drainer.totals();
-    format!(in alloc; "{written} {discarded} {torn}")
+    format!(in alloc; "{written} written, {discarded} discarded, {torn} bytes torn")
 }
 
 // The totals after all steps, or the place of the first that answers otherwise, or that other bytes were
@@ -185,7 +185,7 @@ const OLD_CUT: &[Step] = &[
 fn an_old_cut_is_discarded(rt: HostRuntime) {
     let bytes = &[1, 0, 255, 255, 1, 0, 255, 255, 1, 0, 255, 255];
     let told = follow_all(rt.alloc(), (8, 3), FailurePoint::Never, OLD_CUT, bytes);
-    wants(&rt, told, "3 5 0");
+    wants(&rt, told, "3 written, 5 discarded, 0 bytes torn");
 }
 
 const BEFORE_MOVES: Cut = Cut {
@@ -217,13 +217,17 @@ fn moved_told(alloc: Global) -> Result<String, AllocError> {
         discarded,
         ..
     } = drainer.totals();
-    format!(in alloc; "{bytes:?} {written} {discarded}")
+    format!(in alloc; "{bytes:?}: {written} written, {discarded} discarded")
 }
 
 #[test]
 fn frames_of_an_earlier_move_are_not_written(rt: HostRuntime) {
     let told = moved_told(rt.alloc());
-    wants(&rt, told, "[7, 0, 8, 0, 9, 0, 10, 0] 2 3");
+    wants(
+        &rt,
+        told,
+        "[7, 0, 8, 0, 9, 0, 10, 0]: 2 written, 3 discarded",
+    );
 }
 
 const FAILS_WITHIN: &[Step] = &[
@@ -240,7 +244,7 @@ fn a_writer_fails_within_a_frame(rt: HostRuntime) {
     let bytes = &[1, 0, 255, 255, 2, 0];
     let point = FailurePoint::Byte(6);
     let told = follow_all(rt.alloc(), (8, 3), point, FAILS_WITHIN, bytes);
-    wants(&rt, told, "1 3 2");
+    wants(&rt, told, "1 written, 3 discarded, 2 bytes torn");
 }
 
 const ORDER: &[Step] = &[
@@ -260,7 +264,7 @@ const ORDER: &[Step] = &[
 #[test]
 fn the_order_of_fates(rt: HostRuntime) {
     let told = follow_all(rt.alloc(), (8, 2), FailurePoint::Byte(0), ORDER, &[]);
-    wants(&rt, told, "0 5 0");
+    wants(&rt, told, "0 written, 5 discarded, 0 bytes torn");
 }
 
 // What is told where a writer of three frames fails after so many bytes: these are the totals of what it has
@@ -280,7 +284,7 @@ fn failed_after(alloc: Global, place: u64) -> Result<String, AllocError> {
 fn failed_after_wanted(alloc: Global, place: u64) -> Result<String, AllocError> {
     let (written, torn) = (place / 4, place % 4);
     let discarded = 3u64.saturating_sub(written);
-    format!(in alloc; "{written} {discarded} {torn}")
+    format!(in alloc; "{written} written, {discarded} discarded, {torn} bytes torn")
 }
 
 fn fails_as_wanted(alloc: Global, place: u64) -> Result<bool, AllocError> {
@@ -367,12 +371,22 @@ fn both_ends(alloc: Global) -> Result<String, AllocError> {
     let held = drainer.held();
     drainer.reported();
     let Fates { written, discarded } = drainer.fates();
-    format!(in alloc; "{pushed} {popped} {beside} {owed} {after:?} {held} {written} {discarded}")
+    format!(in alloc;
+        "{pushed} pushed, {popped} popped, {beside} in the ring\n\
+         {owed} owed at the end, {after:?} in the ring after it, {held} held\n\
+         {written} written, {discarded} discarded not reported"
+    )
 }
 
 #[test]
 fn both_ends_in_one_thread(rt: HostRuntime) {
-    wants(&rt, both_ends(rt.alloc()), "4 2 2 3 Some(2) 2 0 0");
+    wants(
+        &rt,
+        both_ends(rt.alloc()),
+        "4 pushed, 2 popped, 2 in the ring\n\
+         3 owed at the end, Some(2) in the ring after it, 2 held\n\
+         0 written, 0 discarded not reported",
+    );
 }
 
 // Two blocks, of three frames of the first cut and two of the second.
@@ -524,12 +538,20 @@ fn greatest_ring(alloc: Global) -> Result<String, AllocError> {
     let hands = hands_written(&mut feeder, &mut drainer, &mut out);
     let left = pop(&mut drainer);
     let (bytes, frames) = (out.bytes().len(), frames_as_wanted(out.bytes()));
-    format!(in alloc; "{blocks} {more} {hands} {left} {bytes} {frames}")
+    format!(in alloc;
+        "{blocks} blocks and {more} frames pushed; {hands} hands written and {left} frames left\n\
+         {bytes} bytes, {frames} frames as wanted"
+    )
 }
 
 // The greatest ring holds 64 blocks and no frame more, and each hand is one write.
 #[test]
 fn the_greatest_ring(rt: HostRuntime) {
     let told = greatest_ring(rt.alloc());
-    wants(&rt, told, "64 0 65 0 266240 66560");
+    wants(
+        &rt,
+        told,
+        "64 blocks and 0 frames pushed; 65 hands written and 0 frames left\n\
+         266240 bytes, 66560 frames as wanted",
+    );
 }

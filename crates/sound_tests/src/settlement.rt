@@ -104,7 +104,9 @@ fn answer_told(alloc: Global, answer: Answer) -> Result<String, AllocError> {
         Ok(found) => {
             let (decoded, written, discarded) = (found.decoded, found.written, found.discarded);
             let (left, torn) = (found.left, found.torn);
-            format!(in alloc; "{decoded} {written} {discarded} {left} {torn}\n")
+            format!(in alloc;
+                "{decoded} decoded: {written} written, {discarded} discarded, {left} left; {torn} bytes torn\n"
+            )
         }
         Err(SettleFault::Mismatch) => String::from_str(alloc, "mismatch\n"),
         Err(_) => String::from_str(alloc, "another fault\n"),
@@ -166,14 +168,22 @@ fn an_old_cut_is_settled(rt: HostRuntime) {
     let run = run_of(&[PLAYED, CUT_OFF, CUT_OFF]);
     let books = &[[12, 3, 5], [12, 3, 6], [12, 2, 5], [11, 3, 5]];
     let told = told_of(rt.alloc(), run, books);
-    wants(&rt, told, "12 3 5 4 0\nmismatch\nmismatch\nmismatch\n");
+    wants(
+        &rt,
+        told,
+        "12 decoded: 3 written, 5 discarded, 4 left; 0 bytes torn\nmismatch\nmismatch\nmismatch\n",
+    );
 }
 
 #[test]
 fn an_unreported_turn_is_counted(rt: HostRuntime) {
     let run = run_of(&[PLAYED, CUT_OFF, UNREPORTED]);
     let told = told_of(rt.alloc(), run, &[[12, 3, 3], [12, 3, 5]]);
-    wants(&rt, told, "12 3 5 4 0\nmismatch\n");
+    wants(
+        &rt,
+        told,
+        "12 decoded: 3 written, 5 discarded, 4 left; 0 bytes torn\nmismatch\n",
+    );
 }
 
 // A pause and a turn: a ring of four, a hand of two and three frames.
@@ -202,8 +212,16 @@ fn torn_told(alloc: Global) -> Result<String, AllocError> {
 
 #[test]
 fn kept_and_torn_frames_are_settled(rt: HostRuntime) {
-    wants(&rt, paused_told(rt.alloc()), "3 2 0 1 0\n");
-    wants(&rt, torn_told(rt.alloc()), "3 1 2 0 2\n");
+    wants(
+        &rt,
+        paused_told(rt.alloc()),
+        "3 decoded: 2 written, 0 discarded, 1 left; 0 bytes torn\n",
+    );
+    wants(
+        &rt,
+        torn_told(rt.alloc()),
+        "3 decoded: 1 written, 2 discarded, 0 left; 2 bytes torn\n",
+    );
 }
 
 fn block_told(alloc: Global) -> Result<String, AllocError> {
@@ -219,7 +237,11 @@ fn block_told(alloc: Global) -> Result<String, AllocError> {
 
 #[test]
 fn a_block_through_the_greatest_ring_is_settled(rt: HostRuntime) {
-    wants(&rt, block_told(rt.alloc()), "1024 1024 0 0 0\n");
+    wants(
+        &rt,
+        block_told(rt.alloc()),
+        "1024 decoded: 1024 written, 0 discarded, 0 left; 0 bytes torn\n",
+    );
 }
 
 // The first of eight outputs has all that a book can count, and the last one asks for one more.
