@@ -1,0 +1,230 @@
+#!/usr/bin/env python3
+"""A day in minutes: a million edits while ten thousand songs are played into /dev/null, outputs go off and on, and scans find other songs.
+
+    checks/serve/day.py [PROGRAM] [--edits N] [--songs N] [--seconds N]
+
+Four clients edit one queue of some hundreds of entries, by single lines and by command lists; one plays, skips and changes modes; one
+switches outputs; one lets the folder be scanned while songs come and go in it; one waits for what changed. It ends once so many edits were
+answered and so many songs were played, or else after so many seconds (600), which fails. Printed: edits, songs, scans and switches; the slowest
+answer; the memory at each tenth of the edits, which must not grow from the second on; and at the end the books of both outputs.
+"""
+import argparse
+import os
+import random
+import re
+import shutil
+import sys
+import tempfile
+import threading
+import time
+
+sys.dont_write_bytecode = True
+
+from daemon import Daemon, Table, program_of, put_songs
+
+RATE = 44100
+LENGTH = 22050      # the frames of a song
+SONGS = 200
+MANY, FEW = 900, 300    # the entries between which the editors keep the queue
+GROWTH = 1.0        # the megabytes by which the memory may grow from the second tenth on
+SLOWEST = 1.0       # the seconds within which each answer is to come
+SHARE = 50          # the lines that an editor sends at once
+BOOKS = re.compile(r'output (\d+): decoded (\d+) written (\d+) discarded (\d+) left (\d+)')
+
+
+class Day:
+    """What the clients of one day share."""
+
+    def __init__(self, daemon):
+        self.daemon = daemon
+        self.lock = threading.Lock()
+        self.edits, self.refused, self.slowest = 0, 0, 0.0
+        self.counts = {'switches': 0, 'scans': 0, 'skips': 0, 'notices': 0}
+        self.faults = []
+        self.is_over = threading.Event()
+
+    def count(self, name):
+        with self.lock:
+            self.counts[name] += 1
+
+    def answered(self, edits, refused, seconds):
+        with self.lock:
+            self.edits += edits
+            self.refused += refused
+            self.slowest = max(self.slowest, seconds)
+
+
+def uri_of(number):
+    return 'album %02d/%04d.wav' % (number // 10, number)
+
+
+def edit(draw, length):
+    """One edit of a queue of so many entries, which the editors keep between FEW and MANY."""
+    place = lambda: draw.randrange(FEW // 2)
+    kind = draw.randrange(100)
+    if kind < 30:
+        return 'add "%s"' % uri_of(draw.randrange(SONGS)) if length < MANY else 'delete %d' % place()
+    if kind < 45:
+        return 'addid "%s" %d' % (uri_of(draw.randrange(SONGS)), place()) if length < MANY else 'delete %d' % place()
+    if kind < 62:
+        return 'delete %d' % place() if length > FEW else 'add "%s"' % uri_of(draw.randrange(SONGS))
+    if kind < 76:
+        return 'move %d %d' % (place(), place())
+    if kind < 86:
+        return 'swap %d %d' % (place(), place())
+    if kind < 96:
+        return 'prio %d %d' % (draw.randrange(256), place())
+    if kind < 99:
+        return 'shuffle %d:%d' % (place(), FEW // 2 + place())
+    return 'move %d:%d %d' % (place() // 2, FEW // 4 + place() // 2, place() // 2)
+
+
+def edits(day, number):
+    """A client that edits until all edits are made. What it deletes may be gone: then it is refused, and that is right."""
+    client, draw = day.daemon.client(), random.Random(number)
+    while not day.is_over.is_set():
+        length = int(client.value('status', 'playlistlength'))
+        lines = [edit(draw, length) for _ in range(SHARE)]
+        in_list = draw.randrange(2) == 0
+        begin = time.monotonic()
+        if in_list:
+            client.send('\n'.join(['command_list_ok_begin', *lines, 'command_list_end']))
+            answer = client.answer()
+            made, refused = answer.count('list_OK'), answer[-1] != 'OK'
+        else:
+            client.send('\n'.join(lines))
+            last = [client.answer()[-1] for _ in lines]
+            made, refused = last.count('OK'), sum(word != 'OK' for word in last)
+        day.answered(made, refused, time.monotonic() - begin)
+    client.close()
+
+
+def plays(day, number):
+    """A client that changes modes, and skips now and then."""
+    client, draw = day.daemon.client(), random.Random(number)
+    while not day.is_over.is_set():
+        client.must(draw.choice(['random 1', 'random 0', 'crossfade 0', 'crossfade 1', 'setvol %d' % draw.randrange(101), 'pause 0', 'single 0']))
+        if client.value('status', 'state') != 'play':
+            client.must('play')
+        client.ask(draw.choice(['next', 'previous', 'currentsong', 'playlistinfo 0:20']))
+        day.count('skips')
+        time.sleep(0.05)
+    client.close()
+
+
+def switches(day):
+    """A client that switches the second output off and on."""
+    client = day.daemon.client()
+    while not day.is_over.is_set():
+        client.must('disableoutput 1')
+        time.sleep(0.1)
+        client.must('enableoutput 1')
+        time.sleep(0.2)
+        day.count('switches')
+    client.close()
+
+
+def scans(day, music):
+    """A client that lets the folder be scanned, in which an album comes and goes that is in no queue."""
+    client, more = day.daemon.client(), os.path.join(music, 'more')
+    while not day.is_over.is_set():
+        if os.path.exists(more):
+            shutil.rmtree(more)
+        else:
+            put_songs(more, 10, LENGTH)
+        client.must('update')
+        while client.value('status', 'updating_db') and not day.is_over.is_set():
+            time.sleep(0.02)
+        day.count('scans')
+        time.sleep(0.5)
+    client.close()
+
+
+def waits(day):
+    """A client that waits for what changed, again and again."""
+    client = day.daemon.client()
+    while not day.is_over.is_set():
+        client.must('idle playlist player mixer options output database update')
+        day.count('notices')
+    client.close()
+
+
+def guarded(day, work, *words):
+    try:
+        work(day, *words)
+    except Exception as fault:
+        with day.lock:
+            day.faults.append('%s: %s' % (work.__name__, fault))
+        day.is_over.set()
+
+
+def written(daemon):
+    """How many bytes the daemon wrote: to outputs nearly all of them."""
+    with open('/proc/%d/io' % daemon.process.pid) as file:
+        return int(next(line.split()[1] for line in file if line.startswith('wchar:')))
+
+
+def main():
+    parser = argparse.ArgumentParser(description='A day in minutes.')
+    parser.add_argument('program', nargs='?')
+    parser.add_argument('--edits', type=int, default=1_000_000)
+    parser.add_argument('--songs', type=int, default=10_000)
+    parser.add_argument('--seconds', type=int, default=600)
+    given = parser.parse_args()
+    table = Table('A day: %d edits, %d songs' % (given.edits, given.songs), 34, 60)
+    with tempfile.TemporaryDirectory() as folder:
+        live(table, program_of(given.program), folder, given)
+    print('\n%d failed' % table.failed)
+    return 1 if table.failed else 0
+
+
+def live(table, program, folder, given):
+    music = os.path.join(folder, 'music')
+    put_songs(music, SONGS, LENGTH)
+    daemon = Daemon(program, folder, music, ['/dev/null', '/dev/null'], shelf=os.path.join(folder, 'shelf'), more='state = "%s"' % os.path.join(folder, 'state'))
+    client = daemon.client()
+    for line in ('repeat 1', 'add ""', 'add ""', 'play'):
+        client.must(line)
+    day = Day(daemon)
+    works = [(edits, number) for number in range(4)] + [(plays, 4), (switches,), (scans, music), (waits,)]
+    threads = [threading.Thread(target=guarded, args=(day, *work), daemon=True) for work in works]
+    begin, memory = time.monotonic(), []
+    for thread in threads:
+        thread.start()
+    # 4 bytes a frame, to the second output too for the half of the time at least, and a tenth more for answers.
+    enough = given.songs * LENGTH * 4 * 2.2
+    while not day.is_over.wait(0.05) and time.monotonic() - begin < given.seconds:
+        if day.edits >= len(memory) * given.edits / 10 and len(memory) < 11:
+            memory.append(daemon.memory())
+        if day.edits >= given.edits and written(daemon) >= enough:
+            break
+    took = time.monotonic() - begin
+    day.is_over.set()
+    client.must('setvol 99')
+    for thread in threads:
+        thread.join(10)
+    memory.append(daemon.memory())
+    tell(table, day, given, took, memory)
+    settle(table, daemon, given)
+
+
+def tell(table, day, given, took, memory):
+    table.row('edits', '%d, and %d refused, in %.0f s' % (day.edits, day.refused, took), right=day.edits >= given.edits and not day.faults)
+    for fault in day.faults:
+        table.row('', fault, right=False)
+    table.row('scans, switches, skips, notices', ', '.join('%d' % day.counts[name] for name in ('scans', 'switches', 'skips', 'notices')), right=all(day.counts.values()))
+    table.row('slowest answer to %d lines' % SHARE, '%.0f ms' % (1000 * day.slowest), right=day.slowest < SLOWEST)
+    table.row('memory at each tenth, MB', ' '.join('%.1f' % part for part in memory), right=max(memory[2:]) - memory[1] < GROWTH)
+
+
+def settle(table, daemon, given):
+    status, lines = daemon.end()
+    books = [[int(word) for word in BOOKS.match(line).groups()] for line in lines if BOOKS.match(line)]
+    for output, decoded, written, discarded, left in books:
+        table.row('output %d' % output, 'decoded %d = %d + %d + %d' % (decoded, written, discarded, left), right=decoded == written + discarded + left)
+    songs = books[0][1] // LENGTH if books else 0
+    table.row('songs that were played', '%d, status %d' % (songs, status), right=len(books) == 2 and songs >= given.songs and status == 0)
+
+
+if __name__ == '__main__':
+    sys.exit(main())
