@@ -139,12 +139,15 @@ def check_played(program, folder, music):
             daemon.end()
         else:
             daemon.kill()
-        daemon = started(program, folder, music, kept, [('/dev/null', False)])
+        # Nobody reads its FIFO: what is played stays within a ring of where it began.
+        unread = os.path.join(folder, 'unread by ' + ends)
+        os.mkfifo(unread)
+        daemon = started(program, folder, music, kept, [unread])
         found = state_of(daemon.client())
         place, at = float(wanted[0].pop('elapsed')), float(found[0].pop('elapsed'))
         right = found[:2] == wanted[:2] and place - most <= at <= place + 0.5
         table.row('after %s' % ends, '%.1f s of %.1f s' % (at, place), right=right)
-        daemon.end()
+        daemon.kill()
         pacer.close()
     return table.failed
 
@@ -186,9 +189,8 @@ def check_kills(program, folder, music, songs, times, beside):
 CALLS = ('openat', 'write', 'fsync', 'close', 'rename')
 
 
-def stopped_once(program, folder, music, call, number):
-    """Whether the daemon was killed as it made this call on the state's files for the so manyth time; the queue that came back, and how
-    many lines of the file were refused."""
+def traced_program(program, folder, call, number):
+    """A script that runs the program until this call on the state's files was made for the so manyth time, and kills it there; its folder."""
     own = os.path.join(folder, 'stop %s %d' % (call, number))
     os.mkdir(own)
     kept, traced = os.path.join(own, 'state'), os.path.join(own, 'traced')
@@ -198,7 +200,13 @@ def stopped_once(program, folder, music, call, number):
     with open(traced, 'w') as file:
         file.write('#!/bin/sh\nexec strace -f -qq -o /dev/null %s -e trace=%s -e inject=%s:signal=SIGKILL:when=%d %s "$@"\n' % (paths, ','.join(CALLS), call, number, program))
     os.chmod(traced, 0o755)
-    daemon = Daemon(traced, own, music, more='state = "%s"' % kept, wait=False)
+    return own
+
+
+def stopped_once(program, own, music):
+    """Whether the daemon was killed by the script of a folder; the queue that came back, and how many lines of the file were refused."""
+    kept = os.path.join(own, 'state')
+    daemon = Daemon(os.path.join(own, 'traced'), own, music, more='state = "%s"' % kept, wait=False)
     try:
         daemon.wait_for_port()
         client = daemon.client()
@@ -225,8 +233,10 @@ def check_stops(program, folder, music, beside):
     old = (('album 00/0001.wav', 0),)
     middle = old + (('album 00/0002.wav', 0),)
     new = old + (('album 00/0002.wav', 9),)
+    # All are written first: a process that is started meanwhile would hold one open, and it could not be run.
+    folders = {(call, number): traced_program(program, folder, call, number) for call in CALLS for number in range(1, 7)}
     with concurrent.futures.ThreadPoolExecutor(beside) as pool:
-        runs = {(call, number): pool.submit(stopped_once, program, folder, music, call, number) for call in CALLS for number in range(1, 7)}
+        runs = {stop: pool.submit(stopped_once, program, own, music) for stop, own in folders.items()}
         results = {stop: run.result() for stop, run in runs.items()}
     stops = {stop: found for stop, (stopped, found) in results.items() if stopped}
     wrong = [stop for stop, (_, (queue, refused)) in results.items() if queue not in (old, middle, new) or refused]
