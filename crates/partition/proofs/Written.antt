@@ -2,9 +2,7 @@
 use Rattle.std.proofs.Common.{◌≡◌, ◌∙◌, ℕ, ◌==◌, Bool, true, false, not, ◌&&◌, List, [], ◌∷◌, Option, Some, None, refl, ap, sym, if◌then◌else◌}
 use Rattle.idle_notes.specs.declared.sets.Subsystems.{Subsystems}
 use Rattle.parts.specs.Parts.{changed, is_within_in, part_at, report_in}
-use Rattle.parts.specs.declared.crossing.Crossing.{Crossing}
 use Rattle.parts.specs.declared.crossing.Crossing.TheVariants.{Stays}
-use Rattle.player_state.specs.declared.effect.Effect.{Effect}
 use Rattle.player_state.specs.declared.effect.Effect.TheVariants.{ByCommand}
 use Rattle.player_state.specs.declared.effect.CommandEffect.TheVariants.{Rests}
 use Rattle.player_events.specs.declared.event.Event.{Event}

@@ -15,7 +15,8 @@ use std::time::{Clock, Duration};
 /// The most bytes of one write: a FIFO takes so many as one piece, which no reader's end tears.
 const PIECE: usize = 4_096;
 
-/// How many milliseconds lie between a reader's end and the path's new opening.
+/// How many milliseconds lie between a reader's end and the path's new opening, and between two writes to a path
+/// without room.
 const PAUSE: u64 = 100;
 
 /// A path that can be opened anew.
@@ -105,7 +106,8 @@ fn write_piece<R: Wait + Clock, W: Reopening>(
     unreachable!()
 }
 
-/// Whether a piece is written again after such a fault: where the write was interrupted, or the reader went away.
+/// Whether a piece is written again after such a fault: where the write was interrupted, the reader went away, or the
+/// path has no room now.
 fn goes_on_after<R: Wait + Clock, W: Reopening>(
     rt: &R,
     passage: &Passage,
@@ -118,12 +120,18 @@ fn goes_on_after<R: Wait + Clock, W: Reopening>(
         ErrorKind::Interrupted => true,
         ErrorKind::BrokenPipe => {
             path.let_go();
-            thread::sleep(rt, Duration::from_millis(PAUSE));
-            !passage.ends(rt)
+            goes_on_after_pause(rt, passage)
         }
+        ErrorKind::WouldBlock => goes_on_after_pause(rt, passage),
         _ => {
             passage.fail(rt, kind);
             false
         }
     }
+}
+
+/// Waits for a while, and says whether the output still gives.
+fn goes_on_after_pause<R: Wait + Clock>(rt: &R, passage: &Passage) -> bool {
+    thread::sleep(rt, Duration::from_millis(PAUSE));
+    !passage.ends(rt)
 }

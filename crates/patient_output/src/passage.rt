@@ -1,4 +1,6 @@
 //! What passes from an output to its path.
+ghost use Rattle.std.specs.Prelude.{◌≢◌, Some};
+
 use crate::sight::Sight;
 use crate::tally::Tally;
 use std::io::ErrorKind;
@@ -40,7 +42,9 @@ impl Passage {
     }
 
     /// How the path failed, if it did.
-    pub fn fault(&self, rt: &impl Wait) -> Option<ErrorKind> {
+    pub fn fault(&self, rt: &impl Wait) -> Option<ErrorKind>
+        ensures { result ≢ Some ErrorKind.WouldBlock }
+    {
         self.tally.lock(rt).fault()
     }
 
@@ -63,7 +67,9 @@ impl Passage {
     }
 
     /// The path failed so, and nothing more is written.
-    pub fn fail(&self, rt: &impl Wait, kind: ErrorKind) {
+    pub fn fail(&self, rt: &impl Wait, kind: ErrorKind)
+        requires { kind ≢ ErrorKind.WouldBlock }
+    {
         self.tally.lock(rt).fail(kind);
         self.is_over.notify_all();
     }

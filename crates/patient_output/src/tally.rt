@@ -1,5 +1,6 @@
 //! How many bytes an output gave, and how many its path took.
-ghost use Rattle.std.specs.Prelude.{◌≤◌};
+ghost use Rattle.std.specs.Prelude.{◌≤◌, ◌≢◌, Some};
+ghost use Rattle.std.specs.declared.io.ErrorKind.TheVariants.{WouldBlock};
 
 use crate::sight::Sight;
 use std::io::ErrorKind;
@@ -13,10 +14,11 @@ pub struct Tally {
     fault: Option<ErrorKind>,
     ends: bool,
     ghost order: { taken ≤ given },
+    ghost full: { fault ≢ Some WouldBlock },
 }
 
 impl Tally {
-    ghost use Rattle.std.specs.Prelude.{◌≡◌, ◌+◌, ◌-◌, ◌^◌, ◌<◌, ◌≤◌, Some, None, false, true, min, is_some, if◌then◌else◌};
+    ghost use Rattle.std.specs.Prelude.{◌≡◌, ◌≢◌, ◌+◌, ◌-◌, ◌^◌, ◌<◌, ◌≤◌, Some, None, false, true, min, is_some, if◌then◌else◌};
     ghost use Rattle.patient_output.specs.Gates.{waiting, sight_of, is_due, is_over};
 
     /// Nothing was given yet.
@@ -57,8 +59,9 @@ impl Tally {
         self.taken += more;
     }
 
-    /// The path failed so. The first fault stays.
+    /// The path failed so. The first fault stays. That a path has no room now is none.
     pub fn fail(&mut self, kind: ErrorKind)
+        requires { kind ≢ ErrorKind.WouldBlock }
         ensures fault { self.new.fault ≡ (if is_some self.old.fault then self.old.fault else Some kind) }
         ensures counts { (self.new.given ≡ self.old.given) × (self.new.taken ≡ self.old.taken) }
         ensures ends { self.new.ends ≡ self.old.ends }
@@ -85,7 +88,8 @@ impl Tally {
     }
 
     pub fn fault(&self) -> Option<ErrorKind>
-        ensures { result ≡ self.now.fault }
+        ensures fault { result ≡ self.now.fault }
+        ensures full { result ≢ Some ErrorKind.WouldBlock }
     {
         self.fault
     }

@@ -1,6 +1,6 @@
 //! The output's end of the ring.
 ghost use Rattle.std.specs.Prelude.{◌≡◌, [], Some, IfOk};
-ghost use Rattle.rtrb.specs.Ring.{IsPair, producer_capacity, received, sent};
+ghost use Rattle.rtrb.specs.Ring.{IsPair, known_free, producer_capacity, received, sent};
 
 use crate::carrier::Load;
 use crate::passage::Passage;
@@ -46,7 +46,8 @@ pub fn patient_output<R: Wait + Copy>(
 }
 
 impl<R: Wait + Copy> Write for PatientWriter<R> {
-    ghost use Rattle.std.specs.Prelude.{◌≡◌, Some, length, IfOk};
+    ghost use Rattle.std.specs.Prelude.{◌≡◌, ◌<◌, Some, length, IfErr, IfOk};
+    ghost use Rattle.std.specs.IoError.{error_kind};
     ghost use Rattle.std.specs.Io.{WritesAtMost};
     ghost use Rattle.std.specs.Io.KnownBytes.{WriteAppends};
 
@@ -57,6 +58,7 @@ impl<R: Wait + Copy> Write for PatientWriter<R> {
         ensures bound { WritesAtMost result buf.now }
         ensures bytes { WriteAppends (Some (sent self.old.producer)) (Some (sent self.new.producer)) result buf.now }
         ensures whole { IfOk result (λ n. n ≡ length buf.now) }
+        ensures full { IfErr result (λ e. error_kind e ≡ ErrorKind.WouldBlock → known_free self.new.producer < length buf.now) }
     {
         if let Some(kind) = self.passage.fault(&self.rt) {
             return Err(io::Error::from(kind));

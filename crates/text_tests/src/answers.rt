@@ -50,7 +50,7 @@ fn is_text(answer: &Answer, wanted: &str) -> bool {
 
 /// Whether what an answer is shared as is this text, and a clone has its bytes.
 fn is_shared_as(answer: Answer, wanted: &str) -> Result<bool, AllocError> {
-    let shared = answer.into_shared()?;
+    let shared = SharedText::of(answer.into_string())?;
     let kept = shared.clone()?;
     Ok(shared.as_str() == wanted && kept.bytes() == wanted.as_bytes())
 }

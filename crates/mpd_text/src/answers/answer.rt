@@ -1,9 +1,8 @@
 //! The bytes of an answer (MPD protocol reference, Responses).
-ghost use Rattle.std.specs.Prelude.{◌≡◌, ◌++◌, [], codes, decimal, OnOk, OnErr, IfOk, IfSome};
+ghost use Rattle.std.specs.Prelude.{◌≡◌, ◌++◌, [], codes, decimal, OnOk, OnErr, IfSome};
 ghost use Rattle.std.specs.String.{string_bytes};
 ghost use Rattle.mpd_text.specs.Answers.Answer.{pair_line, ack_line, number_of};
 
-use crate::answers::SharedText;
 use std::alloc::{AllocError, Global};
 use std::fmt::Display;
 use std::marker::Model;
@@ -145,12 +144,5 @@ impl Answer {
         ensures { string_bytes result ≡ self }
     {
         self.text
-    }
-
-    /// The lines in a buffer of several owners, without a copy of them.
-    pub fn into_shared(self) -> Result<SharedText, AllocError>
-        ensures { IfOk result (λ text. text ≡ self) }
-    {
-        SharedText::of(self.text)
     }
 }
