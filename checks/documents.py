@@ -32,7 +32,7 @@ BESIDE = ('checks', 'packaging', 'examples')
 BUILT = {'out', '__pycache__', '.git'}
 OTHERS = {
     'MPD': {'connection_timeout', 'mixramp', 'listfiles'},
-    'the toolchain': {'plant', 'dac8208d650f15bf', 'verdict', 'tidy'},
+    'the toolchain': {'lemma', 'plant', 'dac8208d650f15bf', 'verdict', 'tidy'},
     'packages of Debian': {'alsa', 'sudo', 'xvfb'},
 }
 WORD = re.compile(r'[A-Za-z_][A-Za-z0-9_]*')

@@ -306,7 +306,7 @@ def draw_held():
 
 def draw_theorems():
     rows = [row for row in THEOREMS if not isinstance(row, str)]
-    calls = {row: '%s%s' % (row[1], ' (%s)' % row[2] if row[2] else '') for row in rows}
+    calls = {row: '%s: %s%s' % (row[0], row[1], ' (%s)' % row[2] if row[2] else '') for row in rows}
     first, second = max(map(len, calls.values())), max(len('%s: %s' % row[3:5]) for row in rows)
     lines = []
     for row in THEOREMS:
