@@ -25,7 +25,7 @@ def read(path):
 def printed_by(command):
     """Whether a command failed, and what it printed, as lines of a block."""
     ran = subprocess.run(['bash', '-c', command], cwd=TOP, stdout=subprocess.PIPE, stderr=subprocess.STDOUT, text=True, errors='replace')
-    lines = [('    ' + line).rstrip() for line in ran.stdout.strip().splitlines()]
+    lines = [('    ' + line).rstrip() for line in ran.stdout.strip('\n').splitlines()]
     return ran.returncode != 0, '\n'.join(lines)
 
 

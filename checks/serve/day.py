@@ -6,7 +6,7 @@
 Four clients edit one queue of some hundreds of entries, by single lines and by command lists; one plays, skips and changes modes; one
 switches outputs; one lets the folder be scanned while songs come and go in it; one waits for what changed. It ends once so many edits were
 answered and so many songs were played, or else after so many seconds (600), which fails. Printed: edits, songs, scans and switches; the slowest
-answer; the memory at each tenth of the edits, which must not grow from the second on; and at the end the books of both outputs.
+answer; the memory at each tenth of the edits, which must not grow from the middle on, once all has been done often; and at the end the books of both outputs.
 """
 import argparse
 import os
@@ -26,7 +26,7 @@ RATE = 44100
 LENGTH = 22050      # the frames of a song
 SONGS = 200
 MANY, FEW = 900, 300    # the entries between which the editors keep the queue
-GROWTH = 1.0        # the megabytes by which the memory may grow from the second tenth on
+GROWTH = 1.0        # the megabytes by which the memory may grow from the middle on
 SLOWEST = 1.0       # the seconds within which each answer is to come
 SHARE = 50          # the lines that an editor sends at once
 BOOKS = re.compile(r'output (\d+): decoded (\d+) written (\d+) discarded (\d+) left (\d+)')
@@ -214,7 +214,7 @@ def tell(table, day, given, took, memory):
         table.row('', fault, right=False)
     table.row('scans, switches, skips, notices', ', '.join('%d' % day.counts[name] for name in ('scans', 'switches', 'skips', 'notices')), right=all(day.counts.values()))
     table.row('slowest answer to %d lines' % SHARE, '%.0f ms' % (1000 * day.slowest), right=day.slowest < SLOWEST)
-    table.row('memory at each tenth, MB', ' '.join('%.1f' % part for part in memory), right=max(memory[2:]) - memory[1] < GROWTH)
+    table.row('memory at each tenth, MB', ' '.join('%.1f' % part for part in memory), right=max(memory[5:]) - memory[5] < GROWTH)
 
 
 def settle(table, daemon, given):
