@@ -1,30 +1,18 @@
 -- Lists of ids and of ranks: what is found in them, and what a removal leaves.
-use Rattle.std.proofs.Common.{◌≡◌, ℕ, ◌+◌, ◌<◌, Bool, true, false, not, ◌==◌, ◌||◌, List, [], ◌∷◌, ◌++◌, length, filter, find, take, get_or, Option, Some, None, is_some, refl, ap, sym, ◌∙◌, arith, cond}
+use Rattle.std.proofs.Common.{◌≡◌, ℕ, true, false, not, ◌==◌, ◌||◌, List, [], ◌∷◌, ◌++◌, filter, find, Option, Some, None, refl, ap, sym, ◌∙◌, arith, cond}
 use Rattle.std.specs.Option.{option_map, option_or}
-use Rattle.std.proofs.lemmas.Bool.{eqb-true}
-use Rattle.std.proofs.lemmas.List.{take_more}
+use Rattle.std.proofs.lemmas.Bool.{eq-eqb, eqb-false, eqb-true, ne_eqb}
 use Rattle.std.proofs.lemmas.List.Elements.{filter-append}
 use Rattle.std.proofs.lemmas.List.Folds.{list_any-append}
 use Rattle.play_order.specs.declared.modes.Rank.{Rank}
-use Rattle.play_order.proofs.Lists.{append-nil, filter-swap}
+use Rattle.play_order.proofs.Lists.{filter-swap}
 use Rattle.play_order.specs.Draws.{is_among, others, moved_last}
 use Rattle.play_order.specs.Ends.{last_of}
 
-last_of-push : (xs : List ℕ) (x : ℕ) → last_of (xs ++ x ∷ []) ≡ Some x
+pub last_of-push : (xs : List ℕ) (x : ℕ) → last_of (xs ++ x ∷ []) ≡ Some x
 last_of-push [] x = refl
 last_of-push (y ∷ []) x = refl
 last_of-push (y ∷ z ∷ more) x = last_of-push (z ∷ more) x
-
--- one more id is gone through
-pub last-other : (ids : List ℕ) (id i : ℕ) → i < length ids → (get_or ids i 0 == id) ≡ false → last_of (others id (take (i + 1) ids)) ≡ Some (get_or ids i 0)
-last-other ids id i h e =
-    ap (λ (xs : List ℕ). last_of (others id xs)) (take_more ids i 0 h) ∙ ap last_of (filter-append (λ other. not (other == id)) (take i ids) (get_or ids i 0 ∷ []))
-    ∙ (rw e (last_of-push (others id (take i ids)) (get_or ids i 0)))
-
-pub last-same : (ids : List ℕ) (id i : ℕ) → i < length ids → (get_or ids i 0 == id) ≡ true → last_of (others id (take (i + 1) ids)) ≡ last_of (others id (take i ids))
-last-same ids id i h e =
-    ap (λ (xs : List ℕ). last_of (others id xs)) (take_more ids i 0 h) ∙ ap last_of (filter-append (λ other. not (other == id)) (take i ids) (get_or ids i 0 ∷ []))
-    ∙ (rw e (ap last_of (append-nil (others id (take i ids)))))
 
 -- the ids without one have each other
 pub among-others : (q id : ℕ) (ids : List ℕ) → is_among q (others id ids) ≡ cond (id == q) false (is_among q ids)
@@ -51,6 +39,25 @@ among-left q gone (x ∷ ids) =
           ])
     ] refl
 
+-- one more id leaves
+pub left-more : (id : ℕ) (gone ids : List ℕ) → others id (filter (λ other. not (is_among other gone)) ids) ≡ filter (λ other. not (is_among other (gone ++ id ∷ []))) ids
+left-more id gone [] = refl
+left-more id gone (x ∷ ids) =
+    let rest : List ℕ = filter (λ other. not (is_among other gone)) ids in
+    let more = left-more id gone ids in
+    let split : is_among x (gone ++ id ∷ []) ≡ (is_among x gone || is_among x (id ∷ [])) = list_any-append (λ other. other == x) gone (id ∷ []) in
+    elim (is_among x gone) as (λ v. is_among x gone ≡ v → others id (cond (not v) (x ∷ rest) rest) ≡ filter (λ other. not (is_among other (gone ++ id ∷ []))) (x ∷ ids)) [
+      | true ↦ λ e. let there : is_among x (gone ++ id ∷ []) ≡ true = split ∙ ap (λ b. b || is_among x (id ∷ [])) e in rw there more
+      | false ↦ λ e. elim (x == id) as (λ w. (x == id) ≡ w → cond (not w) (x ∷ others id rest) (others id rest) ≡ filter (λ other. not (is_among other (gone ++ id ∷ []))) (x ∷ ids)) [
+        | true ↦ λ g.
+            let there : is_among x (gone ++ id ∷ []) ≡ true = split ∙ ap (λ b. b || is_among x (id ∷ [])) e ∙ ap (λ b. b || false) (eq-eqb id x (sym (eqb-true x id g))) in
+            rw there more
+        | false ↦ λ g.
+            let stays : is_among x (gone ++ id ∷ []) ≡ false = split ∙ ap (λ b. b || is_among x (id ∷ [])) e ∙ ap (λ b. b || false) (ne_eqb id x (λ t. eqb-false x id g (sym t))) in
+            rw stays (ap (λ (r : List ℕ). x ∷ r) more)
+      ] refl
+    ] refl
+
 abbrev pub rank_at : List Rank → ℕ → Option ℕ
 rank_at ranks id = option_map (λ r. r.rank) (find (λ r. r.id == id) ranks)
 
@@ -70,59 +77,6 @@ find-left q gone (x ∷ ranks) =
             | false ↦ rw e (find-left q gone ranks)
           ])
     ] refl
-
--- what holds of each element
-abbrev pub Each : {X : Type 0} → (X → Type 0) → List X → Type 0
-Each P [] = Unit {0}
-Each P (x ∷ xs) = P x × Each P xs
-
-pub each-map : {X : Type 0} (P Q : X → Type 0) (f : (x : X) → P x → Q x) (xs : List X) → Each P xs → Each Q xs
-each-map P Q f [] p = tt
-each-map P Q f (x ∷ xs) p = (f x p.0, each-map P Q f xs p.1)
-
-pub filter-each : {X : Type 0} (p q : X → Bool) (xs : List X) → Each (λ x. p x ≡ q x) xs → filter p xs ≡ filter q xs
-filter-each p q [] e = refl
-filter-each p q (x ∷ xs) e = rw e.0 (ap (λ r. cond (q x) (x ∷ r) r) (filter-each p q xs e.1))
-
-ranked-more : (x : Rank) (ranks : List Rank) (id : ℕ) → is_some (rank_at ranks id) ≡ true → is_some (rank_at (x ∷ ranks) id) ≡ true
-ranked-more x ranks id h =
-    elim (x.id == id) as (λ v. is_some (option_map (λ (y : Rank). y.rank) (cond v (Some x) (find (λ (y : Rank). y.id == id) ranks))) ≡ true) [ true ↦ refl | false ↦ h ]
-
-ranked-first : (x : Rank) (ranks : List Rank) → is_some (rank_at (x ∷ ranks) x.id) ≡ true
-ranked-first x ranks = let same : (x.id == x.id) ≡ true = grind arith in rw same refl
-
--- each rank has its id
-each-ranked : (ranks : List Rank) → Each (λ r. is_some (rank_at ranks r.id) ≡ true) ranks
-each-ranked [] = tt
-each-ranked (x ∷ ranks) = (
-  ranked-first x ranks,
-  each-map (λ (r : Rank). is_some (rank_at ranks r.id) ≡ true) (λ (r : Rank). is_some (rank_at (x ∷ ranks) r.id) ≡ true) (λ (r : Rank) (h : is_some (rank_at ranks r.id) ≡ true). ranked-more x ranks r.id h) ranks
-      (each-ranked ranks),
-)
-
--- the ranks whose ids are known still are those that are not gone
-pub known-left : (known : ℕ → Option ℕ) (gone : List ℕ) (ranks : List Rank) → ((id : ℕ) → known id ≡ cond (is_among id gone) None (rank_at ranks id))
-    → filter (λ r. is_some (known r.id)) ranks ≡ filter (λ r. not (is_among r.id gone)) ranks
-known-left known gone ranks h =
-    filter-each (λ r. is_some (known r.id)) (λ r. not (is_among r.id gone)) ranks
-    (each-map (λ r. is_some (rank_at ranks r.id) ≡ true) (λ r. is_some (known r.id) ≡ not (is_among r.id gone))
-    (λ (r : Rank) (there : is_some (rank_at ranks r.id) ≡ true). ap is_some (h r.id) ∙ (elim (is_among r.id gone) as (λ v. is_some (cond v None (rank_at ranks r.id)) ≡ not v) [ true ↦ refl | false ↦ there ])) ranks (each-ranked ranks))
-
--- each id is among the ids
-each-among : (ids : List ℕ) → Each (λ id. is_among id ids ≡ true) ids
-each-among [] = tt
-each-among (x ∷ ids) = (
-  grind arith,
-  each-map (λ id. is_among id ids ≡ true) (λ id. is_among id (x ∷ ids) ≡ true)
-      (λ (id : ℕ) (h : is_among id ids ≡ true). elim (x == id) as (λ v. (v || is_among id ids) ≡ true) [ true ↦ refl | false ↦ h ]) ids (each-among ids),
-)
-
-pub found-left : (found : ℕ → Bool) (gone ids : List ℕ) → ((id : ℕ) → found id ≡ cond (is_among id gone) false (is_among id ids))
-    → filter found ids ≡ filter (λ id. not (is_among id gone)) ids
-found-left found gone ids h =
-    filter-each found (λ id. not (is_among id gone)) ids
-    (each-map (λ id. is_among id ids ≡ true) (λ id. found id ≡ not (is_among id gone))
-    (λ (id : ℕ) (there : is_among id ids ≡ true). h id ∙ (elim (is_among id gone) as (λ v. cond v false (is_among id ids) ≡ not v) [ true ↦ refl | false ↦ there ])) ids (each-among ids))
 
 pub rank-left : (q : ℕ) (gone : List ℕ) (ranks : List Rank) → rank_at (filter (λ r. not (is_among r.id gone)) ranks) q ≡ cond (is_among q gone) None (rank_at ranks q)
 rank-left q gone ranks =

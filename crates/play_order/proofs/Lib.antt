@@ -4,6 +4,8 @@ pub mod Firsts
 pub mod Places
 pub mod Scanning
 pub mod Drawing
+pub mod Keeping
+pub mod Plays
 pub mod Going
 pub mod Inserting
 pub mod Choices

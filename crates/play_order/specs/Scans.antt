@@ -1,29 +1,54 @@
 -- What is kept beside the lists of a round, so that an id is found in them at once, and how a queue is gone
 -- through.
-use Rattle.std.specs.Prelude.{ℕ, ◌≡◌, false, ◌==◌, nat_eq, if◌then◌else◌, List, find, fold, Option, Some, None}
-use Rattle.std.specs.List.{slice_range}
+use Rattle.std.specs.Prelude.{ℕ, ◌≡◌, ◌≤◌, false, ◌==◌, nat_eq, if◌then◌else◌, All, List, [], ◌∷◌, ◌++◌, filter, find, fold, is_some, Option, Some, None}
+use Rattle.std.specs.List.{list_any, slice_range}
 use Rattle.std.specs.Option.{option_map, option_or}
 use Rattle.std.specs.HashMap.{HashMap, get}
-use Rattle.std.specs.HashSet as set
-use Rattle.std.specs.HashSet.{HashSet}
+use Rattle.std.specs.BTreeMap.{BTreeMap, IsOrdered}
+use Rattle.std.specs.Ordering.{nat_cmp}
 use Rattle.song_queue.specs.declared.entry.Entry.{Entry}
 use Rattle.song_queue.specs.State.{QueueState, queue_of}
 use Rattle.play_order.specs.declared.modes.Rank.{Rank}
-use Rattle.play_order.specs.Draws.{is_among}
 use Rattle.play_order.specs.Order.{comes_before, unplayed}
 
 -- the map has the rank of each id that drew one
 abbrev pub FindsRanks : {S : Type 0} → HashMap ℕ ℕ S → List Rank → Type 0
 FindsRanks by_id ranks = (id : ℕ) → get nat_eq by_id id ≡ option_map (λ r. r.rank) (find (λ r. r.id == id) ranks)
 
--- the set has the ids of a list
-abbrev pub FindsIds : {S : Type 0} → HashSet ℕ S → List ℕ → Type 0
-FindsIds found ids = (id : ℕ) → set.contains nat_eq found id ≡ is_among id ids
+-- the ranks of the ids that the map has; those of others are gone
+abbrev pub ranks_left : {S : Type 0} → HashMap ℕ ℕ S → List Rank → List Rank
+ranks_left by_id drawn = filter (λ r. is_some (get nat_eq by_id r.id)) drawn
 
--- the ids are no longer in the set, and each other one is as before
-abbrev pub ForgetsIds : {S : Type 0} → HashSet ℕ S → HashSet ℕ S → List ℕ → Type 0
-ForgetsIds old new ids =
-    (id : ℕ) → set.contains nat_eq new id ≡ (if is_among id ids then false else set.contains nat_eq old id)
+-- the map has the rank of each id that drew one of those that are left, and no id that drew is above another
+abbrev pub KeepsRanks : {S : Type 0} → HashMap ℕ ℕ S → List Rank → ℕ → Type 0
+KeepsRanks by_id drawn greatest = FindsRanks by_id (ranks_left by_id drawn) × All (λ r. r.id ≤ greatest) drawn
+
+-- a list of ranks was shortened: the same are left of it, and no id is above one that none was above
+abbrev pub KeepsLeft : {S : Type 0} → HashMap ℕ ℕ S → List Rank → List Rank → Type 0
+KeepsLeft by_id old new =
+    (ranks_left by_id new ≡ ranks_left by_id old)
+    × ((greatest : ℕ) → All (λ r. r.id ≤ greatest) old → All (λ r. r.id ≤ greatest) new)
+
+-- beside the ranks that were left, more are
+abbrev pub LeavesMore : {S : Type 0} → HashMap ℕ ℕ S → List Rank → HashMap ℕ ℕ S → List Rank → List Rank → Type 0
+LeavesMore by_id old new_by_id new more = ranks_left new_by_id new ≡ ranks_left by_id old ++ more
+
+-- where the map does not have one of these ids, it drew none of the ranks
+abbrev pub KeepsNoGone : {S : Type 0} → HashMap ℕ ℕ S → List Rank → List ℕ → Type 0
+KeepsNoGone by_id drawn ids = All (λ id. get nat_eq by_id id ≡ None → list_any (λ r. r.id == id) drawn ≡ false) ids
+
+-- the play of an id, by its number, if it has one
+abbrev pub play_with : Option ℕ → ℕ → List (ℕ × ℕ)
+play_with None id = []
+play_with (Some number) id = (number, id) ∷ []
+
+-- the plays of an id are the one whose number the map has
+abbrev pub FindsPlays : {S : Type 0} → HashMap ℕ ℕ S → List (ℕ × ℕ) → Type 0
+FindsPlays found plays = (id : ℕ) → filter (λ p. p.1 == id) plays ≡ play_with (get nat_eq found id) id
+
+-- plays in the order of their numbers, of which a map has that of each id
+abbrev pub KeepsPlays : {S : Type 0} → HashMap ℕ ℕ S → BTreeMap ℕ ℕ → Type 0
+KeepsPlays found order = IsOrdered nat_cmp order × FindsPlays found order.entries
 
 -- an id has this rank, if it had none, and each other one is as before
 abbrev pub GivesRank : {S : Type 0} → HashMap ℕ ℕ S → HashMap ℕ ℕ S → ℕ → ℕ → Type 0

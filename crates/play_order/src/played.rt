@@ -1,30 +1,36 @@
 //! Played songs, of which one is found at once.
-ghost use Rattle.std.specs.Prelude.{◌≡◌, ℕ, [], not, nat_eq, ◌≤◌, ◌+◌, filter, IfOk, OnOk, OnErr, vec_capacity, vec_len};
-ghost use Rattle.std.specs.HashSet.{contains};
+ghost use Rattle.std.specs.Prelude.{◌≡◌, ◌<◌, [], All, not, filter, IfOk, OnOk, OnErr};
+ghost use Rattle.std.specs.BTreeMap.{keys, values};
 ghost use Rattle.play_order.specs.Draws.{is_among, moved_last, others};
 ghost use Rattle.play_order.specs.Ends.{last_of};
-ghost use Rattle.play_order.specs.Scans.{ForgetsIds};
+ghost use Rattle.play_order.specs.Scans.{KeepsPlays};
 
 use std::alloc::{AllocError, Global};
-use std::collections::HashSet;
+use std::collections::{BTreeMap, HashMap};
 use std::marker::Model;
 
 /// The ids of the songs that were played, the last one last, as contracts see them.
+///
+/// Plays have numbers, of which the later has the greater, and an id has one play. So an id is taken out, or
+/// moved last, in a look-up and two steps down a tree.
 #[derive(Drop)]
 pub(crate) struct Played {
-    order: Vec<u32>,
-    found: HashSet<u32>,
+    /// The ids by the numbers of their plays.
+    order: BTreeMap<u64, u32>,
+    /// The number of each id's play.
+    found: HashMap<u32, u64>,
 }
 
 impl Model for Played {
     ghost use Rattle.std.specs.Prelude.{List, ℕ};
-    ghost use Rattle.play_order.specs.Scans.{FindsIds};
+    ghost use Rattle.std.specs.BTreeMap.{values};
+    ghost use Rattle.play_order.specs.Scans.{KeepsPlays};
 
     ghost Value = { List ℕ };
 
-    ghost view = { λ p. p.order.items };
+    ghost view = { λ p. values p.order };
 
-    ghost invariant = { λ p. FindsIds p.found p.order.items };
+    ghost invariant = { λ p. KeepsPlays p.found p.order };
 }
 
 impl Played {
@@ -32,8 +38,8 @@ impl Played {
         ensures { result ≡ [] }
     {
         Played {
-            order: Vec::new(alloc),
-            found: HashSet::new(alloc),
+            order: BTreeMap::new(alloc),
+            found: HashMap::new(alloc),
         }
     }
 
@@ -50,14 +56,23 @@ impl Played {
     pub(crate) fn has(&self, id: u32) -> bool
         ensures { result ≡ is_among id self.now }
     {
-        self.found.contains(&id)
+        self.found.contains_key(&id)
     }
 
     /// The last id but this one.
     pub(crate) fn last_but(&self, id: u32) -> Option<u32>
         ensures { result ≡ last_of (others id self.now) }
     {
-        last_other(&self.order, id)
+        let mut ids = self.order.values();
+        match ids.next_back() {
+            Some(last) => {
+                if *last != id {
+                    return Some(*last);
+                }
+                ids.next_back().copied()
+            }
+            None => None,
+        }
     }
 
     /// The id becomes the last.
@@ -65,10 +80,7 @@ impl Played {
         ensures ok { OnOk result (self.new ≡ moved_last self.old id) }
         ensures err { OnErr result (self.new ≡ self.old) }
     {
-        self.order.reserve(1)?;
-        let _ = self.found.insert(id)?;
-        put_last(&mut self.order, id);
-        Ok(())
+        put_last(&mut self.order, &mut self.found, id)
     }
 
     /// The first id leaves, and the second becomes the last.
@@ -86,15 +98,15 @@ impl Played {
     pub(crate) fn remove_one(&mut self, id: u32)
         ensures { self.new ≡ others id self.old }
     {
-        let _ = self.found.remove(&id);
-        keep_others(&mut self.order, id);
+        forget_play(&mut self.order, &mut self.found, id);
     }
 
     pub(crate) fn remove(&mut self, ids: &[u32])
         ensures { self.new ≡ filter (λ id. not (is_among id ids.now)) self.old }
     {
-        forget_all(&mut self.found, ids);
-        keep_found(&mut self.order, &self.found);
+        for id in ids {
+            self.remove_one(*id);
+        }
     }
 
     pub(crate) fn clear(&mut self)
@@ -105,45 +117,56 @@ impl Played {
     }
 }
 
-/// Puts an id last, where there is room for one.
-fn put_last(order: &mut Vec<u32>, id: u32)
-    requires { vec_len order.old + 1 ≤ vec_capacity order.old }
-    ensures { order.new.items ≡ moved_last order.old.items id }
+/// The id has the last play, and no other. Where memory is wanted, nothing changes.
+fn put_last(
+    order: &mut BTreeMap<u64, u32>,
+    found: &mut HashMap<u32, u64>,
+    id: u32,
+) -> Result<(), AllocError>
+    requires { KeepsPlays found.old order.old }
+    ensures kept { KeepsPlays found.new order.new }
+    ensures ok { OnOk result (values order.new ≡ moved_last (values order.old) id) }
+    ensures err { OnErr result (values order.new ≡ values order.old) }
 {
-    keep_others(order, id);
-    let _ = order.push(id);
-}
-
-fn keep_others(order: &mut Vec<u32>, id: u32)
-    ensures items { order.new.items ≡ others id order.old.items }
-    ensures len { vec_len order.new ≤ vec_len order.old }
-    ensures room { vec_capacity order.new ≡ vec_capacity order.old }
-{
-    order.retain(|other| *other != id);
-}
-
-fn forget_all(found: &mut HashSet<u32>, ids: &[u32])
-    ensures { ForgetsIds found.old found.new ids.now }
-{
-    for id in ids {
-        let _ = found.remove(id);
-    }
-}
-
-fn keep_found(order: &mut Vec<u32>, found: &HashSet<u32>)
-    ensures { order.new.items ≡ filter (λ id. contains nat_eq found.now id) order.old.items }
-{
-    order.retain(|id| found.contains(id));
-}
-
-fn last_other(ids: &[u32], id: u32) -> Option<u32>
-    ensures { result ≡ last_of (others id ids.now) }
-{
-    let mut last = None;
-    for other in ids {
-        if *other != id {
-            last = Some(*other);
+    let number = next_number(order)?;
+    found.reserve(1)?;
+    let _ = order.insert(number, id)?;
+    match found.insert(id, number) {
+        Ok(Some(before)) => {
+            let _ = order.remove(&before);
+            Ok(())
         }
+        Ok(None) => Ok(()),
+        Err(_) => unreachable!(),
     }
-    last
+}
+
+/// The number after that of the last play. Where there is none, memory is said to be wanted; that is after
+/// 584 years with a play in each nanosecond.
+fn next_number(order: &BTreeMap<u64, u32>) -> Result<u64, AllocError>
+    ensures { IfOk result (λ number. All (λ other. other < number) (keys order.now)) }
+{
+    match order.last_key_value() {
+        Some((last, _)) => {
+            if *last == u64::MAX {
+                return Err(AllocError);
+            }
+            Ok(*last + 1)
+        }
+        None => Ok(0),
+    }
+}
+
+/// The id has no play any more.
+fn forget_play(order: &mut BTreeMap<u64, u32>, found: &mut HashMap<u32, u64>, id: u32)
+    requires { KeepsPlays found.old order.old }
+    ensures kept { KeepsPlays found.new order.new }
+    ensures ids { values order.new ≡ others id (values order.old) }
+{
+    match found.remove(&id) {
+        Some(number) => {
+            let _ = order.remove(&number);
+        }
+        None => {}
+    }
 }

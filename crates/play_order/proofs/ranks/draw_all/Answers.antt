@@ -1,34 +1,29 @@
-use Rattle.std.proofs.Common.{◌≡◌, ℕ, List, ◌++◌, [], ◌∷◌, ap, sym, ◌∙◌, take, arith, get_or, ◌==◌, Option, Some, None, cond, rules, append_assoc}
-use Rattle.std.specs.Option.{option_or}
-use Rattle.rand_pcg.specs.Lcg.{Lcg}
-use Rattle.rand_pcg.specs.Pcg.{pcg32}
+use Rattle.std.proofs.Common.{◌∙◌, ap, ℕ, ◌≤◌, ◌++◌, List, nat_eq, arith}
+use Rattle.std.specs.HashMap.{get}
+use Rattle.std.specs.Prelude.{All}
+use Rattle.std.proofs.lemmas.List.Elements.{All-append, All-same, All-weaker}
 use Rattle.play_order.specs.declared.modes.Rank.{Rank}
-use Rattle.play_order.specs.Draws.{ranks_drawn, generator_after}
-use Rattle.play_order.proofs.Drawing.{ranks_drawn-more, generator_after-more}
-use Rattle.play_order.proofs.Ids.{rank_at, rank-push}
+use Rattle.play_order.specs.Draws.{ranks_drawn}
+use Rattle.play_order.proofs.Keeping.{drawn-within, finds-left}
 use Rattle.play_order.proofs.ranks.draw_all.Goals as goal
 
-pub loop-id-preserved : goal.loop-id-preserved
-loop-id-preserved c =
-    let g : Lcg = c.args.generator.now in
-    let ids : List ℕ = c.args.ids.now in
-    let i : ℕ = c.loop-id.id-index in
-    let id : ℕ = get_or ids i 0 in
-    let old : List Rank = c.args.drawn.now.items in
-    let pushed : c.push.new.self.items ≡ c.loop-id.drawn.items ++ record { id = id; rank = c.next_word-rank.result } ∷ [] = search rules in
-    let drawn : c.next_word-rank.result ≡ (pcg32 (generator_after g (take i ids))).0 =
-    ap (λ (p : ℕ × Lcg). p.0) c.next_word-rank.ensures ∙ ap (λ (h : Lcg). (pcg32 h).0) c.loop-id.invariant.generator in
-    let moved = ap (λ (p : ℕ × Lcg). p.1) c.next_word-rank.ensures in
-    record {
-      ranks =
-          pushed ∙ ap (λ (r : List Rank). r ++ record { id = id; rank = c.next_word-rank.result } ∷ []) c.loop-id.invariant.ranks
-          ∙ ap (λ (w : ℕ). (old ++ ranks_drawn g (take i ids)) ++ record { id = id; rank = w } ∷ []) drawn
-          ∙ append_assoc old (ranks_drawn g (take i ids)) (record { id = id; rank = (pcg32 (generator_after g (take i ids))).0 } ∷ [])
-          ∙ ap (λ (r : List Rank). old ++ r) (sym (ranks_drawn-more g ids i (omega arith)));
-      generator = moved ∙ ap (λ (h : Lcg). (pcg32 h).1) c.loop-id.invariant.generator ∙ sym (generator_after-more g ids i (omega arith));
-      finds = λ q.
-          c.note_rank.ensures.ranks q ∙ ap (λ (r : Option ℕ). option_or r (cond (id == q) (Some c.next_word-rank.result) None)) (c.loop-id.invariant.finds q)
-          ∙ sym (rank-push q c.loop-id.drawn.items (record { id = id; rank = c.next_word-rank.result })) ∙ ap (λ (r : List Rank). rank_at r q) (sym pushed);
-      room = omega (arith, c.loop-id.invariant.room, c.push.ensures.upper_bound, c.push.ensures.capacity);
-      spare = omega (arith, c.loop-id.invariant.spare, c.note_rank.ensures.spare);
-    }
+pub draw_each-requires-clause-finds : goal.draw_each-requires-clause-finds
+draw_each-requires-clause-finds c =
+    finds-left (get nat_eq c.args.by_id.now) (get nat_eq c.args.by_id.now) c.args.drawn.now.items c.keep_apart.new.drawn.items (λ q i. get nat_eq c.args.by_id.now q) c.keep_apart.ensures.left.0 c.requires.kept.0
+
+pub returns-clause-ranks : goal.returns-clause-ranks
+returns-clause-ranks c = c.draw_each.ensures.ranks ∙ ap (λ (r : List Rank). r ++ ranks_drawn c.args.generator.now c.args.ids.now) c.keep_apart.ensures.left.0
+
+pub returns-clause-kept : goal.returns-clause-kept
+returns-clause-kept c =
+    let first : ℕ = c.args.greatest.now in
+    let most : ℕ = c.greatest_of.result in
+    let above : first ≤ most = c.greatest_of.ensures.first in
+    let within : All (λ (r : Rank). r.id ≤ most) c.keep_apart.new.drawn.items =
+    All-weaker (λ (r : Rank). r.id ≤ first) (λ (r : Rank). r.id ≤ most) (λ (r : Rank) (h : r.id ≤ first). omega (arith, h, above)) c.keep_apart.new.drawn.items
+    (c.keep_apart.ensures.left.1 first c.requires.kept.1) in (
+      c.draw_each.ensures.finds,
+      All-same (λ (r : Rank). r.id ≤ most) c.draw_each.new.drawn.items (c.keep_apart.new.drawn.items ++ ranks_drawn c.args.generator.now c.args.ids.now) c.draw_each.ensures.items
+          (All-append (λ (r : Rank). r.id ≤ most) c.keep_apart.new.drawn.items (ranks_drawn c.args.generator.now c.args.ids.now) within
+          (drawn-within c.args.generator.now c.args.ids.now most c.greatest_of.ensures.ids)),
+    )
