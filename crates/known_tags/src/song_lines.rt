@@ -9,14 +9,31 @@ ghost use Rattle.known_tags.specs.Lines.{tag_lines_of, song_lines_with, tagtype_
 
 use crate::tag_set::{TagSet, is_among};
 use mpd_text::{Answer, Song, TAG_NAMES, Tag, TagName};
-use song_db::{Rate, duration, first_tag, length_of, rounded};
-use std::alloc::{AllocError, Global};
+use song_db::{Rate, SharedSong, first_tag, push_length};
+use std::alloc::AllocError;
+
+/// Appends the lines of a shared song to an answer, as [`push_song_with`] does. With all tags those of its
+/// texts are one copy of what was made with its first handle.
+#[tactic(auto, using(std::proofs::Common::append_assoc))]
+pub fn push_shared_with(
+    answer: &mut Answer,
+    song: &SharedSong,
+    rate: &Rate,
+    set: TagSet,
+) -> Result<(), AllocError>
+    ensures { OnOk result (answer.new ≡ answer.old ++ song_lines_with set rate.now song.now) }
+{
+    if !set.is_all() {
+        return push_song_with(answer, song.song(), rate, set);
+    }
+    answer.push_lines(song.lines())?;
+    push_length(answer, song.song().frames(), rate)
+}
 
 /// Appends the lines of a song to an answer: its URI, those of its tags that are in the set, in the order of
 /// [`TAG_NAMES`], its length in whole seconds and in seconds with three decimals. Where memory runs out, the
 /// answer may have some of them.
 pub fn push_song_with(
-    alloc: Global,
     answer: &mut Answer,
     song: &Song,
     rate: &Rate,
@@ -26,10 +43,7 @@ pub fn push_song_with(
 {
     answer.pair("file", song.uri())?;
     push_tags(answer, song.tags(), set)?;
-    let millis = length_of(song.frames(), rate);
-    answer.pair("Time", rounded(millis))?;
-    let duration = duration(alloc, millis)?;
-    answer.pair("duration", duration.as_str())
+    push_length(answer, song.frames(), rate)
 }
 
 /// The law that a song is shown with all tags as [`song_db::push_song`] shows it.

@@ -17,7 +17,7 @@ use crate::playlists::{append, ask_list, ask_names, misread, refused};
 use crate::stickers::is_song;
 use command_arguments::{Place, Uri, Wanted, Window};
 use filters::{Case, Filter, Test, Vocabulary};
-use known_tags::{KnownTag, TagSet, push_song_with};
+use known_tags::{KnownTag, TagSet, push_shared_with};
 use mpd_command::DatabaseCommand;
 use mpd_text::{Answer, ErrorNumber, Sequence, Song, TagName, Text};
 use player_state::{Library, Part};
@@ -71,7 +71,7 @@ fn find(
             let songs = ordered(alloc, library, filter, case, selection.sort)?;
             let shown = windowed(&songs, selection.window);
             let mut lines = Answer::new(alloc);
-            push_songs(alloc, &mut lines, library, shown, asked.tags)?;
+            push_songs(&mut lines, library, shown, asked.tags)?;
             Transition::shows(asked, lines)
         }
         Wanted::Refused(text) => unreadable(alloc, asked, text.as_str()),
@@ -137,7 +137,6 @@ fn first<'a, 'b>(songs: &'b [&'a SharedSong], count: usize) -> &'b [&'a SharedSo
 /// Appends the lines of songs that were found.
 #[tactic(auto, unfolding(crate::specs::Database::lines_of_songs))]
 fn push_songs(
-    alloc: Global,
     lines: &mut Answer,
     library: &Library,
     songs: &[&SharedSong],
@@ -146,7 +145,7 @@ fn push_songs(
     ensures { OnOk result (lines.new ≡ lines.old ++ lines_with tags library.now (map (λ song. song.now) songs.now)) }
 {
     for song in songs {
-        push_song_with(alloc, lines, song.song(), &library.rate, tags)?;
+        push_shared_with(lines, *song, &library.rate, tags)?;
     }
     Ok(())
 }
@@ -405,7 +404,7 @@ fn list_place(
 ) -> Result<Transition, AllocError>
     ensures { IsDecidedBy result (list_place_lem asked library.now uri.now) }
 {
-    match library.songs.db().get(uri) {
+    match library.songs.db().handle(uri) {
         Some(song) => show_song(alloc, asked, library, song),
         None => show_folder(alloc, asked, library, uri),
     }
@@ -415,12 +414,12 @@ fn show_song(
     alloc: Global,
     asked: Asked,
     library: &Library,
-    song: &Song,
+    song: &SharedSong,
 ) -> Result<Transition, AllocError>
     ensures { IsDecidedBy result (show_song_lem asked library.now song.now) }
 {
     let mut lines = Answer::new(alloc);
-    push_song_with(alloc, &mut lines, song, &library.rate, asked.tags)?;
+    push_shared_with(&mut lines, song, &library.rate, asked.tags)?;
     Transition::shows(asked, lines)
 }
 
@@ -461,7 +460,7 @@ fn lines_of_folder(
 {
     let found = direct_in(alloc, library.songs.db(), folder)?;
     let mut lines = folder_lines(alloc, &found.folders)?;
-    push_songs(alloc, &mut lines, library, &found.songs, tags)?;
+    push_songs(&mut lines, library, &found.songs, tags)?;
     Ok(lines)
 }
 
@@ -555,7 +554,7 @@ fn list_all_info(
 ) -> Result<Transition, AllocError>
     ensures { IsDecidedBy result (list_all_info_lem asked library.now uri.now) }
 {
-    match library.songs.db().get(uri) {
+    match library.songs.db().handle(uri) {
         Some(song) => show_song(alloc, asked, library, song),
         None => list_folder_info(alloc, asked, library, uri),
     }
@@ -589,7 +588,7 @@ fn song_lines(
 {
     let mut lines = Answer::new(alloc);
     for song in songs {
-        push_song_with(alloc, &mut lines, song.song(), &library.rate, tags)?;
+        push_shared_with(&mut lines, song, &library.rate, tags)?;
     }
     Ok(lines)
 }

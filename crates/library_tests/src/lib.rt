@@ -4,6 +4,8 @@
 #[cfg(test)]
 mod filter_texts;
 #[cfg(test)]
+mod kept_lines;
+#[cfg(test)]
 mod song_library;
 #[cfg(test)]
 mod tables;

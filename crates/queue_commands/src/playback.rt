@@ -215,13 +215,12 @@ pub fn current_song(
     let mut lines = Answer::new(alloc);
     let tags = asked.tags;
     if let Some(place) = current_place(part) {
-        push_place_lines(alloc, &mut lines, part, library, place, tags)?;
+        push_place_lines(&mut lines, part, library, place, tags)?;
     }
     Transition::shows(asked, lines)
 }
 
 fn push_place_lines(
-    alloc: Global,
     lines: &mut Answer,
     part: &Part,
     library: &Library,
@@ -231,7 +230,7 @@ fn push_place_lines(
     ensures { OnOk result (lines.new ≡ lines.old ++ lines_at tags library.now.rate part.now.queue (Some place)) }
 {
     match part.queue.get(place) {
-        Some(entry) => push_entry(alloc, lines, library, place, entry, tags),
+        Some(entry) => push_entry(lines, library, place, entry, tags),
         None => Ok(()),
     }
 }

@@ -7,7 +7,7 @@ ghost use Rattle.transitions.specs.Transitions.{IsDecidedBy};
 
 use command_arguments::Wanted;
 use filters::{Case, Filter};
-use known_tags::{TagSet, push_song_with};
+use known_tags::{TagSet, push_shared_with};
 use mpd_text::{Answer, ErrorNumber, Range};
 use player_state::{Library, Part};
 use song_queue::{Entry, Queue};
@@ -249,14 +249,13 @@ fn push_row(
         return Ok(());
     };
     match shown {
-        Shown::Song => push_entry(alloc, lines, library, place, entry, tags),
+        Shown::Song => push_entry(lines, library, place, entry, tags),
         Shown::Place => push_place(lines, place, entry),
         Shown::Uri => push_uri(alloc, lines, place, entry),
     }
 }
 
 pub(crate) fn push_entry(
-    alloc: Global,
     lines: &mut Answer,
     library: &Library,
     place: usize,
@@ -265,9 +264,9 @@ pub(crate) fn push_entry(
 ) -> Result<(), AllocError>
     ensures { OnOk result (lines.new ≡ lines.old ++ entry_lines tags library.now.rate (place, entry.now)) }
 {
-    push_song_with(alloc, lines, entry.song.song(), &library.rate, tags)?;
-    lines.pair("Pos", place)?;
-    lines.pair("Id", entry.id)?;
+    push_shared_with(lines, &entry.song, &library.rate, tags)?;
+    lines.pair_number("Pos", place as u64)?;
+    lines.pair_number("Id", u64::from(entry.id))?;
     push_priority(lines, entry.priority)
 }
 
@@ -283,8 +282,8 @@ fn push_priority(lines: &mut Answer, priority: u8) -> Result<(), AllocError>
 fn push_place(lines: &mut Answer, place: usize, entry: &Entry) -> Result<(), AllocError>
     ensures { OnOk result (lines.new ≡ lines.old ++ place_lines (place, entry.now)) }
 {
-    lines.pair("cpos", place)?;
-    lines.pair("Id", entry.id)
+    lines.pair_number("cpos", place as u64)?;
+    lines.pair_number("Id", u64::from(entry.id))
 }
 
 fn push_uri(

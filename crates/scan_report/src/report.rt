@@ -33,7 +33,7 @@ fn song_lines(alloc: Global, songs: &[Song], rate: &Rate) -> Result<Answer, Allo
 {
     let mut text = Answer::new(alloc);
     for song in songs {
-        push_song(alloc, &mut text, song, rate)?;
+        push_song(&mut text, song, rate)?;
     }
     Ok(text)
 }

@@ -1,9 +1,9 @@
 //! The lines of a song with the tags of a set.
 use crate::tag_sets::{disabled, enabled};
 use crate::wanted::wants;
-use known_tags::{TagSet, all_tags_show_the_whole_song, push_song_with};
+use known_tags::{TagSet, all_tags_show_the_whole_song, push_shared_with, push_song_with};
 use mpd_text::{Answer, Song, Tag, TagName};
-use song_db::{Rate, push_song};
+use song_db::{Rate, SharedSong, push_song, texts_and_length_are_the_song};
 use std::alloc::{AllocError, Global};
 
 fn tag(alloc: Global, name: TagName, text: &str) -> Result<Tag, AllocError> {
@@ -29,7 +29,28 @@ fn bee(alloc: Global) -> Result<Option<Song>, AllocError> {
 fn lines(alloc: Global, set: TagSet) -> Result<String, AllocError> {
     let mut answer = Answer::new(alloc);
     if let Some(song) = bee(alloc)? {
-        push_song_with(alloc, &mut answer, &song, &Rate::lowest(), set)?;
+        push_song_with(&mut answer, &song, &Rate::lowest(), set)?;
+    }
+    Ok(answer.into_string())
+}
+
+/// The same where the song is shared.
+fn shared_lines(alloc: Global, set: TagSet) -> Result<String, AllocError> {
+    let mut answer = Answer::new(alloc);
+    if let Some(song) = bee(alloc)? {
+        let song = SharedSong::new(alloc, song)?;
+        push_shared_with(&mut answer, &song, &Rate::lowest(), set)?;
+    }
+    Ok(answer.into_string())
+}
+
+/// The lines of the longest shared song, with all tags. It has none.
+fn longest_lines(alloc: Global) -> Result<String, AllocError> {
+    let mut answer = Answer::new(alloc);
+    let uri = String::from_str(alloc, "l.wav")?;
+    if let Some(song) = Song::new(uri, Vec::new(alloc), u64::MAX) {
+        let song = SharedSong::new(alloc, song)?;
+        push_shared_with(&mut answer, &song, &Rate::lowest(), TagSet::all())?;
     }
     Ok(answer.into_string())
 }
@@ -38,7 +59,7 @@ fn lines(alloc: Global, set: TagSet) -> Result<String, AllocError> {
 fn whole_lines(alloc: Global) -> Result<String, AllocError> {
     let mut answer = Answer::new(alloc);
     if let Some(song) = bee(alloc)? {
-        push_song(alloc, &mut answer, &song, &Rate::lowest())?;
+        push_song(&mut answer, &song, &Rate::lowest())?;
     }
     Ok(answer.into_string())
 }
@@ -80,4 +101,25 @@ fn a_song_with_all_tags(rt: HostRuntime) {
     all_tags_show_the_whole_song();
     wants(&rt, lines(rt.alloc(), TagSet::all()), WHOLE);
     wants(&rt, whole_lines(rt.alloc()), WHOLE);
+}
+
+#[test]
+fn a_shared_song(rt: HostRuntime) {
+    texts_and_length_are_the_song();
+    wants(&rt, shared_lines(rt.alloc(), TagSet::all()), WHOLE);
+    wants(
+        &rt,
+        shared_lines(rt.alloc(), TagSet::empty()),
+        "file: b.wav\nTime: 2\nduration: 2.000\n",
+    );
+}
+
+#[test]
+fn the_longest_song(rt: HostRuntime) {
+    // 18,446,744,073,709,551,615 frames, 8,000 a second, are 2,305,843,009,213,693.951875 seconds.
+    wants(
+        &rt,
+        longest_lines(rt.alloc()),
+        "file: l.wav\nTime: 2305843009213694\nduration: 2305843009213693.951\n",
+    );
 }

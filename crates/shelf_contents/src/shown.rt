@@ -5,7 +5,7 @@ ghost use Rattle.shelf.specs.Entries.{entry_texts};
 ghost use Rattle.song_db.specs.Library.{song_of};
 ghost use Rattle.shelf_contents.specs.Shown.{uri_lines, info, info_lines, playlist_lines, sticker_of, stickers_of};
 
-use known_tags::{TagSet, push_song_with};
+use known_tags::{TagSet, push_shared_with};
 use mpd_text::Answer;
 use shelf::{Entry, UriList, next_uri};
 use song_db::{Db, Rate};
@@ -38,7 +38,7 @@ pub fn list_info_lines(
     let mut answer = Answer::new(alloc);
     let mut rest = list.text();
     while let Some((uri, more)) = next_uri(rest) {
-        push_info(alloc, &mut answer, uri, db, rate, tags)?;
+        push_info(&mut answer, uri, db, rate, tags)?;
         rest = more;
     }
     Ok(answer)
@@ -46,7 +46,6 @@ pub fn list_info_lines(
 
 /// The lines of the song that the library has at a URI, or the URI alone.
 fn push_info(
-    alloc: Global,
     answer: &mut Answer,
     uri: &str,
     db: &Db,
@@ -55,8 +54,8 @@ fn push_info(
 ) -> Result<(), AllocError>
     ensures { OnOk result (answer.new ≡ answer.old ++ info tags rate.now uri.now (song_of db.now uri.now)) }
 {
-    match db.get(uri) {
-        Some(song) => push_song_with(alloc, answer, song, rate, tags),
+    match db.handle(uri) {
+        Some(song) => push_shared_with(answer, song, rate, tags),
         None => answer.pair("file", uri),
     }
 }

@@ -1,3 +1,4 @@
 pub mod Order
 pub mod Names
 pub mod Search
+pub mod Lengths

@@ -88,6 +88,14 @@ impl Db {
         Some(self.songs[place].song())
     }
 
+    /// The library's own handle of the song with a URI.
+    pub fn handle(&self, uri: &str) -> Option<&SharedSong>
+        ensures { option_copied result ≡ song_of self.now uri.now }
+    {
+        let place = place_of(&self.songs, uri)?;
+        Some(&self.songs[place])
+    }
+
     /// A handle of the song with a URI, for an owner that stays.
     pub fn share(&self, uri: &str) -> Result<Option<SharedSong>, AllocError>
         ensures { IfOk result (λ shared. shared ≡ song_of self.now uri.now) }

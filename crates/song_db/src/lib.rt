@@ -11,4 +11,6 @@ pub use db::{Db, DbFault, MAX_SONGS};
 pub use rate::Rate;
 pub use shared_db::SharedDb;
 pub use shared_song::SharedSong;
-pub use song_lines::{duration, first_tag, length_of, push_song, rounded};
+pub use song_lines::{
+    duration, first_tag, length_of, push_length, push_song, rounded, texts_and_length_are_the_song,
+};

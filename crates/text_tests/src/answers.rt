@@ -90,6 +90,35 @@ fn answers(rt: HostRuntime) {
     wants(&rt, second_answer(rt.alloc()), "OK\n");
 }
 
+/// An answer of numbers, and of lines that a text is already.
+fn numbered(alloc: Global, number: u64) -> Result<String, AllocError> {
+    let mut answer = Answer::new(alloc);
+    answer.pair_number("Pos", number)?;
+    answer.pair_seconds("duration", number)?;
+    answer.push_lines("file: a.wav\nTitle: Bee\n")?;
+    answer.push_lines("")?;
+    Ok(answer.into_string())
+}
+
+#[test]
+fn answers_of_numbers(rt: HostRuntime) {
+    wants(
+        &rt,
+        numbered(rt.alloc(), 61_005),
+        "Pos: 61005\nduration: 61.005\nfile: a.wav\nTitle: Bee\n",
+    );
+    wants(
+        &rt,
+        numbered(rt.alloc(), 0),
+        "Pos: 0\nduration: 0.000\nfile: a.wav\nTitle: Bee\n",
+    );
+    wants(
+        &rt,
+        numbered(rt.alloc(), u64::MAX),
+        "Pos: 18446744073709551615\nduration: 18446744073709551.615\nfile: a.wav\nTitle: Bee\n",
+    );
+}
+
 #[test]
 fn numbers_of_errors(rt: HostRuntime) {
     let other = other_number(&[

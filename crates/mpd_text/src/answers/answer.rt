@@ -1,8 +1,9 @@
 //! The bytes of an answer (MPD protocol reference, Responses).
-ghost use Rattle.std.specs.Prelude.{◌≡◌, ◌++◌, [], codes, decimal, OnOk, OnErr, IfSome};
+ghost use Rattle.std.specs.Prelude.{◌≡◌, ◌++◌, ◌<◌, [], codes, decimal, OnOk, OnErr, IfSome};
 ghost use Rattle.std.specs.String.{string_bytes};
-ghost use Rattle.mpd_text.specs.Answers.Answer.{pair_line, ack_line, number_of};
+ghost use Rattle.mpd_text.specs.Answers.Answer.{pair_line, thousandths_text, ack_line, number_of};
 
+use itoa::Buffer;
 use std::alloc::{AllocError, Global};
 use std::fmt::Display;
 use std::marker::Model;
@@ -53,8 +54,10 @@ impl ErrorNumber {
 /// memory returns `AllocError` and leaves the lines as they were.
 #[derive(Drop)]
 pub struct Answer {
-    alloc: Global,
     text: String,
+    // A line is made here before it joins the others, so that one which finds no memory leaves no part of
+    // itself. The next is made in the same memory.
+    line: String,
 }
 
 impl Model for Answer {
@@ -71,8 +74,8 @@ impl Answer {
         ensures { result ≡ [] }
     {
         Answer {
-            alloc,
             text: String::new(alloc),
+            line: String::new(alloc),
         }
     }
 
@@ -80,7 +83,10 @@ impl Answer {
     pub fn of(alloc: Global, text: String) -> Answer
         ensures { result ≡ string_bytes text }
     {
-        Answer { alloc, text }
+        Answer {
+            text,
+            line: String::new(alloc),
+        }
     }
 
     /// Writes the line `key: value`, the value as it is displayed: a text as it is, a number in decimal.
@@ -88,8 +94,43 @@ impl Answer {
         ensures ok { OnOk result (IfSome (V.output value) (λ text. self.new ≡ self.old ++ pair_line key.now text)) }
         ensures err { OnErr result (self.new ≡ self.old) }
     {
-        let line = format!(in self.alloc; "{key}: {value}\n")?;
-        self.text.push_str(line.as_str())
+        self.line.clear();
+        write!(self.line, "{key}: {value}\n")?;
+        self.text.push_str(self.line.as_str())
+    }
+
+    /// Writes the line `key: number`, as [`Answer::pair`] does, in less time.
+    pub fn pair_number(&mut self, key: &str, number: u64) -> Result<(), AllocError>
+        ensures ok { OnOk result (self.new ≡ self.old ++ pair_line key.now (decimal number)) }
+        ensures err { OnErr result (self.new ≡ self.old) }
+    {
+        self.line.clear();
+        self.line.push_str(key)?;
+        self.line.push_str(": ")?;
+        push_decimal(&mut self.line, number)?;
+        self.line.push_str("\n")?;
+        self.text.push_str(self.line.as_str())
+    }
+
+    /// Writes the line `key: seconds` of a time in thousandths of a second: in seconds with three decimals.
+    pub fn pair_seconds(&mut self, key: &str, millis: u64) -> Result<(), AllocError>
+        ensures ok { OnOk result (self.new ≡ self.old ++ pair_line key.now (thousandths_text millis)) }
+        ensures err { OnErr result (self.new ≡ self.old) }
+    {
+        self.line.clear();
+        self.line.push_str(key)?;
+        self.line.push_str(": ")?;
+        push_thousandths(&mut self.line, millis)?;
+        self.line.push_str("\n")?;
+        self.text.push_str(self.line.as_str())
+    }
+
+    /// Writes the lines that a text is, each with its newline, in one copy.
+    pub fn push_lines(&mut self, lines: &str) -> Result<(), AllocError>
+        ensures ok { OnOk result (self.new ≡ self.old ++ lines.now) }
+        ensures err { OnErr result (self.new ≡ self.old) }
+    {
+        self.text.push_str(lines)
     }
 
     /// Writes the line `OK`, which ends an answer.
@@ -121,8 +162,9 @@ impl Answer {
         ensures err { OnErr result (self.new ≡ self.old) }
     {
         let number = number.number();
-        let line = format!(in self.alloc; "ACK [{number}@{place}] {{{command}}} {text}\n")?;
-        self.text.push_str(line.as_str())
+        self.line.clear();
+        write!(self.line, "ACK [{number}@{place}] {{{command}}} {text}\n")?;
+        self.text.push_str(self.line.as_str())
     }
 
     /// The lines so far, each with its newline.
@@ -145,4 +187,31 @@ impl Answer {
     {
         self.text
     }
+}
+
+/// Appends a number in decimal.
+fn push_decimal(text: &mut String, number: u64) -> Result<(), AllocError>
+    ensures { OnOk result (string_bytes text.new ≡ string_bytes text.old ++ decimal number) }
+{
+    let mut digits = Buffer::new();
+    text.push_str(digits.format(number))
+}
+
+/// Appends a number of thousandths in decimal, with three decimals.
+fn push_thousandths(text: &mut String, number: u64) -> Result<(), AllocError>
+    ensures { OnOk result (string_bytes text.new ≡ string_bytes text.old ++ thousandths_text number) }
+{
+    push_decimal(text, number / 1000)?;
+    text.push_str(".")?;
+    push_digit(text, number / 100 % 10)?;
+    push_digit(text, number / 10 % 10)?;
+    push_digit(text, number % 10)
+}
+
+#[tactic(auto, using(std::proofs::lemmas::Fmt::decimal_digit))]
+fn push_digit(text: &mut String, digit: u64) -> Result<(), AllocError>
+    requires { digit < 10 }
+    ensures { OnOk result (string_bytes text.new ≡ string_bytes text.old ++ decimal digit) }
+{
+    text.push(char::from(b'0' + digit as u8))
 }
