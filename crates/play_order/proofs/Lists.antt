@@ -1,6 +1,7 @@
 -- Lists that are gone through, cut and joined.
 use Rattle.std.proofs.Common.{◌≡◌, ℕ, zero, suc, ◌+◌, ◌-◌, ◌<◌, ◌≤◌, Bool, true, false, List, [], ◌∷◌, ◌++◌, length, filter, map, fold, take, drop, slice_get, Some, None, refl, ap, sym, ◌∙◌, arith, cond, length-drop}
 use Rattle.std.specs.List.{slice_range}
+use Rattle.std.proofs.lemmas.List.{drop-drop, drop-take, take-append-drop, take-take}
 
 -- one more element is gone through
 pub take-suc-get : {X : Type 0} (xs : List X) (k : ℕ) (x : X) → slice_get xs k ≡ Some x → take (suc k) xs ≡ take k xs ++ x ∷ []
@@ -68,3 +69,15 @@ filter-swap p q (x ∷ xs) =
         | false ↦ λ g. filter-swap p q xs
       ] refl
     ] refl
+
+-- a part and the one behind it
+pub slice_range-join : {X : Type 0} (xs : List X) (from at count : ℕ) → from ≤ at → slice_range xs from (at + count) ≡ slice_range xs from at ++ slice_range xs at (at + count)
+slice_range-join xs from at count h =
+    let long : at + count - from ≡ (at - from) + count = omega arith in
+    let here : from + (at - from) ≡ at = omega arith in
+    let size : at + count - at ≡ count = omega arith in
+    let all : List _ = take ((at - from) + count) (drop from xs) in
+    let front : take (at - from) all ≡ slice_range xs from at = take-take (at - from) ((at - from) + count) (drop from xs) (omega arith) in
+    let behind : drop (at - from) all ≡ slice_range xs at (at + count) =
+    drop-take (at - from) count (drop from xs) ∙ ap (take count) (drop-drop (at - from) from xs ∙ ap (λ (n : ℕ). drop n xs) here) ∙ ap (λ (n : ℕ). take n (drop at xs)) (sym size) in
+    ap (λ (n : ℕ). take n (drop from xs)) long ∙ sym (take-append-drop (at - from) all) ∙ (λ t. front t ++ behind t)

@@ -17,12 +17,13 @@ place_of entries id = position_or_len (has_id id) entries
 abbrev pub entry_of : List Entry → ℕ → Option Entry
 entry_of entries id = find (has_id id) entries
 
--- the greater priority comes first, then the smaller rank, then the smaller id
+-- of two entries with their ranks the one with the greater priority comes first, then with the smaller rank, then with the smaller id
+abbrev pub ranked_before : Entry → ℕ → Entry → ℕ → Bool
+ranked_before a rank_a b rank_b =
+    nat_lt b.priority a.priority || ((a.priority == b.priority) && (nat_lt rank_a rank_b || ((rank_a == rank_b) && nat_lt a.id b.id)))
+
 abbrev pub comes_before : List Rank → Entry → Entry → Bool
-comes_before ranks a b =
-    nat_lt b.priority a.priority
-    || ((a.priority == b.priority)
-    && (nat_lt (rank_of ranks a.id) (rank_of ranks b.id) || ((rank_of ranks a.id == rank_of ranks b.id) && nat_lt a.id b.id)))
+comes_before ranks a b = ranked_before a (rank_of ranks a.id) b (rank_of ranks b.id)
 
 -- whether a candidate comes before each other one
 abbrev pub is_first : List Rank → List Entry → Entry → Bool

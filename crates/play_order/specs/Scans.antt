@@ -1,6 +1,6 @@
 -- What is kept beside the lists of a round, so that an id is found in them at once, and how a queue is gone
 -- through.
-use Rattle.std.specs.Prelude.{ℕ, ◌≡◌, ◌≤◌, false, ◌==◌, nat_eq, if◌then◌else◌, All, List, [], ◌∷◌, ◌++◌, filter, find, fold, is_some, Option, Some, None}
+use Rattle.std.specs.Prelude.{ℕ, ◌≡◌, ◌≤◌, Bool, true, false, ◌==◌, nat_eq, if◌then◌else◌, All, List, [], ◌∷◌, ◌++◌, filter, find, fold, is_some, Option, Some, None}
 use Rattle.std.specs.List.{list_any, slice_range}
 use Rattle.std.specs.Option.{option_map, option_or}
 use Rattle.std.specs.HashMap.{HashMap, get}
@@ -9,7 +9,8 @@ use Rattle.std.specs.Ordering.{nat_cmp}
 use Rattle.song_queue.specs.declared.entry.Entry.{Entry}
 use Rattle.song_queue.specs.State.{QueueState, queue_of}
 use Rattle.play_order.specs.declared.modes.Rank.{Rank}
-use Rattle.play_order.specs.Order.{comes_before, unplayed}
+use Rattle.play_order.specs.Draws.{rank_of}
+use Rattle.play_order.specs.Order.{comes_before, ranked_before, unplayed}
 
 -- the map has the rank of each id that drew one
 abbrev pub FindsRanks : {S : Type 0} → HashMap ℕ ℕ S → List Rank → Type 0
@@ -60,7 +61,20 @@ abbrev pub better : List Rank → Option Entry → Entry → Option Entry
 better ranks None entry = Some entry
 better ranks (Some best) entry = if comes_before ranks entry best then Some entry else Some best
 
--- the one that comes first of the best so far and the unplayed entries from one place up to another
+-- the rank of the best so far; 0, if there is none
+abbrev pub rank_of_best : List Rank → Option Entry → ℕ
+rank_of_best ranks None = 0
+rank_of_best ranks (Some best) = rank_of ranks best.id
+
+-- whether an entry with a rank comes before the best so far, which has another
+abbrev pub precedes : Entry → ℕ → Option Entry → ℕ → Bool
+precedes entry rank None least = true
+precedes entry rank (Some best) least = ranked_before entry rank best least
+
+-- the one that comes first of the best so far and the unplayed ones of some entries
+abbrev pub best_among : List Rank → List ℕ → List Entry → Option Entry → Option Entry
+best_among ranks played entries best = fold (better ranks) best (unplayed played entries)
+
+-- the same of the entries from one place up to another
 abbrev pub best_within : List Rank → List ℕ → QueueState → ℕ → ℕ → Option Entry → Option Entry
-best_within ranks played queue from end best =
-    fold (better ranks) best (unplayed played (slice_range (queue_of queue) from end))
+best_within ranks played queue from end best = best_among ranks played (slice_range (queue_of queue) from end) best

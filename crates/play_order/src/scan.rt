@@ -3,16 +3,16 @@ ghost use Rattle.std.specs.Prelude.{◌≡◌, ◌≤◌, ◌+◌, ◌++◌, len
 ghost use Rattle.std.specs.Option.{option_copied};
 ghost use Rattle.song_queue.specs.declared.edit.Edit.TheVariants.{Insert};
 ghost use Rattle.song_queue.specs.Laws.{Takes};
-ghost use Rattle.song_queue.specs.State.{inserted, queue_of};
+ghost use Rattle.song_queue.specs.State.{entries_of, inserted, queue_of};
 ghost use Rattle.play_order.specs.Draws.{LackIds, ids_of};
-ghost use Rattle.play_order.specs.Order.{at_or_first, comes_before as comes_before_lem, entry_of, first_of, ids_taken, left_by, new_ids, unplayed};
-ghost use Rattle.play_order.specs.Scans.{best_within, better as better_lem};
+ghost use Rattle.play_order.specs.Order.{at_or_first, entry_of, first_of, ids_taken, left_by, new_ids, ranked_before, unplayed};
+ghost use Rattle.play_order.specs.Scans.{best_among, best_within, precedes as precedes_lem, rank_of_best as rank_of_best_lem};
 
 use crate::played::Played;
 use crate::ranks::Ranks;
 use mpd_text::Sequence;
 use song_db::SharedSong;
-use song_queue::{Edit, Entry, Queue};
+use song_queue::{Edit, Entry, Queue, Slot};
 use std::alloc::{AllocError, Global};
 
 /// The unplayed entry that comes first of what is left.
@@ -45,40 +45,64 @@ fn first_within<'a>(
     ensures { option_copied result ≡ best_within ranks.now played.now queue.now from end (option_copied best.entry) }
 {
     let mut first = best;
-    for place in from..end {
-        if let Some(entry) = queue.get(place) {
-            if !played.has(entry.id) {
-                first = better(ranks, first, entry);
-            }
+    let mut at = from;
+    while at < end {
+        let run = queue.run(at, end);
+        first = first_of_run(ranks, played, run, first);
+        at += run.len();
+    }
+    first
+}
+
+/// The entry that comes first of the best so far and the unplayed ones of some slots. The rank of each is
+/// looked up once, and whether it was played only where it would be the best.
+fn first_of_run<'a>(
+    ranks: &Ranks,
+    played: &Played,
+    run: &'a [Slot],
+    best: Option<&'a Entry>,
+) -> Option<&'a Entry>
+    ensures { option_copied result ≡ best_among ranks.now played.now (entries_of run.now) (option_copied best.entry) }
+{
+    let mut first = best;
+    let mut least = rank_of_best(ranks, best);
+    for slot in run {
+        let entry = &slot.entry;
+        let rank = ranks.rank(entry.id);
+        if precedes(entry, rank, first, least) && !played.has(entry.id) {
+            first = Some(entry);
+            least = rank;
         }
     }
     first
 }
 
-/// The one of two entries that comes first.
-fn better<'a>(ranks: &Ranks, best: Option<&'a Entry>, entry: &'a Entry) -> Option<&'a Entry>
-    ensures { option_copied result ≡ better_lem ranks.now (option_copied best.entry) entry.now }
+/// The rank of the best so far; 0, if there is none.
+fn rank_of_best(ranks: &Ranks, best: Option<&Entry>) -> u32
+    ensures { result ≡ rank_of_best_lem ranks.now (option_copied best.entry) }
 {
     match best {
-        None => Some(entry),
-        Some(other) => {
-            if comes_before(ranks, entry, other) {
-                Some(entry)
-            } else {
-                Some(other)
-            }
-        }
+        None => 0,
+        Some(entry) => ranks.rank(entry.id),
     }
 }
 
-fn comes_before(ranks: &Ranks, a: &Entry, b: &Entry) -> bool
-    ensures { result ≡ comes_before_lem ranks.now a.now b.now }
+/// Whether an entry with a rank comes before the best so far, which has another.
+fn precedes(entry: &Entry, rank: u32, best: Option<&Entry>, least: u32) -> bool
+    ensures { result ≡ precedes_lem entry.now rank (option_copied best.entry) least }
+{
+    match best {
+        None => true,
+        Some(other) => comes_before(entry, rank, other, least),
+    }
+}
+
+fn comes_before(a: &Entry, rank_a: u32, b: &Entry, rank_b: u32) -> bool
+    ensures { result ≡ ranked_before a.now rank_a b.now rank_b }
 {
     if a.priority != b.priority {
         return b.priority < a.priority;
     }
-    let rank_a = ranks.rank(a.id);
-    let rank_b = ranks.rank(b.id);
     rank_a < rank_b || (rank_a == rank_b && a.id < b.id)
 }
 

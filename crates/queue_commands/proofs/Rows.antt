@@ -1,7 +1,7 @@
 -- The lines of places, one after the other.
-use Rattle.std.proofs.Common.{◌≡◌, ◌<◌, ◌≤◌, ◌+◌, ℕ, Bool, true, false, List, [], ◌∷◌, ◌++◌, Option, Some, None, drop, filter, get_or, length, map, refl, ap, sym, ◌∙◌, append_assoc, append-nil, add-one, drop-cons, if◌then◌else◌}
+use Rattle.std.proofs.Common.{◌≡◌, ◌<◌, ◌≤◌, ◌+◌, ◌-◌, ℕ, zero, suc, Bool, true, false, List, [], ◌∷◌, ◌++◌, Option, Some, None, take, drop, filter, get_or, length, map, refl, ap, sym, ◌∙◌, arith, append_assoc, append-nil, add-one, drop-cons, if◌then◌else◌}
 use Rattle.std.specs.Prelude.{slice_get}
-use Rattle.std.specs.List.{flat_map}
+use Rattle.std.specs.List.{enumerate_from, flat_map, range_with_len, slice_range}
 use Rattle.std.specs.declared.ops.Range.{Range as Places}
 use Rattle.song_queue.specs.declared.entry.Entry.{Entry}
 use Rattle.song_queue.specs.Entries.{row_of, rows_at}
@@ -63,3 +63,70 @@ changed_rows queue version r places are =
 -- after the last place that is looked at
 pub kept_all : (p : ℕ → Bool) (places : List ℕ) (i : ℕ) (kept : List ℕ) → length places ≤ i → kept ++ filter p (drop i places) ≡ filter p places → kept ≡ filter p places
 kept_all p places i kept past e = sym (append-nil kept) ∙ ap (λ (l : List ℕ). kept ++ filter p l) (sym (drop_all i places past)) ∙ e
+
+range_split : (a k n : ℕ) → range_with_len a (k + n) ≡ range_with_len a k ++ range_with_len (a + k) n
+range_split a zero n =
+    let none : 0 + n ≡ n = omega arith in
+    let here : a ≡ a + 0 = omega arith in
+    ap (range_with_len a) none ∙ ap (λ (m : ℕ). range_with_len m n) here
+range_split a (suc k) n =
+    let long : suc k + n ≡ suc (k + n) = omega arith in
+    let here : a + 1 + k ≡ a + suc k = omega arith in
+    ap (range_with_len a) long ∙ ap (λ l. a ∷ l) (range_split (a + 1) k n ∙ ap (λ (m : ℕ). range_with_len (a + 1) k ++ range_with_len m n) here)
+
+rows-append : (queue : List Entry) (ps qs : List ℕ) → rows_at queue (ps ++ qs) ≡ rows_at queue ps ++ rows_at queue qs
+rows-append queue [] qs = refl
+rows-append queue (p ∷ ps) qs = ap (λ l. row_of p (slice_get queue p) ++ l) (rows-append queue ps qs) ∙ sym (append_assoc (row_of p (slice_get queue p)) (rows_at queue ps) (rows_at queue qs))
+
+-- what stands at a place, and behind it
+front : {X : Type 0} (xs : List X) (a : ℕ) → a < length xs → (x : X) × (slice_get xs a ≡ Some x) × (drop a xs ≡ x ∷ drop (suc a) xs)
+front [] a h = absurd (omega (arith, h))
+front (x ∷ xs) zero h = (x, refl, refl)
+front (x ∷ xs) (suc a) h = let more = front xs a (omega arith) in (more.0, more.1, more.2)
+
+rows_of-part : (queue : List Entry) (a n : ℕ) → a + n ≤ length queue → rows_at queue (range_with_len a n) ≡ enumerate_from a (take n (drop a queue))
+rows_of-part queue a zero h = refl
+rows_of-part queue a (suc n) h =
+    let here = front queue a (omega arith) in
+    let one : a + 1 ≡ suc a = omega arith in
+    ap (λ (o : Option Entry). row_of a o ++ rows_at queue (range_with_len (a + 1) n)) here.1
+    ∙ ap (λ l. (a, here.0) ∷ l) (rows_of-part queue (a + 1) n (omega arith) ∙ ap (λ (m : ℕ). enumerate_from (a + 1) (take n (drop m queue))) one)
+    ∙ sym (ap (λ (l : List Entry). enumerate_from a (take (suc n) l)) here.2)
+
+-- entries that stand one after the other, as rows of their places
+pub rows_run : (queue : List Entry) (at n : ℕ) → at + n ≤ length queue → enumerate_from at (slice_range queue at (at + n)) ≡ rows_at queue (range_with_len at n)
+rows_run queue at n h =
+    let size : at + n - at ≡ n = omega arith in
+    ap (λ (m : ℕ). enumerate_from at (take m (drop at queue))) size ∙ sym (rows_of-part queue at n h)
+
+-- the rows up to a place, and some more
+pub rows_more : (queue : List Entry) (from at n : ℕ) → from ≤ at → rows_at queue (range_with_len from (at + n - from)) ≡ rows_at queue (range_with_len from (at - from)) ++ rows_at queue (range_with_len at n)
+rows_more queue from at n h =
+    let size : at + n - from ≡ (at - from) + n = omega arith in
+    let here : from + (at - from) ≡ at = omega arith in
+    ap (λ (m : ℕ). rows_at queue (range_with_len from m)) size ∙ ap (rows_at queue) (range_split from (at - from) n ∙ ap (λ (m : ℕ). range_with_len from (at - from) ++ range_with_len m n) here)
+    ∙ rows-append queue (range_with_len from (at - from)) (range_with_len at n)
+
+-- the lines of one run more
+pub one_run : (f : ℕ × Entry → List ℕ) (queue some : List Entry) (from at n : ℕ) (old : List ℕ) → from ≤ at → at + n ≤ length queue → some ≡ slice_range queue at (at + n)
+    → old ≡ flat_map f (rows_at queue (range_with_len from (at - from))) → old ++ flat_map f (enumerate_from at some) ≡ flat_map f (rows_at queue (range_with_len from (at + n - from)))
+one_run f queue some from at n old low high lent before =
+    let more : enumerate_from at some ≡ rows_at queue (range_with_len at n) = ap (enumerate_from at) lent ∙ rows_run queue at n high in
+    (λ t. before t ++ flat_map f (more t))
+    ∙ sym (ap (flat_map f) (rows_more queue from at n low) ∙ text_of-append f (rows_at queue (range_with_len from (at - from))) (rows_at queue (range_with_len at n)))
+
+enumerate-push : (a : ℕ) (xs : List Entry) (x : Entry) → enumerate_from a (xs ++ x ∷ []) ≡ enumerate_from a xs ++ (a + length xs, x) ∷ []
+enumerate-push a [] x = let e : a ≡ a + 0 = omega arith in ap (λ (m : ℕ). (m, x) ∷ []) e
+enumerate-push a (y ∷ xs) x =
+    let e : a + 1 + length xs ≡ a + suc (length xs) = omega arith in
+    ap (λ l. (a, y) ∷ l) (enumerate-push (a + 1) xs x ∙ ap (λ (m : ℕ). enumerate_from (a + 1) xs ++ (m, x) ∷ []) e)
+
+-- the lines of one entry more
+pub one_entry : (f : ℕ × Entry → List ℕ) (first place : ℕ) (done more : List Entry) (x : Entry) (start old : List ℕ) → more ≡ done ++ x ∷ [] → place ≡ first + length done
+    → old ≡ start ++ flat_map f (enumerate_from first done) → old ++ flat_map f (row_of place (Some x)) ≡ start ++ flat_map f (enumerate_from first more)
+one_entry f first place done more x start old grown at before =
+    let rows : enumerate_from first more ≡ enumerate_from first done ++ (place, x) ∷ [] =
+    ap (enumerate_from first) grown ∙ enumerate-push first done x ∙ ap (λ (m : ℕ). enumerate_from first done ++ (m, x) ∷ []) (sym at) in
+    ap (λ (l : List ℕ). l ++ flat_map f (row_of place (Some x))) before
+    ∙ append_assoc start (flat_map f (enumerate_from first done)) (flat_map f ((place, x) ∷ []))
+    ∙ ap (λ (l : List ℕ). start ++ l) (sym (ap (flat_map f) rows ∙ text_of-append f (enumerate_from first done) ((place, x) ∷ [])))

@@ -255,10 +255,18 @@ place_lines row = pair_line (codes "cpos") (decimal row.0) ++ pair_line (codes "
 abbrev pub uri_line : ℕ × Entry → List ℕ
 uri_line row = pair_line (decimal row.0 ++ codes ":file") row.1.song.uri
 
+-- the entries at these places, each with its place
+abbrev pub rows_in : QueueState → List ℕ → List (ℕ × Entry)
+rows_in queue places = rows_at (queue_of queue) places
+
+-- the entries from one place up to another, each with its place
+abbrev pub rows_from : QueueState → ℕ → ℕ → List (ℕ × Entry)
+rows_from queue from to = rows_in queue (range_with_len from (to - from))
+
 abbrev pub show_places : Asked → Part → (ℕ × Entry → List ℕ) → Option (Places ℕ) → CommandResult
 show_places asked part lines None = bad_index asked
 show_places asked part lines (Some r) =
-    shows asked (flat_map lines (rows_at (queue_of part.queue) (range_with_len r.start (r.end - r.start))))
+    shows asked (flat_map lines (rows_from part.queue r.start r.end))
 
 -- the places and URIs of all songs
 abbrev pub playlist : Asked → Part → CommandResult
@@ -305,10 +313,6 @@ is_in r place = nat_le r.start place && nat_lt place r.end
 
 abbrev pub is_between : Places ℕ → ℕ × Entry → Bool
 is_between r row = is_in r row.0
-
--- the entries at these places, each with its place
-abbrev pub rows_in : QueueState → List ℕ → List (ℕ × Entry)
-rows_in queue places = rows_at (queue_of queue) places
 
 -- the entries whose places changed since a version, as far as these lie in a range
 abbrev pub changed_between : QueueState → ℕ → Places ℕ → List (ℕ × Entry)

@@ -1,7 +1,9 @@
 //! The commands that show the queue (MPD protocol reference, The queue).
-ghost use Rattle.std.specs.Prelude.{◌≡◌, ◌++◌, Some, IfOk, IfSome, OnOk};
+ghost use Rattle.std.specs.Prelude.{◌≡◌, ◌<◌, ◌+◌, ◌++◌, Some, IfOk, IfSome, OnOk, length};
+ghost use Rattle.std.specs.List.{enumerate_from};
 ghost use Rattle.std.specs.Option.{option_copied};
-ghost use Rattle.queue_commands.specs.Queue.{LieIn, changed_between, changed_places as changed_places_lem, changes as changes_lem, entry_lines, meeting, meets_at as meets_at_lem, playlist as playlist_lem, playlist_find as playlist_find_lem, playlist_id as playlist_id_lem, playlist_info as playlist_info_lem, place_lines, priority_line, range_or_all, rows_in, uri_line};
+ghost use Rattle.song_queue.specs.State.{entries_of, queue_of};
+ghost use Rattle.queue_commands.specs.Queue.{LieIn, changed_between, changed_places as changed_places_lem, changes as changes_lem, entry_lines, meeting, meets_at as meets_at_lem, playlist as playlist_lem, playlist_find as playlist_find_lem, playlist_id as playlist_id_lem, playlist_info as playlist_info_lem, place_lines, priority_line, range_or_all, rows_from, rows_in, uri_line};
 ghost use Rattle.queue_commands.specs.Shown.{changes_as, row_as, rows_as, places_as};
 ghost use Rattle.transitions.specs.Transitions.{IsDecidedBy};
 
@@ -10,7 +12,7 @@ use filters::{Case, Filter};
 use known_tags::{TagSet, push_shared_with};
 use mpd_text::{Answer, ErrorNumber, Range};
 use player_state::{Library, Part};
-use song_queue::{Entry, Queue};
+use song_queue::{Entry, Queue, Slot};
 use song_search::does_meet;
 use std::alloc::{AllocError, Global};
 use std::ops;
@@ -143,10 +145,10 @@ fn show_places(
     shown: Shown,
     places: ops::Range<usize>,
 ) -> Result<Transition, AllocError>
+    requires { LieIn (length (queue_of part.now.queue)) places }
     ensures { IsDecidedBy result (places_as asked part.now library.now shown places) }
 {
-    let places: Vec<usize> = places.collect(alloc)?;
-    let lines = rows(alloc, &part.queue, library, &places, shown, asked.tags)?;
+    let lines = rows_between(alloc, &part.queue, library, &places, shown, asked.tags)?;
     Transition::shows(asked, lines)
 }
 
@@ -213,6 +215,49 @@ fn changed_within(
         }
     }
     Ok(places)
+}
+
+/// The lines of the entries from a place up to another.
+fn rows_between(
+    alloc: Global,
+    queue: &Queue,
+    library: &Library,
+    places: &ops::Range<usize>,
+    shown: Shown,
+    tags: TagSet,
+) -> Result<Answer, AllocError>
+    requires { LieIn (length (queue_of queue.now)) places.now }
+    ensures { IfOk result (λ lines. lines ≡ rows_as shown tags library.now (rows_from queue.now places.now.start places.now.end)) }
+{
+    let mut lines = Answer::new(alloc);
+    let mut at = places.start;
+    while at < places.end {
+        let run = queue.run(at, places.end);
+        push_run(alloc, &mut lines, library, at, run, shown, tags)?;
+        at += run.len();
+    }
+    Ok(lines)
+}
+
+/// Appends the lines of entries that stand one after the other, the first of them at a place.
+fn push_run(
+    alloc: Global,
+    lines: &mut Answer,
+    library: &Library,
+    first: usize,
+    run: &[Slot],
+    shown: Shown,
+    tags: TagSet,
+) -> Result<(), AllocError>
+    requires { first + length run.now < 18446744073709551616 }
+    ensures { OnOk result (lines.new ≡ lines.old ++ rows_as shown tags library.now (enumerate_from first (entries_of run.now))) }
+{
+    let mut place = first;
+    for slot in run {
+        push_row(alloc, lines, library, place, Some(&slot.entry), shown, tags)?;
+        place += 1;
+    }
+    Ok(())
 }
 
 /// The lines of the entries at these places.

@@ -1,6 +1,7 @@
 -- One step of a walk over a list.
-use Rattle.std.proofs.Common.{◌≡◌, ℕ, ◌-◌, ◌<◌, zero, suc, List, [], ◌∷◌, ◌++◌, ◌≤◌, length, take, drop, map, Option, Some, None, refl, sym, ap, ◌∙◌, arith, append_assoc, sub-one}
-use Rattle.std.specs.List.{slice_get, filter_map, cons_option}
+use Rattle.std.proofs.Common.{◌≡◌, ℕ, ◌+◌, ◌-◌, ◌<◌, zero, suc, List, [], ◌∷◌, ◌++◌, ◌≤◌, length, take, drop, map, Option, Some, None, refl, sym, ap, ◌∙◌, arith, append_assoc, sub-one}
+use Rattle.std.specs.List.{slice_get, slice_range, filter_map, cons_option}
+use Rattle.std.proofs.lemmas.List.{drop-take, map-append, take-append-drop, take-take}
 use Rattle.std.specs.Option.{option_to_list}
 
 take_first : {X : Type 0} (left : ℕ) (x : X) (more : List X) → 0 < left → take left (x ∷ more) ≡ x ∷ take (left - 1) more
@@ -33,3 +34,11 @@ pub one_more : {X : Type 0} (xs : List X) (place : ℕ) → drop 1 (drop place x
 one_more xs zero = refl
 one_more [] (suc place) = refl
 one_more (x ∷ xs) (suc place) = one_more xs place
+
+-- some more elements
+pub mapped_part : {X Y : Type 0} (f : X → Y) (xs : List X) (at count : ℕ) → map f (take (at + count) xs) ≡ map f (take at xs) ++ map f (slice_range xs at (at + count))
+mapped_part f xs at count =
+    let size : at + count - at ≡ count = omega arith in
+    let front : take at (take (at + count) xs) ≡ take at xs = take-take at (at + count) xs (omega arith) in
+    let behind : drop at (take (at + count) xs) ≡ slice_range xs at (at + count) = drop-take at count xs ∙ ap (λ (n : ℕ). take n (drop at xs)) (sym size) in
+    ap (map f) (sym (take-append-drop at (take (at + count) xs)) ∙ (λ t. front t ++ behind t)) ∙ map-append f (take at xs) (slice_range xs at (at + count))

@@ -1,16 +1,16 @@
 //! Lists made of others (MPD protocol reference, Stored playlists: `playlistadd`, `playlistdelete`,
 //! `playlistmove`, `save`).
 
-ghost use Rattle.std.specs.Prelude.{◌≡◌, ◌++◌, ◌∷◌, ◌<◌, IfOk, length, take, drop};
+ghost use Rattle.std.specs.Prelude.{◌≡◌, ◌++◌, ◌∷◌, ◌<◌, IfOk, OnOk, length, take, drop};
 ghost use Rattle.std.specs.List.{insert, remove};
 ghost use Rattle.shelf.specs.Lines.{HasNoNewline};
-ghost use Rattle.song_queue.specs.State.{queue_of};
+ghost use Rattle.song_queue.specs.State.{entries_of, queue_of};
 ghost use Rattle.shelf_contents.specs.Edits.{uris_in, uris_of, moved as moved_lem};
 
 use crate::walk::{behind, behind_first, push_all, push_first};
 use shelf::{UriList, next_uri};
 use song_db::SharedSong;
-use song_queue::Queue;
+use song_queue::{Queue, Slot};
 use std::alloc::{AllocError, Global};
 
 /// The URIs of a queue's entries, in order.
@@ -18,12 +18,23 @@ pub fn uris_of_queue(alloc: Global, queue: &Queue) -> Result<UriList, AllocError
     ensures { IfOk result (λ uris. uris ≡ uris_in (queue_of queue.now)) }
 {
     let mut uris = UriList::new(alloc);
-    for place in 0..queue.len() {
-        if let Some(entry) = queue.get(place) {
-            uris.push(entry.song.song().uri())?;
-        }
+    let end = queue.len();
+    let mut at = 0;
+    while at < end {
+        let run = queue.run(at, end);
+        push_uris(&mut uris, run)?;
+        at += run.len();
     }
     Ok(uris)
+}
+
+fn push_uris(uris: &mut UriList, run: &[Slot]) -> Result<(), AllocError>
+    ensures { OnOk result (uris.new ≡ uris.old ++ uris_in (entries_of run.now)) }
+{
+    for slot in run {
+        uris.push(slot.entry.song.song().uri())?;
+    }
+    Ok(())
 }
 
 /// The list with the URIs of these songs after it.

@@ -1,7 +1,7 @@
 -- Slots and entries, list by list.
-use Rattle.std.proofs.Common.{◌≡◌, ℕ, suc, ◌+◌, List, [], ◌∷◌, ◌++◌, length, map, ap, ◌∙◌, arith}
-use Rattle.std.specs.List.{enumerate_from}
-use Rattle.std.proofs.lemmas.List.{map-append}
+use Rattle.std.proofs.Common.{◌≡◌, ℕ, suc, ◌+◌, ◌-◌, ◌≤◌, List, [], ◌∷◌, ◌++◌, length, map, take, drop, ap, sym, ◌∙◌, arith}
+use Rattle.std.specs.List.{enumerate_from, slice_range, take-map}
+use Rattle.std.proofs.lemmas.List.{map-append, take-take}
 use Rattle.queue_slots.specs.declared.entry.Entry.{Entry}
 use Rattle.queue_slots.specs.declared.entry.Slot.{Slot}
 use Rattle.mpd_text.specs.Songs.Song.{SongData}
@@ -21,3 +21,10 @@ entries_for-push n xs y =
 
 pub entries_of-push : (xs : List Slot) (y : Slot) → entries_of (xs ++ y ∷ []) ≡ entries_of xs ++ y.entry ∷ []
 entries_of-push xs y = map-append (λ (s : Slot). s.entry) xs (y ∷ [])
+
+-- the first slots that are lent have the entries of a part
+pub lent-part : (q : List Entry) (r : List Slot) (from count : ℕ) → entries_of r ≡ slice_range q from (from + length r) → count ≤ length r → entries_of (take count r) ≡ slice_range q from (from + count)
+lent-part q r from count lends le =
+    let n : from + count - from ≡ count = omega arith in
+    sym (take-map (λ (s : Slot). s.entry) count r) ∙ ap (take count) lends ∙ take-take count (from + length r - from) (drop from q) (omega arith)
+    ∙ ap (λ (m : ℕ). take m (drop from q)) (sym n)

@@ -155,14 +155,18 @@ impl Queue {
         self.slots.get(place)
     }
 
-    /// The entries from a place to the end of its block, for loops over the queue: each slot has its entry.
-    /// What else a slot has is not what the queue shows of it.
-    pub fn run(&self, place: usize) -> &[Slot]
-        requires { HasPlace self.now place }
+    /// The entries from a place up to another, or to the end of its block where that comes first, for loops
+    /// over the queue: each slot has its entry. What else a slot has is not what the queue shows of it.
+    pub fn run(&self, from: usize, end: usize) -> &[Slot]
+        requires order { from < end }
+        requires within { end ≤ length (queue_of self.now) }
         ensures some { 0 < length result.now }
-        ensures part { entries_of result.now ≡ slice_range (queue_of self.now) place (place + length result.now) }
+        ensures most { from + length result.now ≤ end }
+        ensures part { entries_of result.now ≡ slice_range (queue_of self.now) from (from + length result.now) }
     {
-        self.slots.run(place)
+        let run = self.slots.run(from);
+        let count = run.len().min(end - from);
+        &run[..count]
     }
 
     /// The place of the entry with an id.

@@ -1,16 +1,20 @@
-use Rattle.std.proofs.Common.{◌≤◌, length, arith, sym, add-one}
-use Rattle.song_queue.specs.State.{queue_of}
+use Rattle.std.proofs.Common.{ℕ, ◌+◌, List, ◌++◌, length, ap, sym, ◌∙◌, arith}
+use Rattle.std.specs.List.{slice_range}
 use Rattle.song_queue.specs.declared.entry.Entry.{Entry}
-use Rattle.shelf_contents.proofs.Walks.{mapped_more, none_past}
-use Rattle.shelf_contents.proofs.edits.uris_of_queue.Goals.{in-Some+in_ok-push, in_default}
+use Rattle.song_queue.specs.State.{queue_of}
+use Rattle.shelf_contents.specs.Edits.{uris_in}
+use Rattle.shelf_contents.proofs.Walks.{mapped_part}
 use Rattle.shelf_contents.proofs.edits.uris_of_queue.Goals as goal
 
-pub loop-place-preserved : goal.loop-place-preserved
-loop-place-preserved c = elim c.match-get.branch [
-  | in-Some+in_ok-push w ↦
-      let step = mapped_more (λ (entry : Entry). entry.song.uri) (queue_of c.args.queue.now) c.loop-place.place w.in-Some.entry.now (sym w.in-Some.ensures) in
-      rw add-one (cc (w.in_ok-push.ensures.ok, w.uri.ensures.uri))
-  | in_default w ↦
-      let past : length (queue_of c.args.queue.now) ≤ c.loop-place.place = none_past (queue_of c.args.queue.now) c.loop-place.place (sym w.in_default.ensures) in
-      absurd (omega (arith, c.loop-place-test.true, c.len-place-end.ensures.len, past))
-]
+pub loop-at-preserved : goal.loop-at-preserved
+loop-at-preserved c =
+    let queue : List Entry = queue_of c.args.queue.now in
+    let at : ℕ = c.loop-at.at in
+    let count : ℕ = length c.run-run.result.now in
+    record {
+      within = omega arith;
+      uris =
+          c.in_ok-push_uris.ensures ∙ ap (λ (some : List Entry). c.loop-at.uris ++ uris_in some) c.run-run.ensures.part
+          ∙ ap (λ (uris : List (List ℕ)). uris ++ uris_in (slice_range queue at (at + count))) c.loop-at.invariant.uris
+          ∙ sym (mapped_part (λ (entry : Entry). entry.song.uri) queue at count);
+    }
