@@ -56,6 +56,11 @@ found-in P kill (row ∷ rows) h word words there =
     (λ same. h.0 words (ap (λ w. is_there w (base_set kill)) (sym ((bytes_eq-Decides word row.0).0 same)) ∙ there))
     (found-in P kill rows h.1 word words there)
 
+-- a row, and those behind it
+infixr 5 ◌⊙◌
+◌⊙◌ : {A B : Type 0} → A → B → A × B
+◌⊙◌ a b = (a, b)
+
 -- a row that the everyday profile adds is not there
 none-there : {B : Type 0} → false ≡ true → B
 none-there e = absurd (cc)
@@ -101,225 +106,109 @@ adds test words = from-read IsBaseFilter IsAddition _ (filter_of Base test words
 -- the tables
 connection : (kill : Bool) → Rows IsBaseConnection kill (connection_rows (base_set kill))
 unfolding connection_rows rows_from_notcommands
-connection kill = (
-  (λ words there. alone IsBaseConnection _ words tt),
-  (
-    (λ words there. alone IsBaseConnection _ words refl),
-    (
-      (λ words there. none-there there),
-      (
-        (λ words there. alone IsBaseConnection _ words tt),
-        (
-          (λ words there. none-there there),
-          (
-            (λ words there. alone IsBaseConnection _ words refl),
-            (
-              (λ words there. alone IsBaseConnection _ words tt),
-              (
-                (λ words there. alone IsBaseConnection _ words tt),
-                ((λ words there. none-there there), tt),
-              ),
-            ),
-          ),
-        ),
-      ),
-    ),
-  ),
-)
+connection kill =
+    (λ words there. alone IsBaseConnection _ words tt)  -- close
+    ⊙ (λ words there. alone IsBaseConnection _ words refl)  -- commands
+    ⊙ (λ words there. none-there there)  -- decoders
+    ⊙ (λ words there. alone IsBaseConnection _ words tt)  -- kill
+    ⊙ (λ words there. none-there there)  -- listmounts
+    ⊙ (λ words there. alone IsBaseConnection _ words refl)  -- notcommands
+    ⊙ (λ words there. alone IsBaseConnection _ words tt)  -- ping
+    ⊙ (λ words there. alone IsBaseConnection _ words tt)  -- tagtypes
+    ⊙ (λ words there. none-there there)  -- urlhandlers
+    ⊙ tt
 
 status : (kill : Bool) → Rows IsBaseStatus kill (status_rows (base_set kill))
 unfolding status_rows
-status kill = (
-  (λ words there. alone IsBaseStatus _ words tt),
-  (
-    (λ words there. alone IsBaseStatus _ words tt),
-    (
-      (λ words there. search mapped),
-      (
-        (λ words there. alone IsBaseStatus _ words tt),
-        (
-          (λ words there. none-there there),
-          ((λ words there. alone IsBaseStatus _ words refl), tt),
-        ),
-      ),
-    ),
-  ),
-)
+status kill =
+    (λ words there. alone IsBaseStatus _ words tt)  -- clearerror
+    ⊙ (λ words there. alone IsBaseStatus _ words tt)  -- currentsong
+    ⊙ (λ words there. search mapped)  -- idle
+    ⊙ (λ words there. alone IsBaseStatus _ words tt)  -- noidle
+    ⊙ (λ words there. none-there there)  -- stats
+    ⊙ (λ words there. alone IsBaseStatus _ words refl)  -- status
+    ⊙ tt
 
 abbrev AtEnd : Uri × Option Place → Type 0
 AtEnd p = p.1 ≡ None
 
 queue : (kill : Bool) → Rows IsBaseQueue kill (queue_rows (base_set kill))
 unfolding queue_rows rows_from_playlist rows_from_prio
-queue kill = (
-  (λ words there. from-read AtEnd IsBaseQueue _ _ (mapped AtEnd _ (one_of forms.uri_of words) (λ uri. refl)) (λ p none. none)),
-  (
-    (λ words there. search mapped),
-    (
-      (λ words there. alone IsBaseQueue _ words tt),
-      (
-        (λ words there. search mapped),
-        (
-          (λ words there. search mapped),
-          (
-            (λ words there. search mapped),
-            (
-              (λ words there. search mapped),
-              (
-                (λ words there. none-there there),
-                (
-                  (λ words there. none-there there),
-                  (
-                    (λ words there. search mapped),
-                    (
-                      (λ words there. search mapped),
-                      (
-                        (λ words there. none-there there),
-                        (
-                          (λ words there. search mapped),
-                          (
-                            (λ words there. search mapped),
-                            (
-                              (λ words there. search mapped),
-                              (
-                                (λ words there. search mapped),
-                                (
-                                  (λ words there. search mapped),
-                                  (
-                                    (λ words there. search mapped),
-                                    ((λ words there. search mapped), tt),
-                                  ),
-                                ),
-                              ),
-                            ),
-                          ),
-                        ),
-                      ),
-                    ),
-                  ),
-                ),
-              ),
-            ),
-          ),
-        ),
-      ),
-    ),
-  ),
-)
+queue kill =
+    (λ words there. from-read AtEnd IsBaseQueue _ _ (mapped AtEnd _ (one_of forms.uri_of words) (λ uri. refl)) (λ p none. none))  -- add
+    ⊙ (λ words there. search mapped)  -- addid
+    ⊙ (λ words there. alone IsBaseQueue _ words tt)  -- clear
+    ⊙ (λ words there. search mapped)  -- delete
+    ⊙ (λ words there. search mapped)  -- deleteid
+    ⊙ (λ words there. search mapped)  -- move
+    ⊙ (λ words there. search mapped)  -- moveid
+    ⊙ (λ words there. none-there there)  -- playlist
+    ⊙ (λ words there. none-there there)  -- playlistfind
+    ⊙ (λ words there. search mapped)  -- playlistid
+    ⊙ (λ words there. search mapped)  -- playlistinfo
+    ⊙ (λ words there. none-there there)  -- playlistsearch
+    ⊙ (λ words there. search mapped)  -- plchanges
+    ⊙ (λ words there. search mapped)  -- plchangesposid
+    ⊙ (λ words there. search mapped)  -- prio
+    ⊙ (λ words there. search mapped)  -- prioid
+    ⊙ (λ words there. search mapped)  -- shuffle
+    ⊙ (λ words there. search mapped)  -- swap
+    ⊙ (λ words there. search mapped)  -- swapid
+    ⊙ tt
 
 options : (kill : Bool) → Rows IsBaseOption kill options_rows
 unfolding options_rows rows_from_replay_gain_mode
-options kill = (
-  (λ words there. search mapped),
-  (
-    (λ words there. search mapped),
-    (
-      (λ words there. alone IsBaseOption _ words tt),
-      (
-        (λ words there. search mapped),
-        (
-          (λ words there. search mapped),
-          (
-            (λ words there. none-there there),
-            (
-              (λ words there. none-there there),
-              (
-                (λ words there. search mapped),
-                (
-                  (λ words there. search mapped),
-                  ((λ words there. none-there there), tt),
-                ),
-              ),
-            ),
-          ),
-        ),
-      ),
-    ),
-  ),
-)
+options kill =
+    (λ words there. search mapped)  -- consume
+    ⊙ (λ words there. search mapped)  -- crossfade
+    ⊙ (λ words there. alone IsBaseOption _ words tt)  -- getvol
+    ⊙ (λ words there. search mapped)  -- random
+    ⊙ (λ words there. search mapped)  -- repeat
+    ⊙ (λ words there. none-there there)  -- replay_gain_mode
+    ⊙ (λ words there. none-there there)  -- replay_gain_status
+    ⊙ (λ words there. search mapped)  -- setvol
+    ⊙ (λ words there. search mapped)  -- single
+    ⊙ (λ words there. none-there there)  -- volume
+    ⊙ tt
 
 database : (kill : Bool) → Rows IsBaseDatabase kill (database_rows (base_set kill))
 unfolding database_rows rows_from_listall rows_from_rescan
-database kill = (
-  (λ words there. none-there there),
-  (
-    (λ words there. from-read IsBaseCounting IsBaseDatabase _ _ (counts words) (λ counting h. h)),
-    (
-      (λ words there. from-read IsBaseSelection IsBaseDatabase _ _ (selects Equals words) (λ selection h. h)),
-      (
-        (λ words there. from-read IsAddition IsBaseDatabase _ _ (adds Equals words) (λ p h. h)),
-        (
-          (λ words there. from-read IsBaseGrouping IsBaseDatabase _ _ (groups words) (λ grouping h. h)),
-          (
-            (λ words there. search mapped),
-            (
-              (λ words there. none-there there),
-              (
-                (λ words there. search mapped),
-                (
-                  (λ words there. none-there there),
-                  (
-                    (λ words there. none-there there),
-                    (
-                      (λ words there. search mapped),
-                      (
-                        (λ words there. from-read IsBaseSelection IsBaseDatabase _ _ (selects Contains words) (λ selection h. h)),
-                        (
-                          (λ words there. from-read IsAddition IsBaseDatabase _ _ (adds Contains words) (λ p h. h)),
-                          (
-                            (λ words there. none-there there),
-                            ((λ words there. search mapped), tt),
-                          ),
-                        ),
-                      ),
-                    ),
-                  ),
-                ),
-              ),
-            ),
-          ),
-        ),
-      ),
-    ),
-  ),
-)
+database kill =
+    (λ words there. none-there there)  -- albumart
+    ⊙ (λ words there. from-read IsBaseCounting IsBaseDatabase _ _ (counts words) (λ counting h. h))  -- count
+    ⊙ (λ words there. from-read IsBaseSelection IsBaseDatabase _ _ (selects Equals words) (λ selection h. h))  -- find
+    ⊙ (λ words there. from-read IsAddition IsBaseDatabase _ _ (adds Equals words) (λ p h. h))  -- findadd
+    ⊙ (λ words there. from-read IsBaseGrouping IsBaseDatabase _ _ (groups words) (λ grouping h. h))  -- list
+    ⊙ (λ words there. search mapped)  -- listall
+    ⊙ (λ words there. none-there there)  -- listallinfo
+    ⊙ (λ words there. search mapped)  -- lsinfo
+    ⊙ (λ words there. none-there there)  -- readcomments
+    ⊙ (λ words there. none-there there)  -- readpicture
+    ⊙ (λ words there. search mapped)  -- rescan
+    ⊙ (λ words there. from-read IsBaseSelection IsBaseDatabase _ _ (selects Contains words) (λ selection h. h))  -- search
+    ⊙ (λ words there. from-read IsAddition IsBaseDatabase _ _ (adds Contains words) (λ p h. h))  -- searchadd
+    ⊙ (λ words there. none-there there)  -- searchaddpl
+    ⊙ (λ words there. search mapped)  -- update
+    ⊙ tt
 
 abbrev WithoutPlace : {A B : Type 0} → A × B × Option Place → Type 0
 WithoutPlace p = p.2 ≡ None
 
 playlists : (kill : Bool) → Rows IsBasePlaylist kill (playlists_rows (base_set kill))
 unfolding playlists_rows rows_from_playlistadd
-playlists kill = (
-  (λ words there. search mapped),
-  (
-    (λ words there. search mapped),
-    (
-      (λ words there. alone IsBasePlaylist _ words tt),
-      (
-        (λ words there. from-read WithoutPlace IsBasePlaylist _ _ (mapped WithoutPlace _ (one_perhaps_of forms.any_text range_of words) (λ p. refl)) (λ p none. none)),
-        (
-          (λ words there. search mapped),
-          (
-            (λ words there. search mapped),
-            (
-              (λ words there. search mapped),
-              (
-                (λ words there. search mapped),
-                (
-                  (λ words there. search mapped),
-                  (
-                    (λ words there. search mapped),
-                    ((λ words there. search mapped), tt),
-                  ),
-                ),
-              ),
-            ),
-          ),
-        ),
-      ),
-    ),
-  ),
-)
+playlists kill =
+    (λ words there. search mapped)  -- listplaylist
+    ⊙ (λ words there. search mapped)  -- listplaylistinfo
+    ⊙ (λ words there. alone IsBasePlaylist _ words tt)  -- listplaylists
+    ⊙ (λ words there. from-read WithoutPlace IsBasePlaylist _ _ (mapped WithoutPlace _ (one_perhaps_of forms.any_text range_of words) (λ p. refl)) (λ p none. none))  -- load
+    ⊙ (λ words there. search mapped)  -- playlistadd
+    ⊙ (λ words there. search mapped)  -- playlistclear
+    ⊙ (λ words there. search mapped)  -- playlistdelete
+    ⊙ (λ words there. search mapped)  -- playlistmove
+    ⊙ (λ words there. search mapped)  -- rename
+    ⊙ (λ words there. search mapped)  -- rm
+    ⊙ (λ words there. search mapped)  -- save
+    ⊙ tt
 
 -- what is found in them
 module _ (kill : Bool) (word : List ℕ) (words : List (List ℕ)) (there : is_there word (base_set kill) ≡ true) where
