@@ -24,6 +24,7 @@ from daemon import Client, Daemon, Mpd, Table, program_of, put_songs
 
 LATE = 0.040   # a delayed acknowledgement
 ENTRIES = 16_000
+EDITS = 200     # the edits of a long queue in one list
 
 
 class Echo(threading.Thread):
@@ -109,6 +110,40 @@ def list_of_adds(client, uri, count):
     return (time.perf_counter() - start) * 1e3
 
 
+def list_of(client, lines):
+    """Microseconds of each command of a list."""
+    start = time.perf_counter()
+    client.must('\n'.join(['command_list_begin', *lines, 'command_list_end']))
+    return (time.perf_counter() - start) * 1e6 / len(lines)
+
+
+def list_onto(client, uri):
+    """Milliseconds of a list of 1,000 adds onto 15,000 entries."""
+    client.must('delete 15000:')
+    return list_of_adds(client, uri, 1000)
+
+
+def beside_reader(server):
+    """Milliseconds of a ping, 99th of 100, while another client asks for the whole queue again and again."""
+    reader, client, times, over = server.client(), server.client(), [], threading.Event()
+
+    def read():
+        while not over.is_set():
+            in_one_piece(reader, 'playlistinfo', 1)
+    thread = threading.Thread(target=read)
+    thread.start()
+    for _ in range(300):
+        start = time.perf_counter()
+        client.must('ping')
+        times.append(time.perf_counter() - start)
+        time.sleep(0.002)
+    over.set()
+    thread.join()
+    for one in (reader, client):
+        one.close()
+    return sorted(times)[len(times) * 99 // 100] * 1e3
+
+
 def notices(port, clients, count):
     """Microseconds from a change until the last of so many waiting clients is told; the slowest."""
     changer = Client(port)
@@ -151,9 +186,30 @@ def one_round(server, songs, found):
     client.must('clear')
     fill(client, songs)
     keep('playlistinfo, 16,000 entries', 'ms', in_one_piece(client, 'playlistinfo', 3)[0])
+    keep('listall, 1,000 songs', 'ms', in_one_piece(client, 'listall', 5)[0])
     keep('status, 16,000 entries', 'us', *round_trips(client, 'status', 500))
     keep('memory, 16,000 entries', 'MB', server.memory())
+    long_queue(server, client, songs, keep)
     client.close()
+
+
+def long_queue(server, client, songs, keep):
+    """Measures edits of a queue of 16,000 entries, what is asked of it, and others beside who reads it; then it is empty."""
+    keep('a list of 1,000 adds onto 15,000', 'ms', list_onto(client, songs[0]))
+    ids = [line[4:] for line in client.must('plchangesposid 0 0:%d' % EDITS) if line.startswith('Id: ')]
+    keep('deleteid of the first, in a list', 'us', list_of(client, ['deleteid ' + number for number in ids]))
+    keep('addid URI 0, in a list', 'us', list_of(client, ['addid "%s" 0' % songs[0]] * EDITS))
+    version = client.value('status', 'playlist')
+    client.must('swap 100 9000')
+    keep('plchangesposid after a change', 'us', *round_trips(client, 'plchangesposid ' + version, 500))
+    for line in ('random 1', 'play 0', 'pause 1'):
+        client.must(line)
+    keep('status, paused in random order', 'us', *round_trips(client, 'status', 500))
+    for line in ('stop', 'random 0'):
+        client.must(line)
+    keep('a ping beside who reads it, 99th of 100', 'ms', beside_reader(server))
+    client.must('clear')
+    keep('memory, empty again', 'MB', server.memory())
 
 
 def idle_time(server):
