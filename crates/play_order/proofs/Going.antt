@@ -1,6 +1,6 @@
 -- How a round goes on: what is first when some ids leave it, and what is then renewed and started.
-use Rattle.std.proofs.Common.{◌≡◌, ◌≢◌, ℕ, zero, suc, ◌+◌, ◌<◌, Bool, true, false, ◌&&◌, ◌||◌, not, ◌==◌, List, [], ◌∷◌, ◌++◌, length, filter, find, get_or, slice_get, take, drop, ◌-◌, ◌≤◌, Option, Some, None, is_none, is_some, nat_lt, refl, ap, sym, ◌∙◌, arith, cond, All, AllPairs, Bor, subst, length-append, length-drop}
-use Rattle.std.specs.Option.{option_copied, option_map_or}
+use Rattle.std.proofs.Common.{◌≡◌, ◌≢◌, ℕ, zero, suc, ◌+◌, ◌<◌, Bool, true, false, ◌&&◌, ◌||◌, not, ◌==◌, List, [], ◌∷◌, ◌++◌, length, filter, find, get_or, slice_get, take, drop, ◌-◌, ◌≤◌, Option, Some, None, is_none, is_some, nat_lt, refl, ap, sym, ◌∙◌, arith, cond, All, AllPairs, subst, length-append, length-drop}
+use Rattle.std.specs.Option.{option_map_or}
 use Rattle.std.proofs.lemmas.List.{length-take-le}
 use Rattle.std.proofs.lemmas.List.Elements.{filter-append}
 use Rattle.song_queue.specs.declared.entry.Entry.{Entry}
@@ -288,19 +288,14 @@ some-next modes round ids xs from end place h l d random apart =
     some-by modes round ids left place (first_of round.ranks (unplayed round.played left)) random apart (distinct-left from end xs h d) refl
     ∙ ap (λ (b : Bool). is_some (first_of round.ranks (unplayed round.played left)) || (modes.repeat && b)) (some-left (end - from) (length xs) (length left) (length-left from end xs h l))
 
-pub copied-some : (r : Option (Bor Entry)) → is_some (option_copied r) ≡ is_some r
-copied-some None = refl
-copied-some (Some e) = refl
-
 -- the same of what code has found
-pub some-found : (modes : Modes) (round view : RoundState) (ids : List ℕ) (xs : List Entry) (from end place n : ℕ) (r : Option (Bor Entry)) (b : Bool) → from ≤ end → end ≤ length xs
+pub some-found : (modes : Modes) (round view : RoundState) (ids : List ℕ) (xs : List Entry) (from end place n : ℕ) (b : Bool) → from ≤ end → end ≤ length xs
     → AllPairs (λ e f. e.id ≢ f.id) xs → not modes.random ≡ false → All (λ e. is_among e.id ids ≡ false) (left_by xs from end)
-    → view ≡ round → option_copied r ≡ first_of view.ranks (unplayed view.played (left_by xs from end)) → n ≡ length xs → b ≡ is_some r
+    → view ≡ round → b ≡ is_some (first_of view.ranks (unplayed view.played (left_by xs from end))) → n ≡ length xs
     → is_some (next_of modes (without round ids) (left_by xs from end) place) ≡ (b || (modes.repeat && nat_lt (end - from) n))
-some-found modes round view ids xs from end place n r b h l d random apart same found len is =
+some-found modes round view ids xs from end place n b h l d random apart same found len =
     let left : List Entry = left_by xs from end in
-    let first : is_some (first_of round.ranks (unplayed round.played left)) ≡ b =
-    ap (λ (x : RoundState). is_some (first_of x.ranks (unplayed x.played left))) (sym same) ∙ sym (ap is_some found) ∙ copied-some r ∙ sym is in
+    let first : is_some (first_of round.ranks (unplayed round.played left)) ≡ b = ap (λ (x : RoundState). is_some (first_of x.ranks (unplayed x.played left))) (sym same) ∙ sym found in
     some-next modes round ids xs from end place h l (distinct-from xs d) (is-random modes.random random) (apart-from ids left apart)
     ∙ ap (λ (f : Bool). f || (modes.repeat && nat_lt (end - from) (length xs))) first ∙ ap (λ (k : ℕ). b || (modes.repeat && nat_lt (end - from) k)) (sym len)
 

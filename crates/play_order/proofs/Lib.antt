@@ -8,4 +8,6 @@ pub mod Keeping
 pub mod Plays
 pub mod Going
 pub mod Inserting
+pub mod Waits
+pub mod Orders
 pub mod Choices

@@ -1,15 +1,18 @@
 -- A queue that is gone through from a place up to another.
-use Rattle.std.proofs.Common.{◌≡◌, ℕ, ◌+◌, ◌≤◌, true, false, not, List, [], ◌∷◌, ◌++◌, length, fold, take, drop, slice_get, Option, Some, None, refl, ap, sym, ◌∙◌}
+use Rattle.std.proofs.Common.{◌≡◌, ℕ, zero, suc, ◌+◌, ◌-◌, ◌<◌, ◌≤◌, ◌||◌, Bool, true, false, not, cond, nat_lt, is_some, List, [], ◌∷◌, ◌++◌, length, fold, take, drop, slice_get, get_or, Option, Some, None, refl, ap, sym, ◌∙◌, arith}
 use Rattle.std.specs.List.{slice_range}
-use Rattle.std.proofs.lemmas.Bool.{false≢true}
+use Rattle.std.proofs.lemmas.Bool.{false≢true, lt-ltb}
 use Rattle.std.proofs.lemmas.List.Elements.{filter-append}
+use Rattle.std.proofs.lemmas.List.Folds.{list_any-append}
 use Rattle.song_queue.specs.declared.entry.Entry.{Entry}
+use Rattle.song_queue.specs.declared.entry.Slot.{Slot}
+use Rattle.song_queue.specs.State.{entries_of}
 use Rattle.play_order.specs.declared.modes.Rank.{Rank}
 use Rattle.play_order.specs.Draws.{ids_of, is_among, rank_of}
 use Rattle.play_order.specs.Order.{first_of, ids_taken, left_by, unplayed}
-use Rattle.play_order.specs.Scans.{best_among, better, precedes, rank_of_best}
-use Rattle.play_order.proofs.Firsts.{Distinct, best-first}
-use Rattle.play_order.proofs.Lists.{slice_range-front, slice_range-more, slice_range-rest, fold-append, map-append}
+use Rattle.play_order.specs.Scans.{best_among, better, has_unplayed, precedes, rank_of_best}
+use Rattle.play_order.proofs.Firsts.{Distinct, best-first, distinct-left, distinct-unplayed, some-first}
+use Rattle.play_order.proofs.Lists.{slice_range-front, slice_range-join, slice_range-more, slice_range-rest, fold-append, map-append}
 
 pub best-more : (ranks : List Rank) (played : List ℕ) (done more : List Entry) (start : Option Entry) → best_among ranks played (done ++ more) start ≡ best_among ranks played more (best_among ranks played done start)
 best-more ranks played done more start =
@@ -60,3 +63,54 @@ first-left ranks played queue from end distinct =
     ∙ sym (fold-append (better ranks) None (unplayed played (take from queue)) (unplayed played (drop end queue)))
     ∙ ap (fold (better ranks) None) (sym (filter-append (λ (x : Entry). not (is_among x.id played)) (take from queue) (drop end queue)))
     ∙ best-first ranks (unplayed played (left_by queue from end)) distinct
+
+-- some entries have a first one of those that were not played, if one was not
+pub any-first : (ranks : List Rank) (played : List ℕ) (xs : List Entry) → Distinct xs → has_unplayed played xs ≡ is_some (first_of ranks (unplayed played xs))
+any-first ranks played xs distinct = any-length xs ∙ sym (some-first ranks (unplayed played xs) (distinct-unplayed played xs distinct))
+  where
+    any-length : (es : List Entry) → has_unplayed played es ≡ nat_lt 0 (length (unplayed played es))
+    any-length [] = refl
+    any-length (e ∷ es) = elim (is_among e.id played) as (λ v. (not v || has_unplayed played es) ≡ nat_lt 0 (length (cond (not v) (e ∷ unplayed played es) (unplayed played es)))) [
+      | true ↦ any-length es
+      | false ↦ sym (lt-ltb 0 (suc (length (unplayed played es))) (omega arith))
+    ]
+
+pub any-left : (ranks : List Rank) (played : List ℕ) (queue : List Entry) (from end len : ℕ) → from ≤ end → Distinct queue → len ≡ length queue
+    → (has_unplayed played (slice_range queue 0 from) || has_unplayed played (slice_range queue end len)) ≡ is_some (first_of ranks (unplayed played (left_by queue from end)))
+any-left ranks played queue from end len h distinct same =
+    ap (λ (n : ℕ). has_unplayed played (slice_range queue 0 from) || has_unplayed played (slice_range queue end n)) same
+    ∙ (λ i. has_unplayed played (slice_range-front queue from i) || has_unplayed played (slice_range-rest queue end i))
+    ∙ sym (list_any-append (λ (e : Entry). not (is_among e.id played)) (take from queue) (drop end queue)) ∙ any-first ranks played (left_by queue from end) (distinct-left from end queue h distinct)
+
+pub any-more : (played : List ℕ) (queue : List Entry) (from at count : ℕ) → from ≤ at → has_unplayed played (slice_range queue from at) ≡ false
+    → has_unplayed played (slice_range queue from (at + count)) ≡ has_unplayed played (slice_range queue at (at + count))
+any-more played queue from at count h none =
+    ap (has_unplayed played) (slice_range-join queue from at count h) ∙ list_any-append (λ (e : Entry). not (is_among e.id played)) (slice_range queue from at) (slice_range queue at (at + count))
+    ∙ ap (λ (b : Bool). b || has_unplayed played (slice_range queue at (at + count))) none
+
+-- one that was not played is among those of a run, and of what holds the run
+pub any-at : (played : List ℕ) (run : List Slot) (i : ℕ) (d : Slot) → i < length run → is_among (get_or run i d).entry.id played ≡ false → has_unplayed played (entries_of run) ≡ true
+any-at played [] i d l h = absurd (omega arith)
+any-at played (s ∷ run) zero d l h = ap (λ (b : Bool). not b || has_unplayed played (entries_of run)) h
+any-at played (s ∷ run) (suc i) d l h = or-true (not (is_among s.entry.id played)) (any-at played run i d (omega arith) h)
+  where
+    or-true : (a : Bool) {b : Bool} → b ≡ true → (a || b) ≡ true
+    or-true true e = refl
+    or-true false e = e
+
+pub any-found : (played : List ℕ) (queue : List Entry) (from at count end : ℕ) → from ≤ at → at + count ≤ end → has_unplayed played (slice_range queue at (at + count)) ≡ true
+    → has_unplayed played (slice_range queue from end) ≡ true
+any-found played queue from at count end low high found =
+    let rest : ℕ = end - (at + count) in
+    let whole : (at + count) + rest ≡ end = omega arith in
+    ap (λ (n : ℕ). has_unplayed played (slice_range queue from n)) (sym whole) ∙ ap (has_unplayed played) (slice_range-join queue from (at + count) rest (omega arith))
+    ∙ list_any-append (λ (e : Entry). not (is_among e.id played)) (slice_range queue from (at + count)) (slice_range queue (at + count) ((at + count) + rest))
+    ∙ ap (λ (b : Bool). b || has_unplayed played (slice_range queue (at + count) ((at + count) + rest))) (ap (has_unplayed played) (slice_range-join queue from at count low)
+    ∙ list_any-append (λ (e : Entry). not (is_among e.id played)) (slice_range queue from at) (slice_range queue at (at + count)) ∙ last (has_unplayed played (slice_range queue from at)) found)
+  where
+    last : (a : Bool) {b : Bool} → b ≡ true → (a || b) ≡ true
+    last true e = refl
+    last false e = e
+
+pub ids-join : (queue : List Entry) (from at count : ℕ) → from ≤ at → ids_taken queue from (at + count) ≡ ids_taken queue from at ++ ids_taken queue at (at + count)
+ids-join queue from at count h = ap ids_of (slice_range-join queue from at count h) ∙ map-append (λ (x : Entry). x.id) (slice_range queue from at) (slice_range queue at (at + count))

@@ -1,6 +1,6 @@
 -- What is kept beside the lists of a round, so that an id is found in them at once, and how a queue is gone
 -- through.
-use Rattle.std.specs.Prelude.{ℕ, ◌≡◌, ◌≤◌, Bool, true, false, ◌==◌, nat_eq, if◌then◌else◌, All, List, [], ◌∷◌, ◌++◌, filter, find, fold, is_some, Option, Some, None}
+use Rattle.std.specs.Prelude.{ℕ, ◌≡◌, ◌≤◌, Bool, true, false, ◌==◌, not, nat_eq, if◌then◌else◌, All, List, [], ◌∷◌, ◌++◌, filter, find, fold, is_some, Option, Some, None}
 use Rattle.std.specs.List.{list_any, slice_range}
 use Rattle.std.specs.Option.{option_map, option_or}
 use Rattle.std.specs.HashMap.{HashMap, get}
@@ -9,8 +9,8 @@ use Rattle.std.specs.Ordering.{nat_cmp}
 use Rattle.song_queue.specs.declared.entry.Entry.{Entry}
 use Rattle.song_queue.specs.State.{QueueState, queue_of}
 use Rattle.play_order.specs.declared.modes.Rank.{Rank}
-use Rattle.play_order.specs.Draws.{rank_of}
-use Rattle.play_order.specs.Order.{comes_before, ranked_before, unplayed}
+use Rattle.play_order.specs.Draws.{is_among, rank_of}
+use Rattle.play_order.specs.Order.{comes_before, first_of, left_by, ranked_before, unplayed}
 
 -- the map has the rank of each id that drew one
 abbrev pub FindsRanks : {S : Type 0} → HashMap ℕ ℕ S → List Rank → Type 0
@@ -56,6 +56,10 @@ abbrev pub GivesRank : {S : Type 0} → HashMap ℕ ℕ S → HashMap ℕ ℕ S 
 GivesRank old new id rank =
     (other : ℕ) → get nat_eq new other ≡ option_or (get nat_eq old other) (if id == other then Some rank else None)
 
+-- some ids have no rank any more, and each other one is as before
+abbrev pub LosesRanks : {S : Type 0} → HashMap ℕ ℕ S → HashMap ℕ ℕ S → List ℕ → Type 0
+LosesRanks old new ids = (id : ℕ) → get nat_eq new id ≡ (if is_among id ids then None else get nat_eq old id)
+
 -- the one of two entries that comes first
 abbrev pub better : List Rank → Option Entry → Entry → Option Entry
 better ranks None entry = Some entry
@@ -78,3 +82,11 @@ best_among ranks played entries best = fold (better ranks) best (unplayed played
 -- the same of the entries from one place up to another
 abbrev pub best_within : List Rank → List ℕ → QueueState → ℕ → ℕ → Option Entry → Option Entry
 best_within ranks played queue from end best = best_among ranks played (slice_range (queue_of queue) from end) best
+
+-- the entry that comes first of the unplayed ones of what is left of a queue
+abbrev pub first_in : List Rank → List ℕ → QueueState → ℕ → ℕ → Option Entry
+first_in ranks played queue from end = first_of ranks (unplayed played (left_by (queue_of queue) from end))
+
+-- whether an entry was not played
+abbrev pub has_unplayed : List ℕ → List Entry → Bool
+has_unplayed played entries = list_any (λ e. not (is_among e.id played)) entries

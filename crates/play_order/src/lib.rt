@@ -8,6 +8,7 @@ mod played;
 mod ranks;
 mod round;
 mod scan;
+mod waiting;
 
 pub use ending::Ending;
 pub use laws::{

@@ -6,7 +6,7 @@ ghost use Rattle.song_queue.specs.Laws.{Takes};
 ghost use Rattle.song_queue.specs.State.{inserted};
 ghost use Rattle.play_order.specs.Order.{new_ids};
 ghost use Rattle.play_order.specs.Draws.{generator_after, is_among, rank_of, ranks_drawn};
-ghost use Rattle.play_order.specs.Scans.{FindsRanks, GivesRank, KeepsLeft, KeepsNoGone, KeepsRanks, LeavesMore, ranks_left};
+ghost use Rattle.play_order.specs.Scans.{FindsRanks, GivesRank, KeepsLeft, KeepsNoGone, KeepsRanks, LeavesMore, LosesRanks, ranks_left};
 
 use crate::modes::Rank;
 use crate::scan::put_in;
@@ -257,7 +257,7 @@ fn note_rank(by_id: &mut HashMap<u32, u32>, id: u32, rank: u32)
 }
 
 fn forget_all(by_id: &mut HashMap<u32, u32>, ids: &[u32])
-    ensures { (id : ℕ) → get nat_eq by_id.new id ≡ (if is_among id ids.now then None else get nat_eq by_id.old id) }
+    ensures { LosesRanks by_id.old by_id.new ids.now }
 {
     for id in ids {
         let _ = by_id.remove(id);

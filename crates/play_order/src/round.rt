@@ -9,7 +9,8 @@
 //! Two things are kept beside the queue, which the round does not own: the ranks by id, and the ids that
 //! were played, the last one last, so that `previous` has a way back. A call is handed the queue and speaks
 //! of any queue. What holds between the two, that the ids played are some of the queue's, is a law over all
-//! steps of a player (`PlayedStayQueued`), and not an invariant here.
+//! steps of a player (`PlayedStayQueued`), and not an invariant here. Beside them the unplayed entries of the
+//! last queue may stand in their order (`Waiting`), which contracts do not see.
 ghost use Rattle.std.specs.Prelude.{◌≡◌, ◌≤◌, ◌-◌, true, ◌≢◌, length, AllPairs, IfOk, OnOk, OnErr, None, is_some};
 ghost use Rattle.std.specs.Option.{option_copied};
 ghost use Rattle.rand_core.specs.Pcg32Seed.{pcg32_seed};
@@ -17,7 +18,7 @@ ghost use Rattle.rand_pcg.specs.Pcg.{pcg32_of_seed};
 ghost use Rattle.song_queue.specs.State.{edited, inserted, queue_of, removed as removed_lem};
 ghost use Rattle.song_queue.specs.declared.edit.Edit.TheVariants.{Insert};
 ghost use Rattle.song_queue.specs.Laws.{Takes};
-ghost use Rattle.play_order.specs.Draws.{RoundState, LackIds, added as added_lem, drawn_from, emptied as emptied_lem, generator_after_words, ids_of, opened, renewed, without, words_drawn};
+ghost use Rattle.play_order.specs.Draws.{RoundState, LackIds, added as added_lem, drawn_from, emptied as emptied_lem, generator_after_words, ids_of, moved_last, opened, renewed, without, words_drawn};
 ghost use Rattle.play_order.specs.Order.{begun_anew, left_by, new_ids, opening_of, randomized as randomized_lem, round_after_opening, started as started_lem};
 ghost use Rattle.play_order.specs.Ends.{GoesOnAt, IsEndingOf, IsFirstAnew, IsIdOf, after_end as after_end_lem, after_next as after_next_lem, ahead_after as ahead_after_lem, before as before_lem, consume_after as consume_after_lem, consumes as consumes_lem, ending_of, entries_left, id_of, again as again_lem, alone, peek as peek_lem, gone_back, modes_after as modes_after_lem, next_after_removal, played_again, round_after, round_after_previous, round_left, single_after as single_after_lem};
 ghost use Rattle.play_order.specs.Queues.{IsNextAfterRemoval, IsRoundAfterRemoval, TellsStart, ids_in, next_without, queue_after_end, queue_after_next, round_without, shuffled_by};
@@ -26,7 +27,8 @@ use crate::ending::Ending;
 use crate::modes::{Consume, Modes, Single};
 use crate::played::Played;
 use crate::ranks::Ranks;
-use crate::scan::{at_or_first_left, entry_with, first_left, ids_left, taken_ids};
+use crate::scan::{any_left, at_or_first_left, entry_with, ids_left, taken_ids};
+use crate::waiting::{Waiting, first_entry, first_key, is_kept, leave};
 use mpd_text::Sequence;
 use rand_core::SeedableRng;
 use rand_core::utils::NextWord;
@@ -44,14 +46,19 @@ pub struct Round {
     ranks: Ranks,
     played: Played,
     generator: Lcg64Xsh32,
+    waiting: Option<Waiting>,
 }
 
 impl Model for Round {
+    ghost use Rattle.std.specs.Prelude.{IfSome};
     ghost use Rattle.play_order.specs.Draws.{RoundState};
+    ghost use Rattle.play_order.specs.Waits.{IsOrderOf};
 
     ghost Value = { RoundState };
 
     ghost view = { λ r. record { ranks = r.ranks; played = r.played; generator = r.generator } };
+
+    ghost invariant = { λ r. IfSome r.waiting (IsOrderOf r.ranks r.played) };
 }
 
 impl Round {
@@ -63,6 +70,7 @@ impl Round {
             ranks: Ranks::new(alloc),
             played: Played::new(alloc),
             generator: Lcg64Xsh32::seed_from_u64(seed),
+            waiting: None,
         }
     }
 
@@ -74,6 +82,7 @@ impl Round {
             ranks: self.ranks.image()?,
             played: self.played.image()?,
             generator: self.generator.clone()?,
+            waiting: None,
         })
     }
 
@@ -82,6 +91,7 @@ impl Round {
         ensures ok { OnOk result (self.new ≡ added_lem self.old ids.now) }
         ensures err { OnErr result (self.new ≡ self.old) }
     {
+        self.waiting = None;
         self.ranks.draw(&mut self.generator, ids)
     }
 
@@ -99,6 +109,7 @@ impl Round {
         ensures err { OnErr result (self.new ≡ self.old) }
         ensures err_queue { OnErr result (queue.new ≡ queue.old) }
     {
+        self.waiting = None;
         self.ranks.insert(&mut self.generator, queue, at, songs)
     }
 
@@ -128,6 +139,7 @@ impl Round {
         if ids.is_empty() {
             return;
         }
+        self.waiting = None;
         self.ranks.remove(ids);
         self.played.remove(ids);
     }
@@ -137,11 +149,31 @@ impl Round {
         ensures ok { OnOk result (self.new ≡ started_lem modes self.old id) }
         ensures err { OnErr result (self.new ≡ self.old) }
     {
-        if modes.random {
-            self.played.move_last(id)
-        } else {
-            Ok(())
+        if modes.random { self.play(id) } else { Ok(()) }
+    }
+
+    /// The id becomes the last that was played, and its entry waits no more.
+    fn play(&mut self, id: u32) -> Result<(), AllocError>
+        ensures ok { OnOk result (self.new ≡ record self.old { played = moved_last self.old.played id }) }
+        ensures err { OnErr result (self.new ≡ self.old) }
+    {
+        let first = first_key(&self.waiting, &self.played);
+        self.played.move_last(id)?;
+        leave(&mut self.waiting, first, id);
+        Ok(())
+    }
+
+    /// Where it is wanted, the order of this queue is kept from now on. Where memory is wanted, none is.
+    fn keep_order(&mut self, wanted: bool, queue: &Queue)
+        ensures { self.new ≡ self.old }
+    {
+        if !wanted || is_kept(&self.waiting, queue) {
+            return;
         }
+        self.waiting = match Waiting::of(&self.ranks, &self.played, queue) {
+            Ok(waiting) => Some(waiting),
+            Err(_) => None,
+        };
     }
 
     /// Random order is turned on: each entry draws a rank, in order of place, and only the current song was
@@ -152,8 +184,9 @@ impl Round {
     {
         let mut round = self.drawn_anew(queue, 0, 0)?;
         if let Some(id) = current {
-            round.played.move_last(id)?;
+            round.play(id)?;
         }
+        round.keep_order(true, queue);
         *self = round;
         Ok(())
     }
@@ -162,6 +195,7 @@ impl Round {
     pub fn emptied(&mut self)
         ensures { self.new ≡ emptied_lem self.old }
     {
+        self.waiting = None;
         self.played.clear();
     }
 
@@ -255,7 +289,9 @@ impl Round {
             repeat: true,
             ..modes
         };
-        self.go_on(repeating, queue, 0, 0, &[], 0)
+        let starts = self.go_on(repeating, queue, 0, 0, &[], 0)?;
+        self.keep_order(keeps_order(modes), queue);
+        Ok(starts)
     }
 
     /// The song with this id came to its natural end. It is taken out of the queue and of the round where it
@@ -300,6 +336,7 @@ impl Round {
             self.go_on(modes, queue, from, end, &[], place)?
         };
         take_out(queue, from, end);
+        self.keep_order(keeps_order(modes), queue);
         let consume = consume_after(modes.consume);
         Ok(Ending {
             modes: Modes { consume, ..modes },
@@ -372,9 +409,9 @@ impl Round {
             self.removed(ids);
             return Ok(starts);
         }
-        match id_at(first_left(&self.ranks, &self.played, queue, from, end)) {
+        match id_at(first_entry(&self.waiting, &self.ranks, &self.played, queue, from, end)) {
             Some(id) => {
-                self.played.move_last(id)?;
+                self.play(id)?;
                 self.removed(ids);
                 Ok(Some(id))
             }
@@ -393,7 +430,7 @@ impl Round {
         if !modes.random {
             return at_or_first_left(queue, modes.repeat, from, end, place).is_some();
         }
-        first_left(&self.ranks, &self.played, queue, from, end).is_some() || (modes.repeat && some)
+        any_left(&self.played, queue, from, end) || (modes.repeat && some)
     }
 
     /// The round is over: each entry of what is left when those from a place up to another are taken out
@@ -414,12 +451,19 @@ impl Round {
     {
         let mut round = self.drawn_anew(queue, from, end)?;
         let starts = if modes.repeat {
-            id_at(first_left(&round.ranks, &round.played, queue, from, end))
+            id_at(first_entry(
+                &round.waiting,
+                &round.ranks,
+                &round.played,
+                queue,
+                from,
+                end,
+            ))
         } else {
             None
         };
         if let Some(id) = starts {
-            round.played.move_last(id)?;
+            round.play(id)?;
         }
         *self = round;
         Ok(starts)
@@ -440,6 +484,7 @@ impl Round {
             ranks,
             played: Played::new(alloc),
             generator,
+            waiting: None,
         })
     }
 
@@ -448,6 +493,7 @@ impl Round {
         ensures ok { OnOk result (self.new ≡ gone_back self.old id starts) }
         ensures err { OnErr result (self.new ≡ self.old) }
     {
+        self.waiting = None;
         match starts {
             Some(other) => self.played.leave_for(id, other),
             None => {
@@ -463,7 +509,7 @@ impl Round {
     {
         let Span { from, end, place } = span_of(modes, queue, id);
         if modes.random {
-            first_left(&self.ranks, &self.played, queue, from, end)
+            first_entry(&self.waiting, &self.ranks, &self.played, queue, from, end)
         } else {
             at_or_first_left(queue, modes.repeat, from, end, place)
         }
@@ -593,6 +639,11 @@ fn consumes(consume: Consume) -> bool
         Consume::Off => false,
         Consume::On | Consume::Oneshot => true,
     }
+}
+
+/// Whether it pays to keep a random order: what consumes changes the queue at each song.
+fn keeps_order(modes: Modes) -> bool {
+    modes.random && !consumes(modes.consume)
 }
 
 fn consume_after(consume: Consume) -> Consume

@@ -1,12 +1,14 @@
 //! Goes through what is left of a queue when the entries from one place up to another are taken out.
-ghost use Rattle.std.specs.Prelude.{◌≡◌, ◌≤◌, ◌+◌, ◌++◌, length, slice_get, ◌-◌, IfOk, OnErr, OnOk, vec_capacity, vec_len};
+ghost use Rattle.std.specs.Prelude.{◌≡◌, ◌≤◌, ◌+◌, ◌++◌, List, is_some, length, slice_get, ◌-◌, IfOk, OnErr, OnOk, vec_capacity, vec_len};
+ghost use Rattle.std.specs.List.{slice_range};
 ghost use Rattle.std.specs.Option.{option_copied};
 ghost use Rattle.song_queue.specs.declared.edit.Edit.TheVariants.{Insert};
 ghost use Rattle.song_queue.specs.Laws.{Takes};
 ghost use Rattle.song_queue.specs.State.{entries_of, inserted, queue_of};
+ghost use Rattle.play_order.specs.declared.modes.Rank.{Rank};
 ghost use Rattle.play_order.specs.Draws.{LackIds, ids_of};
-ghost use Rattle.play_order.specs.Order.{at_or_first, entry_of, first_of, ids_taken, left_by, new_ids, ranked_before, unplayed};
-ghost use Rattle.play_order.specs.Scans.{best_among, best_within, precedes as precedes_lem, rank_of_best as rank_of_best_lem};
+ghost use Rattle.play_order.specs.Order.{at_or_first, entry_of, ids_taken, left_by, new_ids, ranked_before};
+ghost use Rattle.play_order.specs.Scans.{best_among, best_within, first_in, has_unplayed, precedes as precedes_lem, rank_of_best as rank_of_best_lem};
 
 use crate::played::Played;
 use crate::ranks::Ranks;
@@ -25,10 +27,50 @@ pub(crate) fn first_left<'a>(
 ) -> Option<&'a Entry>
     requires order { from ≤ end }
     requires within { end ≤ length (queue_of queue.now) }
-    ensures { option_copied result ≡ first_of ranks.now (unplayed played.now (left_by (queue_of queue.now) from end)) }
+    ensures { option_copied result ≡ first_in ranks.now played.now queue.now from end }
 {
     let best = first_within(ranks, played, queue, 0, from, None);
     first_within(ranks, played, queue, end, queue.len(), best)
+}
+
+/// Whether an entry of what is left was not played; whatever the ranks, one of these then comes first. The
+/// queue is gone through as far as the first of them.
+pub(crate) fn any_left(played: &Played, queue: &Queue, from: usize, end: usize) -> bool
+    requires order { from ≤ end }
+    requires within { end ≤ length (queue_of queue.now) }
+    ensures { (ranks : List Rank) → result ≡ is_some (first_in ranks played.now queue.now from end) }
+{
+    let len = queue.len();
+    any_within(played, queue, 0, from) || any_within(played, queue, end, len)
+}
+
+/// Whether an entry from a place up to another was not played.
+fn any_within(played: &Played, queue: &Queue, from: usize, end: usize) -> bool
+    requires order { from ≤ end }
+    requires within { end ≤ length (queue_of queue.now) }
+    ensures { result ≡ has_unplayed played.now (slice_range (queue_of queue.now) from end) }
+{
+    let mut at = from;
+    while at < end {
+        let run = queue.run(at, end);
+        if any_of_run(played, run) {
+            return true;
+        }
+        at += run.len();
+    }
+    false
+}
+
+/// Whether an entry of some slots was not played.
+fn any_of_run(played: &Played, run: &[Slot]) -> bool
+    ensures { result ≡ has_unplayed played.now (entries_of run.now) }
+{
+    for slot in run {
+        if !played.has(slot.entry.id) {
+            return true;
+        }
+    }
+    false
 }
 
 /// The entry that comes first of the best so far and the unplayed ones from a place up to another.
@@ -200,10 +242,20 @@ fn push_ids(ids: &mut Vec<u32>, queue: &Queue, from: usize, end: usize) -> Resul
     requires within { end ≤ length (queue_of queue.now) }
     ensures { OnOk result (ids.new.items ≡ ids.old.items ++ ids_taken (queue_of queue.now) from end) }
 {
-    for place in from..end {
-        if let Some(entry) = queue.get(place) {
-            ids.push(entry.id)?;
-        }
+    let mut at = from;
+    while at < end {
+        let run = queue.run(at, end);
+        push_run(ids, run)?;
+        at += run.len();
+    }
+    Ok(())
+}
+
+fn push_run(ids: &mut Vec<u32>, run: &[Slot]) -> Result<(), AllocError>
+    ensures { OnOk result (ids.new.items ≡ ids.old.items ++ ids_of (entries_of run.now)) }
+{
+    for slot in run {
+        ids.push(slot.entry.id)?;
     }
     Ok(())
 }

@@ -28,7 +28,7 @@ returns-clause-round c =
     let queue : List Entry = queue_of c.args.queue.now in
     let left : List Entry = left_by queue c.span_of-from.result.from c.span_of-from.result.end in
     let place : ℕ = c.span_of-from.result.place in
-    elim c.if-consumes.branch [
+    c.keep_order.ensures ∙ elim c.if-consumes.branch [
       | then-consumes+in_ok-starts w ↦
           w.self-is ∙ w.in_ok-starts.ensures.round
           ∙ begun-left c.args.modes c.args.self.now (without c.args.self.now (c.args.id ∷ [])) queue left c.args.id place c.span_of-from.ensures.left (consumed c w.if-consumes.true) c.span_of-from.ensures.place

@@ -13,7 +13,7 @@ returns-then-modes c =
     let queue : List Entry = queue_of c.args.queue.now in
     let left : List Entry = entries_left c.args.modes queue c.args.id in
     let rest : RoundState = round_left c.args.modes self c.args.id in
-    c.first_left.ensures ∙ ap (λ (x : RoundState). first_of x.ranks (unplayed x.played (left_by queue c.span_of-from.result.from c.span_of-from.result.end))) c.self.view_is
+    c.first_entry.ensures ∙ ap (λ (x : RoundState). first_of x.ranks (unplayed x.played (left_by queue c.span_of-from.result.from c.span_of-from.result.end))) c.self.view_is
     ∙ ap (λ (xs : List Entry). first_of self.ranks (unplayed self.played xs)) c.span_of-from.ensures.left
     ∙ sym (first-round_left c.args.modes self queue c.args.id)
     ∙ sym (ap (λ (b : Bool). cond b (first_of rest.ranks (unplayed rest.played left)) (at_or_first c.args.modes.repeat left (place_after c.args.modes queue c.args.id))) c.if-modes.true)

@@ -1,5 +1,4 @@
-use Rattle.std.proofs.Common.{◌≡◌, ◌∙◌, ap, ℕ, Option, OnOk, IfOk, subst, true}
-use Rattle.song_queue.specs.declared.entry.Entry.{Entry}
+use Rattle.std.proofs.Common.{◌∙◌, ap, true}
 use Rattle.song_queue.specs.State.{queue_of}
 use Rattle.play_order.specs.Draws.{RoundState}
 use Rattle.play_order.specs.Order.{next_of}
@@ -8,11 +7,9 @@ use Rattle.play_order.proofs.Going.{opening-next, opening-round, without-none}
 use Rattle.play_order.proofs.round.Round.opening.Goals as goal
 
 pub returns-clause-round : goal.returns-clause-round
-returns-clause-round c =
-    subst (λ (r : RoundState). OnOk c.go_on.result (c.go_on.new.self ≡ r)) (opening-round c.args.modes c.args.self.now (queue_of c.args.queue.now)) c.go_on.ensures.round
+returns-clause-round c = c.keep_order.ensures ∙ c.in_ok-starts.ensures.round ∙ opening-round c.args.modes c.args.self.now (queue_of c.args.queue.now)
 
 pub returns-clause-starts : goal.returns-clause-starts
 returns-clause-starts c =
-    subst (λ (o : Option Entry). IfOk c.go_on.result (λ (starts : Option ℕ). starts ≡ id_of o))
-    (ap (λ (r : RoundState). next_of (record c.args.modes { repeat = true }) r (queue_of c.args.queue.now) 0) (without-none c.args.self.now)
-    ∙ opening-next c.args.modes c.args.self.now (queue_of c.args.queue.now)) c.go_on.ensures.starts
+    c.in_ok-starts.ensures.starts
+    ∙ ap id_of (ap (λ (r : RoundState). next_of (record c.args.modes { repeat = true }) r (queue_of c.args.queue.now) 0) (without-none c.args.self.now) ∙ opening-next c.args.modes c.args.self.now (queue_of c.args.queue.now))

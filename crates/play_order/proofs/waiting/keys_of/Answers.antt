@@ -1,0 +1,18 @@
+use Rattle.std.proofs.Common.{◌++◌, ◌∙◌, ap, sym, ℕ, List, length, map, take, arith}
+use Rattle.song_queue.specs.declared.entry.Entry.{Entry}
+use Rattle.song_queue.specs.State.{entries_of, queue_of}
+use Rattle.play_order.specs.Waits.{Key, key_of}
+use Rattle.play_order.proofs.Waits.{keys-join}
+use Rattle.play_order.proofs.waiting.keys_of.Goals as goal
+
+pub loop-at-preserved : goal.loop-at-preserved
+loop-at-preserved c =
+    let ranks = c.args.ranks.now in
+    let queue : List Entry = queue_of c.args.queue.now in
+    let at : ℕ = c.loop-at.at in
+    record {
+      high = omega arith;
+      keys =
+          c.in_ok-push_keys.ensures ∙ ap (λ (keys : List Key). keys ++ map (key_of ranks) (entries_of c.run-run.result.now)) c.loop-at.invariant.keys
+          ∙ ap (λ (some : List Entry). map (key_of ranks) (take at queue) ++ map (key_of ranks) some) c.run-run.ensures.part ∙ sym (keys-join ranks queue at (length c.run-run.result.now));
+    }

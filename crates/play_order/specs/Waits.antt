@@ -1,0 +1,69 @@
+-- The unplayed entries of a queue, kept in the order in which a random round takes them.
+use Rattle.std.specs.Prelude.{ℕ, ◌≡◌, ◌-◌, Bool, true, not, List, map, filter, Option, IfSome}
+use Rattle.std.specs.List.{list_any}
+use Rattle.std.specs.Ordering.{nat_cmp, ordering_then}
+use Rattle.std.specs.declared.cmp.Ordering.{Ordering}
+use Rattle.std.specs.BTreeMap.{is_at}
+use Rattle.std.specs.List.Sorted.{IsStrictlySortedBy}
+use Rattle.song_queue.specs.declared.entry.Entry.{Entry}
+use Rattle.play_order.specs.declared.modes.Rank.{Rank}
+use Rattle.play_order.specs.Draws.{rank_of, is_among}
+
+-- where an entry comes in a round: how far its priority is below the greatest, its rank and its id
+abbrev pub Key : Type 0
+Key = ℕ × ℕ × ℕ
+
+-- of two keys the one with the smaller first number comes first, then the second counts, then the third
+abbrev pub key_cmp : Key → Key → Ordering
+key_cmp a b = ordering_then (ordering_then (nat_cmp a.0 b.0) (nat_cmp a.1 b.1)) (nat_cmp a.2 b.2)
+
+abbrev pub key_of : List Rank → Entry → Key
+key_of ranks e = (255 - e.priority, rank_of ranks e.id, e.id)
+
+-- a key of an entry that has its id and its priority
+abbrev pub ranked_key : List Rank → Key → Key
+ranked_key ranks k = (255 - (255 - k.0), rank_of ranks k.2, k.2)
+
+-- priority and id, of an entry and by a key
+abbrev pub told_of : Entry → ℕ × ℕ
+told_of e = (e.priority, e.id)
+
+abbrev pub told_by : Key → ℕ × ℕ
+told_by k = (255 - k.0, k.2)
+
+-- whether a key is one of some
+abbrev pub has_key : List Key → Key → Bool
+has_key keys k = list_any (is_at (key_cmp k)) keys
+
+abbrev pub is_unplayed : List ℕ → Key → Bool
+is_unplayed played k = not (is_among k.2 played)
+
+abbrev pub unplayed_keys : List ℕ → List Key → List Key
+unplayed_keys played known = filter (is_unplayed played) known
+
+-- the keys of the entries of a queue, in the order of their places; and those that wait, rising
+pub record WaitingState : Type 0 where
+  pub known : List Key
+  pub keys : List Key
+
+abbrev pub AreInOrder : List Key → Type 0
+AreInOrder keys = IsStrictlySortedBy key_cmp keys
+
+-- the keys of a round: each has the rank of its id, all that were not played wait, and no others than those
+-- of the queue
+pub record IsOrderOf (ranks : List Rank) (played : List ℕ) (waiting : WaitingState) : Type 0 where
+  pub ranked : map (ranked_key ranks) waiting.known ≡ waiting.known
+  pub covers : (k : Key) → has_key (unplayed_keys played waiting.known) k ≡ true → has_key waiting.keys k ≡ true
+  pub known : (k : Key) → has_key waiting.keys k ≡ true → has_key waiting.known k ≡ true
+
+-- some keys are those of a list
+abbrev pub HasKeysOf : List Key → List Key → Type 0
+HasKeysOf keys list = (k : Key) → has_key keys k ≡ has_key list k
+
+-- what is an order before is one after, if the song of an id was played
+abbrev pub StaysOrder : ℕ → Option WaitingState → Option WaitingState → Type 0
+StaysOrder id before after =
+    (ranks : List Rank) (played : List ℕ)
+    → is_among id played ≡ true
+    → IfSome before (IsOrderOf ranks played)
+    → IfSome after (IsOrderOf ranks played)
