@@ -46,7 +46,7 @@ pub struct Decoder<'h, L: Ledgers, S: SongSource<M> + Drop, M: Media + Drop, R: 
     idle: usize,
     /// How often the house had changed when the first of them was asked.
     seen: u64,
-    /// How many milliseconds it rests at most while a song is played: half the time that a block lasts.
+    /// How many milliseconds it rests at most while a song is played: the time that a block lasts.
     look: u64,
     /// How many milliseconds it rests now.
     wait: u64,
@@ -74,9 +74,9 @@ enum Next {
     Decodes(Job),
 }
 
-/// Half the time that a block of 1,024 frames lasts, in milliseconds, from 1 to 20.
+/// How long a block of 1,024 frames lasts, in milliseconds, from 1 to 40.
 fn look_at(rate: u32) -> u64 {
-    (512_000 / u64::from(rate.max(1))).max(1).min(20)
+    (1_024_000 / u64::from(rate.max(1))).max(1).min(40)
 }
 
 impl<'h, L: Ledgers, S: SongSource<M> + Drop, M: Media + Drop, R: Wait + Clock> Decoder<
@@ -233,7 +233,7 @@ impl<'h, L: Ledgers, S: SongSource<M> + Drop, M: Media + Drop, R: Wait + Clock> 
     fn fill_rings(&mut self, feeders: &mut Vec<Feeder>)
         ensures { Each TakesNone feeders.old.items feeders.new.items }
     {
-        let looks = if self.streak > 1 { LOOKS } else { 1 };
+        let looks = if self.streak > 2 { LOOKS } else { 1 };
         for _ in 0..looks {
             let pushed = push_all(feeders);
             if pushed.moves {
@@ -402,8 +402,8 @@ impl<'h, L: Ledgers, S: SongSource<M> + Drop, M: Media + Drop, R: Wait + Clock> 
     /// Rests until something changes. While frames still leave the rings it looks by time, since nothing
     /// tells of them, whether a song is played or the last one has ended.
     fn rest(&mut self, seen: u64, owes: bool) {
-        // Where several blocks went since the last rest, that was too long.
-        self.wait = if self.streak > 1 {
+        // A rest of a block's time may be over late, so that two went. Where more did, it was too long.
+        self.wait = if self.streak > 2 {
             1
         } else {
             self.wait.saturating_mul(2).min(self.look)

@@ -1,6 +1,6 @@
 -- The lines of an entry, by what is shown of it.
 use Rattle.std.specs.Prelude.{ℕ, List, Option, Some}
-use Rattle.std.specs.List.{flat_map}
+use Rattle.std.specs.List.{enumerate_from, flat_map}
 use Rattle.std.specs.declared.ops.Range.{Range as Places}
 use Rattle.mpd_text.specs.declared.answers.ranges.Range.{Range}
 use Rattle.mpd_text.specs.declared.songs.song.TagName.{TagName}
@@ -8,11 +8,12 @@ use Rattle.song_queue.specs.declared.entry.Entry.{Entry}
 use Rattle.queue_commands.specs.declared.queue_songs.Shown.{Shown}
 use Rattle.queue_commands.specs.declared.queue_songs.Shown.TheVariants.{Song, Place, Uri}
 use Rattle.song_queue.specs.Entries.{row_of}
+use Rattle.song_queue.specs.State.{QueueState}
 use Rattle.transitions.specs.declared.asked.Asked.{Asked}
 use Rattle.player_state.specs.declared.state.Library.{Library}
 use Rattle.player_state.specs.declared.state.Part.{Part}
 use Rattle.transitions.specs.Transitions.{CommandResult}
-use Rattle.queue_commands.specs.Queue.{count, entry_lines, place_lines, range_or_all, show_changed, show_places, uri_line}
+use Rattle.queue_commands.specs.Queue.{count, entry_lines, place_lines, range_or_all, rows_from, show_changed, show_places, uri_line}
 
 abbrev pub row_lines : Shown → List TagName → ℕ → ℕ × Entry → List ℕ
 row_lines Song tags rate row = entry_lines tags rate row
@@ -26,6 +27,15 @@ rows_as shown tags library rows = flat_map (row_lines shown tags library.rate) r
 -- the lines of the entry at a place, if there is one
 abbrev pub row_as : Shown → List TagName → Library → ℕ → Option Entry → List ℕ
 row_as shown tags library place entry = rows_as shown tags library (row_of place entry)
+
+-- the lines of the entries of a queue at some places
+abbrev pub rows_of_places : Shown → List TagName → Library → QueueState → Places ℕ → List ℕ
+rows_of_places shown tags library queue places =
+    rows_as shown tags library (rows_from queue places.start places.end)
+
+-- the lines of entries that stand one after the other, the first of them at a place
+abbrev pub rows_of_run : Shown → List TagName → Library → ℕ → List Entry → List ℕ
+rows_of_run shown tags library first entries = rows_as shown tags library (enumerate_from first entries)
 
 -- the entries at some places
 abbrev pub places_as : Asked → Part → Library → Shown → Places ℕ → CommandResult

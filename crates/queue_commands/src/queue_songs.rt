@@ -1,10 +1,9 @@
 //! The commands that show the queue (MPD protocol reference, The queue).
 ghost use Rattle.std.specs.Prelude.{◌≡◌, ◌<◌, ◌+◌, ◌++◌, Some, IfOk, IfSome, OnOk, length};
-ghost use Rattle.std.specs.List.{enumerate_from};
 ghost use Rattle.std.specs.Option.{option_copied};
 ghost use Rattle.song_queue.specs.State.{entries_of, queue_of};
-ghost use Rattle.queue_commands.specs.Queue.{LieIn, changed_between, changed_places as changed_places_lem, changes as changes_lem, entry_lines, meeting, meets_at as meets_at_lem, playlist as playlist_lem, playlist_find as playlist_find_lem, playlist_id as playlist_id_lem, playlist_info as playlist_info_lem, place_lines, priority_line, range_or_all, rows_from, rows_in, uri_line};
-ghost use Rattle.queue_commands.specs.Shown.{changes_as, row_as, rows_as, places_as};
+ghost use Rattle.queue_commands.specs.Queue.{LieIn, changed_between, changed_places as changed_places_lem, changes as changes_lem, entry_lines, meeting, meets_at as meets_at_lem, playlist as playlist_lem, playlist_find as playlist_find_lem, playlist_id as playlist_id_lem, playlist_info as playlist_info_lem, place_lines, priority_line, range_or_all, rows_in, uri_line};
+ghost use Rattle.queue_commands.specs.Shown.{changes_as, row_as, rows_as, rows_of_places, rows_of_run, places_as};
 ghost use Rattle.transitions.specs.Transitions.{IsDecidedBy};
 
 use command_arguments::Wanted;
@@ -227,7 +226,7 @@ fn rows_between(
     tags: TagSet,
 ) -> Result<Answer, AllocError>
     requires { LieIn (length (queue_of queue.now)) places.now }
-    ensures { IfOk result (λ lines. lines ≡ rows_as shown tags library.now (rows_from queue.now places.now.start places.now.end)) }
+    ensures { IfOk result (λ lines. lines ≡ rows_of_places shown tags library.now queue.now places.now) }
 {
     let mut lines = Answer::new(alloc);
     let mut at = places.start;
@@ -250,7 +249,7 @@ fn push_run(
     tags: TagSet,
 ) -> Result<(), AllocError>
     requires { first + length run.now < 18446744073709551616 }
-    ensures { OnOk result (lines.new ≡ lines.old ++ rows_as shown tags library.now (enumerate_from first (entries_of run.now))) }
+    ensures { OnOk result (lines.new ≡ lines.old ++ rows_of_run shown tags library.now first (entries_of run.now)) }
 {
     let mut place = first;
     for slot in run {
