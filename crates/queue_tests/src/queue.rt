@@ -273,6 +273,32 @@ fn the_laws_do_nothing() {
     states_follow_pasts();
 }
 
+// A block has 256 slots: both edits go over the border of two.
+const BORDER: &str = "insert 0 600
+remove 255 257
+show new 2
+swap 0 597
+show new 3
+show place 600
+show place 256";
+
+/// What the steps over a border tell: places 255 to 597 changed by the removal, and two by the swap.
+fn border_tells(alloc: Global) -> Result<String, AllocError> {
+    let mut all = String::from_str(alloc, "ok 2 600 flips\nok 3 598 flips\n")?;
+    for place in 255..598 {
+        all.push_str(format!(in alloc; " {place}")?.as_str())?;
+    }
+    all.push_str("\nok 4 598 flips\n 0 597\n0\nnowhere\n")?;
+    Ok(all)
+}
+
+#[test]
+fn a_removal_over_the_border_of_two_blocks(rt: HostRuntime) {
+    let queue = empty(rt.alloc(), 1000, 2_147_483_647, ID_LIMIT);
+    let wanted = border_tells(rt.alloc()).unwrap_or(String::new(rt.alloc()));
+    wants(&rt, told(rt.alloc(), queue, BORDER), wanted.as_str());
+}
+
 const FULL: &str = "insert 0 16384
 show place 16384
 show size 1
