@@ -1,5 +1,5 @@
 #!/usr/bin/env python3
-"""The daemon beside MPD on the same folder: round trips, long answers, lists, notices, memory, processor time.
+"""The daemon beside MPD on the same folder: round trips, long answers, lists, notices, memory; and while they play.
 
     checks/serve/beside_mpd.py [PROGRAM] [--rounds N]
 
@@ -20,6 +20,7 @@ import time
 
 sys.dont_write_bytecode = True
 
+import pairs
 from daemon import Client, Daemon, Mpd, Table, program_of, put_songs
 
 LATE = 0.040   # a delayed acknowledgement
@@ -186,7 +187,6 @@ def one_round(server, songs, found):
     client.must('clear')
     fill(client, songs)
     keep('playlistinfo, 16,000 entries', 'ms', in_one_piece(client, 'playlistinfo', 3)[0])
-    keep('listall, 1,000 songs', 'ms', in_one_piece(client, 'listall', 5)[0])
     keep('status, 16,000 entries', 'us', *round_trips(client, 'status', 500))
     keep('memory, 16,000 entries', 'MB', server.memory())
     long_queue(server, client, songs, keep)
@@ -212,27 +212,12 @@ def long_queue(server, client, songs, keep):
     keep('memory, empty again', 'MB', server.memory())
 
 
-def idle_time(server):
-    """The processor time in ten seconds in which ten clients wait, in milliseconds."""
-    waiting = [server.client() for _ in range(10)]
-    for one in waiting:
-        one.send('idle')
-    before = server.seconds()
-    time.sleep(10)
-    used = (server.seconds() - before) * 1000
-    for one in waiting:
-        one.close()
-    return used
-
-
 def measure(servers, songs, rounds):
     """All figures of each server by name. They are measured by turns, so that what else the machine does falls on both."""
     found = {name: {} for name in servers}
     for _ in range(rounds):
         for name, server in servers.items():
             one_round(server, songs, found[name])
-    for name, server in servers.items():
-        found[name]['processor time in 10 idle seconds'] = (idle_time(server), 'ms', None)
     return found
 
 
@@ -282,6 +267,11 @@ def main():
             table.row(name, *cells, '' if slowest is None else '%.1f ms' % (slowest * 1e3), right=not late)
         for server in servers.values():
             server.kill()
+        apart = os.path.join(folder, 'pairs')
+        os.mkdir(apart)
+        for name, unit, figures in pairs.figures(program, apart, 'mpd' in servers):
+            own, other = figures['music_daemon'], figures.get('mpd')
+            table.row(name, shown(own, unit), '' if other is None else shown(other, unit), '%.2f' % (own / other) if other else '-')
     print('\n%d failed' % table.failed)
     return 1 if table.failed else 0
 

@@ -187,10 +187,13 @@ class Daemon(Process):
         return status, self.output().splitlines()
 
 
-class Mpd(Process):
-    """Debian's MPD on the same folder."""
+NULL = 'type "null"'
 
-    def __init__(self, folder, music, clients=100):
+
+class Mpd(Process):
+    """Debian's MPD on the same folder. An output is what stands in its block of the settings beside the name."""
+
+    def __init__(self, folder, music, clients=100, outputs=(NULL,)):
         port = free_port()
         own = os.path.join(folder, 'mpd')
         os.makedirs(os.path.join(own, 'lists'), exist_ok=True)
@@ -199,7 +202,8 @@ class Mpd(Process):
             file.write('\n'.join([
                 'music_directory "%s"' % music, 'playlist_directory "%s/lists"' % own, 'db_file "%s/database"' % own,
                 'sticker_file "%s/stickers"' % own, 'log_file "%s/log"' % own, 'bind_to_address "127.0.0.1"', 'port "%d"' % port,
-                'max_connections "%d"' % clients, 'audio_output {', 'type "null"', 'name "out0"', '}']) + '\n')
+                'max_connections "%d"' % clients,
+                *['audio_output {\nname "out%d"\n%s\n}' % one for one in enumerate(outputs)]]) + '\n')
         super().__init__(['mpd', '--no-daemon', conf], port, own)
         client = self.client()
         client.must('update')

@@ -1,10 +1,12 @@
 #!/usr/bin/env python3
 """Instructions of a ping and of a frame (callgrind): two runs each, one of which does twice as much; the difference is what is counted.
 
-    checks/serve/instructions.py [PROGRAM]
+    checks/serve/instructions.py [PROGRAM] [--where]
 
 A ping of a script from its line to its printed answer; a ping of a client of the daemon where 64 are in flight, alone and beside ten clients that
-idle; a frame of a file at the full volume through one output to /dev/null. It needs Debian's package valgrind.
+idle; a frame of a file at the full volume through one output to /dev/null. With --where it says of a ping, of an add in a list of 1,000, of
+`plchangesposid` after a change in 16,000 entries and of a frame, also with cross-fades, which functions take them, with all that each calls: those above a
+twentieth, but for those around all. It needs Debian's package valgrind.
 """
 import argparse
 import os
@@ -16,11 +18,12 @@ import tempfile
 
 sys.dont_write_bytecode = True
 
-from daemon import Daemon, Table, program_of, wave
+from daemon import Daemon, Table, program_of, put_songs, wave
 
 PINGS = 20_000
 IN_FLIGHT = 64
 FRAMES = 2_000_000
+RATE = 44_100
 
 
 def counting(program, out):
@@ -31,6 +34,16 @@ def counted(out):
     """The instructions of a run."""
     with open(out, encoding='utf-8') as told:
         return int(re.search(r'^(?:summary|totals): (\d+)', told.read(), re.M)[1])
+
+
+def by_function(out):
+    """The instructions of a run by function, with all that it calls."""
+    words = ['callgrind_annotate', '--inclusive=yes', '--threshold=100', '--show-percs=no', out]
+    told = subprocess.run(words, stdout=subprocess.PIPE, check=True).stdout.decode()
+    found = {}
+    for count, name in re.findall(r'^ *([\d,]+) +\S*?:(.+?)(?: \[[^]]*\])?$', told, re.M):
+        found[name] = max(found.get(name, 0), int(count.replace(',', '')))
+    return found
 
 
 def of_script(program, pings):
@@ -52,7 +65,7 @@ class Counted(Daemon):
         super().__init__(wrapper, folder, music, outputs)
 
 
-def of_flight(program, pings, idle):
+def of_flight(program, pings, idle, read=counted):
     with tempfile.TemporaryDirectory() as folder:
         music = os.path.join(folder, 'music')
         os.mkdir(music)
@@ -72,10 +85,36 @@ def of_flight(program, pings, idle):
         for one in waiting:
             one.close()
         daemon.end()
-        return counted(daemon.out)
+        return read(daemon.out)
 
 
-def of_frames(program, frames):
+def of_queue(program, entries, line, count, read):
+    """The same of a line that a client sends so often, in lists of 1,000, with so many entries in the queue."""
+    with tempfile.TemporaryDirectory() as folder:
+        music = os.path.join(folder, 'music')
+        put_songs(music, 1, 441)
+        daemon = Counted(program, folder, music, [])
+        client = daemon.client()
+        uri = client.value('listall', 'file')
+        for start in range(0, entries, 1000):
+            in_list(client, ['add "%s"' % uri] * min(1000, entries - start))
+        version = client.value('status', 'playlist')
+        if entries:
+            client.must('swap 100 %d' % (entries - 100))
+        for _ in range(count // 1000):
+            in_list(client, [line.format(uri=uri, version=version)] * 1000)
+            if not entries:
+                client.must('clear')
+        client.close()
+        daemon.end()
+        return read(daemon.out)
+
+
+def in_list(client, lines):
+    client.must('\n'.join(['command_list_begin', *lines, 'command_list_end']))
+
+
+def of_frames(program, frames, read=counted, entries=1, fade=0):
     with tempfile.TemporaryDirectory() as folder:
         music = os.path.join(folder, 'music')
         os.mkdir(music)
@@ -84,19 +123,46 @@ def of_frames(program, frames):
             file.write(head[:-4] + struct.pack('<I', 4 * frames) + os.urandom(4 * frames))
         daemon = Counted(program, folder, music, ['/dev/null'])
         client = daemon.client()
-        client.must('add ""')
+        for _ in range(entries):
+            client.must('add ""')
+        client.must('crossfade %d' % fade)
         client.must('play')
         while client.value('status', 'state') != 'stop':
             client.must('idle player')
         client.close()
         daemon.end()
-        return counted(daemon.out)
+        return read(daemon.out)
+
+
+def show_parts(what, less, more, count):
+    """Prints what each function takes of one of so many, by two runs."""
+    each = {name: (more[name] - less.get(name, 0)) / count for name in more}
+    whole = max(each.values())
+    table = Table('\n%s: %.0f' % (what, whole), -8, 70)
+    for name, part in sorted(each.items(), key=lambda item: -item[1]):
+        if whole / 20 <= part < whole * 0.98:
+            table.row('%.0f' % part if whole >= 1000 else '%.1f' % part, re.sub('::<#[0-9a-f]+>', '', name))
+
+
+def show_where(program):
+    done = PINGS // IN_FLIGHT * IN_FLIGHT
+    show_parts('A `ping`', of_flight(program, done, 0, by_function), of_flight(program, 2 * done, 0, by_function), done)
+    show_parts('An `add` in a list', *(of_queue(program, 0, 'add "{uri}"', count, by_function) for count in (4000, 8000)), 4000)
+    show_parts('`plchangesposid`', *(of_queue(program, 16000, 'plchangesposid {version}', count, by_function) for count in (1000, 3000)), 2000)
+    show_parts('A frame', of_frames(program, FRAMES, by_function), of_frames(program, 2 * FRAMES, by_function), FRAMES)
+    # Songs of 30 seconds, of which each fades into the next for 10: two more have 40 seconds to be heard.
+    less, more = (of_frames(program, 30 * RATE, by_function, entries, 10) for entries in (2, 4))
+    show_parts('A frame, a third of which fade', less, more, 40 * RATE)
 
 
 def main():
     parser = argparse.ArgumentParser(description='Counts the instructions of a ping and of a frame.')
     parser.add_argument('program', nargs='?')
-    program = program_of(parser.parse_args().program)
+    parser.add_argument('--where', action='store_true')
+    given = parser.parse_args()
+    program = program_of(given.program)
+    if given.where:
+        return show_where(program)
     table = Table('Instructions', 36, -8)
     done = PINGS // IN_FLIGHT * IN_FLIGHT
     table.row('a `ping` of a script', '%.0f' % ((of_script(program, 2 * PINGS) - of_script(program, PINGS)) / PINGS))

@@ -1,0 +1,136 @@
+"""Figures for beside_mpd.py for which both servers are started anew: a larger library; frames a second, processor time and wake-ups while
+they play."""
+import os
+import struct
+import tempfile
+import time
+
+from daemon import Daemon, Mpd, NULL, Pacer, put_songs, wave
+
+RATE = 44100
+LIBRARY = 5000
+SONG = 30 * RATE      # the frames of a song, of 16 bits and two channels
+FADE = 10             # the seconds of a cross-fade
+SECONDS = 10          # how long processor time and wake-ups are counted
+FAST = 'type "null"\nsync "no"'
+PIPE = 'type "fifo"\npath "%s"\nformat "44100:16:2"'
+
+
+def put_song(music):
+    os.mkdir(music)
+    head = wave([])
+    with open(os.path.join(music, 'song.wav'), 'wb') as file:
+        file.write(head[:-4] + struct.pack('<I', 4 * SONG) + os.urandom(4 * SONG))
+
+
+class Pair:
+    """Both servers on one folder, each with outputs of its own."""
+
+    def __init__(self, program, folder, music, with_mpd, outputs, of_mpd):
+        own = tempfile.mkdtemp(dir=folder)
+        self.servers = {'music_daemon': Daemon(program, own, music, outputs)}
+        if with_mpd:
+            self.servers['mpd'] = Mpd(tempfile.mkdtemp(dir=folder), music, outputs=of_mpd)
+
+    def figures(self, measured):
+        found = {name: measured(server) for name, server in self.servers.items()}
+        for server in self.servers.values():
+            server.kill()
+        return found
+
+
+def queue(client, entries):
+    client.must('clear')
+    client.must('\n'.join(['command_list_begin', *['add "song.wav"'] * entries, 'command_list_end']))
+
+
+def speed(entries, fade):
+    """Million frames a second of so many songs, each of which fades into the next for so many seconds."""
+    def measured(server):
+        client = server.client()
+        queue(client, entries)
+        client.must('crossfade %d' % fade)
+        start = time.perf_counter()
+        client.must('play 0')
+        while client.value('status', 'state') != 'stop':
+            client.must('idle player')
+        passed = time.perf_counter() - start
+        client.close()
+        return (entries * SONG - (entries - 1) * fade * RATE) / passed / 1e6
+    return measured
+
+
+def woken(server):
+    """How often threads of a server were woken: each let its processor go of itself before."""
+    folder, count = '/proc/%d/task' % server.process.pid, 0
+    for task in os.listdir(folder):
+        with open('%s/%s/status' % (folder, task)) as file:
+            count += next(int(line.split()[1]) for line in file if line.startswith('voluntary_ctxt'))
+    return count
+
+
+def costs(server):
+    """Processor time in percent of one processor, and wake-ups a second."""
+    start, used, before = time.perf_counter(), server.seconds(), woken(server)
+    time.sleep(SECONDS)
+    passed = time.perf_counter() - start
+    return 100 * (server.seconds() - used) / passed, (woken(server) - before) / passed
+
+
+def of_pipes(server):
+    client = server.client()
+    queue(client, 10)
+    client.must('play 0')
+    time.sleep(2)
+    found = costs(server)
+    client.must('stop')
+    client.close()
+    return found
+
+
+def of_idle(server):
+    """Processor time and wake-ups a second while ten clients wait."""
+    waiting = [server.client() for _ in range(10)]
+    for one in waiting:
+        one.send('idle')
+    time.sleep(1)
+    found = costs(server)
+    for one in waiting:
+        one.close()
+    return found
+
+
+def of_library(server):
+    """Milliseconds of a list of all songs, the best of five."""
+    client, best = server.client(), float('inf')
+    for _ in range(5):
+        start = time.perf_counter()
+        client.send('listall')
+        held = bytearray()
+        while not held.endswith(b'\nOK\n'):
+            held += client.socket.recv(1 << 20)
+        best = min(best, time.perf_counter() - start)
+    client.close()
+    return best * 1e3
+
+
+def figures(program, folder, with_mpd):
+    """Rows of a name, a unit and a figure of each server."""
+    library, music = os.path.join(folder, 'library'), os.path.join(folder, 'music')
+    put_songs(library, LIBRARY, 441)
+    put_song(music)
+    yield 'listall, 5,000 songs', 'ms', Pair(program, folder, library, with_mpd, ['/dev/null'], [NULL]).figures(of_library)
+    for name, outputs, entries, fade in (('frames a second, 1 null output', 1, 150, 0), ('frames a second, 3 null outputs', 3, 40, 0),
+                                         ('the same with 1 and cross-fades', 1, 60, FADE)):
+        pair = Pair(program, folder, music, with_mpd, ['/dev/null'] * outputs, [FAST] * outputs)
+        yield name, 'million', pair.figures(speed(entries, fade))
+    paths = [[os.path.join(folder, '%s%d' % (kind, number)) for number in range(2)] for kind in ('own', 'other')]
+    pacers = [Pacer(path, RATE) for path in paths[0] + (paths[1] if with_mpd else [])]
+    found = Pair(program, folder, music, with_mpd, paths[0], [PIPE % path for path in paths[1]]).figures(of_pipes)
+    for pacer in pacers:
+        pacer.close()
+    idle = Pair(program, folder, music, with_mpd, ['/dev/null'], [FAST]).figures(of_idle)
+    yield 'processor, playing to two FIFOs', '%', {name: it[0] for name, it in found.items()}
+    yield 'wake-ups a second, the same', '', {name: it[1] for name, it in found.items()}
+    yield 'wake-ups a second, idle', '', {name: it[1] for name, it in idle.items()}
+    yield 'processor, idle', '%', {name: it[0] for name, it in idle.items()}
