@@ -19,8 +19,8 @@ CHANGES = (
     ("a session's step", 'mpd_session', 'src/conversation.rt', 'let notice = house.outbox(rt, self.asker.client);',
      'let client = self.asker.client; let notice = house.outbox(rt, client);'),
     ('a rule of play order', 'play_order', 'src/round.rt',
-     'take_out(queue, from, end);\n        let consume = consume_after(modes.consume);',
-     'take_out(queue, from, end);\n        let mode = modes.consume; let consume = consume_after(mode);'),
+     'queue);\n        let consume = consume_after(modes.consume);',
+     'queue);\n        let mode = modes.consume; let consume = consume_after(mode);'),
 )
 
 
