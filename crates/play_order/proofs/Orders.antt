@@ -1,87 +1,106 @@
 -- The order that a round keeps of a queue: what waits first is the entry that comes first.
-use Rattle.std.proofs.Common.{◌≡◌, ◌≢◌, ◌⊎◌, ℕ, ◌-◌, ◌<◌, ◌≤◌, Bool, true, false, ◌||◌, ◌==◌, not, cond, List, [], ◌∷◌, map, filter, find, Option, Some, None, IfSome, Less, Equal, Greater, refl, ap, sym, subst, ◌∙◌, inl, inr, arith}
-use Rattle.std.specs.List.{AllByRecursion, list_any, list_all}
-use Rattle.std.specs.List.Sorted.{IsStrictlySortedBy}
-use Rattle.std.specs.declared.cmp.Ordering.{Ordering}
+use Rattle.std.proofs.Common.{◌≡◌, ◌≢◌, ◌⊎◌, ℕ, ◌-◌, ◌<◌, ◌≤◌, Bool, true, false, ◌||◌, ◌==◌, not, cond, List, [], ◌∷◌, length, map, filter, find, Option, Some, None, Greater, refl, ap, sym, subst, ◌∙◌, inl, inr, arith}
+use Rattle.std.specs.List.{list_any, list_all}
 use Rattle.std.specs.Ordering.{is_eq, is_gt, nat_cmp, ordering_then}
-use Rattle.std.proofs.lemmas.Bool.{cond-true, cond-false, cases_Bool, cases_lt, cases_eq, and_parts, and_from, eq-eqb, eqb-true, ne_eqb, lt-ltb, ltb-true}
+use Rattle.std.proofs.lemmas.Bool.{cond-true, cond-false, false_from_ne_true, false≢true, cases_Bool, cases_lt, cases_eq, and_parts, and_from, eq-eqb, eqb-true, ne_eqb, lt-ltb, ltb-true}
+use Rattle.std.proofs.lemmas.List.Elements.{All-head, All-tail}
 use Rattle.song_queue.specs.declared.entry.Entry.{Entry}
 use Rattle.play_order.specs.declared.modes.Rank.{Rank}
 use Rattle.play_order.specs.Draws.{is_among, has_id, moved_last, rank_of}
 use Rattle.play_order.specs.Order.{comes_before, entry_of, is_first, first_of, unplayed}
-use Rattle.play_order.specs.Waits.{AreInOrder, IsOrderOf, Key, WaitingState, has_key, is_unplayed, key_cmp, key_of, ranked_key, told_by, told_of, unplayed_keys}
+use Rattle.play_order.specs.Waits.{AreOf, HasKeyWith, HaveOwnIds, IsOrderOf, Key, LacksId, WaitingState, has_key, key_cmp, key_of, ranked_key, told_by, told_of, unplayed_keys}
 use Rattle.play_order.proofs.Firsts.{Distinct, EachIn, Apart, each-filter}
 use Rattle.play_order.proofs.Ids.{among-moved_last}
-use Rattle.play_order.proofs.Waits.{is_eq-key, nat_cmp-eq, nat_cmp-gt, same_key, same_key-is, same_key-refl}
+use Rattle.play_order.proofs.Waits.{has_key-filter, is_eq-key, nat_cmp-eq, nat_cmp-gt, same_key, same_key-is, same_key-refl}
 
-has_key-weaken : (p q : List ℕ) → ((id : ℕ) → is_among id p ≡ true → is_among id q ≡ true) → (known : List Key) (k : Key) → has_key (unplayed_keys q known) k ≡ true → has_key (unplayed_keys p known) k ≡ true
-has_key-weaken p q more [] k h = h
-has_key-weaken p q more (x ∷ xs) k h =
-    elim (is_among x.2 q) as (λ v. is_among x.2 q ≡ v → has_key (cond (not v) (x ∷ unplayed_keys q xs) (unplayed_keys q xs)) k ≡ true → has_key (unplayed_keys p (x ∷ xs)) k ≡ true) [
-      | true ↦ λ e f. also (is_unplayed p x) x (unplayed_keys p xs) k (has_key-weaken p q more xs k f)
-      | false ↦ λ e f.
-          let left : is_among x.2 p ≡ false = elim (is_among x.2 p) as (λ v. is_among x.2 p ≡ v → v ≡ false) [
-            | true ↦ λ t. sym (more x.2 t) ∙ e
-            | false ↦ λ t. refl
-          ] refl in
-          rw left (elim (is_eq (key_cmp k x)) as (λ v. (v || has_key (unplayed_keys q xs) k) ≡ true → (v || has_key (unplayed_keys p xs) k) ≡ true) [
-            | true ↦ λ t. refl
-            | false ↦ λ t. has_key-weaken p q more xs k t
-          ] f)
-    ] refl h
-  where
-    also : (b : Bool) (x : Key) (xs : List Key) (k : Key) → has_key xs k ≡ true → has_key (cond b (x ∷ xs) xs) k ≡ true
-    also true x xs k e = elim (is_eq (key_cmp k x)) as (λ v. (v || has_key xs k) ≡ true) [ true ↦ refl | false ↦ e ]
-    also false x xs k e = e
+or_left : (a b : Bool) → a ≡ true → (a || b) ≡ true
+or_left a b e = ap (λ x. x || b) e
 
--- a key that was found among those of unplayed entries is one
-has_key-unplayed : (played : List ℕ) (known : List Key) (k : Key) → has_key (unplayed_keys played known) k ≡ true → is_among k.2 played ≡ false
-has_key-unplayed played [] k h = cc
-has_key-unplayed played (x ∷ xs) k h =
-    elim (is_among x.2 played) as (λ v. is_among x.2 played ≡ v → has_key (cond (not v) (x ∷ unplayed_keys played xs) (unplayed_keys played xs)) k ≡ true → is_among k.2 played ≡ false) [
-      | true ↦ λ e f. has_key-unplayed played xs k f
-      | false ↦ λ e f. elim (is_eq (key_cmp k x)) as (λ v. is_eq (key_cmp k x) ≡ v → (v || has_key (unplayed_keys played xs) k) ≡ true → is_among k.2 played ≡ false) [
-        | true ↦ λ t g. let s : k ≡ x = same_key-is k x (sym (is_eq-key k x) ∙ t) in ap (λ (y : Key). is_among y.2 played) s ∙ e
-        | false ↦ λ t g. has_key-unplayed played xs k g
-      ] refl f
-    ] refl h
+or_right : (a b : Bool) → b ≡ true → (a || b) ≡ true
+or_right true b e = refl
+or_right false b e = e
 
--- with more that were played an order stays
-pub order-played : (ranks : List Rank) (played : List ℕ) (id : ℕ) (waiting : WaitingState) → IsOrderOf ranks played waiting → IsOrderOf ranks (moved_last played id) waiting
-order-played ranks played id waiting order = record {
+or_cases : (a b : Bool) → (a || b) ≡ true → (a ≡ true) ⊎ (b ≡ true)
+or_cases true b e = inl refl
+or_cases false b e = inr e
+
+-- keys that are not one are apart
+apart-keys : (k x : Key) → (k ≡ x → ⊥) → is_eq (key_cmp k x) ≡ false
+apart-keys k x ne = false_from_ne_true (is_eq (key_cmp k x)) (λ t. ne (same_key-is k x (sym (is_eq-key k x) ∙ t)))
+
+-- the keys that wait when one more song was played: those of other ids
+has_key-played : (id : ℕ) (played : List ℕ) (known : List Key) (k : Key) → has_key (unplayed_keys (moved_last played id) known) k ≡ cond (id == k.2) false (has_key (unplayed_keys played known) k)
+has_key-played id played [] k = elim (id == k.2) as (λ v. false ≡ cond v false false) [ true ↦ refl | false ↦ refl ]
+has_key-played id played (x ∷ xs) k =
+    let less : List Key = unplayed_keys (moved_last played id) xs in
+    let left : List Key = unplayed_keys played xs in
+    let rest : has_key less k ≡ cond (id == k.2) false (has_key left k) = has_key-played id played xs k in
+    let among : is_among x.2 (moved_last played id) ≡ cond (id == x.2) true (is_among x.2 played) = among-moved_last x.2 id played in
+    elim (id == x.2) as (λ v. (id == x.2) ≡ v → has_key (unplayed_keys (moved_last played id) (x ∷ xs)) k ≡ cond (id == k.2) false (has_key (unplayed_keys played (x ∷ xs)) k)) [
+      | true ↦ λ e.
+          let gone : is_among x.2 (moved_last played id) ≡ true = among ∙ cond-true _ _ _ e in
+          rw gone (rest ∙ (elim (is_among x.2 played) as (λ w. cond (id == k.2) false (has_key left k) ≡ cond (id == k.2) false (has_key (cond (not w) (x ∷ left) left) k)) [
+            | true ↦ refl
+            | false ↦ elim (id == k.2) as (λ u. (id == k.2) ≡ u → cond u false (has_key left k) ≡ cond u false (is_eq (key_cmp k x) || has_key left k)) [
+              | true ↦ λ f. refl
+              | false ↦ λ f. let other = apart-keys k x (λ s. false≢true (sym f ∙ ap (λ (y : Key). id == y.2) s ∙ e)) in rw other refl
+            ] refl
+          ]))
+      | false ↦ λ e.
+          let same : is_among x.2 (moved_last played id) ≡ is_among x.2 played = among ∙ cond-false _ _ _ e in
+          rw same (elim (is_among x.2 played) as (λ w. has_key (cond (not w) (x ∷ less) less) k ≡ cond (id == k.2) false (has_key (cond (not w) (x ∷ left) left) k)) [
+            | true ↦ rest
+            | false ↦ (λ i. is_eq (key_cmp k x) || rest i) ∙ (elim (id == k.2) as (λ u. (id == k.2) ≡ u → (is_eq (key_cmp k x) || cond u false (has_key left k)) ≡ cond u false (is_eq (key_cmp k x) || has_key left k)) [
+              | true ↦ λ f. let other = apart-keys k x (λ s. false≢true (sym e ∙ ap (λ (y : Key). id == y.2) (sym s) ∙ f)) in rw other refl
+              | false ↦ λ f. refl
+            ] refl)
+          ])
+    ] refl
+
+-- without the key of a song that was played, and with no other gone, an order is one of the round after the play
+pub order-left : (ranks : List Rank) (played : List ℕ) (known keys less : List Key) (version id : ℕ) (k : Key) → HasKeyWith id (record { known = known; keys = keys; version = version }) k
+    → ((q : Key) → has_key less q ≡ cond (is_eq (key_cmp k q)) false (has_key keys q)) → IsOrderOf ranks played (record { known = known; keys = keys; version = version })
+    → IsOrderOf ranks (moved_last played id) (record { known = known; keys = less; version = version })
+order-left ranks played known keys less version id k found updates order = record {
   ranked = order.ranked;
-  covers = λ k h. order.covers k (has_key-weaken played (moved_last played id) (λ other among. among-moved_last other id played ∙ or_among (id == other) (is_among other played) among) waiting.known k h);
-  known = order.known;
+  own = order.own;
+  waits = λ q. updates q ∙ alone q ∙ ap (cond (id == q.2) false) (order.waits q) ∙ sym (has_key-played id played known q);
 }
   where
-    or_among : (a b : Bool) → b ≡ true → cond a true b ≡ true
-    or_among true b e = refl
-    or_among false b e = e
+    old : (q : Key) → has_key keys q ≡ true → has_key known q ≡ true
+    old q h = has_key-filter played known q (sym (order.waits q) ∙ h)
 
-pub kept-played : (ranks : List Rank) (played after : List ℕ) (id : ℕ) (waiting : Option WaitingState) → after ≡ moved_last played id → IfSome waiting (IsOrderOf ranks played) → IfSome waiting (IsOrderOf ranks after)
-kept-played ranks played after id None same h = tt
-kept-played ranks played after id (Some w) same h = subst (λ (p : List ℕ). IsOrderOf ranks p w) (sym same) (order-played ranks played id w h)
+    here : has_key known k ≡ true
+    here = elim (or_cases (has_key keys k) (has_key known k) found.1) [ inl h ↦ old k h | inr h ↦ h ]
 
-pub played-last : (played after : List ℕ) (id : ℕ) → after ≡ moved_last played id → is_among id after ≡ true
-played-last played after id same = ap (is_among id) same ∙ among-moved_last id id played ∙ cond-true _ _ _ (eq-eqb id id refl)
+    alone : (q : Key) → cond (is_eq (key_cmp k q)) false (has_key keys q) ≡ cond (id == q.2) false (has_key keys q)
+    alone q = elim (is_eq (key_cmp k q)) as (λ v. is_eq (key_cmp k q) ≡ v → cond v false (has_key keys q) ≡ cond (id == q.2) false (has_key keys q)) [
+      | true ↦ λ e. let s : k ≡ q = same_key-is k q (sym (is_eq-key k q) ∙ e) in sym (cond-true _ _ _ (eq-eqb id q.2 (sym found.0 ∙ ap (λ (x : Key). x.2) s)))
+      | false ↦ λ e. elim (id == q.2) as (λ v. (id == q.2) ≡ v → has_key keys q ≡ cond v false (has_key keys q)) [
+        | true ↦ λ f. false_from_ne_true (has_key keys q) (λ h.
+            let s : k ≡ q = order.own k q here (old q h) (found.0 ∙ eqb-true id q.2 f) in
+            false≢true (sym e ∙ is_eq-key k q ∙ ap (same_key k) (sym s) ∙ same_key-refl k))
+        | false ↦ λ f. refl
+      ] refl
+    ] refl
 
--- and without a key of a song that was played
-pub order-removed : (ranks : List Rank) (played : List ℕ) (known keys less : List Key) (k : Key) → is_among k.2 played ≡ true → ((q : Key) → has_key less q ≡ cond (is_eq (key_cmp k q)) false (has_key keys q))
-    → IsOrderOf ranks played (record { known = known; keys = keys }) → IsOrderOf ranks played (record { known = known; keys = less })
-order-removed ranks played known keys less k gone updates order = record {
+lacks-key : (id : ℕ) (known : List Key) (k : Key) → LacksId id known → id ≡ k.2 → has_key known k ≡ false
+lacks-key id [] k lacks e = refl
+lacks-key id (x ∷ xs) k lacks e =
+    let other = apart-keys k x (λ s. All-head (λ (y : Key). y.2 ≢ id) x xs lacks (sym (ap (λ (y : Key). y.2) s) ∙ sym e)) in
+    rw other (lacks-key id xs k (All-tail (λ (y : Key). y.2 ≢ id) x xs lacks) e)
+
+-- a song of which there is no key
+pub order-lacks : (ranks : List Rank) (played : List ℕ) (id : ℕ) (waiting : WaitingState) → LacksId id waiting.known → IsOrderOf ranks played waiting → IsOrderOf ranks (moved_last played id) waiting
+order-lacks ranks played id waiting lacks order = record {
   ranked = order.ranked;
-  covers = λ q h. updates q ∙ apart q (has_key-unplayed played known q h) ∙ order.covers q h;
-  known = λ q h. order.known q (kept (is_eq (key_cmp k q)) (has_key keys q) (sym (updates q) ∙ h));
+  own = order.own;
+  waits = λ q. order.waits q ∙ others q ∙ sym (has_key-played id played waiting.known q);
 }
   where
-    kept : (a b : Bool) → cond a false b ≡ true → b ≡ true
-    kept true b e = cc
-    kept false b e = e
-
-    apart : (q : Key) → is_among q.2 played ≡ false → cond (is_eq (key_cmp k q)) false (has_key keys q) ≡ has_key keys q
-    apart q waits = elim (is_eq (key_cmp k q)) as (λ v. is_eq (key_cmp k q) ≡ v → cond v false (has_key keys q) ≡ has_key keys q) [
-      | true ↦ λ e. let s : k ≡ q = same_key-is k q (sym (is_eq-key k q) ∙ e) in
-          let clash : true ≡ false = sym gone ∙ ap (λ (x : Key). is_among x.2 played) s ∙ waits in cc
+    others : (q : Key) → has_key (unplayed_keys played waiting.known) q ≡ cond (id == q.2) false (has_key (unplayed_keys played waiting.known) q)
+    others q = elim (id == q.2) as (λ v. (id == q.2) ≡ v → has_key (unplayed_keys played waiting.known) q ≡ cond v false (has_key (unplayed_keys played waiting.known) q)) [
+      | true ↦ λ e. false_from_ne_true _ (λ h. false≢true (sym (lacks-key id waiting.known q lacks (eqb-true id q.2 e)) ∙ has_key-filter played waiting.known q h))
       | false ↦ λ e. refl
     ] refl
 
@@ -114,17 +133,6 @@ low_key x y h = elim (cases_lt x.0 y.0) [
     ]
   ]
 ]
-
-or_left : (a b : Bool) → a ≡ true → (a || b) ≡ true
-or_left a b e = ap (λ x. x || b) e
-
-or_right : (a b : Bool) → b ≡ true → (a || b) ≡ true
-or_right true b e = refl
-or_right false b e = e
-
-or_cases : (a b : Bool) → (a || b) ≡ true → (a ≡ true) ⊎ (b ≡ true)
-or_cases true b e = inl refl
-or_cases false b e = inr e
 
 -- an entry whose key is below another's comes before it, and no other
 before_from_key : (ranks : List Rank) (c d : Entry) → c.priority ≤ 255 → d.priority ≤ 255 → Below (key_of ranks c) (key_of ranks d) → comes_before ranks c d ≡ true
@@ -221,66 +229,14 @@ module _ (ranks : List Rank) (k : Key) where
       ] in
       (e, found.1, is)
 
--- what is found among keys in order is one of them, passes the test, and is above no other that does
-find-least : (p : Key → Bool) (keys : List Key) (k : Key) → AreInOrder keys → find p keys ≡ Some k → (p k ≡ true) × (has_key keys k ≡ true) × ((x : Key) → has_key keys x ≡ true → p x ≡ true → is_gt (key_cmp k x) ≡ false)
-unfolding IsStrictlySortedBy
-find-least p [] k sorted found = cc
-find-least p (y ∷ ys) k sorted found =
-    elim (p y) as (λ v. p y ≡ v → cond v (Some y) (find p ys) ≡ Some k → (p k ≡ true) × (has_key (y ∷ ys) k ≡ true) × ((x : Key) → has_key (y ∷ ys) x ≡ true → p x ≡ true → is_gt (key_cmp k x) ≡ false)) [
-      | true ↦ λ t e.
-          let s : y ≡ k = cc in (
-            ap p (sym s) ∙ t,
-            or_left _ _ (is_eq-key k y ∙ ap (same_key k) s ∙ same_key-refl k),
-            λ x h q. elim (or_cases (is_eq (key_cmp x y)) (has_key ys x) h) [
-              | inl e ↦ let r : x ≡ y = same_key-is x y (sym (is_eq-key x y) ∙ e) in ap (λ (z : Key). is_gt (key_cmp z x)) (sym s ∙ sym r) ∙ not_above-self x
-              | inr e ↦ ap (λ (z : Key). is_gt (key_cmp z x)) (sym s) ∙ ap is_gt (above y ys x sorted.0 e)
-            ],
-          )
-      | false ↦ λ t e.
-          let rest = find-least p ys k sorted.1 e in (
-            rest.0,
-            or_right _ _ rest.1,
-            λ x h q. elim (or_cases (is_eq (key_cmp x y)) (has_key ys x) h) [
-              | inl e ↦ let r : x ≡ y = same_key-is x y (sym (is_eq-key x y) ∙ e) in let clash : true ≡ false = sym q ∙ ap p r ∙ t in cc
-              | inr e ↦ rest.2 x e q
-            ],
-          )
-    ] refl found
-  where
-    not_above-self : (x : Key) → is_gt (key_cmp x x) ≡ false
-    not_above-self x = let e : is_eq (key_cmp x x) ≡ true = is_eq-key x x ∙ same_key-refl x in by (key_cmp x x) e
-      where
-        by : (o : Ordering) → is_eq o ≡ true → is_gt o ≡ false
-        by Less e = cc
-        by Equal e = refl
-        by Greater e = cc
-
-    above : (y : Key) (ys : List Key) (x : Key) → AllByRecursion (λ z. key_cmp y z ≡ Less) ys → has_key ys x ≡ true → key_cmp y x ≡ Less
-    above y [] x all h = cc
-    above y (z ∷ zs) x all h = elim (or_cases (is_eq (key_cmp x z)) (has_key zs x) h) [
-      | inl e ↦ ap (key_cmp y) (same_key-is x z (sym (is_eq-key x z) ∙ e)) ∙ all.0
-      | inr e ↦ above y zs x all.1 e
-    ]
-
-find-no : (p : Key → Bool) (keys : List Key) → find p keys ≡ None → (x : Key) → has_key keys x ≡ true → p x ≡ false
-find-no p [] none x h = cc
-find-no p (y ∷ ys) none x h =
-    elim (p y) as (λ v. p y ≡ v → cond v (Some y) (find p ys) ≡ None → p x ≡ false) [
-      | true ↦ λ t e. cc
-      | false ↦ λ t e. elim (or_cases (is_eq (key_cmp x y)) (has_key ys x) h) [
-        | inl f ↦ ap p (same_key-is x y (sym (is_eq-key x y) ∙ f)) ∙ t
-        | inr f ↦ find-no p ys e x f
-      ]
-    ] refl none
-
 -- the priorities of a queue whose keys are known are those of keys
-within : (entries : List Entry) (known : List Key) → map told_of entries ≡ map told_by known → EachIn (λ e. e.priority ≤ 255) entries
+within : (entries : List Entry) (known : List Key) → AreOf entries known → EachIn (λ e. e.priority ≤ 255) entries
 within [] known h = tt
 within (e ∷ es) [] h = cc
 within (e ∷ es) (k ∷ ks) h = let first : told_of e ≡ told_by k = cc in let rest : map told_of es ≡ map told_by ks = cc in let p = ap (λ (t : ℕ × ℕ). t.0) first in (omega arith, within es ks rest)
 
 -- the keys of a queue's entries are those that are known
-known-are : (ranks : List Rank) (entries : List Entry) (known : List Key) → map told_of entries ≡ map told_by known → map (ranked_key ranks) known ≡ known → map (key_of ranks) entries ≡ known
+known-are : (ranks : List Rank) (entries : List Entry) (known : List Key) → AreOf entries known → map (ranked_key ranks) known ≡ known → map (key_of ranks) entries ≡ known
 known-are ranks entries known h ranked = by_entries entries ∙ ap (map by) h ∙ sym (by_known known) ∙ ranked
   where
     by : ℕ × ℕ → Key
@@ -331,46 +287,55 @@ own-entry t p (x ∷ xs) e d h =
     behind : (x : Entry) (xs : List Entry) (e : Entry) → Apart x xs → find (has_id e.id) xs ≡ Some e → find (has_id e.id) (x ∷ xs) ≡ Some e
     behind x xs e apart rest = cond-false _ _ _ (ne_eqb x.id e.id (found-each (λ y. x.id ≢ y.id) (has_id e.id) xs e apart rest)) ∙ rest
 
+-- a key of entries has the id of one of them
+other-id : (ranks : List Rank) (x : Entry) (xs : List Entry) (k : Key) → Apart x xs → has_key (map (key_of ranks) xs) k ≡ true → x.id ≡ k.2 → ⊥
+other-id ranks x [] k apart h s = false≢true h
+other-id ranks x (y ∷ ys) k apart h s = elim (or_cases (is_eq (key_cmp k (key_of ranks y))) _ h) [
+  | inl e ↦ apart.0 (s ∙ ap (λ (q : Key). q.2) (same_key-is k (key_of ranks y) (sym (is_eq-key k (key_of ranks y)) ∙ e)))
+  | inr r ↦ other-id ranks x ys k apart.1 r s
+]
+
+-- where ids are distinct, so are those of keys
+pub own-ids : (ranks : List Rank) (entries : List Entry) → Distinct entries → HaveOwnIds (map (key_of ranks) entries)
+own-ids ranks [] distinct a b h k e = absurd (false≢true h)
+own-ids ranks (x ∷ xs) distinct a b h k e = elim (or_cases (is_eq (key_cmp a (key_of ranks x))) _ h) [
+  | inl s ↦ let is : a ≡ key_of ranks x = same_key-is a (key_of ranks x) (sym (is_eq-key a (key_of ranks x)) ∙ s) in elim (or_cases (is_eq (key_cmp b (key_of ranks x))) _ k) [
+    | inl t ↦ is ∙ sym (same_key-is b (key_of ranks x) (sym (is_eq-key b (key_of ranks x)) ∙ t))
+    | inr t ↦ absurd (other-id ranks x xs b distinct.0 t (sym (ap (λ (q : Key). q.2) is) ∙ e))
+  ]
+  | inr s ↦ elim (or_cases (is_eq (key_cmp b (key_of ranks x))) _ k) [
+    | inl t ↦ let is : b ≡ key_of ranks x = same_key-is b (key_of ranks x) (sym (is_eq-key b (key_of ranks x)) ∙ t) in absurd (other-id ranks x xs a distinct.0 s (sym (ap (λ (q : Key). q.2) is) ∙ sym e))
+    | inr t ↦ own-ids ranks xs distinct.1 a b s t e
+  ]
+]
+
+-- where there is no first key there is none
+pub no-keys : (keys : List Key) → (0 < length keys → false ≡ true) → keys ≡ []
+no-keys [] none = refl
+no-keys (k ∷ ks) none = absurd (false≢true (none (omega arith)))
+
 -- what waits first is the first entry of those that were not played
-module _ (ranks : List Rank) (played : List ℕ) (entries : List Entry) (waiting : WaitingState) (same : map told_of entries ≡ map told_by waiting.known) (order : IsOrderOf ranks played waiting) where
+module _ (ranks : List Rank) (played : List ℕ) (entries : List Entry) (waiting : WaitingState) (same : AreOf entries waiting.known) (order : IsOrderOf ranks played waiting) where
   are : map (key_of ranks) entries ≡ waiting.known
   are = known-are ranks entries waiting.known same order.ranked
 
-  left : (k : Key) → has_key (unplayed_keys played waiting.known) k ≡ list_any (λ e. same_key k (key_of ranks e)) (unplayed played entries)
-  left k = ap (λ (ks : List Key). has_key (unplayed_keys played ks) k) (sym are) ∙ ap (λ (ks : List Key). has_key ks k) (sym (keys-unplayed ranks played entries)) ∙ has-entry ranks (unplayed played entries) k
-
-  still : (known : List Key) (k : Key) → is_unplayed played k ≡ true → has_key known k ≡ true → has_key (unplayed_keys played known) k ≡ true
-  still [] k u h = h
-  still (x ∷ xs) k u h = elim (or_cases (is_eq (key_cmp k x)) (has_key xs k) h) [
-    | inl e ↦ let s : k ≡ x = same_key-is k x (sym (is_eq-key k x) ∙ e) in let v : is_unplayed played x ≡ true = ap (is_unplayed played) (sym s) ∙ u in rw v (or_left _ _ e)
-    | inr e ↦ also (is_unplayed played x) x (unplayed_keys played xs) k (still xs k u e)
-  ]
-    where
-      also : (b : Bool) (x : Key) (ys : List Key) (k : Key) → has_key ys k ≡ true → has_key (cond b (x ∷ ys) ys) k ≡ true
-      also true x ys k e = or_right _ _ e
-      also false x ys k e = e
-
-  -- an unplayed entry has a key that waits
-  waits : (e : Entry) → list_any (λ d. same_key (key_of ranks e) (key_of ranks d)) (unplayed played entries) ≡ true → has_key waiting.keys (key_of ranks e) ≡ true
-  waits e h = order.covers (key_of ranks e) (left (key_of ranks e) ∙ h)
+  left : (k : Key) → has_key waiting.keys k ≡ list_any (λ e. same_key k (key_of ranks e)) (unplayed played entries)
+  left k = order.waits k ∙ ap (λ (ks : List Key). has_key (unplayed_keys played ks) k) (sym are) ∙ ap (λ (ks : List Key). has_key ks k) (sym (keys-unplayed ranks played entries)) ∙ has-entry ranks (unplayed played entries) k
 
   lows : (k : Key) (xs : List Entry) → EachIn (λ (e : Entry). e.priority ≤ 255) xs → ((e : Entry) → list_any (λ d. same_key (key_of ranks e) (key_of ranks d)) xs ≡ true → is_gt (key_cmp k (key_of ranks e)) ≡ false) → EachIn (Low ranks k) xs
   lows k [] p h = tt
   lows k (x ∷ xs) p h = ((p.0, low_key k (key_of ranks x) (h x (or_left _ _ (same_key-refl (key_of ranks x))))), lows k xs p.1 (λ e t. h e (or_right _ _ t)))
 
-  pub first-waits : (k : Key) → Distinct entries → AreInOrder waiting.keys → find (is_unplayed played) waiting.keys ≡ Some k → entry_of entries k.2 ≡ first_of ranks (unplayed played entries)
-  first-waits k distinct rising found =
-      let least = find-least (is_unplayed played) waiting.keys k rising found in
-      let here : list_any (λ e. same_key k (key_of ranks e)) (unplayed played entries) ≡ true = sym (left k) ∙ still waiting.known k least.0 (order.known k least.1) in
+  pub first-waits : (k : Key) → Distinct entries → has_key waiting.keys k ≡ true → ((q : Key) → has_key waiting.keys q ≡ true → is_gt (key_cmp k q) ≡ false) → entry_of entries k.2 ≡ first_of ranks (unplayed played entries)
+  first-waits k distinct member least =
       let low : EachIn (Low ranks k) (unplayed played entries) =
       lows k (unplayed played entries) (each-filter (λ (e : Entry). e.priority ≤ 255) (λ (e : Entry). not (is_among e.id played)) entries (within entries waiting.known same))
-      (λ e t. least.2 (key_of ranks e) (waits e t) (ap not (has_key-unplayed played waiting.known (key_of ranks e) (left (key_of ranks e) ∙ t)))) in
-      let first = first-is ranks k (unplayed played entries) low here in
+      (λ e t. least (key_of ranks e) (left (key_of ranks e) ∙ t)) in
+      let first = first-is ranks k (unplayed played entries) low (sym (left k) ∙ member) in
       ap (λ (id : ℕ). entry_of entries id) (sym first.2) ∙ own-entry (λ (e : Entry). not (is_among e.id played)) (is_first ranks (unplayed played entries)) entries first.0 distinct first.1 ∙ sym first.1
 
-  pub none-waits : find (is_unplayed played) waiting.keys ≡ None → ◌≡◌ {A = Option Entry} None (first_of ranks (unplayed played entries))
-  none-waits none = empty (unplayed played entries) (λ k h. let u : is_unplayed played k ≡ true = ap not (has_key-unplayed played waiting.known k (left k ∙ h)) in
-      let clash : true ≡ false = sym u ∙ find-no (is_unplayed played) waiting.keys none k (order.covers k (left k ∙ h)) in cc)
+  pub none-waits : waiting.keys ≡ [] → ◌≡◌ {A = Option Entry} None (first_of ranks (unplayed played entries))
+  none-waits none = empty (unplayed played entries) (λ k h. false≢true (sym (ap (λ (keys : List Key). has_key keys k) none) ∙ left k ∙ h))
     where
       empty : (xs : List Entry) → ((k : Key) → list_any (λ e. same_key k (key_of ranks e)) xs ≡ true → ⊥) → ◌≡◌ {A = Option Entry} None (first_of ranks xs)
       empty [] lacks = refl

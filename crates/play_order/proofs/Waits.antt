@@ -1,5 +1,5 @@
 -- The order that a round keeps of a queue: what it gives first is the entry that comes first.
-use Rattle.std.proofs.Common.{◌≡◌, ℕ, ◌+◌, ◌-◌, ◌<◌, Bool, true, false, ◌&&◌, ◌||◌, ◌==◌, cond, List, [], ◌∷◌, ◌++◌, length, map, take, get_or, Less, Equal, Greater, refl, ap, sym, subst, ◌∙◌, inl, inr, arith}
+use Rattle.std.proofs.Common.{◌≡◌, ℕ, zero, suc, ◌+◌, ◌-◌, ◌<◌, Bool, true, false, ◌&&◌, ◌||◌, ◌==◌, cond, List, [], ◌∷◌, ◌++◌, length, map, take, drop, get_or, Less, Equal, Greater, refl, ap, sym, subst, ◌∙◌, inl, inr, arith}
 use Rattle.std.specs.List.{slice_range}
 use Rattle.std.specs.declared.cmp.Ordering.{Ordering}
 use Rattle.std.specs.Ordering.{is_eq, nat_cmp, ordering_then}
@@ -7,9 +7,11 @@ use Rattle.std.proofs.lemmas.Bool.{cond-true, cond-false, cases_lt, cases_eq, an
 use Rattle.std.proofs.lemmas.List.{take_more}
 use Rattle.std.proofs.lemmas.List.Elements.{filter-append}
 use Rattle.song_queue.specs.declared.entry.Entry.{Entry}
+use Rattle.song_queue.specs.declared.entry.Slot.{Slot}
+use Rattle.song_queue.specs.State.{entries_of}
 use Rattle.play_order.specs.declared.modes.Rank.{Rank}
 use Rattle.play_order.specs.Draws.{rank_of}
-use Rattle.play_order.specs.Waits.{Key, has_key, is_unplayed, key_cmp, key_of, ranked_key, told_by, told_of, unplayed_keys}
+use Rattle.play_order.specs.Waits.{AreOf, Key, has_key, is_unplayed, key_cmp, key_of, ranked_key, told_by, told_of, unplayed_keys}
 use Rattle.play_order.proofs.Lists.{append-nil, map-append, slice_range-front, slice_range-join}
 
 pub nat_cmp-lt : (a b : ℕ) → a < b → nat_cmp a b ≡ Less
@@ -128,8 +130,42 @@ pub keys-join : (ranks : List Rank) (queue : List Entry) (at count : ℕ)
     → map (key_of ranks) (take (at + count) queue) ≡ map (key_of ranks) (take at queue) ++ map (key_of ranks) (slice_range queue at (at + count))
 keys-join ranks queue at count = ap (map (key_of ranks)) (take-join queue at count) ∙ map-append (key_of ranks) (take at queue) (slice_range queue at (at + count))
 
-pub told-join : (queue : List Entry) (known : List Key) (at count : ℕ) → map told_of (take at queue) ≡ map told_by (take at known)
-    → map told_of (slice_range queue at (at + count)) ≡ map told_by (slice_range known at (at + count)) → map told_of (take (at + count) queue) ≡ map told_by (take (at + count) known)
+pub told-join : (queue : List Entry) (known : List Key) (at count : ℕ) → AreOf (take at queue) (take at known)
+    → AreOf (slice_range queue at (at + count)) (slice_range known at (at + count)) → AreOf (take (at + count) queue) (take (at + count) known)
 told-join queue known at count h more =
     ap (map told_of) (take-join queue at count) ∙ map-append told_of (take at queue) (slice_range queue at (at + count)) ∙ (λ i. h i ++ more i)
     ∙ sym (ap (map told_by) (take-join known at count) ∙ map-append told_by (take at known) (slice_range known at (at + count)))
+
+-- what is of all of a queue is of a part of it
+tails : (e : Entry) (es : List Entry) (k : Key) (ks : List Key) → AreOf (e ∷ es) (k ∷ ks) → AreOf es ks
+tails e es k ks h = cc
+
+drop-of : (queue : List Entry) (known : List Key) (n : ℕ) → AreOf queue known → AreOf (drop n queue) (drop n known)
+drop-of queue known zero h = h
+drop-of [] [] (suc n) h = refl
+drop-of [] (k ∷ ks) (suc n) h = cc
+drop-of (e ∷ es) [] (suc n) h = cc
+drop-of (e ∷ es) (k ∷ ks) (suc n) h = drop-of es ks n (tails e es k ks h)
+
+take-of : (queue : List Entry) (known : List Key) (n : ℕ) → AreOf queue known → AreOf (take n queue) (take n known)
+take-of queue known zero h = refl
+take-of [] [] (suc n) h = refl
+take-of [] (k ∷ ks) (suc n) h = cc
+take-of (e ∷ es) [] (suc n) h = cc
+take-of (e ∷ es) (k ∷ ks) (suc n) h = let first : told_of e ≡ told_by k = cc in λ i. first i ∷ take-of es ks n (tails e es k ks h) i
+
+pub part-of : (queue : List Entry) (known : List Key) (from end : ℕ) → AreOf queue known → AreOf (slice_range queue from end) (slice_range known from end)
+part-of queue known from end h = take-of (drop from queue) (drop from known) (end - from) (drop-of queue known from h)
+
+pub length-of : (queue : List Entry) (known : List Key) → AreOf queue known → length queue ≡ length known
+length-of [] [] h = refl
+length-of [] (k ∷ ks) h = cc
+length-of (e ∷ es) [] h = cc
+length-of (e ∷ es) (k ∷ ks) h = ap suc (length-of es ks (tails e es k ks h))
+
+-- and each slot has the id and priority of its key
+pub told-at : (run : List Slot) (known : List Key) (place : ℕ) (s : Slot) (k : Key) → place < length run → AreOf (entries_of run) known → told_of (get_or run place s).entry ≡ told_by (get_or known place k)
+told-at [] known place s k l h = absurd (omega arith)
+told-at (x ∷ xs) [] place s k l h = cc
+told-at (x ∷ xs) (y ∷ ys) zero s k l h = cc
+told-at (x ∷ xs) (y ∷ ys) (suc place) s k l h = told-at xs ys place s k (omega arith) (tails x.entry (entries_of xs) y ys h)

@@ -11,7 +11,7 @@
 //! of any queue. What holds between the two, that the ids played are some of the queue's, is a law over all
 //! steps of a player (`PlayedStayQueued`), and not an invariant here. Beside them the unplayed entries of the
 //! last queue may stand in their order (`Waiting`), which contracts do not see.
-ghost use Rattle.std.specs.Prelude.{◌≡◌, ◌≤◌, ◌-◌, true, ◌≢◌, length, AllPairs, IfOk, OnOk, OnErr, None, is_some};
+ghost use Rattle.std.specs.Prelude.{◌≡◌, ◌≤◌, ◌-◌, ◌&&◌, not, true, ◌≢◌, length, AllPairs, IfOk, OnOk, OnErr, None, is_some};
 ghost use Rattle.std.specs.Option.{option_copied};
 ghost use Rattle.rand_core.specs.Pcg32Seed.{pcg32_seed};
 ghost use Rattle.rand_pcg.specs.Pcg.{pcg32_of_seed};
@@ -27,8 +27,8 @@ use crate::ending::Ending;
 use crate::modes::{Consume, Modes, Single};
 use crate::played::Played;
 use crate::ranks::Ranks;
-use crate::scan::{any_left, at_or_first_left, entry_with, ids_left, taken_ids};
-use crate::waiting::{Waiting, first_entry, first_key, is_kept, leave};
+use crate::scan::{any_left, at_or_first_left, entry_with, first_left, ids_left, taken_ids};
+use crate::waiting::{Waiting, first_entry, is_kept, leave};
 use mpd_text::Sequence;
 use rand_core::SeedableRng;
 use rand_core::utils::NextWord;
@@ -157,9 +157,8 @@ impl Round {
         ensures ok { OnOk result (self.new ≡ record self.old { played = moved_last self.old.played id }) }
         ensures err { OnErr result (self.new ≡ self.old) }
     {
-        let first = first_key(&self.waiting, &self.played);
         self.played.move_last(id)?;
-        leave(&mut self.waiting, first, id);
+        leave(&mut self.waiting, id);
         Ok(())
     }
 
@@ -451,14 +450,7 @@ impl Round {
     {
         let mut round = self.drawn_anew(queue, from, end)?;
         let starts = if modes.repeat {
-            id_at(first_entry(
-                &round.waiting,
-                &round.ranks,
-                &round.played,
-                queue,
-                from,
-                end,
-            ))
+            id_at(first_left(&round.ranks, &round.played, queue, from, end))
         } else {
             None
         };
@@ -642,7 +634,9 @@ fn consumes(consume: Consume) -> bool
 }
 
 /// Whether it pays to keep a random order: what consumes changes the queue at each song.
-fn keeps_order(modes: Modes) -> bool {
+fn keeps_order(modes: Modes) -> bool
+    ensures { result ≡ (modes.random && not (consumes_lem modes.consume)) }
+{
     modes.random && !consumes(modes.consume)
 }
 

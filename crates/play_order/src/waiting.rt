@@ -3,12 +3,12 @@
 //! A round does not own the queue, and a call of it speaks of any queue. So the order is kept with the ids and
 //! priorities of the queue that it was made of, which are compared with those of the queue at hand: that is a
 //! walk over both, but one without a look-up, and only where both are the same the order is used.
-ghost use Rattle.std.specs.Prelude.{◌≡◌, ◌≤◌, ◌++◌, true, find, length, map, IfOk, OnOk, IfSome, Some};
+ghost use Rattle.std.specs.Prelude.{◌≡◌, ◌≤◌, ◌++◌, ◌==◌, ◌↔◌, true, length, map, IfNone, IfOk, IfSome, OnOk, Some};
 ghost use Rattle.std.specs.Option.{option_copied};
 ghost use Rattle.song_queue.specs.State.{entries_of, queue_of};
 ghost use Rattle.play_order.specs.Order.{first_of, unplayed};
 ghost use Rattle.play_order.specs.Scans.{first_in};
-ghost use Rattle.play_order.specs.Waits.{AreInOrder, HasKeysOf, IsOrderOf, StaysOrder, is_unplayed, key_of, told_by, told_of, unplayed_keys};
+ghost use Rattle.play_order.specs.Waits.{AreOf, HasKeyWith, HasKeysOf, HaveOwnIds, IsMadeOf, IsOrderOf, LacksId, LeavesOrder, has_order, key_of, unplayed_keys};
 
 use crate::played::Played;
 use crate::ranks::Ranks;
@@ -23,27 +23,26 @@ use std::marker::Model;
 #[derive(Drop)]
 pub(crate) struct Waiting {
     known: Vec<(u8, u32, u32)>,
-    /// Those that were not played. One that was played by hand may stay, and is passed over.
+    /// Those that were not played.
     keys: BTreeSet<(u8, u32, u32)>,
-    /// The version of the queue that this was made of. It is a hint: where another queue has the same, the
-    /// order is not made anew, and the queue is gone through.
+    /// The version of the queue that this was made of. A queue of another version is not compared.
     version: u32,
 }
 
 impl Model for Waiting {
-    ghost use Rattle.play_order.specs.Waits.{AreInOrder, WaitingState};
+    ghost use Rattle.play_order.specs.Waits.{WaitingState};
 
     ghost Value = { WaitingState };
 
-    ghost view = { λ w. record { known = w.known.items; keys = w.keys.keys } };
-
-    ghost invariant = { λ w. AreInOrder w.keys.keys };
+    ghost view = { λ w. record { known = w.known.items; keys = w.keys.keys; version = w.version } };
 }
 
 impl Waiting {
     /// The unplayed entries of a queue, in the order of their ranks.
     pub(crate) fn of(ranks: &Ranks, played: &Played, queue: &Queue) -> Result<Waiting, AllocError>
-        ensures { IfOk result (IsOrderOf ranks.now played.now) }
+        ensures order { IfOk result (IsOrderOf ranks.now played.now) }
+        ensures known { IfOk result (λ w. w.known ≡ map (key_of ranks.now) (queue_of queue.now)) }
+        ensures version { IfOk result (λ w. w.version ≡ queue.now.version) }
     {
         let known = keys_of(ranks, queue)?;
         let keys = unplayed_of(ranks.allocator(), &known, played)?;
@@ -55,37 +54,43 @@ impl Waiting {
     }
 
     /// Whether this was made of a queue of this version.
-    pub(crate) fn has_version(&self, queue: &Queue) -> bool {
+    fn has_version(&self, queue: &Queue) -> bool
+        ensures { result ≡ (self.now.version == queue.now.version) }
+    {
         self.version == queue.version()
     }
 
-    /// Whether a queue has the entries that this was made of, with their priorities.
+    /// Whether a queue has the version, the entries and their priorities that this was made of.
     fn is_of(&self, queue: &Queue) -> bool
-        ensures { result ≡ true → map told_of (queue_of queue.now) ≡ map told_by self.now.known }
+        ensures { result ≡ true ↔ IsMadeOf self.now queue.now }
     {
         self.has_version(queue) && same_entries(&self.known, queue)
     }
 
-    /// The first key of an entry that was not played.
-    pub(crate) fn first(&self, played: &Played) -> Option<(u8, u32, u32)>
-        ensures first { result ≡ find (is_unplayed played.now) self.now.keys }
-
-        // Keys rise.
-        ensures rising { AreInOrder self.now.keys }
+    /// The song with this id was played, so its entry waits no more.
+    fn remove(&mut self, id: u32)
+        ensures { LeavesOrder id (Some self.old) (Some self.new) }
     {
-        for key in self.keys.iter() {
-            if !played.has(key.2) {
+        if let Some(key) = self.key_with(id) {
+            let _ = self.keys.remove(&key);
+        }
+    }
+
+    /// The key with an id: mostly the first of those that wait, else one that is looked for among all.
+    fn key_with(&self, id: u32) -> Option<(u8, u32, u32)>
+        ensures found { IfSome result (HasKeyWith id self.now) }
+        ensures none { IfNone result (LacksId id self.now.known) }
+    {
+        match self.keys.first() {
+            Some(first) if first.2 == id => return Some(*first),
+            _ => {}
+        }
+        for key in &self.known {
+            if key.2 == id {
                 return Some(*key);
             }
         }
         None
-    }
-
-    /// An entry that was played waits no more.
-    pub(crate) fn remove(&mut self, key: (u8, u32, u32))
-        ensures { StaysOrder key.2 (Some self.old) (Some self.new) }
-    {
-        let _ = self.keys.remove(&key);
     }
 }
 
@@ -128,37 +133,25 @@ fn first_waiting<'a>(
     }
     // That ids are distinct comes with the length.
     let _len = queue.len();
-    match waiting.first(played) {
+    match waiting.keys.first() {
         Some(key) => entry_with(queue, key.2),
         None => None,
     }
 }
 
-/// The first key of an entry that was not played, where an order is kept.
-pub(crate) fn first_key(waiting: &Option<Waiting>, played: &Played) -> Option<(u8, u32, u32)> {
-    match waiting {
-        Some(waiting) => waiting.first(played),
-        None => None,
-    }
-}
-
-/// The song with this id was played. Where the key is its entry's, it waits no more.
-pub(crate) fn leave(waiting: &mut Option<Waiting>, key: Option<(u8, u32, u32)>, id: u32)
-    ensures { StaysOrder id waiting.old waiting.new }
+/// The song with this id was played: where an order is kept, its entry waits no more.
+pub(crate) fn leave(waiting: &mut Option<Waiting>, id: u32)
+    ensures { LeavesOrder id waiting.old waiting.new }
 {
-    let Some(key) = key else {
-        return;
-    };
-    if key.2 != id {
-        return;
-    }
     if let Some(waiting) = waiting {
-        waiting.remove(key);
+        waiting.remove(id);
     }
 }
 
 /// Whether an order is kept that was made of a queue of this version.
-pub(crate) fn is_kept(waiting: &Option<Waiting>, queue: &Queue) -> bool {
+pub(crate) fn is_kept(waiting: &Option<Waiting>, queue: &Queue) -> bool
+    ensures { result ≡ has_order waiting.now queue.now.version }
+{
     match waiting {
         Some(waiting) => waiting.has_version(queue),
         None => false,
@@ -167,7 +160,8 @@ pub(crate) fn is_kept(waiting: &Option<Waiting>, queue: &Queue) -> bool {
 
 /// The keys of a queue's entries, in the order of their places.
 fn keys_of(ranks: &Ranks, queue: &Queue) -> Result<Vec<(u8, u32, u32)>, AllocError>
-    ensures { IfOk result (λ known. known.items ≡ map (key_of ranks.now) (queue_of queue.now)) }
+    ensures known { IfOk result (λ known. known.items ≡ map (key_of ranks.now) (queue_of queue.now)) }
+    ensures own { IfOk result (λ known. HaveOwnIds known.items) }
 {
     let len = queue.len();
     let mut known = Vec::with_capacity(ranks.allocator(), len)?;
@@ -209,7 +203,7 @@ fn unplayed_of(
 
 /// Whether a queue has entries with these ids and priorities.
 fn same_entries(known: &[(u8, u32, u32)], queue: &Queue) -> bool
-    ensures { result ≡ true → map told_of (queue_of queue.now) ≡ map told_by known.now }
+    ensures { result ≡ true ↔ AreOf (queue_of queue.now) known.now }
 {
     let len = queue.len();
     if len != known.len() {
@@ -229,7 +223,7 @@ fn same_entries(known: &[(u8, u32, u32)], queue: &Queue) -> bool
 /// Whether some slots have entries with these ids and priorities.
 fn same_run(known: &[(u8, u32, u32)], run: &[Slot]) -> bool
     requires { length known.now ≡ length run.now }
-    ensures { result ≡ true → map told_of (entries_of run.now) ≡ map told_by known.now }
+    ensures { result ≡ true ↔ AreOf (entries_of run.now) known.now }
 {
     for place in 0..run.len() {
         let entry = &run[place].entry;

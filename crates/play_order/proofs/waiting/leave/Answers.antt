@@ -1,7 +1,10 @@
-use Rattle.std.proofs.Common.{◌∙◌, ap, subst, Option, IfSome}
-use Rattle.play_order.specs.Draws.{is_among}
+use Rattle.std.proofs.Common.{subst, sym, Option, IfSome}
+use Rattle.play_order.specs.Draws.{moved_last}
 use Rattle.play_order.specs.Waits.{IsOrderOf, WaitingState}
 use Rattle.play_order.proofs.waiting.leave.Goals as goal
 
-pub returns-in-Some-waiting : goal.returns-in-Some-waiting
-returns-in-Some-waiting c = λ ranks played gone order. c.remove.ensures ranks played (ap (λ id. is_among id played) c.if-key-id.false ∙ gone) (subst (λ (o : Option WaitingState). IfSome o (IsOrderOf ranks played)) c.in-Some-waiting.is order)
+pub returns-in-Some : goal.returns-in-Some
+returns-in-Some c = λ ranks played order. c.remove.ensures ranks played (subst (λ (o : Option WaitingState). IfSome o (IsOrderOf ranks played)) c.in-Some.is order)
+
+pub returns-in_default : goal.returns-in_default
+returns-in_default c = λ ranks played order. subst (λ (o : Option WaitingState). IfSome o (IsOrderOf ranks (moved_last played c.args.id))) (sym c.in_default.is) tt

@@ -1,7 +1,7 @@
-use Rattle.std.proofs.Common.{◌∙◌, ap, sym, refl, length, map, arith}
+use Rattle.std.proofs.Common.{◌+◌, ◌∙◌, ap, sym, refl, length, map, arith}
 use Rattle.song_queue.specs.State.{queue_of}
 use Rattle.play_order.specs.Waits.{told_of}
-use Rattle.play_order.proofs.Waits.{told-join}
+use Rattle.play_order.proofs.Waits.{told-join, part-of, length-of}
 use Rattle.play_order.proofs.waiting.same_entries.Goals as goal
 
 pub loop-at-preserved : goal.loop-at-preserved
@@ -9,5 +9,14 @@ loop-at-preserved c = record {
   high = omega arith;
   same =
       told-join (queue_of c.args.queue.now) c.args.known.now c.loop-at.at (length c.run-run.result.now) c.loop-at.invariant.same
-      (sym (ap (map told_of) c.run-run.ensures.part) ∙ c.if-not-same_run.ensures refl);
+      (sym (ap (map told_of) c.run-run.ensures.part) ∙ c.if-not-same_run.ensures.0 refl);
 }
+
+pub returns-then-not-same_run : goal.returns-then-not-same_run
+returns-then-not-same_run c = (
+  λ e. cc,
+  λ h. c.if-not-same_run.ensures.1 (ap (map told_of) c.run-run.ensures.part ∙ part-of (queue_of c.args.queue.now) c.args.known.now c.loop-at.at (c.loop-at.at + length c.run-run.result.now) h),
+)
+
+pub returns-then-len-known : goal.returns-then-len-known
+returns-then-len-known c = (λ e. cc, λ h. absurd (c.if-len-known.true (c.len-len.ensures.len ∙ length-of (queue_of c.args.queue.now) c.args.known.now h)))
