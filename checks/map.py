@@ -78,7 +78,7 @@ FRAME = [
 
 # What the lock holds: depth, crate, struct and its fields with what they are; None for what no contract speaks of.
 HELD = [
-    (0, 'house', 'House', {'held': 'the lock', 'state_changed': None, 'notices_wait': None}),
+    (0, 'house', 'House', {'held': 'the lock', 'state_changed': None, 'notices_wait': None, 'scan_runs': None}),
     (1, 'held_player', 'Held', {
         'counted': 'the player, below', 'waiting': 'notices that were not handed out', 'books': 'frames decoded, written, discarded',
         'free': 'seats that nobody has', 'closed': 'all shares, once outputs are settled', 'alloc': None, 'changes': None}),

@@ -15,6 +15,7 @@ use Rattle.parts.specs.Parts.{part_at}
 use Rattle.player_core.specs.declared.state.Playback.{Playback}
 use Rattle.player_core.specs.declared.state.Playback.TheVariants.{Play}
 use Rattle.player_state.specs.Outputs.{empty_books}
+use Rattle.player_state.specs.Scans.{running}
 use Rattle.player_state.specs.declared.state.Part.{Part}
 use Rattle.transitions.specs.Shelves.{Serves}
 use Rattle.player_events.specs.Events.{with_store_reply}
@@ -57,6 +58,14 @@ is_playing _ = false
 -- the same of some partition
 abbrev pub any_plays : List Part → Bool
 any_plays parts = list_any (λ (p : Part). is_playing p.player.playback) parts
+
+-- whether a scan was asked for that has not ended
+abbrev pub has_scan : Image → Bool
+has_scan i = is_some (running i.shared.library.scan)
+
+-- the same, after some past
+abbrev pub HasScanSomewhere : Bool → Type 0
+HasScanSomewhere has = (past : Chronicle) × IsPast past × (has ≡ has_scan past.present)
 
 -- of sixteen numbers those of a partition
 abbrev pub ArePlaces : List Bool → Image → Type 0

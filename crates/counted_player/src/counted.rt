@@ -54,7 +54,7 @@ impl<L: Ledgers> Counted<L> {
     ghost use Rattle.partition.specs.Step.{limit_of, told as told_of};
     ghost use Rattle.partition.specs.Steps.{RefusesStep, entry};
     ghost use Rattle.player_events.specs.Events.{is_line};
-    ghost use Rattle.counted_player.specs.Counts.{any_plays, done_in, AnswersSomewhere, ArePlaces, IsFresh, own_in, song_at};
+    ghost use Rattle.counted_player.specs.Counts.{any_plays, done_in, AnswersSomewhere, ArePlaces, IsFresh, has_scan, own_in, song_at};
     ghost use Rattle.counted_player.specs.Seats.{after_events};
 
     /// A player of which no seat made an event yet.
@@ -167,6 +167,15 @@ impl<L: Ledgers> Counted<L> {
     {
         let _past = self.partition.history();
         self.partition.has_ended()
+    }
+
+    /// Whether a scan was asked for that has not ended.
+    pub fn scans(&self) -> bool
+        ensures scan { result ≡ has_scan self.now.present }
+        ensures legal { IsPast self.now }
+    {
+        let _past = self.partition.history();
+        self.partition.library().scan.running().is_some()
     }
 
     /// Whether a song is being played in some partition.

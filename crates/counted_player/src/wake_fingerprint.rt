@@ -3,12 +3,11 @@ use partition::Partition;
 use player_core::Playback;
 use player_state::Part;
 
-/// What changes where a decoder, an output or a scanner has something to do: which partitions there are, and
-/// of each whether and what is played and which outputs are enabled; which scan runs, and the end.
+/// What changes where a decoder or an output has something to do: which partitions there are, and of each
+/// whether and what is played and which outputs are enabled; and the end.
 #[derive(Clone, Copy, PartialEq, Eq)]
 pub struct WakeFingerprint {
     parts: [Option<PartFingerprint>; 16],
-    scan: Option<u64>,
     ended: bool,
 }
 
@@ -30,7 +29,6 @@ impl WakeFingerprint {
         }
         WakeFingerprint {
             parts,
-            scan: partition.library().scan.running(),
             ended: partition.has_ended(),
         }
     }

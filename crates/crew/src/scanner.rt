@@ -13,8 +13,8 @@ use std::thread;
 use std::thread::{JoinHandle, Threads};
 use std::time::{Clock, Duration, SystemTime};
 
-/// How many milliseconds a scanner rests at most; it is woken where a scan is asked for.
-const LOOK: u64 = 1_000;
+/// How many milliseconds a scanner waits at most; it is woken where a scan is asked for.
+const LONGEST_WAIT: u64 = 60_000;
 
 /// How many milliseconds it waits after a fault.
 const PAUSE: u64 = 50;
@@ -60,9 +60,8 @@ impl<'h, L: Ledgers, N: Scanner + Drop, R: Wait + Clock> Scanning<'h, L, N, R> {
                 self.tell(found, second_now(self.rt));
             }
             _ => {
-                let _ = self
-                    .house
-                    .rest(self.rt, told.changes(), Duration::from_millis(LOOK));
+                let most = Duration::from_millis(LONGEST_WAIT);
+                let _ = self.house.await_scan(self.rt, most);
             }
         }
         true

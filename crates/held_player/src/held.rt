@@ -97,7 +97,7 @@ impl<L: Ledgers> Held<L> {
     ghost use Rattle.player_events.specs.declared.event.Event.TheVariants.{End};
     ghost use Rattle.held_player.specs.News.{event_of, kept_at};
     ghost use Rattle.counted_player.specs.Seats.{after_events};
-    ghost use Rattle.counted_player.specs.Counts.{ArePlaces, IsFresh, any_plays, own_in, song_at};
+    ghost use Rattle.counted_player.specs.Counts.{ArePlaces, IsFresh, any_plays, has_scan, own_in, song_at};
     ghost use Rattle.held_player.specs.Waiting.{first_for, without_first, waiting_after};
 
     /// A player of which no seat made an event yet, with the four seats that callers are given.
@@ -306,6 +306,14 @@ impl<L: Ledgers> Held<L> {
     /// How often something changed that a thread at rest is woken for.
     pub fn changes(&self) -> u64 {
         self.changes
+    }
+
+    /// Whether a scan was asked for that has not ended.
+    pub fn scans(&self) -> bool
+        ensures scan { result ≡ has_scan self.now.player.present }
+        ensures legal { IsPast self.now.player }
+    {
+        self.counted.scans()
     }
 
     /// Whether a song is being played in some partition.

@@ -9,7 +9,7 @@ ghost use Rattle.held_player.specs.Lists.{StopsIn, TellsList};
 ghost use Rattle.held_player.specs.News.{event_of};
 ghost use Rattle.counted_player.specs.Seats.{after_events};
 ghost use Rattle.held_player.specs.Settling.{ClosesBooks};
-ghost use Rattle.counted_player.specs.Counts.{ArePlacesSomewhere, IsFresh, IsSongSomewhere};
+ghost use Rattle.counted_player.specs.Counts.{ArePlacesSomewhere, HasScanSomewhere, IsFresh, IsSongSomewhere};
 ghost use Rattle.held_player.specs.Views.{IsUnwritten, RefusesSomewhere, TellsSomewhere, AnswersClient, StopsClient, turn_of, FeedsShare};
 
 use command_lists::ListForm;
@@ -39,6 +39,8 @@ pub struct House<L: Ledgers> {
     state_changed: Condvar,
     /// Rung where a notice waits for a client.
     notices_wait: Condvar,
+    /// Rung where a scan was asked for.
+    scan_runs: Condvar,
 }
 
 // Written out, so that it is proved here once, and not again in each crate that lets a house go.
@@ -48,15 +50,17 @@ impl<L: Ledgers> Drop for House<L> {
             held: _,
             state_changed: _,
             notices_wait: _,
+            scan_runs: _,
         } = self;
     }
 }
 
-/// Which of the two is rung once the lock is free.
+/// Which are rung once the lock is free.
 #[derive(Clone, Copy)]
 struct Rung {
     state_changed: bool,
     notices_wait: bool,
+    scan_runs: bool,
 }
 
 impl<L: Ledgers> House<L> {
@@ -77,6 +81,7 @@ impl<L: Ledgers> House<L> {
                 held: Mutex::new(held),
                 state_changed: Condvar::new(),
                 notices_wait: Condvar::new(),
+                scan_runs: Condvar::new(),
             },
             shares,
         ))
@@ -283,8 +288,11 @@ impl<L: Ledgers> House<L> {
         ensures refused { IfErr result (λ fault. RefusesSomewhere seat.old End fault) }
     {
         let ended = self.held.lock(rt).end(seat);
-        self.state_changed.notify_all();
-        self.notices_wait.notify_all();
+        self.ring(Rung {
+            state_changed: true,
+            notices_wait: true,
+            scan_runs: true,
+        });
         ended
     }
 
@@ -314,7 +322,7 @@ impl<L: Ledgers> House<L> {
     ///
     /// What changes is what a thread has something to do for
     /// ([`Reported::changes`](held_player::Reported::changes)): which partitions there are, in each whether and
-    /// what is played and which outputs are enabled, which scan runs, and the end. Frames in a ring are no change.
+    /// what is played and which outputs are enabled, frames that are fed, and the end.
     pub fn rest<R: Wait + Clock>(&self, rt: &R, seen: u64, while_playing: Duration) -> u64 {
         let plays = self.held.lock(rt).plays();
         let most = if plays {
@@ -343,6 +351,20 @@ impl<L: Ledgers> House<L> {
         held.has_notices()
     }
 
+    /// Waits until a scan was asked for that has not ended, the daemon ends, or the time is up, and says whether
+    /// there is such a scan.
+    pub fn await_scan<R: Wait + Clock>(&self, rt: &R, most: Duration) -> bool
+        ensures { HasScanSomewhere result }
+    {
+        let (held, _is_late) = self.scan_runs.wait_timeout_while(
+            rt,
+            self.held.lock(rt),
+            most,
+            |held| !held.scans() && !held.has_ended(),
+        );
+        held.scans()
+    }
+
     /// Wakes the threads that rest, if they are to be woken.
     fn ring(&self, rung: Rung) {
         if rung.state_changed {
@@ -350,6 +372,9 @@ impl<L: Ledgers> House<L> {
         }
         if rung.notices_wait {
             self.notices_wait.notify_all();
+        }
+        if rung.scan_runs {
+            self.scan_runs.notify_all();
         }
     }
 }
@@ -359,5 +384,6 @@ fn rung_since<L: Ledgers>(held: &Held<L>, before: u64) -> Rung {
     Rung {
         state_changed: held.changes() != before,
         notices_wait: held.has_notices(),
+        scan_runs: held.scans(),
     }
 }

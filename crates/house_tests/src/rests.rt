@@ -42,9 +42,9 @@ rest pause 0
 rest stop
 rest play";
 
-/// What a thread waits for, and the line that ends it; `end` is the end of the daemon.
+/// What a thread waits for, and the line that brings it; `end` is the end of the daemon.
 const WAITS: &str = "a change: enableoutput 1
-a change: update
+a scan: update
 a change: seekcur 0.25
 a notice: setvol 41
 a notice: end
@@ -65,19 +65,28 @@ fn acts<L: Ledgers>(
     Ok(())
 }
 
-/// Waits for a change, where it is said how often the house has changed before, and else for a notice; and
-/// says whether one is there. It waits longer than a test may last.
+/// What a thread waits for.
+#[derive(Clone, Copy)]
+enum Waited {
+    /// A change of a house that had changed so often.
+    Change(u64),
+    Notice,
+    Scan,
+}
+
+/// Waits, and says whether what is waited for is there. It waits longer than a test may last.
 fn waits<L: Ledgers, R: Wait + Clock>(
     rt: &R,
     house: &House<L>,
-    before: Option<u64>,
+    waited: Waited,
     begun: &AtomicU32,
 ) -> bool {
     let most = Duration::from_secs(600);
     begun.store(1, Ordering::SeqCst);
-    match before {
-        Some(before) => house.rest(rt, before, most) != before,
-        None => house.await_notice(rt, most),
+    match waited {
+        Waited::Change(before) => house.rest(rt, before, most) != before,
+        Waited::Notice => house.await_notice(rt, most),
+        Waited::Scan => house.await_scan(rt, most),
     }
 }
 
@@ -86,14 +95,14 @@ fn woken<L: Ledgers + Send + Sync, R: Threads + Wait + Clock + Sync>(
     rt: &R,
     alloc: Global,
     house: &House<L>,
-    before: Option<u64>,
+    waited: Waited,
     line: &str,
 ) -> Result<bool, PartitionFault> {
     let number = AtomicU32::new(0);
     let begun = &number;
     let (is_there, acted) = thread::join(
         rt,
-        move || waits(rt, house, before, begun),
+        move || waits(rt, house, waited, begun),
         move || {
             meets(begun, 1);
             thread::sleep(rt, Duration::from_millis(5));
@@ -104,23 +113,23 @@ fn woken<L: Ledgers + Send + Sync, R: Threads + Wait + Clock + Sync>(
     Ok(is_there)
 }
 
-/// Waits for a change or a notice, whose notice is taken out, and adds whether it came and whether that was
-/// one.
+/// Waits, takes out the notice that waits then, and adds whether what was waited for came and whether there
+/// was one.
 fn waking<L: Ledgers + Send + Sync, R: Threads + Wait + Clock + Sync>(
     rt: &R,
     alloc: Global,
     house: &House<L>,
-    before: Option<u64>,
+    waited: Waited,
     line: &str,
     told: &mut String,
 ) -> Result<(), PartitionFault> {
-    let is_there = woken(rt, alloc, house, before, line)?;
+    let is_there = woken(rt, alloc, house, waited, line)?;
     let waits = house.outbox(rt, 1).is_some();
     told.push_str(format!(in alloc; "{line}: {is_there} {waits}\n")?.as_str())?;
     Ok(())
 }
 
-/// Waits for each change or notice in turn. The first client waits for another volume.
+/// Waits for each change, notice or scan in turn. The first client waits for another volume.
 fn wakings<L: Ledgers + Send + Sync, R: Threads + Wait + Clock + Sync>(
     rt: &R,
     alloc: Global,
@@ -132,8 +141,12 @@ fn wakings<L: Ledgers + Send + Sync, R: Threads + Wait + Clock + Sync>(
     for wait in WAITS.lines() {
         let (what, line) = wait.split_once(": ").unwrap_or((wait, ""));
         let count = changes(rt, house, seat)?;
-        let before = (what == "a change").then_some(count);
-        waking(rt, alloc, house, before, line, told)?;
+        let waited = match what {
+            "a change" => Waited::Change(count),
+            "a scan" => Waited::Scan,
+            _ => Waited::Notice,
+        };
+        waking(rt, alloc, house, waited, line, told)?;
     }
     Ok(())
 }
@@ -155,7 +168,7 @@ pub(crate) fn rests<L: Ledgers + Send + Sync, R: Threads + Wait + Clock + Sync>(
     }
 }
 
-// A rest is ended by what is played, the outputs, a scan and the end, and by no other change.
+// A rest is ended by what is played, the outputs and the end, and by no other change.
 #[test]
 fn changes_end_rests(rt: HostRuntime) -> Result<(), Fail> {
     wants(
@@ -178,7 +191,7 @@ seekcur 0.5: true
 next: true
 enableoutput 1: true
 disableoutput 0: true
-update: true
+update: false
 status: false
 pause 1: true
 pause 0: true

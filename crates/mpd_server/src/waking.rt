@@ -9,8 +9,8 @@ use std::thread;
 use std::thread::{JoinHandle, Threads};
 use std::time::{Clock, Duration};
 
-/// How long, in milliseconds, the thread waits at most before it looks whether the daemon has ended.
-const LONGEST_WAIT: u64 = 1_000;
+/// How long, in milliseconds, the thread waits at most; a notice wakes it, and the end of the daemon.
+const LONGEST_WAIT: u64 = 60_000;
 
 /// How long, in milliseconds, the loop has to hand out the notices that it was woken for, before it is woken
 /// again.

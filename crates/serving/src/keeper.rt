@@ -25,8 +25,11 @@ const LOOK: u64 = 50;
 /// How many seconds the client idles at most while a song is played, whose place moves on without a change.
 const PLAYING: u64 = 10;
 
-/// How many milliseconds the client waits at most before it looks whether the daemon has ended.
-const LONGEST_WAIT: u64 = 1_000;
+/// How many milliseconds the client waits at most; a notice wakes it, and the end of the daemon.
+const LONGEST_WAIT: u64 = 60_000;
+
+/// How many milliseconds it waits at most while a song is played, before it looks at the clock.
+const PLAYING_WAIT: u64 = 1_000;
 
 /// How many milliseconds others have to take their notices out, before it is looked again.
 const HAND_OUT: u64 = 5;
@@ -245,8 +248,13 @@ impl<'h, L: Ledgers, R: Wait + Clock + Copy> Keeper<'h, L, R> {
         }
         let (rt, house) = (self.rt, self.house);
         let last = self.last_moment();
+        let most = if self.plays {
+            PLAYING_WAIT
+        } else {
+            LONGEST_WAIT
+        };
         for _ in rt.forever() {
-            let waits = house.await_notice(rt, Duration::from_millis(LONGEST_WAIT));
+            let waits = house.await_notice(rt, Duration::from_millis(most));
             if house.outbox(rt, KEEPER).is_some() {
                 return;
             }
