@@ -1,0 +1,114 @@
+-- What lines ask for in the base profile.
+use Rattle.std.proofs.Common.{◌≡◌, ◌∙◌, ℕ, Bool, true, false, cond, List, [], ◌∷◌, Option, Some, None, option_map, Result, Ok, Err, refl, sym, ap, codes}
+use Rattle.std.specs.Prelude.{slice_index_or}
+use Rattle.std.specs.List.{position}
+use Rattle.std.specs.Str.{bytes_eq}
+use Rattle.std.proofs.lemmas.List.Quantifiers.{position-Some}
+use Rattle.std.proofs.lemmas.Slice.Eq.{bytes_eq-Decides}
+use Rattle.mpd_text.specs.Lines.Scan.{words_of}
+use Rattle.mpd_text.specs.declared.answers.answer.ErrorNumber.TheVariants.{Permission}
+use Rattle.mpd_text.specs.declared.lines.quoting.WordsFault.{WordsFault}
+use Rattle.command_arguments.specs.declared.readers.Misread.{Misread}
+use Rattle.mpd_command.specs.Commands.{command_of}
+use Rattle.mpd_command.specs.Messages.{rows as messages_rows}
+use Rattle.mpd_command.specs.Names.{all_names, name_of, is_forbidden, is_there, text_of}
+use Rattle.mpd_command.specs.Outputs.{rows as outputs_rows}
+use Rattle.mpd_command.specs.Partitions.{rows as partitions_rows}
+use Rattle.mpd_command.specs.Playback.{rows as playback_rows}
+use Rattle.mpd_command.specs.Requests.{named_of, of_name, read_as, request_from, request_of, request_with, with_arguments}
+use Rattle.mpd_command.specs.Stickers.{rows as stickers_rows}
+use Rattle.mpd_command.specs.Tables.{found, or_else, under}
+use Rattle.mpd_command.specs.declared.command.Command.{Command}
+use Rattle.mpd_command.specs.declared.command.Command.TheVariants as command
+use Rattle.mpd_command.specs.declared.name.Name.{Name}
+use Rattle.mpd_command.specs.declared.request.Ack.{Ack}
+use Rattle.command_laws.specs.Base.{AsksForBase, BaseAsksForNoMore, IsBase, IsBaseConnection, IsBaseDatabase, IsBaseOption, IsBasePlaylist, IsBaseQueue, IsBaseStatus, base_set}
+use Rattle.command_laws.proofs.BaseRows.{Finds, connection-found, database-found, options-found, playlists-found, queue-found, status-found}
+
+-- what one table or another says
+either : (r s : Result (Option Command) Misread) → Finds IsBase r → Finds IsBase s → Finds IsBase (or_else r s)
+either (Ok None) s h k = k
+either (Ok (Some c)) s h k = h
+either (Err e) s h k = tt
+
+-- a group's command as a command
+lifted : {A : Type 0} (P : A → Type 0) (f : A → Command) (r : Result (Option A) Misread) → Finds P r → ((a : A) → P a → IsBase (f a)) → Finds IsBase (under f r)
+lifted P f (Ok None) h k = tt
+lifted P f (Ok (Some a)) h k = k a h
+lifted P f (Err e) h k = tt
+
+abbrev Any : {A : Type 0} → A → Type 0
+Any a = Unit {0}
+
+any-found : {A : Type 0} (r : Result (Option A) Misread) → Finds Any r
+any-found (Ok None) = tt
+any-found (Ok (Some a)) = tt
+any-found (Err e) = tt
+
+command-found : (kill : Bool) (word : List ℕ) (words : List (List ℕ)) → is_there word (base_set kill) ≡ true → Finds IsBase (command_of (base_set kill) word words)
+command-found kill word words there =
+    either _ _ (lifted IsBaseConnection command.Connection _ (connection-found kill word words there) (λ a h. h))
+    (either _ _ (lifted IsBaseStatus command.Status _ (status-found kill word words there) (λ a h. h))
+    (either _ _ (lifted Any command.Playback _ (any-found (found (playback_rows (base_set kill)) word words)) (λ a h. tt))
+    (either _ _ (lifted IsBaseQueue command.Queue _ (queue-found kill word words there) (λ a h. h))
+    (either _ _ (lifted IsBaseOption command.Options _ (options-found kill word words there) (λ a h. h))
+    (either _ _ (lifted IsBaseDatabase command.Database _ (database-found kill word words there) (λ a h. h))
+    (either _ _ (lifted IsBasePlaylist command.Playlists _ (playlists-found kill word words there) (λ a h. h))
+    (either _ _ (lifted Any command.Stickers _ (any-found (found stickers_rows word words)) (λ a h. tt))
+    (either _ _ (lifted Any command.Outputs _ (any-found (found outputs_rows word words)) (λ a h. tt))
+    (either _ _ (lifted Any command.Messages _ (any-found (found messages_rows word words)) (λ a h. tt))
+    (lifted Any command.Partitions _ (any-found (found partitions_rows word words)) (λ a h. tt)))))))))))
+
+-- the text of the name that a word is is the word
+named-by : (f : ℕ → Name) → ((place : ℕ) → text_of (f place) ≡ slice_index_or all_names place (codes "")) → (word : List ℕ) (name : Name) (o : Option ℕ)
+    → position (λ other. bytes_eq other word) all_names ≡ o → option_map f o ≡ Some name → text_of name ≡ word
+named-by f says word name None at e = absurd (cc)
+named-by f says word name (Some place) at e =
+    let is : f place ≡ name = cc in
+    sym (ap text_of is) ∙ says place
+    ∙ (bytes_eq-Decides (slice_index_or all_names place (codes "")) word).0 ((position-Some (λ other. bytes_eq other word) all_names place (codes "") at).1)
+
+named : (word : List ℕ) (name : Name) → name_of word ≡ Some name → text_of name ≡ word
+unfolding name_of
+named word name e = named-by _ (λ place. refl) word name (position (λ other. bytes_eq other word) all_names) refl e
+
+-- the command that words name
+abbrev Names : Bool → Result (Name × Command) Ack → Type 0
+Names kill (Ok named) = (is_there (text_of named.0) (base_set kill) ≡ true) × IsBase named.1
+Names kill (Err ack) = Unit {0}
+
+read-base : (kill : Bool) (name : Name) (word : List ℕ) (r : Result (Option Command) Misread) → is_there (text_of name) (base_set kill) ≡ true → Finds IsBase r → Names kill (read_as name word r)
+read-base kill name word (Ok (Some c)) there h = (there, h)
+read-base kill name word (Ok None) there h = tt
+read-base kill name word (Err e) there h = tt
+
+allowed : (kill b : Bool) (ack : Ack) (r : Result (Name × Command) Ack) → Names kill r → Names kill (cond b (Err ack) r)
+allowed kill true ack r h = tt
+allowed kill false ack r h = h
+
+by-name : (kill : Bool) (o : Option Name) (word : List ℕ) (words : List (List ℕ)) → name_of word ≡ o → is_there word (base_set kill) ≡ true → Names kill (of_name o word words (base_set kill))
+by-name kill None word words is there = tt
+by-name kill (Some name) word words is there =
+    allowed kill (is_forbidden word (base_set kill)) (record { number = Permission; command = Some name; text = codes "no permission for \"kill\"" })
+    (with_arguments (base_set kill) name word words)
+    (read-base kill name word (command_of (base_set kill) word words) (ap (λ w. is_there w (base_set kill)) (named word name is) ∙ there) (command-found kill word words there))
+
+by-word : (kill : Bool) (b : Bool) (word : List ℕ) (words : List (List ℕ)) → is_there word (base_set kill) ≡ b → Names kill (of_name (cond b (name_of word) None) word words (base_set kill))
+by-word kill true word words there = by-name kill (name_of word) word words refl there
+by-word kill false word words there = tt
+
+by-words : (kill : Bool) (words : List (List ℕ)) → Names kill (named_of words (base_set kill))
+by-words kill [] = tt
+by-words kill (word ∷ words) = by-word kill (is_there word (base_set kill)) word words refl
+
+from-named : (kill : Bool) (r : Result (Name × Command) Ack) → Names kill r → AsksForBase kill (request_from r)
+from-named kill (Ok named) h = h
+from-named kill (Err ack) h = tt
+
+from-words : (kill : Bool) (r : Result (List (List ℕ)) WordsFault) → AsksForBase kill (request_with r (base_set kill))
+from-words kill (Ok words) = from-named kill (named_of words (base_set kill)) (by-words kill words)
+from-words kill (Err fault) = tt
+
+pub asks_for_no_more : BaseAsksForNoMore
+unfolding request_of
+asks_for_no_more line kill = from-words kill (words_of line)

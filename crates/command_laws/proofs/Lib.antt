@@ -1,0 +1,13 @@
+pub mod Shown
+pub mod HiddenLines
+pub mod HiddenInQueue
+pub mod HiddenInLibrary
+pub mod SetsOfTags
+pub mod HiddenAnswers
+pub mod ChosenTags
+pub mod BaseFilters
+pub mod BaseRows
+pub mod BaseLines
+pub mod OneColumn
+pub mod BaseKept
+pub mod BaseAnswers

@@ -1,5 +1,0 @@
-use Rattle.profile_laws.proofs.BaseAnswers.{base_list_has_the_texts}
-use Rattle.profile_laws.proofs.answering.base_list_has_the_texts.Goals as goal
-
-pub returns : goal.returns
-returns c = base_list_has_the_texts

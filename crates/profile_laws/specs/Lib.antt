@@ -1,2 +1,0 @@
-pub mod Base
-pub mod BaseTags

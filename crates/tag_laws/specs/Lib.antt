@@ -1,5 +1,0 @@
-pub mod HiddenTags
-pub mod ShownSongs
-pub mod Results
-pub mod HiddenLines
-pub mod ChosenTags
