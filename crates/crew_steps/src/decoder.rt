@@ -27,6 +27,9 @@ const PAUSE: u64 = 50;
 /// How often it looks at full rings before it rests, where it decoded several blocks without a rest.
 const LOOKS: u32 = 200;
 
+/// How many microseconds it rests after several blocks without a rest: frames are taken fast.
+const SHORT_REST: u64 = 100;
+
 /// How often it looks by time at rings into which no frame goes, before it rests until something changes.
 const VAIN_LOOKS: u32 = 16;
 
@@ -46,9 +49,9 @@ pub struct Decoder<'h, L: Ledgers, S: SongSource<M> + Drop, M: Media + Drop, R: 
     idle: usize,
     /// How often the house had changed when the first of them was asked.
     seen: u64,
-    /// How many milliseconds it rests at most while a song is played: the time that a block lasts.
+    /// How many microseconds it rests at most while a song is played: the time that a block lasts.
     look: u64,
-    /// How many milliseconds it rests now.
+    /// How many microseconds it rests now.
     wait: u64,
     /// How many blocks it decoded since its last rest.
     streak: u64,
@@ -74,9 +77,11 @@ enum Next {
     Decodes(Job),
 }
 
-/// How long a block of 1,024 frames lasts, in milliseconds, from 1 to 40.
+/// How long a block of 1,024 frames lasts, in microseconds, from 1,000 to 40,000.
 fn look_at(rate: u32) -> u64 {
-    (1_024_000 / u64::from(rate.max(1))).max(1).min(40)
+    (1_024_000_000 / u64::from(rate.max(1)))
+        .max(1_000)
+        .min(40_000)
 }
 
 impl<'h, L: Ledgers, S: SongSource<M> + Drop, M: Media + Drop, R: Wait + Clock> Decoder<
@@ -120,7 +125,7 @@ impl<'h, L: Ledgers, S: SongSource<M> + Drop, M: Media + Drop, R: Wait + Clock> 
             idle: 0,
             seen: 0,
             look: look_at(rate),
-            wait: 1,
+            wait: SHORT_REST,
             streak: 0,
             vain: 0,
             stalled: [false; 8],
@@ -404,12 +409,12 @@ impl<'h, L: Ledgers, S: SongSource<M> + Drop, M: Media + Drop, R: Wait + Clock> 
     fn rest(&mut self, seen: u64, owes: bool) {
         // A rest of a block's time may be over late, so that two went. Where more did, it was too long.
         self.wait = if self.streak > 2 {
-            1
+            SHORT_REST
         } else {
             self.wait.saturating_mul(2).min(self.look)
         };
         self.streak = 0;
-        let wait = Duration::from_millis(self.wait);
+        let wait = Duration::from_micros(self.wait);
         if owes && self.vain < VAIN_LOOKS {
             self.vain += 1;
             thread::sleep(self.rt, wait);

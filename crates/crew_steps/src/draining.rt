@@ -24,8 +24,9 @@ const LOOK: u64 = 10;
 /// How many milliseconds an output rests at most that is off.
 const OFF: u64 = 1_000;
 
-/// How many milliseconds it waits for frames that may be on their way.
-const SOON: u64 = 1;
+/// How many microseconds it waits for frames that may be on their way. Others wait for the slowest output, so
+/// a longer sleep would hold up all where frames are taken fast.
+const SOON: u64 = 100;
 
 /// How many milliseconds it waits after a fault, or before it asks its gate again.
 const PAUSE: u64 = 20;
@@ -185,7 +186,7 @@ impl<'h, L: Ledgers, O: Sink + Drop, G: Gate, R: Wait + Clock> Draining<'h, L, O
         self.streak = 0;
         if enabled && self.seen != changes {
             self.seen = changes;
-            thread::sleep(self.rt, Duration::from_millis(SOON));
+            thread::sleep(self.rt, Duration::from_micros(SOON));
             return;
         }
         let look = if enabled { LOOK } else { OFF };
