@@ -6,7 +6,7 @@
 A ping of a script from its line to its printed answer; a ping of a client of the daemon where 64 are in flight, alone and beside ten clients that
 idle; a frame of a file at the full volume through one output to /dev/null. With --where it says of a ping, of an add in a list of 1,000, of
 `plchangesposid` after a change in 16,000 entries and of a frame, also with cross-fades, which functions take them, with all that each calls: those above a
-twentieth, but for those around all. It needs Debian's package valgrind.
+twentieth, but for those around all, and the lock. It needs Debian's package valgrind.
 """
 import argparse
 import os
@@ -140,7 +140,7 @@ def show_parts(what, less, more, count):
     whole = max(each.values())
     table = Table('\n%s: %.0f' % (what, whole), -8, 70)
     for name, part in sorted(each.items(), key=lambda item: -item[1]):
-        if whole / 20 <= part < whole * 0.98:
+        if whole / 20 <= part < whole * 0.98 or part >= 1 and 'Mutex::lock' in name:
             table.row('%.0f' % part if whole >= 1000 else '%.1f' % part, re.sub('::<#[0-9a-f]+>', '', name))
 
 

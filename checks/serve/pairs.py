@@ -53,7 +53,8 @@ def speed(entries, fade):
         start = time.perf_counter()
         client.must('play 0')
         while client.value('status', 'state') != 'stop':
-            client.must('idle player')
+            # No wait for a notice: MPD stands still at a song's end, now and then, until a client asks.
+            time.sleep(0.01)
         passed = time.perf_counter() - start
         client.close()
         return (entries * SONG - (entries - 1) * fade * RATE) / passed / 1e6
