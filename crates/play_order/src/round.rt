@@ -41,12 +41,22 @@ use std::ops::Range;
 
 /// What is remembered of a random order: each entry's rank, the songs that were played in this round, and the
 /// generator that ranks are drawn from. Contracts see the ranks and the ids as lists.
-#[derive(Drop)]
 pub struct Round {
     ranks: Ranks,
     played: Played,
     generator: Lcg64Xsh32,
     waiting: Option<Waiting>,
+}
+
+impl Drop for Round {
+    fn drop(self) {
+        let Round {
+            ranks: _,
+            played: _,
+            generator: _,
+            waiting: _,
+        } = self;
+    }
 }
 
 impl Model for Round {

@@ -20,13 +20,22 @@ use std::marker::Model;
 
 /// The entries that wait for their turn. A key is how far a priority is below the greatest, a rank and an id;
 /// contracts see the keys of all entries, by place, and of those that wait, rising.
-#[derive(Drop)]
 pub(crate) struct Waiting {
     known: Vec<(u8, u32, u32)>,
     /// Those that were not played.
     keys: BTreeSet<(u8, u32, u32)>,
     /// The version of the queue that this was made of. A queue of another version is not compared.
     version: u32,
+}
+
+impl Drop for Waiting {
+    fn drop(self) {
+        let Waiting {
+            known: _,
+            keys: _,
+            version: _,
+        } = self;
+    }
 }
 
 impl Model for Waiting {
