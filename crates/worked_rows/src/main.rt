@@ -1,19 +1,24 @@
-//! Runs the worked script sessions, and then lives one day of the whole daemon.
+//! Runs the worked script sessions and those that are made, and then lives one day of the whole daemon.
 //!
-//! Both are one program, since nearly all that each is linked with is linked with the other, and a program is
+//! All are one program, since nearly all that each is linked with is linked with the other, and a program is
 //! linked thrice in the gate: by its check and by two compilers.
 #![tactic(auto)]
 
+mod broken;
 mod client;
 mod day;
 mod files;
+mod long_session;
 mod row;
 mod rows;
+mod runs;
+mod sessions;
 
 use std::io;
 use std::process::ExitCode;
 
 fn main(rt: HostRuntime) -> io::Result<ExitCode> {
     rows::run_all(&rt)?;
+    sessions::run_all(&rt)?;
     day::live(rt, rt)
 }

@@ -1,4 +1,4 @@
-//! Runs of whole scripts. Here alone it is proved that a script can be read from a device and written to one.
+//! Runs of scripts that are texts, read from a device and written to one.
 use counted_devices::{FailAt, FailurePoint};
 use daemon_script::{ScriptFault, run_script};
 use std::alloc::{AllocError, Global};
@@ -24,7 +24,7 @@ fn told(alloc: Global, end: &str, written: &[u8]) -> Result<String, AllocError> 
 
 /// How a run of a script ends, and what it prints before that: `ok`, `read fault`, `write fault` or `no
 /// memory`, a newline, and what was written.
-pub fn run(
+pub(crate) fn run(
     alloc: Global,
     input: &str,
     read: FailurePoint,
@@ -37,6 +37,6 @@ pub fn run(
 }
 
 /// The same of a reader and a writer that do not fail.
-pub fn run_whole(alloc: Global, input: &str) -> Result<String, AllocError> {
+pub(crate) fn run_whole(alloc: Global, input: &str) -> Result<String, AllocError> {
     run(alloc, input, FailurePoint::Never, FailurePoint::Never)
 }

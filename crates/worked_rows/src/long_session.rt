@@ -1,8 +1,7 @@
-//! One long session: bodies that give up with want of memory from some size on meet every clause, so that
-//! only a run shows that they go on.
+//! Sessions that are too long to be written down. Bodies that give up with want of memory from some size on
+//! meet every clause, so that only a run shows that they go on.
 
 use crate::runs::run_whole;
-use crate::wanted::wants;
 use std::alloc::{AllocError, Global};
 
 /// How many songs the library has.
@@ -90,7 +89,7 @@ fn prints(alloc: Global, rows: &str) -> Result<String, AllocError> {
 
 /// Whether the answer that shows all entries has more than 64 KiB, and whether the session ends well and
 /// prints what is wanted.
-fn long_session(alloc: Global) -> Result<String, AllocError> {
+pub(crate) fn long_session(alloc: Global) -> Result<String, AllocError> {
     let rows = rows(alloc)?;
     let wanted = prints(alloc, rows.as_str())?;
     let told = run_whole(alloc, says(alloc)?.as_str())?;
@@ -99,33 +98,14 @@ fn long_session(alloc: Global) -> Result<String, AllocError> {
     format!(in alloc; "long: {is_long}, as wanted: {is_wanted}")
 }
 
-#[test]
-fn a_long_session(rt: HostRuntime) {
-    wants(&rt, long_session(rt.alloc()), "long: true, as wanted: true");
-}
-
 /// How many lines `add a.wav` a list of 2,097,152 bytes holds.
 const LIST_LINES: usize = 209_715;
 
-/// A list as large as a list may be, of which the queue takes 16,384 songs.
-fn largest_list(alloc: Global) -> Result<String, AllocError> {
+/// What is told of a list as large as a list may be, of which the queue takes 16,384 songs.
+pub(crate) fn largest_list(alloc: Global) -> Result<String, AllocError> {
     let adds = "1 add a.wav\n".repeat(alloc, LIST_LINES)?;
-    format!(in alloc;
+    let script = format!(in alloc;
         "! song a.wav 8000\n1 command_list_begin\n{adds}1 command_list_end\n1 plchangesposid 16385\n"
-    )
-}
-
-const LARGEST_LIST_PRINTS: &str =
-    "ok\n1 OK MPD 0.23.0\n1 ACK [51@16384] {add} playlist is full\n1 OK\n";
-
-#[test]
-fn the_largest_list_is_run(rt: HostRuntime) {
-    let script = largest_list(rt.alloc());
-    wants(&rt, printed(rt.alloc(), script), LARGEST_LIST_PRINTS);
-}
-
-/// What a script prints that is made.
-fn printed(alloc: Global, script: Result<String, AllocError>) -> Result<String, AllocError> {
-    let script = script?;
+    )?;
     run_whole(alloc, script.as_str())
 }

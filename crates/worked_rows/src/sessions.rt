@@ -1,0 +1,55 @@
+//! Runs the sessions that are no rows, and prints whether they told what is wanted: how a run ended, a
+//! newline, and what it printed.
+
+use crate::broken::{reader_fails, writer_fails};
+use crate::long_session::{largest_list, long_session};
+use daemon_script::runs_are_traced;
+use std::alloc::AllocError;
+use std::io;
+
+/// Where the reader fails at once, at the end, and in the third line.
+const CUT_OFF: &str = "read fault
+|read fault
+1 OK MPD 0.23.0
+1 OK
+1 OK
+|read fault
+1 OK MPD 0.23.0
+1 OK
+|";
+
+/// Of the largest list the line is refused that meets a full queue, and nothing stays of it.
+const LARGEST_LIST: &str = "ok\n1 OK MPD 0.23.0\n1 ACK [51@16384] {add} playlist is full\n1 OK\n";
+
+/// Runs each of them.
+pub fn run_all(rt: &HostRuntime) -> io::Result<()> {
+    runs_are_traced();
+    let alloc = rt.alloc();
+    show(
+        rt,
+        "a long session",
+        long_session(alloc),
+        "long: true, as wanted: true",
+    )?;
+    show(rt, "the largest list", largest_list(alloc), LARGEST_LIST)?;
+    show(
+        rt,
+        "a writer that fails",
+        writer_fails(alloc),
+        "write fault\n1 OK MPD 0",
+    )?;
+    show(rt, "a reader that fails", reader_fails(alloc), CUT_OFF)
+}
+
+fn show(
+    rt: &HostRuntime,
+    name: &str,
+    told: Result<String, AllocError>,
+    wanted: &str,
+) -> io::Result<()> {
+    let is_wanted = told?.as_str() == wanted;
+    println!(rt;
+        "{name}: {}",
+        if is_wanted { "as wanted" } else { "DIFFERS" }
+    )
+}
