@@ -19,7 +19,7 @@ from crates import table_of
 
 TOP = os.path.dirname(os.path.dirname(os.path.abspath(__file__)))
 MAP = 'docs/MAP.md'
-TESTS = re.compile(r'_tests$|^(?:worked_rows|house_rooms)$')
+TESTS = re.compile(r'_tests$|^(?:worked_rows|house_rooms|wanted)$')
 
 # the rooms, the highest first
 ROOMS = [

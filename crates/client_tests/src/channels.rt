@@ -1,10 +1,11 @@
 //! Channels, and the messages that wait for those who listen.
-use crate::wanted::wants;
 use idle_notes::{
     ChannelFault, Channels, Message, channel_names_are_each_once, clients_stay_apart,
     hears_where_one_listens, is_channel_name,
 };
 use std::alloc::{AllocError, Global};
+use std::test::Fail;
+use wanted::wants;
 
 /// A call.
 #[derive(Clone, Copy)]
@@ -113,7 +114,7 @@ fn answers_from_new(alloc: Global, steps: &[Step]) -> Result<String, AllocError>
 }
 
 #[test]
-fn who_listens(rt: HostRuntime) {
+fn who_listens(rt: HostRuntime) -> Result<(), Fail> {
     let told = answers_from_new(
         rt.alloc(),
         &[
@@ -138,7 +139,6 @@ fn who_listens(rt: HostRuntime) {
         ],
     );
     wants(
-        &rt,
         told,
         "
 listens false, names 0, waits false, heard false, room false
@@ -159,11 +159,11 @@ gone
 Zebra 
 listens false, names 0, waits false, heard false, room false
 ",
-    );
+    )
 }
 
 #[test]
-fn who_is_sent_a_message(rt: HostRuntime) {
+fn who_is_sent_a_message(rt: HostRuntime) -> Result<(), Fail> {
     let told = answers_from_new(
         rt.alloc(),
         &[
@@ -190,7 +190,6 @@ fn who_is_sent_a_message(rt: HostRuntime) {
         ],
     );
     wants(
-        &rt,
         told,
         "Nobody
 ok
@@ -213,7 +212,7 @@ alarm=two
 listens true, names 1, waits false, heard true, room true
 
 ",
-    );
+    )
 }
 
 const SIXTEEN: [&str; 16] = [
@@ -252,9 +251,8 @@ fn seventeen(alloc: Global) -> Result<String, AllocError> {
 }
 
 #[test]
-fn sixteen_channels_and_no_more(rt: HostRuntime) {
+fn sixteen_channels_and_no_more(rt: HostRuntime) -> Result<(), Fail> {
     wants(
-        &rt,
         seventeen(rt.alloc()),
         "TooMany
 Already
@@ -265,7 +263,7 @@ ok
 TooMany
 b c d e f g h i j k l m n o p q 
 ",
-    );
+    )
 }
 
 /// Whether so many messages to a channel are sent.
@@ -306,7 +304,7 @@ fn then_last(alloc: Global, channels: &mut Channels, steps: &[Step]) -> Result<S
 }
 
 #[test]
-fn sixty_four_messages_and_no_more(rt: HostRuntime) {
+fn sixty_four_messages_and_no_more(rt: HostRuntime) -> Result<(), Fail> {
     let told = after_sixty_three(
         rt.alloc(),
         &[
@@ -317,7 +315,6 @@ fn sixty_four_messages_and_no_more(rt: HostRuntime) {
         ],
     );
     wants(
-        &rt,
         told,
         "ok
 listens true, names 1, waits true, heard true, room false
@@ -326,11 +323,11 @@ Nobody
 64: last
 none
 ",
-    );
+    )
 }
 
 #[test]
-fn a_full_listener_misses_what_another_is_sent(rt: HostRuntime) {
+fn a_full_listener_misses_what_another_is_sent(rt: HostRuntime) -> Result<(), Fail> {
     let told = after_sixty_three(
         rt.alloc(),
         &[
@@ -341,7 +338,6 @@ fn a_full_listener_misses_what_another_is_sent(rt: HostRuntime) {
         ],
     );
     wants(
-        &rt,
         told,
         "ok
 ok
@@ -350,7 +346,7 @@ news=for two
 64: last
 1: for two
 ",
-    );
+    )
 }
 
 /// What an image of channels answers to the last steps, where the first were done before it was taken, and
@@ -369,7 +365,7 @@ fn answers_of_image(
 }
 
 #[test]
-fn an_image_of_channels_stays(rt: HostRuntime) {
+fn an_image_of_channels_stays(rt: HostRuntime) -> Result<(), Fail> {
     let told = answers_of_image(
         rt.alloc(),
         &[
@@ -395,7 +391,6 @@ fn an_image_of_channels_stays(rt: HostRuntime) {
         ],
     );
     wants(
-        &rt,
         told,
         "Zebra news 
 listens true, names 2, waits true, heard true, room true
@@ -404,7 +399,7 @@ listens false, names 0, waits false, heard false, room false
 ok
 news=one news=three 
 ",
-    );
+    )
 }
 
 /// What waits in an image for a client with as many channels and messages as it may have, when its source was
@@ -431,16 +426,15 @@ fn asked_of_image(alloc: Global, image: &mut Channels) -> Result<String, AllocEr
 }
 
 #[test]
-fn an_image_of_sixty_four_messages(rt: HostRuntime) {
+fn an_image_of_sixty_four_messages(rt: HostRuntime) -> Result<(), Fail> {
     wants(
-        &rt,
         full_image(rt.alloc()),
         "64: again
 TooMany
 NoRoom
 a b c d e f g h i j k l m n o p 
 ",
-    );
+    )
 }
 
 /// Those of these texts that are names of channels.
@@ -456,7 +450,7 @@ fn proper(alloc: Global, texts: &[&str]) -> Result<String, AllocError> {
 }
 
 #[test]
-fn names_of_channels(rt: HostRuntime) {
+fn names_of_channels(rt: HostRuntime) -> Result<(), Fail> {
     let told = proper(
         rt.alloc(),
         &[
@@ -487,7 +481,7 @@ fn names_of_channels(rt: HostRuntime) {
             "^",
         ],
     );
-    wants(&rt, told, "a z A Z 0 9 _ - . : a.b-c_d:9 ");
+    wants(told, "a z A Z 0 9 _ - . : a.b-c_d:9 ")
 }
 
 #[test]

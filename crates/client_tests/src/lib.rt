@@ -7,5 +7,3 @@ mod channels;
 mod list_lines;
 #[cfg(test)]
 mod notices;
-#[cfg(test)]
-mod wanted;

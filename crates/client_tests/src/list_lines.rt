@@ -1,11 +1,11 @@
 //! The lines of a client's command list.
-use crate::wanted::wants;
 use command_lists::{
     CommandList, ListCollector, ListForm, ListLine, Taken, any_cut, lines_are_parts,
     parts_are_taken, words_are_alone,
 };
 use std::alloc::{AllocError, Global};
 use std::test::Fail;
+use wanted::wants;
 
 fn form_text(form: ListForm) -> &'static str {
     match form {
@@ -68,27 +68,25 @@ fn session(alloc: Global, lines: &str) -> Result<String, AllocError> {
 }
 
 #[test]
-fn a_list_is_collected_to_its_end(rt: HostRuntime) {
+fn a_list_is_collected_to_its_end(rt: HostRuntime) -> Result<(), Fail> {
     wants(
-        &rt,
         session(
             rt.alloc(),
             "ping\ncommand_list_begin\nadd \"a b\"\n?\n\ncommand_list_begin\n\tcommand_list_end \nping\n command_list_ok_begin\ncommand_list_end\n",
         ),
         "alone\nbegun open\ncollected open\ncollected open\ncollected open\ncollected open\nplain|add \"a b\"|(no text)||command_list_begin\nalone\nbegun open\nok\n",
-    );
+    )
 }
 
 #[test]
-fn other_lines_begin_and_end_no_list(rt: HostRuntime) {
+fn other_lines_begin_and_end_no_list(rt: HostRuntime) -> Result<(), Fail> {
     wants(
-        &rt,
         session(
             rt.alloc(),
             "command_list_end\n\"command_list_begin\"\ncommand_list_begin x\nCommand_list_begin\ncommand_list_ok_begin\ncommand_list_end x\n!\ncommand_list_end\n",
         ),
         "alone\nalone\nalone\nalone\nbegun open\ncollected open\nalone\nalone\n",
-    );
+    )
 }
 
 /// Begins a list and gives it so many lines of a length. What is said of the last of these.
@@ -145,30 +143,27 @@ fn after_lines(
 
 // 128 lines of 16,383 bytes have 2,097,152 bytes with their newlines.
 #[test]
-fn the_largest_list(rt: HostRuntime) {
+fn the_largest_list(rt: HostRuntime) -> Result<(), Fail> {
     wants(
-        &rt,
         after_lines(rt.alloc(), 127, 16_383, 16_383),
         "collected false false collected open\n",
-    );
+    )
 }
 
 #[test]
-fn a_list_one_byte_too_large(rt: HostRuntime) {
+fn a_list_one_byte_too_large(rt: HostRuntime) -> Result<(), Fail> {
     wants(
-        &rt,
         after_lines(rt.alloc(), 127, 16_383, 16_384),
         "collected true false too large\n",
-    );
+    )
 }
 
 #[test]
-fn a_full_list_takes_no_empty_line(rt: HostRuntime) {
+fn a_full_list_takes_no_empty_line(rt: HostRuntime) -> Result<(), Fail> {
     wants(
-        &rt,
         after_lines(rt.alloc(), 128, 16_383, 0),
         "collected true false too large\n",
-    );
+    )
 }
 
 #[test]

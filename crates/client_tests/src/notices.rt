@@ -1,8 +1,9 @@
 //! A client that waits, and the names of what changed.
-use crate::wanted::wants;
 use idle_notes::{Pending, SUBSYSTEMS, Subsystem, Subsystems};
 use mpd_text::Answer;
 use std::alloc::{AllocError, Global};
+use std::test::Fail;
+use wanted::wants;
 
 /// A call, and what it answers.
 #[derive(Clone, Copy)]
@@ -90,9 +91,9 @@ fn changed_lines(alloc: Global) -> Result<String, AllocError> {
 }
 
 #[test]
-fn a_notice_names_in_one_order(rt: HostRuntime) {
+fn a_notice_names_in_one_order(rt: HostRuntime) -> Result<(), Fail> {
     let told = changed_lines(rt.alloc());
-    wants(&rt, told, "changed: playlist\nchanged: mixer\n");
+    wants(told, "changed: playlist\nchanged: mixer\n")
 }
 
 fn is_read_back(subsystem: Subsystem) -> bool {

@@ -3,7 +3,6 @@
 use crate::door::{Rooms, behind_a_door};
 use crate::rooms::Day;
 use crate::tunes::{Tone, Tune, listed, tune_of};
-use crate::wanted::wants;
 use crate::wire::right_to_the_hall;
 use crate::wired::told_with_lines;
 use partition::PartitionFault;
@@ -12,6 +11,7 @@ use std::sync::Wait;
 use std::test::Fail;
 use std::thread::Threads;
 use std::time::Clock;
+use wanted::wants;
 
 /// One song of so many frames.
 fn saw(alloc: Global, frames: i32) -> Result<Vec<Tune>, AllocError> {
@@ -46,7 +46,6 @@ ping
 #[test]
 fn a_write_without_the_lock(rt: HostRuntime) -> Result<(), Fail> {
     wants(
-        &rt,
         write_told(rt, rt.alloc()),
         "OK
 OK
@@ -62,8 +61,7 @@ decoded 8000, written 8000, discarded 0, left 0, torn 0
 decoded 8000, written 8000, discarded 0, left 0, torn 0
 right frames in the hall 8000, in the attic 8000
 ",
-    );
-    Ok(())
+    )
 }
 
 fn pause_told<R: Threads + Wait + Clock + Copy + Drop + Send + Sync + 'static>(
@@ -86,7 +84,6 @@ pause 1
 #[test]
 fn frames_are_left_at_the_end(rt: HostRuntime) -> Result<(), Fail> {
     wants(
-        &rt,
         pause_told(rt, rt.alloc()),
         "OK
 OK
@@ -99,8 +96,7 @@ files opened: 1
 decoded 10240, written 1024, discarded 0, left 9216, torn 0
 decoded 10240, written 10240, discarded 0, left 0, torn 0
 ",
-    );
-    Ok(())
+    )
 }
 
 /// What came of a day, with what its first output wrote and whether frames of its second are left.
@@ -126,7 +122,6 @@ play
 #[test]
 fn a_late_output_is_settled(rt: HostRuntime) -> Result<(), Fail> {
     wants(
-        &rt,
         late_told(rt, rt.alloc()),
         "OK
 OK
@@ -135,8 +130,7 @@ an output stands in its write: true
 written 3000 torn 0 balanced true
 left true balanced true
 ",
-    );
-    Ok(())
+    )
 }
 
 /// What came of a day, with what its first output wrote.
@@ -171,7 +165,6 @@ play 1
 #[test]
 fn frames_of_an_old_cut(rt: HostRuntime) -> Result<(), Fail> {
     wants(
-        &rt,
         stop_told(rt, rt.alloc()),
         "OK
 OK
@@ -185,6 +178,5 @@ hall 4024: true
 written 4024 torn 0 balanced true
 right frames in the hall 4024
 ",
-    );
-    Ok(())
+    )
 }

@@ -1,6 +1,5 @@
 //! Songs whose files are not there, or are shorter than the library says.
 use crate::tunes::{Tone, Tune, listed, lost_tune, tune_of};
-use crate::wanted::wants;
 use crate::wired::{told_with_lines, wired_day};
 use partition::PartitionFault;
 use std::alloc::Global;
@@ -8,6 +7,7 @@ use std::sync::Wait;
 use std::test::Fail;
 use std::thread::Threads;
 use std::time::Clock;
+use wanted::wants;
 
 fn told<R: Threads + Wait + Clock + Copy + Send + Sync + 'static>(
     rt: R,
@@ -41,7 +41,6 @@ play 1
 #[test]
 fn a_missing_file(rt: HostRuntime) -> Result<(), Fail> {
     wants(
-        &rt,
         after_a_lost_song(rt, rt.alloc()),
         "OK
 OK
@@ -55,8 +54,7 @@ decoded 3000, written 3000, discarded 0, left 0, torn 0
 decoded 3000, written 3000, discarded 0, left 0, torn 0
 right frames in the hall 3000, in the attic 3000
 ",
-    );
-    Ok(())
+    )
 }
 
 fn into_a_short_partner<R: Threads + Wait + Clock + Copy + Send + Sync + 'static>(
@@ -79,7 +77,6 @@ play
 #[test]
 fn a_partner_that_fails(rt: HostRuntime) -> Result<(), Fail> {
     wants(
-        &rt,
         into_a_short_partner(rt, rt.alloc()),
         "OK
 OK
@@ -92,6 +89,5 @@ decoded 12100, written 12100, discarded 0, left 0, torn 0
 decoded 12100, written 12100, discarded 0, left 0, torn 0
 right frames in the hall 12100, in the attic 12100
 ",
-    );
-    Ok(())
+    )
 }

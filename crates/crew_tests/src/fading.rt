@@ -1,7 +1,6 @@
 //! Two songs that fade into each other, at half the volume, through two outputs: the bytes are those of the
 //! formulas.
 use crate::tunes::{Tone, Tune, listed, tune_of};
-use crate::wanted::wants;
 use crate::wired::{told_with_lines, wired_day};
 use partition::PartitionFault;
 use std::alloc::{AllocError, Global};
@@ -9,6 +8,7 @@ use std::sync::Wait;
 use std::test::Fail;
 use std::thread::Threads;
 use std::time::Clock;
+use wanted::wants;
 
 fn two_songs(alloc: Global) -> Result<Vec<Tune>, AllocError> {
     let first = tune_of(alloc, "a.wav", 12_000, 12_000, Tone::Saw)?;
@@ -29,7 +29,6 @@ fn told<R: Threads + Wait + Clock + Copy + Send + Sync + 'static>(
 #[test]
 fn bytes_through_the_threads(rt: HostRuntime) -> Result<(), Fail> {
     wants(
-        &rt,
         told(rt, rt.alloc()),
         "OK
 OK
@@ -43,6 +42,5 @@ decoded 14000, written 14000, discarded 0, left 0, torn 0
 decoded 14000, written 14000, discarded 0, left 0, torn 0
 right frames in the hall 14000, in the attic 14000
 ",
-    );
-    Ok(())
+    )
 }

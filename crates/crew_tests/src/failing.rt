@@ -1,7 +1,6 @@
 //! A writer that fails: its output is switched off, its frames are discarded, and the other output goes on.
 use crate::rooms::Day;
 use crate::tunes::{Tone, listed, tune_of};
-use crate::wanted::wants;
 use crate::wire::{Wires, right_lines};
 use crate::wired::wired_day;
 use partition::PartitionFault;
@@ -10,6 +9,7 @@ use std::sync::Wait;
 use std::test::Fail;
 use std::thread::Threads;
 use std::time::Clock;
+use wanted::wants;
 
 fn balances(alloc: Global, day: &Day, wires: &mut Wires) -> Result<String, PartitionFault> {
     let (heard, hall) = (&day.heard, day.balance(alloc, 0)?);
@@ -39,7 +39,6 @@ outputs
 #[test]
 fn a_failing_writer(rt: HostRuntime) -> Result<(), Fail> {
     wants(
-        &rt,
         told(rt, rt.alloc(), 6),
         "OK
 OK
@@ -59,6 +58,5 @@ written 1 torn 2 balanced true
 written 12000 torn 0 balanced true
 right frames in the hall 1, in the attic 12000
 ",
-    );
-    Ok(())
+    )
 }

@@ -22,8 +22,6 @@ mod tunes;
 #[cfg(test)]
 mod updating;
 #[cfg(test)]
-mod wanted;
-#[cfg(test)]
 mod wire;
 #[cfg(test)]
 mod wired;

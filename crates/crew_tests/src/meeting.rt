@@ -1,7 +1,6 @@
 //! Two outputs run at once: each one's first asking waits for the other's.
 use crate::rooms::{Blind, Stage, one_day, shared};
 use crate::tunes::{Tone, listed, tune_of};
-use crate::wanted::wants;
 use crate::wire::two_wires;
 use crate::wired::told_with_lines;
 use crew_steps::Gate;
@@ -13,6 +12,7 @@ use std::test::Fail;
 use std::thread;
 use std::thread::Threads;
 use std::time::Clock;
+use wanted::wants;
 
 /// Lets an output go on once the other has asked too. An output gives up after a million looks.
 #[derive(Drop)]
@@ -73,7 +73,6 @@ fn told<R: Threads + Wait + Clock + Copy + Send + Sync + 'static>(
 #[test]
 fn outputs_run_at_once(rt: HostRuntime) -> Result<(), Fail> {
     wants(
-        &rt,
         told(rt, rt.alloc()),
         "OK
 OK
@@ -85,6 +84,5 @@ decoded 3000, written 3000, discarded 0, left 0, torn 0
 right frames in the hall 3000, in the attic 3000
 missed: false
 ",
-    );
-    Ok(())
+    )
 }

@@ -2,7 +2,6 @@
 //! partition that it left.
 use crate::door::behind_a_door;
 use crate::tunes::{Tone, Tune, listed, tune_of};
-use crate::wanted::wants;
 use crate::wired::told_apart;
 use partition::PartitionFault;
 use std::alloc::{AllocError, Global};
@@ -10,6 +9,7 @@ use std::sync::Wait;
 use std::test::Fail;
 use std::thread::Threads;
 use std::time::Clock;
+use wanted::wants;
 
 /// Two songs, of which the first has so many frames of the saw, and the second so many of the steps.
 fn saw_and_steps(alloc: Global, saw: i32, steps: i32) -> Result<Vec<Tune>, AllocError> {
@@ -51,7 +51,6 @@ play
 #[test]
 fn partitions_play_apart(rt: HostRuntime) -> Result<(), Fail> {
     wants(
-        &rt,
         apart(rt, rt.alloc()),
         "OK
 OK
@@ -69,8 +68,7 @@ decoded 6000, written 6000, discarded 0, left 0, torn 0
 decoded 5000, written 5000, discarded 0, left 0, torn 0
 right frames in the hall 6000, in the attic 5000
 ",
-    );
-    Ok(())
+    )
 }
 
 fn moved<R: Threads + Wait + Clock + Copy + Drop + Send + Sync + 'static>(
@@ -112,7 +110,6 @@ play
 #[test]
 fn a_moved_output(rt: HostRuntime) -> Result<(), Fail> {
     wants(
-        &rt,
         moved(rt, rt.alloc()),
         "OK
 OK
@@ -131,6 +128,5 @@ decoded 20000, written 20000, discarded 0, left 0, torn 0
 decoded 13240, written 4024, discarded 9216, left 0, torn 0
 right frames in the hall 20000, in the attic 4024
 ",
-    );
-    Ok(())
+    )
 }

@@ -1,7 +1,6 @@
 //! A scan that is made while a song is played.
 use crate::rooms::{Stage, Watch, one_day, shared};
 use crate::tunes::{Tone, listed, songs, tune_of};
-use crate::wanted::wants;
 use crate::wire::{Wires, two_wires};
 use crate::wired::told_with_lines;
 use crew::Scanner;
@@ -15,6 +14,7 @@ use std::test::Fail;
 use std::thread;
 use std::thread::Threads;
 use std::time::{Clock, Duration};
+use wanted::wants;
 
 const SCRIPT: &str = "add a.wav
 update
@@ -153,21 +153,18 @@ fn late_told<R: Threads + Wait + Clock + Copy + Drop + Send + Sync + 'static>(
 #[test]
 fn a_close_while_a_scan_is_made(rt: HostRuntime) -> Result<(), Fail> {
     wants(
-        &rt,
         late_told(rt, rt.alloc()),
         "updating_db: 1
 OK
 the scan has begun: true
 scans that have ended: 1
 ",
-    );
-    Ok(())
+    )
 }
 
 #[test]
 fn an_update_while_a_song_is_played(rt: HostRuntime) -> Result<(), Fail> {
     wants(
-        &rt,
         told(rt, rt.alloc()),
         "OK
 updating_db: 1
@@ -194,6 +191,5 @@ decoded 12000, written 12000, discarded 0, left 0, torn 0
 decoded 12000, written 12000, discarded 0, left 0, torn 0
 right frames in the hall 12000, in the attic 12000
 ",
-    );
-    Ok(())
+    )
 }

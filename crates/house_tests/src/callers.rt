@@ -2,7 +2,6 @@
 ghost use Rattle.std.specs.Prelude.{◌≡◌, ◌+◌, ◌<◌, IfOk};
 
 use crate::rooms::{Day, alone, seat_of, told};
-use crate::wanted::wants;
 use counted_player::{Ledgers, Seat};
 use house::House;
 use house_rooms::{adds_a_song, comes};
@@ -13,6 +12,7 @@ use std::test::Fail;
 use std::thread;
 use std::thread::Threads;
 use std::time::Clock;
+use wanted::wants;
 
 /// A client comes, and adds a song a hundred times.
 fn adds<L: Ledgers>(
@@ -124,12 +124,10 @@ a fourth seat: true, a fifth: false
 
 #[test]
 fn two_threads_add_songs(rt: HostRuntime) -> Result<(), Fail> {
-    wants(&rt, told(&rt, rt.alloc(), 4096, Day::Callers), WANTED);
-    Ok(())
+    wants(told(&rt, rt.alloc(), 4096, Day::Callers), WANTED)
 }
 
 #[test]
 fn a_window_of_three_is_folded(rt: HostRuntime) -> Result<(), Fail> {
-    wants(&rt, told(&rt, rt.alloc(), 3, Day::Callers), WANTED);
-    Ok(())
+    wants(told(&rt, rt.alloc(), 3, Day::Callers), WANTED)
 }

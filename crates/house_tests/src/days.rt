@@ -1,7 +1,7 @@
 //! Clients come and go, a scan is asked for, and lists are run.
 use crate::rooms::{Day, told};
-use crate::wanted::wants;
 use std::test::Fail;
+use wanted::wants;
 
 /// A client waits, another makes a change in a list, and the first goes before it is told. A scan is asked
 /// for and fails. Sixty-three more clients come and wait, which is as many as may, and one too many. Two songs
@@ -41,7 +41,6 @@ made";
 #[test]
 fn clients_come_and_go(rt: HostRuntime) -> Result<(), Fail> {
     wants(
-        &rt,
         told(&rt, rt.alloc(), 4096, Day::Clients),
         "OK MPD 0.23.0
 heard
@@ -75,6 +74,5 @@ the end
 the end
 events made: 144
 ",
-    );
-    Ok(())
+    )
 }

@@ -5,7 +5,6 @@ ghost use Rattle.output_ring.specs.Rings.{SameDrainer};
 
 use crate::rooms::{Day, seat_of, told};
 use crate::session::{add_report, session};
-use crate::wanted::wants;
 use counted_devices::{FailAt, FailurePoint};
 use counted_player::{Decoded, Discarded, Ledgers, Seat, Written};
 use frame_ledger::{OutputShares, SettleFault, Settled};
@@ -18,6 +17,7 @@ use std::sync::Wait;
 use std::sync::ledger::Share;
 use std::test::Fail;
 use std::time::Clock;
+use wanted::wants;
 
 /// A song plays, and the decoder wants a job.
 const STEPS: &str = "comes 1
@@ -264,7 +264,6 @@ pub(crate) fn frames<L: Ledgers, R: Wait + Clock>(
 #[test]
 fn frames_are_booked_and_settled(rt: HostRuntime) -> Result<(), Fail> {
     wants(
-        &rt,
         told(&rt, rt.alloc(), 64, Day::Frames),
         "OK MPD 0.23.0
 heard
@@ -279,6 +278,5 @@ live at cut 1, enabled true, paused false
 decoded 1024, written 512, discarded 512, left 0
 decoded 0, written 0, discarded 0, left 0
 ",
-    );
-    Ok(())
+    )
 }

@@ -19,5 +19,3 @@ mod rests;
 mod rooms;
 #[cfg(test)]
 mod session;
-#[cfg(test)]
-mod wanted;

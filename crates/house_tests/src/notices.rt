@@ -1,6 +1,5 @@
 //! A client waits while another thread makes a hundred changes: each notice is handed out once.
 use crate::rooms::{Day, seat_of, told};
-use crate::wanted::wants;
 use counted_player::{Ledgers, Seat};
 use house::House;
 use house_rooms::{comes, hears, says};
@@ -11,6 +10,7 @@ use std::sync::atomic::{AtomicU32, Ordering};
 use std::test::Fail;
 use std::thread;
 use std::thread::Threads;
+use wanted::wants;
 
 /// How many notices came from the outbox and how many in front of an answer, and how many more than one a
 /// change.
@@ -188,9 +188,7 @@ pub(crate) fn race<L: Ledgers + Send + Sync, R: Threads + Wait + Sync>(
 #[test]
 fn every_notice_comes_once(rt: HostRuntime) -> Result<(), Fail> {
     wants(
-        &rt,
         told(&rt, rt.alloc(), 64, Day::Notices),
         "by the outbox 50, in front 50, again 0\n",
-    );
-    Ok(())
+    )
 }

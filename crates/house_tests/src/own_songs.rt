@@ -1,6 +1,5 @@
 //! Two threads add songs by turns, and each looks up the id that it was given.
 use crate::rooms::{Day, seat_of, told};
-use crate::wanted::wants;
 use counted_player::{Ledgers, Seat};
 use house::House;
 use house_rooms::{comes, hears};
@@ -11,6 +10,7 @@ use std::sync::Wait;
 use std::test::Fail;
 use std::thread;
 use std::thread::Threads;
+use wanted::wants;
 
 /// How often a thread found its own song by the id that it was given, and these ids.
 #[derive(Drop)]
@@ -173,19 +173,15 @@ pub(crate) fn race<L: Ledgers + Send + Sync, R: Threads + Wait + Sync>(
 #[test]
 fn each_finds_its_own_song(rt: HostRuntime) -> Result<(), Fail> {
     wants(
-        &rt,
         told(&rt, rt.alloc(), 4096, Day::OwnSongs(false)),
         "found 100 and 100, given once 200\n",
-    );
-    Ok(())
+    )
 }
 
 #[test]
 fn each_finds_its_own_song_by_lists(rt: HostRuntime) -> Result<(), Fail> {
     wants(
-        &rt,
         told(&rt, rt.alloc(), 4096, Day::OwnSongs(true)),
         "found 100 and 100, given once 200\n",
-    );
-    Ok(())
+    )
 }

@@ -2,7 +2,6 @@
 use crate::notices::meets;
 use crate::rooms::{Day, seat_of, told};
 use crate::session::{changes, session};
-use crate::wanted::wants;
 use counted_player::{Ledgers, Seat};
 use house::House;
 use house_rooms::says;
@@ -14,6 +13,7 @@ use std::test::Fail;
 use std::thread;
 use std::thread::Threads;
 use std::time::{Clock, Duration};
+use wanted::wants;
 
 /// Two clients come, of whom the first waits for another volume than the one that is set at once, and the
 /// second has two songs played.
@@ -172,7 +172,6 @@ pub(crate) fn rests<L: Ledgers + Send + Sync, R: Threads + Wait + Clock + Sync>(
 #[test]
 fn changes_end_rests(rt: HostRuntime) -> Result<(), Fail> {
     wants(
-        &rt,
         told(&rt, rt.alloc(), 4096, Day::Rests(false)),
         "OK MPD 0.23.0
 heard
@@ -198,14 +197,12 @@ pause 0: true
 stop: true
 play: true
 ",
-    );
-    Ok(())
+    )
 }
 
 #[test]
 fn who_waits_is_woken(rt: HostRuntime) -> Result<(), Fail> {
     wants(
-        &rt,
         told(&rt, rt.alloc(), 4096, Day::Rests(true)),
         "OK MPD 0.23.0
 heard
@@ -226,6 +223,5 @@ setvol 41: true true
 end: false false
 end: true false
 ",
-    );
-    Ok(())
+    )
 }

@@ -1,8 +1,8 @@
 //! Worked rows of the order of play. The ids that random orders give are those of `rand_pcg` in Rust, seeded
 //! with 0.
 use crate::course::{count_in_random_order, told};
-use crate::tables::wants;
-use std::alloc::Global;
+use std::test::Fail;
+use wanted::wants;
 
 const RANDOM: &str = "add 1
 add 1
@@ -56,8 +56,8 @@ none, current none, single off, consume off, 5 left
 ";
 
 #[test]
-fn a_random_order_has_each_song_once(rt: HostRuntime) {
-    wants(&rt, told(rt.alloc(), RANDOM), RANDOM_TELLS);
+fn a_random_order_has_each_song_once(rt: HostRuntime) -> Result<(), Fail> {
+    wants(told(rt.alloc(), RANDOM), RANDOM_TELLS)
 }
 
 const TWO: &str = "add 1
@@ -102,8 +102,8 @@ open
 ";
 
 #[test]
-fn two_songs_in_random_order(rt: HostRuntime) {
-    wants(&rt, told(rt.alloc(), TWO), TWO_TELL);
+fn two_songs_in_random_order(rt: HostRuntime) -> Result<(), Fail> {
+    wants(told(rt.alloc(), TWO), TWO_TELL)
 }
 
 const RENEWED: &str = "add 2
@@ -124,8 +124,8 @@ none
 ";
 
 #[test]
-fn a_deletion_renews_a_round(rt: HostRuntime) {
-    wants(&rt, told(rt.alloc(), RENEWED), RENEWED_TELL);
+fn a_deletion_renews_a_round(rt: HostRuntime) -> Result<(), Fail> {
+    wants(told(rt.alloc(), RENEWED), RENEWED_TELL)
 }
 
 const IN_EACH_MODE: &str = "add 2
@@ -167,8 +167,8 @@ none, current none, single off, consume on, 0 left
 ";
 
 #[test]
-fn the_next_song_in_each_mode(rt: HostRuntime) {
-    wants(&rt, told(rt.alloc(), IN_EACH_MODE), IN_EACH_MODE_TELLS);
+fn the_next_song_in_each_mode(rt: HostRuntime) -> Result<(), Fail> {
+    wants(told(rt.alloc(), IN_EACH_MODE), IN_EACH_MODE_TELLS)
 }
 
 const BY_PRIORITY: &str = "add 3
@@ -199,8 +199,8 @@ bad index
 ";
 
 #[test]
-fn the_greatest_priority_first_and_consumed(rt: HostRuntime) {
-    wants(&rt, told(rt.alloc(), BY_PRIORITY), BY_PRIORITY_TELLS);
+fn the_greatest_priority_first_and_consumed(rt: HostRuntime) -> Result<(), Fail> {
+    wants(told(rt.alloc(), BY_PRIORITY), BY_PRIORITY_TELLS)
 }
 
 const AT_AN_END: &str = "add 3
@@ -224,8 +224,8 @@ next 1
 ";
 
 #[test]
-fn single_and_consume_at_an_end(rt: HostRuntime) {
-    wants(&rt, told(rt.alloc(), AT_AN_END), AT_AN_END_TELLS);
+fn single_and_consume_at_an_end(rt: HostRuntime) -> Result<(), Fail> {
+    wants(told(rt.alloc(), AT_AN_END), AT_AN_END_TELLS)
 }
 
 const SHUFFLES: &str = "add 5
@@ -243,13 +243,12 @@ ids
 ";
 
 #[test]
-fn a_shuffle_of_a_range(rt: HostRuntime) {
-    wants(&rt, told(rt.alloc(), SHUFFLES), SHUFFLES_TELL);
+fn a_shuffle_of_a_range(rt: HostRuntime) -> Result<(), Fail> {
+    wants(told(rt.alloc(), SHUFFLES), SHUFFLES_TELL)?;
     wants(
-        &rt,
         told(rt.alloc(), "add 5\nshuffle 0 5\nids"),
         "ids\n 4 1 2 3 5\n",
-    );
+    )
 }
 
 const COPY: &str = "add 3
@@ -278,8 +277,8 @@ version 4, parity true, changed 1 3 4, ids 1 2 3 4 5
 ";
 
 #[test]
-fn a_copy_of_a_queue(rt: HostRuntime) {
-    wants(&rt, told(rt.alloc(), COPY), COPY_TELLS);
+fn a_copy_of_a_queue(rt: HostRuntime) -> Result<(), Fail> {
+    wants(told(rt.alloc(), COPY), COPY_TELLS)
 }
 
 /// The order of `RANDOM`, whose second half is asked of an image when its source has lost all songs.
@@ -331,8 +330,8 @@ none, current none, single off, consume off, 5 left
 ";
 
 #[test]
-fn an_image_of_a_round_stays(rt: HostRuntime) {
-    wants(&rt, told(rt.alloc(), IMAGE), IMAGE_TELLS);
+fn an_image_of_a_round_stays(rt: HostRuntime) -> Result<(), Fail> {
+    wants(told(rt.alloc(), IMAGE), IMAGE_TELLS)
 }
 
 const FULL_IMAGE: &str = "add 16384
@@ -359,8 +358,8 @@ full
 ";
 
 #[test]
-fn an_image_of_a_full_round(rt: HostRuntime) {
-    wants(&rt, told(rt.alloc(), FULL_IMAGE), FULL_IMAGE_TELLS);
+fn an_image_of_a_full_round(rt: HostRuntime) -> Result<(), Fail> {
+    wants(told(rt.alloc(), FULL_IMAGE), FULL_IMAGE_TELLS)
 }
 
 /// So many as the queue takes are tried by the benchmark, since each `next` there goes over them all.

@@ -1,8 +1,8 @@
 //! Worked rows of the player. The first two words of the generator rise, so the first song comes first in
 //! random order.
 use crate::seat::told;
-use crate::tables::wants;
-use std::alloc::Global;
+use std::test::Fail;
+use wanted::wants;
 
 const MANY: u32 = 4294967295;
 
@@ -36,8 +36,8 @@ pause 1 at 13024, 1 starts, 2 cuts, next 0, 1 entries, no error
 ";
 
 #[test]
-fn a_job_is_accepted_once(rt: HostRuntime) {
-    wants(&rt, told(rt.alloc(), MANY, JOBS), JOBS_TELL);
+fn a_job_is_accepted_once(rt: HostRuntime) -> Result<(), Fail> {
+    wants(told(rt.alloc(), MANY, JOBS), JOBS_TELL)
 }
 
 const SINGLE: &str = "add s
@@ -62,8 +62,8 @@ stop 1 at 4, 2 starts, 1 cuts, next 2, 2 entries, no error
 ";
 
 #[test]
-fn single_repeats_or_stops_once(rt: HostRuntime) {
-    wants(&rt, told(rt.alloc(), MANY, SINGLE), SINGLE_TELLS);
+fn single_repeats_or_stops_once(rt: HostRuntime) -> Result<(), Fail> {
+    wants(told(rt.alloc(), MANY, SINGLE), SINGLE_TELLS)
 }
 
 const FAILURE: &str = "add a
@@ -88,8 +88,8 @@ stop 2 at 0, 3 starts, 4 cuts, next 1, 2 entries, no error
 ";
 
 #[test]
-fn a_failure_stops_with_a_text(rt: HostRuntime) {
-    wants(&rt, told(rt.alloc(), MANY, FAILURE), FAILURE_TELLS);
+fn a_failure_stops_with_a_text(rt: HostRuntime) -> Result<(), Fail> {
+    wants(told(rt.alloc(), MANY, FAILURE), FAILURE_TELLS)
 }
 
 const LIMIT: &str = "add a
@@ -108,8 +108,8 @@ limit
 ";
 
 #[test]
-fn the_greatest_number_of_cuts(rt: HostRuntime) {
-    wants(&rt, told(rt.alloc(), 1, LIMIT), LIMIT_TELLS);
+fn the_greatest_number_of_cuts(rt: HostRuntime) -> Result<(), Fail> {
+    wants(told(rt.alloc(), 1, LIMIT), LIMIT_TELLS)
 }
 
 const DELETIONS: &str = "add a
@@ -139,8 +139,8 @@ stop 0 at 0, 3 starts, 5 cuts, next 0, 0 entries, no error
 ";
 
 #[test]
-fn deletions_of_the_current_song(rt: HostRuntime) {
-    wants(&rt, told(rt.alloc(), MANY, DELETIONS), DELETIONS_TELL);
+fn deletions_of_the_current_song(rt: HostRuntime) -> Result<(), Fail> {
+    wants(told(rt.alloc(), MANY, DELETIONS), DELETIONS_TELL)
 }
 
 const FADES: &str = "crossfade 1
@@ -180,8 +180,8 @@ job 7 3 0 4
 ";
 
 #[test]
-fn fades(rt: HostRuntime) {
-    wants(&rt, told(rt.alloc(), MANY, FADES), FADES_TELL);
+fn fades(rt: HostRuntime) -> Result<(), Fail> {
+    wants(told(rt.alloc(), MANY, FADES), FADES_TELL)
 }
 
 const ORDERS: &str = "random 1
@@ -213,8 +213,8 @@ stop 0 at 0, 4 starts, 5 cuts, next 0, 1 entries, no error
 ";
 
 #[test]
-fn consume_once_and_in_each_order(rt: HostRuntime) {
-    wants(&rt, told(rt.alloc(), MANY, ORDERS), ORDERS_TELL);
+fn consume_once_and_in_each_order(rt: HostRuntime) -> Result<(), Fail> {
+    wants(told(rt.alloc(), MANY, ORDERS), ORDERS_TELL)
 }
 
 const FAILED_IMAGE: &str = "add a
@@ -270,15 +270,7 @@ job 3 1 17024 1024 fade 2 1024 8000
 ";
 
 #[test]
-fn an_image_of_a_player_stays(rt: HostRuntime) {
-    wants(
-        &rt,
-        told(rt.alloc(), MANY, FAILED_IMAGE),
-        FAILED_IMAGE_TELLS,
-    );
-    wants(
-        &rt,
-        told(rt.alloc(), MANY, FADING_IMAGE),
-        FADING_IMAGE_TELLS,
-    );
+fn an_image_of_a_player_stays(rt: HostRuntime) -> Result<(), Fail> {
+    wants(told(rt.alloc(), MANY, FAILED_IMAGE), FAILED_IMAGE_TELLS)?;
+    wants(told(rt.alloc(), MANY, FADING_IMAGE), FADING_IMAGE_TELLS)
 }

@@ -4,15 +4,6 @@
 //! calls, and is cheap to prove. What a test needs and cannot make counts as want of memory.
 use mpd_text::{Song, number};
 use std::alloc::{AllocError, Global};
-use std::process::Abort;
-
-/// Ends the test where what is told is not what is wanted.
-pub fn wants<R: Abort>(rt: &R, told: Result<String, AllocError>, wanted: &str) {
-    match told {
-        Ok(text) => assert_eq!(*rt; text.as_str(), wanted),
-        Err(_) => panic!(*rt; "no memory"),
-    }
-}
 
 /// The number of a word; 0 where there is none.
 pub fn number_of(word: &str) -> u32 {

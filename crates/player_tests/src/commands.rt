@@ -1,13 +1,14 @@
 //! What the playback commands are read as.
 //!
 //! Each line of a text is read, and told as a command with its values or as the refusal.
-use crate::wanted::wants;
 use mpd_command::{
     Command, CommandSet, OptionCommand, OutputCommand, PlaybackCommand, QueueCommand, Request,
     StatusCommand,
 };
 use queue_tests::steps::push_line;
 use std::alloc::{AllocError, Global};
+use std::test::Fail;
+use wanted::wants;
 
 /// A command that has no argument.
 fn bare(command: &Command) -> &'static str {
@@ -148,8 +149,8 @@ ToggleOutput(4294967295)
 ";
 
 #[test]
-fn playback_commands_are_read(rt: HostRuntime) {
-    wants(&rt, read_each(rt.alloc(), COMMANDS), COMMANDS_READ);
+fn playback_commands_are_read(rt: HostRuntime) -> Result<(), Fail> {
+    wants(read_each(rt.alloc(), COMMANDS), COMMANDS_READ)
 }
 
 const REFUSED: &str = "next 1
@@ -207,6 +208,6 @@ bad argument \"-1\"
 ";
 
 #[test]
-fn arguments_of_playback_commands_are_refused(rt: HostRuntime) {
-    wants(&rt, read_each(rt.alloc(), REFUSED), REFUSED_READ);
+fn arguments_of_playback_commands_are_refused(rt: HostRuntime) -> Result<(), Fail> {
+    wants(read_each(rt.alloc(), REFUSED), REFUSED_READ)
 }

@@ -3,9 +3,10 @@
 use crate::session::{session, session_over, session_within};
 use crate::sessions::{ROOMS, ROOMS_TELL, SCANS, SCANS_TELL, numbered};
 use crate::shelf_sizes::doubling;
-use crate::wanted::{wants, wants_made};
 use queue_tests::steps::push_line;
 use std::alloc::{AllocError, Global};
+use std::test::Fail;
+use wanted::{wants, wants_made};
 
 /// The most events of the windows in which each session is run.
 const WINDOWS: [u32; 4] = [1, 2, 3, 4096];
@@ -54,10 +55,10 @@ fn oddities(alloc: Global, uris: &str, steps: &str, wanted: &str) -> Result<Stri
 }
 
 #[test]
-fn folds_keep_outputs_and_scans(rt: HostRuntime) {
+fn folds_keep_outputs_and_scans(rt: HostRuntime) -> Result<(), Fail> {
     let alloc = rt.alloc();
-    wants(&rt, oddities(alloc, "a.wav", ROOMS, ROOMS_TELL), "");
-    wants(&rt, oddities(alloc, "a.wav", SCANS, SCANS_TELL), "");
+    wants(oddities(alloc, "a.wav", ROOMS, ROOMS_TELL), "")?;
+    wants(oddities(alloc, "a.wav", SCANS, SCANS_TELL), "")
 }
 
 /// A session that leaves something in each part of the state, and then shows all of it.
@@ -194,10 +195,10 @@ b.wav
 c.wav";
 
 #[test]
-fn folds_keep_each_part(rt: HostRuntime) {
+fn folds_keep_each_part(rt: HostRuntime) -> Result<(), Fail> {
     let alloc = rt.alloc();
-    wants(&rt, session_over(alloc, THREE, HOUSE), HOUSE_TELLS);
-    wants(&rt, oddities(alloc, THREE, HOUSE, HOUSE_TELLS), "");
+    wants(session_over(alloc, THREE, HOUSE), HOUSE_TELLS)?;
+    wants(oddities(alloc, THREE, HOUSE, HOUSE_TELLS), "")
 }
 
 /// What is shown of the window after each of four events.
@@ -226,7 +227,7 @@ fn four_events_within(alloc: Global, most: u32) -> Result<String, AllocError> {
 }
 
 #[test]
-fn a_full_window_is_folded_before_the_next_event(rt: HostRuntime) {
+fn a_full_window_is_folded_before_the_next_event(rt: HostRuntime) -> Result<(), Fail> {
     let alloc = rt.alloc();
     let one = four_events(
         alloc,
@@ -255,9 +256,9 @@ fn a_full_window_is_folded_before_the_next_event(rt: HostRuntime) {
             "events: 1, bytes: 0, all: 4",
         ],
     );
-    wants_made(&rt, four_events_within(alloc, 1), one);
-    wants_made(&rt, four_events_within(alloc, 2), two);
-    wants_made(&rt, four_events_within(alloc, 3), three);
+    wants_made(four_events_within(alloc, 1), one)?;
+    wants_made(four_events_within(alloc, 2), two)?;
+    wants_made(four_events_within(alloc, 3), three)
 }
 
 /// What the shelf answers counts too: a list of one URI and its newline, a name of one letter, a value of
@@ -309,8 +310,8 @@ events: 1, bytes: 3, all: 9
 ";
 
 #[test]
-fn the_bytes_of_a_window_are_counted(rt: HostRuntime) {
-    wants(&rt, session(rt.alloc(), BYTES), BYTES_TELL);
+fn the_bytes_of_a_window_are_counted(rt: HostRuntime) -> Result<(), Fail> {
+    wants(session(rt.alloc(), BYTES), BYTES_TELL)
 }
 
 /// What is told where the greatest window is filled, and two more events come.
@@ -329,12 +330,11 @@ fn greatest_window_tells(alloc: Global) -> Result<String, AllocError> {
 }
 
 #[test]
-fn the_greatest_window_is_folded(rt: HostRuntime) {
+fn the_greatest_window_is_folded(rt: HostRuntime) -> Result<(), Fail> {
     wants_made(
-        &rt,
         greatest_window(rt.alloc()),
         greatest_window_tells(rt.alloc()),
-    );
+    )
 }
 
 /// The window of 93 events is full, is folded by the next event, and then by hand. The order of play is the
@@ -399,6 +399,6 @@ fn greatest_tells(alloc: Global) -> Result<String, AllocError> {
 }
 
 #[test]
-fn the_greatest_state_is_folded(rt: HostRuntime) {
-    wants_made(&rt, greatest(rt.alloc()), greatest_tells(rt.alloc()));
+fn the_greatest_state_is_folded(rt: HostRuntime) -> Result<(), Fail> {
+    wants_made(greatest(rt.alloc()), greatest_tells(rt.alloc()))
 }

@@ -19,5 +19,3 @@ mod session;
 mod sessions;
 #[cfg(test)]
 mod shelf_sizes;
-#[cfg(test)]
-mod wanted;

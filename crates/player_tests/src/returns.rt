@@ -1,9 +1,9 @@
 //! A player that is told the state of another, by the answers of both.
 use crate::session::session_over;
-use crate::wanted::wants_made;
 use kept_state::{kept_of, state_text};
 use std::alloc::{AllocError, Global};
-use std::process::Abort;
+use std::test::Fail;
+use wanted::wants_made;
 
 const SONGS: &str = "a.wav\nb.wav\nc.wav";
 
@@ -113,10 +113,10 @@ fn paused_tells(alloc: Global) -> Result<String, AllocError> {
 }
 
 #[test]
-fn a_paused_player_comes_back(rt: HostRuntime) {
+fn a_paused_player_comes_back(rt: HostRuntime) -> Result<(), Fail> {
     let alloc = rt.alloc();
-    wants_made(&rt, state_after(alloc, SONGS, PAUSED), paused_tells(alloc));
-    wants_made(&rt, state_again(alloc, SONGS, PAUSED), paused_tells(alloc));
+    wants_made(state_after(alloc, SONGS, PAUSED), paused_tells(alloc))?;
+    wants_made(state_again(alloc, SONGS, PAUSED), paused_tells(alloc))
 }
 
 fn without_song_tells(alloc: Global) -> Result<String, AllocError> {
@@ -129,18 +129,16 @@ fn without_others_tells(alloc: Global) -> Result<String, AllocError> {
 
 // The other songs have their own priorities and places.
 #[test]
-fn songs_that_are_gone_take_no_others_along(rt: HostRuntime) {
+fn songs_that_are_gone_take_no_others_along(rt: HostRuntime) -> Result<(), Fail> {
     let alloc = rt.alloc();
     wants_made(
-        &rt,
         state_again(alloc, "a.wav\nc.wav", PAUSED),
         without_song_tells(alloc),
-    );
+    )?;
     wants_made(
-        &rt,
         state_again(alloc, "b.wav", PAUSED),
         without_others_tells(alloc),
-    );
+    )
 }
 
 /// Steps, and the lines of the state after those of volume, modes and outputs as they are at the start.
@@ -168,22 +166,15 @@ fn player_tells(alloc: Global, lines: &str) -> Result<String, AllocError> {
     format!(in alloc; "{FIRST_OPTIONS}{OUTPUTS}{lines}")
 }
 
-fn check_player<R: Abort>(rt: &R, alloc: Global, steps: &str, lines: &str) {
-    wants_made(
-        rt,
-        state_after(alloc, SONGS, steps),
-        player_tells(alloc, lines),
-    );
-    wants_made(
-        rt,
-        state_again(alloc, SONGS, steps),
-        player_tells(alloc, lines),
-    );
+fn check_player(alloc: Global, steps: &str, lines: &str) -> Result<(), Fail> {
+    wants_made(state_after(alloc, SONGS, steps), player_tells(alloc, lines))?;
+    wants_made(state_again(alloc, SONGS, steps), player_tells(alloc, lines))
 }
 
 #[test]
-fn players_come_back(rt: HostRuntime) {
+fn players_come_back(rt: HostRuntime) -> Result<(), Fail> {
     for (steps, lines) in PLAYERS {
-        check_player(&rt, rt.alloc(), steps, lines);
+        check_player(rt.alloc(), steps, lines)?;
     }
+    Ok(())
 }

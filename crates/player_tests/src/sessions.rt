@@ -1,10 +1,11 @@
 //! Worked sessions of the player of one thread, and what they tell.
 use crate::session::{session, session_over};
-use crate::wanted::{wants, wants_made};
 use command_arguments::Volume;
 use mpd_command::{CommandSet, Name, Request, names};
 use partition::{PartitionFault, folds_are_unseen, reads_pending, replays_worlds};
 use std::alloc::{AllocError, Global};
+use std::test::Fail;
+use wanted::{wants, wants_made};
 
 const WAITING: &str = "comes 2
 comes 1
@@ -43,8 +44,8 @@ changed: options
 ";
 
 #[test]
-fn a_waiting_client_hears_of_a_change_once(rt: HostRuntime) {
-    wants(&rt, session(rt.alloc(), WAITING), WAITING_TELLS);
+fn a_waiting_client_hears_of_a_change_once(rt: HostRuntime) -> Result<(), Fail> {
+    wants(session(rt.alloc(), WAITING), WAITING_TELLS)
 }
 
 const ENDED: &str = "comes 1
@@ -84,8 +85,8 @@ decoded 0, written 0, discarded 0
 ";
 
 #[test]
-fn after_the_end_nothing_is_decoded(rt: HostRuntime) {
-    wants(&rt, session(rt.alloc(), ENDED), ENDED_TELLS);
+fn after_the_end_nothing_is_decoded(rt: HostRuntime) -> Result<(), Fail> {
+    wants(session(rt.alloc(), ENDED), ENDED_TELLS)
 }
 
 pub(crate) const ROOMS: &str = "comes 1
@@ -144,8 +145,8 @@ seat 15: 2, seat 3: 9, all: 21, entries: 1, clients: 2, volume: 40
 ";
 
 #[test]
-fn eight_rooms_have_their_books(rt: HostRuntime) {
-    wants(&rt, session(rt.alloc(), ROOMS), ROOMS_TELL);
+fn eight_rooms_have_their_books(rt: HostRuntime) -> Result<(), Fail> {
+    wants(session(rt.alloc(), ROOMS), ROOMS_TELL)
 }
 
 pub(crate) const SCANS: &str = "comes 1
@@ -186,8 +187,8 @@ seat 15: 2, seat 3: 7, all: 14, entries: 2, clients: 2, volume: 100
 ";
 
 #[test]
-fn a_scan_that_ends_is_told(rt: HostRuntime) {
-    wants(&rt, session(rt.alloc(), SCANS), SCANS_TELL);
+fn a_scan_that_ends_is_told(rt: HostRuntime) -> Result<(), Fail> {
+    wants(session(rt.alloc(), SCANS), SCANS_TELL)
 }
 
 fn is_read_back(name: &str) -> bool {
@@ -204,11 +205,11 @@ fn name_of(alloc: Global, line: &str) -> Result<String, AllocError> {
 }
 
 #[test]
-fn each_name_is_read_back(rt: HostRuntime) {
+fn each_name_is_read_back(rt: HostRuntime) -> Result<(), Fail> {
     for name in names() {
         assert!(rt; is_read_back(*name));
     }
-    wants(&rt, name_of(rt.alloc(), "swap 0 1"), "swap");
+    wants(name_of(rt.alloc(), "swap 0 1"), "swap")
 }
 
 /// A line for each number from this one to 64, between two texts.
@@ -247,8 +248,8 @@ fn crowd_tells(alloc: Global) -> Result<String, AllocError> {
 }
 
 #[test]
-fn a_sixty_fifth_client_is_closed(rt: HostRuntime) {
-    wants_made(&rt, crowd(rt.alloc()), crowd_tells(rt.alloc()));
+fn a_sixty_fifth_client_is_closed(rt: HostRuntime) -> Result<(), Fail> {
+    wants_made(crowd(rt.alloc()), crowd_tells(rt.alloc()))
 }
 
 /// What is told where 63 clients wait for a change of the queue, and another makes one.
@@ -267,12 +268,8 @@ fn waiting_crowd_tells(alloc: Global) -> Result<String, AllocError> {
 }
 
 #[test]
-fn all_clients_are_told_at_once(rt: HostRuntime) {
-    wants_made(
-        &rt,
-        waiting_crowd(rt.alloc()),
-        waiting_crowd_tells(rt.alloc()),
-    );
+fn all_clients_are_told_at_once(rt: HostRuntime) -> Result<(), Fail> {
+    wants_made(waiting_crowd(rt.alloc()), waiting_crowd_tells(rt.alloc()))
 }
 
 const PLAIN_LIST: &str = "comes 1
@@ -296,9 +293,9 @@ ACK [5@2] {} unknown command \"nosuch\"
 ";
 
 #[test]
-fn an_answer_in_a_list_has_no_ok(rt: HostRuntime) {
-    wants(&rt, session(rt.alloc(), PLAIN_LIST), PLAIN_LIST_TELLS);
-    wants(&rt, session(rt.alloc(), OK_LIST), OK_LIST_TELLS);
+fn an_answer_in_a_list_has_no_ok(rt: HostRuntime) -> Result<(), Fail> {
+    wants(session(rt.alloc(), PLAIN_LIST), PLAIN_LIST_TELLS)?;
+    wants(session(rt.alloc(), OK_LIST), OK_LIST_TELLS)
 }
 
 /// Four songs, two of which are in a folder.
@@ -349,12 +346,8 @@ OK
 ";
 
 #[test]
-fn a_list_keeps_songs_that_are_gone(rt: HostRuntime) {
-    wants(
-        &rt,
-        session_over(rt.alloc(), FOUR, GONE_SONGS),
-        GONE_SONGS_TELL,
-    );
+fn a_list_keeps_songs_that_are_gone(rt: HostRuntime) -> Result<(), Fail> {
+    wants(session_over(rt.alloc(), FOUR, GONE_SONGS), GONE_SONGS_TELL)
 }
 
 const WITH_LEAVE: &str = "comes 1
@@ -368,8 +361,8 @@ OK
 ";
 
 #[test]
-fn kill_is_among_the_commands_with_leave(rt: HostRuntime) {
-    wants(&rt, session(rt.alloc(), WITH_LEAVE), WITH_LEAVE_TELLS);
+fn kill_is_among_the_commands_with_leave(rt: HostRuntime) -> Result<(), Fail> {
+    wants(session(rt.alloc(), WITH_LEAVE), WITH_LEAVE_TELLS)
 }
 
 /// What is said of an event that is refused.

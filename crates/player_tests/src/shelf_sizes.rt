@@ -1,7 +1,8 @@
 //! The longest queue and the longest stored playlist.
 use crate::session::session;
-use crate::wanted::wants_made;
 use std::alloc::{AllocError, Global};
+use std::test::Fail;
+use wanted::wants_made;
 
 /// Steps after which the queue has 16,384 entries: it is saved and loaded 14 times, and so doubles each time.
 pub(crate) fn doubling(alloc: Global) -> Result<String, AllocError> {
@@ -55,8 +56,8 @@ fn longest_tells(alloc: Global) -> Result<String, AllocError> {
 }
 
 #[test]
-fn the_longest_queue_is_saved_and_loaded(rt: HostRuntime) {
-    wants_made(&rt, longest(rt.alloc()), longest_tells(rt.alloc()));
+fn the_longest_queue_is_saved_and_loaded(rt: HostRuntime) -> Result<(), Fail> {
+    wants_made(longest(rt.alloc()), longest_tells(rt.alloc()))
 }
 
 const FULL_LIST: &str = "1 save full
@@ -94,6 +95,6 @@ fn full_list_tells(alloc: Global) -> Result<String, AllocError> {
 }
 
 #[test]
-fn the_longest_list_takes_no_more(rt: HostRuntime) {
-    wants_made(&rt, full_list(rt.alloc()), full_list_tells(rt.alloc()));
+fn the_longest_list_takes_no_more(rt: HostRuntime) -> Result<(), Fail> {
+    wants_made(full_list(rt.alloc()), full_list_tells(rt.alloc()))
 }

@@ -8,5 +8,3 @@ mod queue_moves;
 #[cfg(test)]
 mod queues;
 pub mod steps;
-#[cfg(test)]
-mod wanted;

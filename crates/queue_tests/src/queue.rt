@@ -3,12 +3,13 @@
 //! Each edit tells one line: what is answered, the version, the length, and whether the parity was flipped.
 use crate::queues::{changed, edit, empty, inserts, numbers, place_of, state};
 use crate::steps::{entry, first_word, number_of, push_line};
-use crate::wanted::wants;
 use song_queue::{
     Queue, edits_follow_past, ids_are_distinct, ids_never_return, parity_tells_changes,
     pasts_keep_queues, patches_give_present, states_follow_pasts,
 };
 use std::alloc::{AllocError, Global};
+use std::test::Fail;
+use wanted::wants;
 
 const ID_LIMIT: u32 = 2147483647;
 
@@ -131,9 +132,9 @@ nowhere
 ";
 
 #[test]
-fn a_deletion_restamps_the_slots_after_it(rt: HostRuntime) {
+fn a_deletion_restamps_the_slots_after_it(rt: HostRuntime) -> Result<(), Fail> {
     let told = told_of(rt.alloc(), 2147483647, 5, DELETION);
-    wants(&rt, told, DELETION_TELLS);
+    wants(told, DELETION_TELLS)
 }
 
 const ANEW: &str = "remove 4 4
@@ -152,15 +153,15 @@ ok 3 2 flips
 ";
 
 #[test]
-fn versions_begin_anew(rt: HostRuntime) {
+fn versions_begin_anew(rt: HostRuntime) -> Result<(), Fail> {
     let told = told_of(rt.alloc(), 4, 4, ANEW);
-    wants(&rt, told, ANEW_TELLS);
+    wants(told, ANEW_TELLS)
 }
 
 #[test]
-fn a_version_limit_of_one(rt: HostRuntime) {
+fn a_version_limit_of_one(rt: HostRuntime) -> Result<(), Fail> {
     let told = told_of(rt.alloc(), 1, 2, "insert 2 1\nshow new 1");
-    wants(&rt, told, "ok 1 3 flips\n 0 1 2\n");
+    wants(told, "ok 1 3 flips\n 0 1 2\n")
 }
 
 const RANGES: &str = "remove 3 3
@@ -175,9 +176,9 @@ bad index 4 3 stays
 ";
 
 #[test]
-fn ranges_are_the_callers_to_cut(rt: HostRuntime) {
+fn ranges_are_the_callers_to_cut(rt: HostRuntime) -> Result<(), Fail> {
     let told = told_of(rt.alloc(), 2147483647, 3, RANGES);
-    wants(&rt, told, RANGES_TELL);
+    wants(told, RANGES_TELL)
 }
 
 const NO_SONGS: &str = "insert 0 0
@@ -194,9 +195,9 @@ bad index 4 3 stays
 ";
 
 #[test]
-fn an_empty_insertion_changes_nothing(rt: HostRuntime) {
+fn an_empty_insertion_changes_nothing(rt: HostRuntime) -> Result<(), Fail> {
     let told = told_of(rt.alloc(), 2147483647, 3, NO_SONGS);
-    wants(&rt, told, NO_SONGS_TELL);
+    wants(told, NO_SONGS_TELL)
 }
 
 const REFUSALS: &str = "insert 1 4
@@ -217,9 +218,9 @@ ok 4 1 flips
 ";
 
 #[test]
-fn refusals_in_their_order(rt: HostRuntime) {
+fn refusals_in_their_order(rt: HostRuntime) -> Result<(), Fail> {
     let told = told(rt.alloc(), empty(rt.alloc(), 2, 9, 3), REFUSALS);
-    wants(&rt, told, REFUSALS_TELL);
+    wants(told, REFUSALS_TELL)
 }
 
 const MIDDLE: &str = "insert 1 2
@@ -232,9 +233,9 @@ const MIDDLE_TELLS: &str = "ok 5 5 flips
 ";
 
 #[test]
-fn songs_are_put_in_the_middle(rt: HostRuntime) {
+fn songs_are_put_in_the_middle(rt: HostRuntime) -> Result<(), Fail> {
     let told = told_of(rt.alloc(), 2147483647, 3, MIDDLE);
-    wants(&rt, told, MIDDLE_TELLS);
+    wants(told, MIDDLE_TELLS)
 }
 
 const SWAPS: &str = "swap 0 1
@@ -257,9 +258,9 @@ bad index 5 2 stays
 ";
 
 #[test]
-fn a_swap_back_is_shown(rt: HostRuntime) {
+fn a_swap_back_is_shown(rt: HostRuntime) -> Result<(), Fail> {
     let told = told_of(rt.alloc(), 99, 2, SWAPS);
-    wants(&rt, told, SWAPS_TELL);
+    wants(told, SWAPS_TELL)
 }
 
 #[test]
@@ -293,10 +294,10 @@ fn border_tells(alloc: Global) -> Result<String, AllocError> {
 }
 
 #[test]
-fn a_removal_over_the_border_of_two_blocks(rt: HostRuntime) {
+fn a_removal_over_the_border_of_two_blocks(rt: HostRuntime) -> Result<(), Fail> {
     let queue = empty(rt.alloc(), 1000, 2_147_483_647, ID_LIMIT);
     let wanted = border_tells(rt.alloc()).unwrap_or(String::new(rt.alloc()));
-    wants(&rt, told(rt.alloc(), queue, BORDER), wanted.as_str());
+    wants(told(rt.alloc(), queue, BORDER), wanted.as_str())
 }
 
 const FULL: &str = "insert 0 16384
@@ -319,7 +320,7 @@ ok 4 16384 flips
 ";
 
 #[test]
-fn a_full_queue(rt: HostRuntime) {
+fn a_full_queue(rt: HostRuntime) -> Result<(), Fail> {
     let queue = empty(rt.alloc(), 16_384, 2_147_483_647, ID_LIMIT);
-    wants(&rt, told(rt.alloc(), queue, FULL), FULL_TELLS);
+    wants(told(rt.alloc(), queue, FULL), FULL_TELLS)
 }

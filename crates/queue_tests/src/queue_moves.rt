@@ -5,9 +5,10 @@
 
 use crate::queues::{changed, count_changed, edit, empty, inserts, numbers, state};
 use crate::steps::{entry, first_word, number_of, push_line};
-use crate::wanted::wants;
 use song_queue::{Queue, moves_keep_entries};
 use std::alloc::{AllocError, Global};
+use std::test::Fail;
+use wanted::wants;
 
 /// A queue into which songs were put at once, so its version is 2, or 1 where that is the greatest.
 fn filled(alloc: Global, max_version: u32, count: usize) -> Result<Queue, AllocError> {
@@ -126,9 +127,9 @@ bad index 5 false: 5/0 2/0 4/0 3/0 1/0 new:
 ";
 
 #[test]
-fn entries_are_moved(rt: HostRuntime) {
+fn entries_are_moved(rt: HostRuntime) -> Result<(), Fail> {
     moves_keep_entries();
-    wants(&rt, told_of(rt.alloc(), 99, 5, MOVES), MOVES_TELL);
+    wants(told_of(rt.alloc(), 99, 5, MOVES), MOVES_TELL)
 }
 
 const PRIORITIES: &str = "prio 7 1 3 2 4 0 0
@@ -151,9 +152,9 @@ ok 5 false: 1/255 2/255 3/255 4/255 new: 0 1 2 3
 ";
 
 #[test]
-fn entries_get_a_priority(rt: HostRuntime) {
+fn entries_get_a_priority(rt: HostRuntime) -> Result<(), Fail> {
     let told = told_of(rt.alloc(), 99, 4, PRIORITIES);
-    wants(&rt, told, PRIORITIES_TELL);
+    wants(told, PRIORITIES_TELL)
 }
 
 const ANEW: &str = "move 3 4 2
@@ -173,8 +174,8 @@ shown 2 true: 2/5 1/5 4/0 3/0 new: 2 3
 
 /// Where versions begin anew each slot is marked, until it changes.
 #[test]
-fn versions_begin_anew(rt: HostRuntime) {
-    wants(&rt, told_of(rt.alloc(), 2, 4, ANEW), ANEW_TELLS);
+fn versions_begin_anew(rt: HostRuntime) -> Result<(), Fail> {
+    wants(told_of(rt.alloc(), 2, 4, ANEW), ANEW_TELLS)
 }
 
 const FULL: &str = "move 1 16384 0
@@ -191,7 +192,7 @@ bad index 5 false: 8194/1 8195/1 2/1 3/1 1/0 new:
 ";
 
 #[test]
-fn a_full_queue(rt: HostRuntime) {
+fn a_full_queue(rt: HostRuntime) -> Result<(), Fail> {
     let told = told_of(rt.alloc(), 2_147_483_647, 16_384, FULL);
-    wants(&rt, told, FULL_TELLS);
+    wants(told, FULL_TELLS)
 }

@@ -1,8 +1,9 @@
 //! The names of tags that clients know, and what is read of a song for each.
-use crate::wanted::wants;
 use known_tags::{KNOWN_TAGS, KnownTag, each_name_is_read_back};
 use mpd_text::{Song, Tag, TagName};
 use std::alloc::{AllocError, Global};
+use std::test::Fail;
+use wanted::wants;
 
 /// The 31 names, in letters of which every second one is large.
 const ODD_WORDS: &str =
@@ -61,15 +62,15 @@ fn read_all(alloc: Global, words: &str) -> Result<String, AllocError> {
 }
 
 #[test]
-fn each_name_is_read_in_odd_case(rt: HostRuntime) {
-    wants(&rt, read_all(rt.alloc(), ODD_WORDS), READ);
+fn each_name_is_read_in_odd_case(rt: HostRuntime) -> Result<(), Fail> {
+    wants(read_all(rt.alloc(), ODD_WORDS), READ)
 }
 
 #[test]
-fn other_words_name_none(rt: HostRuntime) {
+fn other_words_name_none(rt: HostRuntime) -> Result<(), Fail> {
     let words = "Nosuch Art_ist Artis Artists any file MUSICBRAINZ_ARTIS\u{212a} Zo\u{eb}";
     let wanted = "none none none none none none none none ";
-    wants(&rt, read_all(rt.alloc(), words), wanted);
+    wants(read_all(rt.alloc(), words), wanted)
 }
 
 /// The names in their order.
@@ -82,9 +83,9 @@ fn listed(alloc: Global) -> Result<String, AllocError> {
 }
 
 #[test]
-fn all_names_in_order(rt: HostRuntime) {
+fn all_names_in_order(rt: HostRuntime) -> Result<(), Fail> {
     each_name_is_read_back();
-    wants(&rt, listed(rt.alloc()), READ);
+    wants(listed(rt.alloc()), READ)
 }
 
 fn tag(alloc: Global, name: TagName, text: &str) -> Result<Tag, AllocError> {
@@ -119,7 +120,7 @@ fn texts(alloc: Global, given: &[(TagName, &str)]) -> Result<String, AllocError>
 }
 
 #[test]
-fn a_song_has_texts_of_six_tags(rt: HostRuntime) {
+fn a_song_has_texts_of_six_tags(rt: HostRuntime) -> Result<(), Fail> {
     let given = [
         (TagName::Comment, "first"),
         (TagName::Genre, "Pop"),
@@ -129,5 +130,5 @@ fn a_song_has_texts_of_six_tags(rt: HostRuntime) {
         (TagName::Album, "One"),
         (TagName::Comment, "second"),
     ];
-    wants(&rt, texts(rt.alloc(), &given), TEXTS);
+    wants(texts(rt.alloc(), &given), TEXTS)
 }

@@ -26,5 +26,3 @@ mod songs;
 mod tag_sets;
 #[cfg(test)]
 mod told;
-#[cfg(test)]
-mod wanted;

@@ -1,5 +1,4 @@
 //! Clients and outputs go from one partition to another, and partitions come and go.
-use crate::wanted::wants;
 use idle_notes::Pending;
 use known_tags::TagSet;
 use mpd_command::{Command, CommandSet, Name, PartitionCommand, Request};
@@ -8,7 +7,9 @@ use partition_commands::run;
 use parts::{Crossing, Greatest, Openings, Parts, opened};
 use player_state::{Client, Outputs, Part};
 use std::alloc::{AllocError, Global};
+use std::test::Fail;
 use transitions::{Asked, Move, Response, Stand, Transition};
+use wanted::wants;
 
 /// The partitions of a daemon, and its two clients.
 #[derive(Drop)]
@@ -214,7 +215,7 @@ fn all_told(alloc: Global, lines: &str) -> Result<String, AllocError> {
 }
 
 #[test]
-fn names_are_refused_first(rt: HostRuntime) {
+fn names_are_refused_first(rt: HostRuntime) -> Result<(), Fail> {
     let lines = "1 newpartition a.b\n1 newpartition \"\"\n1 partition \"x y\"\n1 delpartition é\n\
         1 newpartition 0123456789abcdef0123456789ABCDEF0123456789_-cdef0123456789abcdef0\n\
         1 newpartition 0123456789abcdef0123456789ABCDEF0123456789_-cdef0123456789abcdef\n\
@@ -225,11 +226,11 @@ fn names_are_refused_first(rt: HostRuntime) {
         ACK [2@0] {delpartition} bad name \"é\"\n\
         ACK [2@0] {newpartition} bad name \"0123456789abcdef0123456789ABCDEF0123456789_-cdef0123456789abcdef0\"\n\
         OK\nOK\n";
-    wants(&rt, all_told(rt.alloc(), lines), wanted);
+    wants(all_told(rt.alloc(), lines), wanted)
 }
 
 #[test]
-fn clients_and_outputs_are_in_use(rt: HostRuntime) {
+fn clients_and_outputs_are_in_use(rt: HostRuntime) -> Result<(), Fail> {
     let lines = "1 newpartition default\n1 newpartition k\n1 newpartition k\n1 newpartition Z\n\
         1 listpartitions\nsee k\nsee Z\n\
         1 partition x\n1 partition default\n2 partition k\n\
@@ -249,11 +250,11 @@ fn clients_and_outputs_are_in_use(rt: HostRuntime) {
         OK\nACK [52@0] {delpartition} partition is in use\nOK\nin 0, on true, moved 2\n\
         OK\nACK [50@0] {delpartition} no such partition\n\
         partition: Z\npartition: default\nOK\nOK\nSome(1)\n";
-    wants(&rt, all_told(rt.alloc(), lines), wanted);
+    wants(all_told(rt.alloc(), lines), wanted)
 }
 
 #[test]
-fn sixteen_are_the_most(rt: HostRuntime) {
+fn sixteen_are_the_most(rt: HostRuntime) -> Result<(), Fail> {
     let lines = "1 newpartition b\n1 newpartition c\n1 newpartition d\n1 newpartition e\n\
         1 newpartition f\n1 newpartition g\n1 newpartition h\n1 newpartition i\n\
         1 newpartition j\n1 newpartition k\n1 newpartition l\n1 newpartition m\n\
@@ -262,5 +263,5 @@ fn sixteen_are_the_most(rt: HostRuntime) {
     let wanted = "OK\nOK\nOK\nOK\nOK\nOK\nOK\nOK\nOK\nOK\nOK\nOK\nOK\nOK\nOK\nSome(15)\n\
         ACK [52@0] {newpartition} too many partitions\n\
         ACK [56@0] {newpartition} partition exists\nOK\nOK\nSome(2)\n";
-    wants(&rt, all_told(rt.alloc(), lines), wanted);
+    wants(all_told(rt.alloc(), lines), wanted)
 }

@@ -1,10 +1,11 @@
 //! The lines of a song with the tags of a set.
 use crate::tag_sets::{disabled, enabled};
-use crate::wanted::wants;
 use known_tags::{TagSet, all_tags_show_the_whole_song, push_shared_with, push_song_with};
 use mpd_text::{Answer, Song, Tag, TagName};
 use song_db::{Rate, SharedSong, push_song, texts_and_length_are_the_song};
 use std::alloc::{AllocError, Global};
+use std::test::Fail;
+use wanted::wants;
 
 fn tag(alloc: Global, name: TagName, text: &str) -> Result<Tag, AllocError> {
     Ok(Tag::new(name, String::from_str(alloc, text)?))
@@ -75,51 +76,46 @@ fn lines_disabled(alloc: Global, words: &str) -> Result<String, AllocError> {
 const WHOLE: &str = "file: b.wav\nTitle: Bee\nArtist: Zo\u{eb}\nTime: 2\nduration: 2.000\n";
 
 #[test]
-fn a_song_with_the_tags_of_a_set(rt: HostRuntime) {
+fn a_song_with_the_tags_of_a_set(rt: HostRuntime) -> Result<(), Fail> {
     wants(
-        &rt,
         lines_enabled(
             rt.alloc(),
             "Artist AlbumArtist Title Name Composer Performer",
         ),
         WHOLE,
-    );
+    )?;
     wants(
-        &rt,
         lines_disabled(rt.alloc(), "Artist Genre"),
         "file: b.wav\nTitle: Bee\nTime: 2\nduration: 2.000\n",
-    );
+    )?;
     wants(
-        &rt,
         lines(rt.alloc(), TagSet::empty()),
         "file: b.wav\nTime: 2\nduration: 2.000\n",
-    );
+    )
 }
 
 #[test]
-fn a_song_with_all_tags(rt: HostRuntime) {
+fn a_song_with_all_tags(rt: HostRuntime) -> Result<(), Fail> {
     all_tags_show_the_whole_song();
-    wants(&rt, lines(rt.alloc(), TagSet::all()), WHOLE);
-    wants(&rt, whole_lines(rt.alloc()), WHOLE);
+    wants(lines(rt.alloc(), TagSet::all()), WHOLE)?;
+    wants(whole_lines(rt.alloc()), WHOLE)
 }
 
 #[test]
-fn a_shared_song(rt: HostRuntime) {
+fn a_shared_song(rt: HostRuntime) -> Result<(), Fail> {
     texts_and_length_are_the_song();
-    wants(&rt, shared_lines(rt.alloc(), TagSet::all()), WHOLE);
+    wants(shared_lines(rt.alloc(), TagSet::all()), WHOLE)?;
     wants(
-        &rt,
         shared_lines(rt.alloc(), TagSet::empty()),
         "file: b.wav\nTime: 2\nduration: 2.000\n",
-    );
+    )
 }
 
 #[test]
-fn the_longest_song(rt: HostRuntime) {
+fn the_longest_song(rt: HostRuntime) -> Result<(), Fail> {
     // 18,446,744,073,709,551,615 frames, 8,000 a second, are 2,305,843,009,213,693.951875 seconds.
     wants(
-        &rt,
         longest_lines(rt.alloc()),
         "file: l.wav\nTime: 2305843009213694\nduration: 2305843009213693.951\n",
-    );
+    )
 }

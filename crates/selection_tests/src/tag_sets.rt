@@ -1,8 +1,9 @@
 //! Sets of tags.
-use crate::wanted::wants;
 use known_tags::{KnownTag, TagSet, push_tagtypes};
 use mpd_text::{Answer, TAG_NAMES, TagName};
 use std::alloc::{AllocError, Global};
+use std::test::Fail;
+use wanted::wants;
 
 /// The lines of `tagtypes` of a set.
 pub fn types(alloc: Global, set: TagSet) -> Result<String, AllocError> {
@@ -52,59 +53,47 @@ const SIX: &str =
     "tagtype: Title\ntagtype: Artist\ntagtype: Album\ntagtype: Date\ntagtype: Genre\ntagtype: Comment\n";
 
 #[test]
-fn all_and_none(rt: HostRuntime) {
-    wants(&rt, types(rt.alloc(), TagSet::all()), SIX);
-    wants(&rt, types(rt.alloc(), TagSet::empty()), "");
-    wants(
-        &rt,
-        types_enabled(rt.alloc(), TagSet::empty(), ALL_WORDS),
-        SIX,
-    );
-    wants(
-        &rt,
-        types_disabled(rt.alloc(), TagSet::all(), ALL_WORDS),
-        "",
-    );
+fn all_and_none(rt: HostRuntime) -> Result<(), Fail> {
+    wants(types(rt.alloc(), TagSet::all()), SIX)?;
+    wants(types(rt.alloc(), TagSet::empty()), "")?;
+    wants(types_enabled(rt.alloc(), TagSet::empty(), ALL_WORDS), SIX)?;
+    wants(types_disabled(rt.alloc(), TagSet::all(), ALL_WORDS), "")
 }
 
 #[test]
-fn names_join_and_leave(rt: HostRuntime) {
+fn names_join_and_leave(rt: HostRuntime) -> Result<(), Fail> {
     wants(
-        &rt,
         types_enabled(
             rt.alloc(),
             TagSet::empty(),
             "Artist AlbumArtist Title Name Composer Performer",
         ),
         "tagtype: Title\ntagtype: Artist\n",
-    );
+    )?;
     wants(
-        &rt,
         types_disabled(
             rt.alloc(),
             TagSet::all(),
             "genre ALBUM comment AlbumSort title",
         ),
         "tagtype: Artist\ntagtype: Date\n",
-    );
+    )?;
     wants(
-        &rt,
         types_enabled(
             rt.alloc(),
             TagSet::empty(),
             "AlbumArtist ArtistSort AlbumSort",
         ),
         "",
-    );
+    )?;
     wants(
-        &rt,
         types_disabled(
             rt.alloc(),
             TagSet::all(),
             "AlbumArtist ArtistSort AlbumSort",
         ),
         SIX,
-    );
+    )
 }
 
 /// What a set says of each tag: `+` where the set has it.

@@ -1,11 +1,11 @@
 //! How sessions are closed.
 use crate::days::{Step, told, told_with_kill};
-use crate::wanted::wants;
 use crate::wires::{Takes, repeated};
 use partition::PartitionFault;
 use std::alloc::{AllocError, Global};
 use std::sync::Wait;
 use std::test::Fail;
+use wanted::wants;
 
 /// Nothing is run after `close`, in its piece or later.
 #[test]
@@ -18,8 +18,7 @@ fn no_line_is_run_behind_a_close(rt: HostRuntime) -> Result<(), Fail> {
         Step::Says(2, b"plchangesposid 0\n"),
     ];
     let wanted = "1 left\nOK MPD 0.23.0\nOK\n2 open\nOK MPD 0.23.0\nOK\n";
-    wants(&rt, told(&rt, rt.alloc(), &steps), wanted);
-    Ok(())
+    wants(told(&rt, rt.alloc(), &steps), wanted)
 }
 
 #[test]
@@ -32,11 +31,9 @@ fn a_close_ends_a_list(rt: HostRuntime) -> Result<(), Fail> {
         ),
     ];
     wants(
-        &rt,
         told(&rt, rt.alloc(), &steps),
         "1 left\nOK MPD 0.23.0\nlist_OK\n",
-    );
-    Ok(())
+    )
 }
 
 #[test]
@@ -46,10 +43,9 @@ fn kill_is_allowed_or_not(rt: HostRuntime) -> Result<(), Fail> {
         Step::Says(1, b"ping\nkill\nping\n"),
     ];
     let refused = "1 open\nOK MPD 0.23.0\nOK\nACK [4@0] {kill} no permission for \"kill\"\nOK\n";
-    wants(&rt, told(&rt, rt.alloc(), &steps), refused);
+    wants(told(&rt, rt.alloc(), &steps), refused)?;
     let killed = "1 killed\nOK MPD 0.23.0\nOK\n";
-    wants(&rt, told_with_kill(&rt, rt.alloc(), &steps), killed);
-    Ok(())
+    wants(told_with_kill(&rt, rt.alloc(), &steps), killed)
 }
 
 /// In a list the first `kill` ends the daemon; a `close` before it does not.
@@ -68,8 +64,7 @@ fn kill_in_a_list(rt: HostRuntime) -> Result<(), Fail> {
         ),
     ];
     let wanted = "1 left\nOK MPD 0.23.0\nlist_OK\n2 killed\nOK MPD 0.23.0\nlist_OK\n";
-    wants(&rt, told_with_kill(&rt, rt.alloc(), &steps), wanted);
-    Ok(())
+    wants(told_with_kill(&rt, rt.alloc(), &steps), wanted)
 }
 
 /// What came whole is answered where the peer sends no more; a started line is not.
@@ -81,8 +76,7 @@ fn the_peer_ends(rt: HostRuntime) -> Result<(), Fail> {
         Step::Ends(1),
         Step::Says(1, b"\n"),
     ];
-    wants(&rt, told(&rt, rt.alloc(), &steps), "1 no peer\nOK MP");
-    Ok(())
+    wants(told(&rt, rt.alloc(), &steps), "1 no peer\nOK MP")
 }
 
 /// Two stickers, and questions for their values: 2,047 for the first, whose value has 8,177 letters, and one
@@ -117,12 +111,10 @@ fn told_of_unsent<R: Wait>(rt: &R, alloc: Global, last: usize) -> Result<String,
 
 #[test]
 fn many_unsent_bytes_are_held(rt: HostRuntime) -> Result<(), Fail> {
-    wants(&rt, told_of_unsent(&rt, rt.alloc(), 8_154), "1 open\n");
-    Ok(())
+    wants(told_of_unsent(&rt, rt.alloc(), 8_154), "1 open\n")
 }
 
 #[test]
 fn too_many_unsent_bytes_close(rt: HostRuntime) -> Result<(), Fail> {
-    wants(&rt, told_of_unsent(&rt, rt.alloc(), 8_155), "1 unsent\n");
-    Ok(())
+    wants(told_of_unsent(&rt, rt.alloc(), 8_155), "1 unsent\n")
 }

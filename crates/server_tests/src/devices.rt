@@ -1,11 +1,11 @@
 //! Readers and writers that do some of what they could, or fail.
 use crate::days::{Step, told, told_of_pieces};
-use crate::wanted::wants;
 use crate::wires::Takes;
 use partition::PartitionFault;
 use std::alloc::{AllocError, Global};
 use std::sync::Wait;
 use std::test::Fail;
+use wanted::wants;
 
 const LINES: &[u8] =
     b"ping\nadd a.wav\nplchangesposid 0\ncommand_list_ok_begin\nping\nping\ncommand_list_end\nfoo\n";
@@ -37,7 +37,7 @@ fn short_writes(rt: HostRuntime) -> Result<(), Fail> {
     };
     for most in 1..120usize {
         let told = told_of_pieces(&rt, alloc, Takes::AtMost(most), &[LINES]);
-        wants(&rt, told, wanted.as_str());
+        wants(told, wanted.as_str())?;
     }
     Ok(())
 }
@@ -66,7 +66,7 @@ fn a_writer_that_blocks_between(rt: HostRuntime) -> Result<(), Fail> {
         return Ok(());
     };
     for most in 1..40usize {
-        wants(&rt, told_haltingly(&rt, alloc, most), wanted.as_str());
+        wants(told_haltingly(&rt, alloc, most), wanted.as_str())?;
     }
     Ok(())
 }
@@ -86,7 +86,7 @@ fn a_writer_that_fails(rt: HostRuntime) -> Result<(), Fail> {
         let Ok(wanted) = behind_state(alloc, "write fault answered\n1 write fault\n", front) else {
             return Ok(());
         };
-        wants(&rt, told(&rt, alloc, &steps), wanted.as_str());
+        wants(told(&rt, alloc, &steps), wanted.as_str())?;
     }
     Ok(())
 }
@@ -101,8 +101,7 @@ fn a_reader_that_fails(rt: HostRuntime) -> Result<(), Fail> {
         Step::Says(1, b"ping\n"),
     ];
     let wanted = "read fault answered\n1 read fault\nOK MPD 0.23.0\nOK\n";
-    wants(&rt, told(&rt, rt.alloc(), &steps), wanted);
-    Ok(())
+    wants(told(&rt, rt.alloc(), &steps), wanted)
 }
 
 /// What is unsent is written in the turn of a read fault, as far as the writer takes it.
@@ -114,6 +113,5 @@ fn a_reader_that_fails_with_bytes_unsent(rt: HostRuntime) -> Result<(), Fail> {
         Step::Fails(1),
     ];
     let wanted = "read fault answered\n1 read fault\nOK MPD 0.23.0\nOK\n";
-    wants(&rt, told(&rt, rt.alloc(), &steps), wanted);
-    Ok(())
+    wants(told(&rt, rt.alloc(), &steps), wanted)
 }

@@ -18,6 +18,4 @@ mod notices;
 #[cfg(test)]
 mod scanner;
 #[cfg(test)]
-mod wanted;
-#[cfg(test)]
 mod wires;

@@ -1,11 +1,11 @@
 //! Lines, however their bytes are cut.
 use crate::days::{Step, told, told_of_pieces};
-use crate::wanted::wants;
 use crate::wires::{Takes, repeated, without_x};
 use partition::PartitionFault;
 use std::alloc::{AllocError, Global};
 use std::sync::Wait;
 use std::test::Fail;
+use wanted::wants;
 
 const ROW: &[u8] = b"ping\ncommand_list_ok_begin\nping\ncommand_list_end\n";
 
@@ -19,11 +19,9 @@ fn a_row_in_three_pieces(rt: HostRuntime) -> Result<(), Fail> {
         b"command_list_end\n".as_slice(),
     ];
     wants(
-        &rt,
         told_of_pieces(&rt, rt.alloc(), Takes::All, &pieces),
         ANSWERS,
-    );
-    Ok(())
+    )
 }
 
 #[test]
@@ -31,10 +29,9 @@ fn a_row_at_every_cut_into_two(rt: HostRuntime) -> Result<(), Fail> {
     for cut in 0..=ROW.len() {
         let pieces = [&ROW[..cut], &ROW[cut..]];
         wants(
-            &rt,
             told_of_pieces(&rt, rt.alloc(), Takes::All, &pieces),
             ANSWERS,
-        );
+        )?;
     }
     Ok(())
 }
@@ -56,8 +53,7 @@ fn told_byte_by_byte<R: Wait>(rt: &R, alloc: Global) -> Result<String, Partition
 
 #[test]
 fn a_row_byte_by_byte(rt: HostRuntime) -> Result<(), Fail> {
-    wants(&rt, told_byte_by_byte(&rt, rt.alloc()), ANSWERS);
-    Ok(())
+    wants(told_byte_by_byte(&rt, rt.alloc()), ANSWERS)
 }
 
 /// A `ping`, a line of so many bytes, and another `ping`. What the line holds is not shown.
@@ -75,15 +71,13 @@ fn told_of_length<R: Wait>(rt: &R, alloc: Global, length: usize) -> Result<Strin
 #[test]
 fn a_line_of_the_greatest_length_is_answered(rt: HostRuntime) -> Result<(), Fail> {
     let wanted = "1 open\nOK MPD 0.23.0\nOK\nACK [5@0] {} unknown command \"\"\nOK\n";
-    wants(&rt, told_of_length(&rt, rt.alloc(), 16_384), wanted);
-    Ok(())
+    wants(told_of_length(&rt, rt.alloc(), 16_384), wanted)
 }
 
 #[test]
 fn a_longer_line_closes(rt: HostRuntime) -> Result<(), Fail> {
     let wanted = "1 long line\nOK MPD 0.23.0\nOK\n";
-    wants(&rt, told_of_length(&rt, rt.alloc(), 16_385), wanted);
-    Ok(())
+    wants(told_of_length(&rt, rt.alloc(), 16_385), wanted)
 }
 
 /// The lines before a longer one in the same piece are answered, and those after it are not.
@@ -94,11 +88,9 @@ fn lines_before_a_longer_one_are_answered(rt: HostRuntime) -> Result<(), Fail> {
     bytes.extend_from_slice(&repeated(alloc, b'x', 20_000, b"\nping\n")?)?;
     let steps = [Step::Comes(1, Takes::All), Step::Says(1, &bytes)];
     wants(
-        &rt,
         told(&rt, alloc, &steps),
         "1 long line\nOK MPD 0.23.0\nOK\nOK\n",
-    );
-    Ok(())
+    )
 }
 
 #[test]
@@ -113,6 +105,5 @@ ACK [2@0] {} line is not UTF-8
 OK
 ACK [5@0] {} no command given
 ";
-    wants(&rt, told(&rt, rt.alloc(), &steps), wanted);
-    Ok(())
+    wants(told(&rt, rt.alloc(), &steps), wanted)
 }

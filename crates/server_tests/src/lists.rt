@@ -1,11 +1,11 @@
 //! Command lists through a session.
 use crate::days::{Step, told};
-use crate::wanted::wants;
 use crate::wires::{Takes, long_lines, without_x};
 use partition::PartitionFault;
 use std::alloc::Global;
 use std::sync::Wait;
 use std::test::Fail;
+use wanted::wants;
 
 #[test]
 fn a_list_stops_at_its_first_failure(rt: HostRuntime) -> Result<(), Fail> {
@@ -26,8 +26,7 @@ cpos: 0
 Id: 1
 OK
 ";
-    wants(&rt, told(&rt, rt.alloc(), &steps), wanted);
-    Ok(())
+    wants(told(&rt, rt.alloc(), &steps), wanted)
 }
 
 /// A list prints nothing until its end; what stands in no list is an unknown command; an empty list is
@@ -56,8 +55,7 @@ ACK [5@1] {} unknown command \"command_list_begin\"
 OK
 ACK [2@0] {} line is not UTF-8
 ";
-    wants(&rt, told(&rt, rt.alloc(), &steps), wanted);
-    Ok(())
+    wants(told(&rt, rt.alloc(), &steps), wanted)
 }
 
 #[test]
@@ -66,12 +64,7 @@ fn an_open_list_prints_nothing(rt: HostRuntime) -> Result<(), Fail> {
         Step::Comes(1, Takes::All),
         Step::Says(1, b"command_list_ok_begin\nping\nadd a.wav\n"),
     ];
-    wants(
-        &rt,
-        told(&rt, rt.alloc(), &steps),
-        "1 open\nOK MPD 0.23.0\n",
-    );
-    Ok(())
+    wants(told(&rt, rt.alloc(), &steps), "1 open\nOK MPD 0.23.0\n")
 }
 
 /// A list that is open where its client goes is not run.
@@ -88,8 +81,7 @@ fn an_open_list_is_not_run(rt: HostRuntime) -> Result<(), Fail> {
         Step::Says(2, b"plchangesposid 0\n"),
     ];
     let wanted = "1 no peer\nOK MPD 0.23.0\nOK\n2 open\nOK MPD 0.23.0\nOK\n";
-    wants(&rt, told(&rt, rt.alloc(), &steps), wanted);
-    Ok(())
+    wants(told(&rt, rt.alloc(), &steps), wanted)
 }
 
 /// A list of 128 lines of 16,384 bytes each, newlines counted, which is the most; after them perhaps some
@@ -110,13 +102,11 @@ fn told_of_large_list<R: Wait>(
 #[test]
 fn a_list_of_the_greatest_size_is_run(rt: HostRuntime) -> Result<(), Fail> {
     let wanted = "1 open\nOK MPD 0.23.0\nOK\nACK [5@0] {} unknown command \"\"\nOK\n";
-    wants(&rt, told_of_large_list(&rt, rt.alloc(), b""), wanted);
-    Ok(())
+    wants(told_of_large_list(&rt, rt.alloc(), b""), wanted)
 }
 
 #[test]
 fn a_larger_list_closes(rt: HostRuntime) -> Result<(), Fail> {
     let wanted = "1 large list\nOK MPD 0.23.0\nOK\n";
-    wants(&rt, told_of_large_list(&rt, rt.alloc(), b"\n"), wanted);
-    Ok(())
+    wants(told_of_large_list(&rt, rt.alloc(), b"\n"), wanted)
 }

@@ -1,8 +1,8 @@
 //! Clients that wait to be told.
 use crate::days::{Step, told};
-use crate::wanted::wants;
 use crate::wires::Takes;
 use std::test::Fail;
+use wanted::wants;
 
 #[test]
 fn a_notice_is_told_at_a_turn(rt: HostRuntime) -> Result<(), Fail> {
@@ -24,8 +24,7 @@ OK
 OK MPD 0.23.0
 OK
 ";
-    wants(&rt, told(&rt, rt.alloc(), &steps), wanted);
-    Ok(())
+    wants(told(&rt, rt.alloc(), &steps), wanted)
 }
 
 /// A notice that waits stands in front of the answer to the next line, also where that line meets it on its
@@ -65,8 +64,7 @@ OK MPD 0.23.0
 OK
 OK
 ";
-    wants(&rt, told(&rt, rt.alloc(), &steps), wanted);
-    Ok(())
+    wants(told(&rt, rt.alloc(), &steps), wanted)
 }
 
 /// An empty list leaves a client waiting; any other line closes it.
@@ -95,6 +93,5 @@ OK
 changed: mixer
 OK
 ";
-    wants(&rt, told(&rt, rt.alloc(), &steps), wanted);
-    Ok(())
+    wants(told(&rt, rt.alloc(), &steps), wanted)
 }

@@ -7,5 +7,3 @@ mod kernels;
 mod rings;
 #[cfg(test)]
 mod settlement;
-#[cfg(test)]
-mod tables;

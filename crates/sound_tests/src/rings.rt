@@ -1,13 +1,14 @@
 //! Rings of frames: worked runs, faults of the writer, all orders of calls, and the greatest sizes.
 ghost use Rattle.std.specs.Prelude.{◌≡◌, length};
 
-use crate::tables::wants;
 use counted_devices::{Counting, FailAt, Failing, FailurePoint};
 use output_ring::{Cut, Drainer, Fates, Feeder, Live, Totals, WriteFault, ring};
 use pcm_mix::Frame;
 use std::alloc::{AllocError, Global};
 use std::io;
 use std::io::{ErrorKind, Write};
+use std::test::Fail;
+use wanted::wants;
 
 const FIRST: Cut = Cut {
     moves: 0,
@@ -182,10 +183,10 @@ const OLD_CUT: &[Step] = &[
 ];
 
 #[test]
-fn an_old_cut_is_discarded(rt: HostRuntime) {
+fn an_old_cut_is_discarded(rt: HostRuntime) -> Result<(), Fail> {
     let bytes = &[1, 0, 255, 255, 1, 0, 255, 255, 1, 0, 255, 255];
     let told = follow_all(rt.alloc(), (8, 3), FailurePoint::Never, OLD_CUT, bytes);
-    wants(&rt, told, "3 written, 5 discarded, 0 bytes torn");
+    wants(told, "3 written, 5 discarded, 0 bytes torn")
 }
 
 const BEFORE_MOVES: Cut = Cut {
@@ -221,13 +222,9 @@ fn moved_told(alloc: Global) -> Result<String, AllocError> {
 }
 
 #[test]
-fn frames_of_an_earlier_move_are_not_written(rt: HostRuntime) {
+fn frames_of_an_earlier_move_are_not_written(rt: HostRuntime) -> Result<(), Fail> {
     let told = moved_told(rt.alloc());
-    wants(
-        &rt,
-        told,
-        "[7, 0, 8, 0, 9, 0, 10, 0]: 2 written, 3 discarded",
-    );
+    wants(told, "[7, 0, 8, 0, 9, 0, 10, 0]: 2 written, 3 discarded")
 }
 
 const FAILS_WITHIN: &[Step] = &[
@@ -240,11 +237,11 @@ const FAILS_WITHIN: &[Step] = &[
 ];
 
 #[test]
-fn a_writer_fails_within_a_frame(rt: HostRuntime) {
+fn a_writer_fails_within_a_frame(rt: HostRuntime) -> Result<(), Fail> {
     let bytes = &[1, 0, 255, 255, 2, 0];
     let point = FailurePoint::Byte(6);
     let told = follow_all(rt.alloc(), (8, 3), point, FAILS_WITHIN, bytes);
-    wants(&rt, told, "1 written, 3 discarded, 2 bytes torn");
+    wants(told, "1 written, 3 discarded, 2 bytes torn")
 }
 
 const ORDER: &[Step] = &[
@@ -262,9 +259,9 @@ const ORDER: &[Step] = &[
 ];
 
 #[test]
-fn the_order_of_fates(rt: HostRuntime) {
+fn the_order_of_fates(rt: HostRuntime) -> Result<(), Fail> {
     let told = follow_all(rt.alloc(), (8, 2), FailurePoint::Byte(0), ORDER, &[]);
-    wants(&rt, told, "0 written, 5 discarded, 0 bytes torn");
+    wants(told, "0 written, 5 discarded, 0 bytes torn")
 }
 
 // What is told where a writer of three frames fails after so many bytes: these are the totals of what it has
@@ -379,14 +376,13 @@ fn both_ends(alloc: Global) -> Result<String, AllocError> {
 }
 
 #[test]
-fn both_ends_in_one_thread(rt: HostRuntime) {
+fn both_ends_in_one_thread(rt: HostRuntime) -> Result<(), Fail> {
     wants(
-        &rt,
         both_ends(rt.alloc()),
         "4 pushed, 2 popped, 2 in the ring\n\
          3 owed at the end, Some(2) in the ring after it, 2 held\n\
          0 written, 0 discarded not reported",
-    );
+    )
 }
 
 // Two blocks, of three frames of the first cut and two of the second.
@@ -546,12 +542,11 @@ fn greatest_ring(alloc: Global) -> Result<String, AllocError> {
 
 // The greatest ring holds 64 blocks and no frame more, and each hand is one write.
 #[test]
-fn the_greatest_ring(rt: HostRuntime) {
+fn the_greatest_ring(rt: HostRuntime) -> Result<(), Fail> {
     let told = greatest_ring(rt.alloc());
     wants(
-        &rt,
         told,
         "64 blocks and 0 frames pushed; 65 hands written and 0 frames left\n\
          266240 bytes, 66560 frames as wanted",
-    );
+    )
 }

@@ -3,7 +3,6 @@ ghost use Rattle.std.specs.Prelude.{◌≡◌, IfOk};
 ghost use Rattle.output_ring.specs.Rings.{AreEndsAfter};
 ghost use Rattle.frame_ledger.specs.Balance.{IsBlankOf};
 
-use crate::tables::wants;
 use counted_devices::{FailAt, FailurePoint};
 use frame_ledger::{AtLimit, Blanks, Books, SettleFault, Settled, Tally, settle};
 use output_ring::{Cut, Drainer, Fates, FeederEnd, Live, ring};
@@ -11,6 +10,7 @@ use std::alloc::{AllocError, Global};
 use std::marker::Brand;
 use std::sync::ledger::{Blank, Ledger};
 use std::test::Fail;
+use wanted::wants;
 
 // A hand that is filled and written out, and perhaps reported.
 #[derive(Clone, Copy)]
@@ -164,26 +164,24 @@ const PAUSED: Turn = Turn {
 };
 
 #[test]
-fn an_old_cut_is_settled(rt: HostRuntime) {
+fn an_old_cut_is_settled(rt: HostRuntime) -> Result<(), Fail> {
     let run = run_of(&[PLAYED, CUT_OFF, CUT_OFF]);
     let books = &[[12, 3, 5], [12, 3, 6], [12, 2, 5], [11, 3, 5]];
     let told = told_of(rt.alloc(), run, books);
     wants(
-        &rt,
         told,
         "12 decoded: 3 written, 5 discarded, 4 left; 0 bytes torn\nmismatch\nmismatch\nmismatch\n",
-    );
+    )
 }
 
 #[test]
-fn an_unreported_turn_is_counted(rt: HostRuntime) {
+fn an_unreported_turn_is_counted(rt: HostRuntime) -> Result<(), Fail> {
     let run = run_of(&[PLAYED, CUT_OFF, UNREPORTED]);
     let told = told_of(rt.alloc(), run, &[[12, 3, 3], [12, 3, 5]]);
     wants(
-        &rt,
         told,
         "12 decoded: 3 written, 5 discarded, 4 left; 0 bytes torn\nmismatch\n",
-    );
+    )
 }
 
 // A pause and a turn: a ring of four, a hand of two and three frames.
@@ -211,17 +209,15 @@ fn torn_told(alloc: Global) -> Result<String, AllocError> {
 }
 
 #[test]
-fn kept_and_torn_frames_are_settled(rt: HostRuntime) {
+fn kept_and_torn_frames_are_settled(rt: HostRuntime) -> Result<(), Fail> {
     wants(
-        &rt,
         paused_told(rt.alloc()),
         "3 decoded: 2 written, 0 discarded, 1 left; 0 bytes torn\n",
-    );
+    )?;
     wants(
-        &rt,
         torn_told(rt.alloc()),
         "3 decoded: 1 written, 2 discarded, 0 left; 2 bytes torn\n",
-    );
+    )
 }
 
 fn block_told(alloc: Global) -> Result<String, AllocError> {
@@ -236,12 +232,11 @@ fn block_told(alloc: Global) -> Result<String, AllocError> {
 }
 
 #[test]
-fn a_block_through_the_greatest_ring_is_settled(rt: HostRuntime) {
+fn a_block_through_the_greatest_ring_is_settled(rt: HostRuntime) -> Result<(), Fail> {
     wants(
-        &rt,
         block_told(rt.alloc()),
         "1024 decoded: 1024 written, 0 discarded, 0 left; 0 bytes torn\n",
-    );
+    )
 }
 
 // The first of eight outputs has all that a book can count, and the last one asks for one more.

@@ -1,9 +1,11 @@
 //! Numbers, answers, and texts in plain data.
 ghost use Rattle.std.specs.Prelude.{◌≡◌, IfOk};
 
-use crate::tables::{Reads, compared, repeated, wants};
+use crate::tables::{Reads, compared};
 use mpd_text::{Answer, ErrorNumber, SharedText, Text, number};
 use std::alloc::{AllocError, Global};
+use std::test::Fail;
+use wanted::wants;
 
 /// The number of a text, or that there is none.
 pub fn read_number(alloc: Global, text: &str) -> Result<String, AllocError> {
@@ -27,9 +29,9 @@ const NUMBERS: &str = "0 => 0
 \u{663} => none";
 
 #[test]
-fn numbers(rt: HostRuntime) {
+fn numbers(rt: HostRuntime) -> Result<(), Fail> {
     let told = compared(rt.alloc(), Reads::Number, NUMBERS);
-    wants(&rt, told, "12 lines agree");
+    wants(told, "12 lines agree")
 }
 
 /// An answer of each kind of line.
@@ -84,10 +86,10 @@ fn other_number(numbers: &[(ErrorNumber, u8)]) -> Option<ErrorNumber> {
 }
 
 #[test]
-fn answers(rt: HostRuntime) {
+fn answers(rt: HostRuntime) -> Result<(), Fail> {
     let want = "volume: 100\npartition: default\nOK\nlist_OK\nACK [50@2] {add} no such song\n";
     assert!(rt; is_answer(rt.alloc(), want) == Ok(true));
-    wants(&rt, second_answer(rt.alloc()), "OK\n");
+    wants(second_answer(rt.alloc()), "OK\n")
 }
 
 /// An answer of numbers, and of lines that a text is already.
@@ -101,22 +103,19 @@ fn numbered(alloc: Global, number: u64) -> Result<String, AllocError> {
 }
 
 #[test]
-fn answers_of_numbers(rt: HostRuntime) {
+fn answers_of_numbers(rt: HostRuntime) -> Result<(), Fail> {
     wants(
-        &rt,
         numbered(rt.alloc(), 61_005),
         "Pos: 61005\nduration: 61.005\nfile: a.wav\nTitle: Bee\n",
-    );
+    )?;
     wants(
-        &rt,
         numbered(rt.alloc(), 0),
         "Pos: 0\nduration: 0.000\nfile: a.wav\nTitle: Bee\n",
-    );
+    )?;
     wants(
-        &rt,
         numbered(rt.alloc(), u64::MAX),
         "Pos: 18446744073709551615\nduration: 18446744073709551.615\nfile: a.wav\nTitle: Bee\n",
-    );
+    )
 }
 
 #[test]
@@ -229,8 +228,8 @@ fn passed_on_said(alloc: Global) -> Result<String, AllocError> {
 }
 
 #[test]
-fn plain_data_of_texts(rt: HostRuntime) {
-    wants(&rt, name_said(rt.alloc()), "name evening");
-    wants(&rt, add_said(rt.alloc()), "add a.wav");
-    wants(&rt, passed_on_said(rt.alloc()), "OK");
+fn plain_data_of_texts(rt: HostRuntime) -> Result<(), Fail> {
+    wants(name_said(rt.alloc()), "name evening")?;
+    wants(add_said(rt.alloc()), "add a.wav")?;
+    wants(passed_on_said(rt.alloc()), "OK")
 }

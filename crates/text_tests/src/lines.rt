@@ -1,7 +1,9 @@
 //! A stream as lines.
-use crate::tables::{repeated, wants};
+use crate::tables::repeated;
 use mpd_text::{Line, SplitFault, Splitter, any_cut, lines_make_the_stream, pieces_do_not_matter};
 use std::alloc::{AllocError, Global};
+use std::test::Fail;
+use wanted::wants;
 
 /// Adds the lines with a bar after each, and `!` for a line that is not text.
 fn add_lines(all: &mut String, lines: &[Line]) -> Result<(), AllocError> {
@@ -43,7 +45,7 @@ fn fed(alloc: Global, pieces: &[&[u8]]) -> Result<String, AllocError> {
 }
 
 #[test]
-fn a_stream_in_pieces(rt: HostRuntime) {
+fn a_stream_in_pieces(rt: HostRuntime) -> Result<(), Fail> {
     let told = fed(
         rt.alloc(),
         &[
@@ -56,11 +58,7 @@ fn a_stream_in_pieces(rt: HostRuntime) {
             b"\nstatus\n",
         ],
     );
-    wants(
-        &rt,
-        told,
-        "\nping|\nping|\n!|\n|ping\r|\n\n\u{eb}|status|\nopen",
-    );
+    wants(told, "\nping|\nping|\n!|\n|ping\r|\n\n\u{eb}|status|\nopen")
 }
 
 /// A line of 16,384 bytes and one of 16,385 by its carriage return, and whether the lines are told so.
@@ -80,10 +78,10 @@ fn line_too_long(alloc: Global) -> Result<String, AllocError> {
 }
 
 #[test]
-fn a_line_too_long(rt: HostRuntime) {
+fn a_line_too_long(rt: HostRuntime) -> Result<(), Fail> {
     assert!(rt; longest_line(rt.alloc()) == Ok(true));
     let told = line_too_long(rt.alloc());
-    wants(&rt, told, "too long: ping|status|\ntoo long: \nclosed");
+    wants(told, "too long: ping|status|\ntoo long: \nclosed")
 }
 
 #[test]

@@ -1,8 +1,10 @@
 //! Texts in quotes.
-use crate::tables::{Reads, compared, wants};
+use crate::tables::{Reads, compared};
 use crate::words;
 use mpd_text::{quote, words_read_quotes};
 use std::alloc::{AllocError, Global};
+use std::test::Fail;
+use wanted::wants;
 
 /// One of many texts, each with a space, both characters that are escaped, and one of several bytes.
 fn text(alloc: Global, number: u32) -> Result<String, AllocError> {
@@ -46,9 +48,9 @@ const QUOTED: &str = "a\"b\\ => \"a\\\"b\\\\\"
 Zo\u{eb}\t\u{1f3b5} => \"Zo\u{eb}\t\u{1f3b5}\"";
 
 #[test]
-fn a_text_in_quotes(rt: HostRuntime) {
+fn a_text_in_quotes(rt: HostRuntime) -> Result<(), Fail> {
     let told = compared(rt.alloc(), Reads::Quoted, QUOTED);
-    wants(&rt, told, "4 lines agree");
+    wants(told, "4 lines agree")
 }
 
 /// What is read of a line of so many texts in quotes.
@@ -64,9 +66,9 @@ fn are_read_back(alloc: Global, count: u32) -> Result<bool, AllocError> {
 }
 
 #[test]
-fn quoted_texts_are_read_back(rt: HostRuntime) {
+fn quoted_texts_are_read_back(rt: HostRuntime) -> Result<(), Fail> {
     assert!(rt; are_read_back(rt.alloc(), 65) == Ok(true));
-    wants(&rt, read_back(rt.alloc(), 66), "TooMany");
+    wants(read_back(rt.alloc(), 66), "TooMany")
 }
 
 #[test]

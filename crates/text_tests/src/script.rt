@@ -1,8 +1,10 @@
 //! Lines of a script.
 use crate::songs;
-use crate::tables::{Reads, compared, repeated, wants};
+use crate::tables::{Reads, compared, repeated};
 use script_lines::{JobStep, LimitName, ScriptLine, Step};
 use std::alloc::{AllocError, Global};
+use std::test::Fail;
+use wanted::wants;
 
 /// Whose line it is, and what follows in brackets.
 pub fn read_head(alloc: Global, line: &str) -> Result<String, AllocError> {
@@ -29,9 +31,9 @@ hello => neither
 1\tping => neither";
 
 #[test]
-fn heads(rt: HostRuntime) {
+fn heads(rt: HostRuntime) -> Result<(), Fail> {
     let told = compared(rt.alloc(), Reads::Head, HEADS);
-    wants(&rt, told, "14 lines agree");
+    wants(told, "14 lines agree")
 }
 
 /// What a step says, or that it is bad.
@@ -92,10 +94,10 @@ nosuch => bad
  => bad";
 
 #[test]
-fn songs(rt: HostRuntime) {
+fn songs(rt: HostRuntime) -> Result<(), Fail> {
     let told = compared(rt.alloc(), Reads::Step, SONGS);
-    wants(&rt, told, "19 lines agree");
-    wants(&rt, read_step(rt.alloc(), "song \"a\nb\" 8"), "bad");
+    wants(told, "19 lines agree")?;
+    wants(read_step(rt.alloc(), "song \"a\nb\" 8"), "bad")
 }
 
 const LIMITS: &str = "limit max_queue 1 => MaxQueue 1
@@ -146,15 +148,16 @@ fn is_limit(word: &str, name: LimitName, greatest: u32) -> bool {
 }
 
 #[test]
-fn limits(rt: HostRuntime) {
+fn limits(rt: HostRuntime) -> Result<(), Fail> {
     let told = compared(rt.alloc(), Reads::Step, LIMITS);
-    wants(&rt, told, "41 lines agree");
+    wants(told, "41 lines agree")?;
     assert!(rt; is_limit("everyday", LimitName::Everyday, 1));
     assert!(rt; is_limit("history", LimitName::History, 4_096));
     assert!(rt; is_limit("max_cut", LimitName::MaxCut, 4_294_967_295));
     assert!(rt; is_limit("max_id", LimitName::MaxId, 2_147_483_647));
     assert!(rt; is_limit("max_queue", LimitName::MaxQueue, 16_384));
     assert!(rt; is_limit("max_version", LimitName::MaxVersion, 2_147_483_647));
+    Ok(())
 }
 
 const JOBS: &str = "want => want
@@ -191,9 +194,9 @@ failed 1 partner partner => bad
 Failed 1 => bad";
 
 #[test]
-fn jobs(rt: HostRuntime) {
+fn jobs(rt: HostRuntime) -> Result<(), Fail> {
     let told = compared(rt.alloc(), Reads::Step, JOBS);
-    wants(&rt, told, "32 lines agree");
+    wants(told, "32 lines agree")
 }
 
 const JOBS_IN: &str = "in k want => in k want
@@ -211,9 +214,9 @@ in k scanned => bad
 In k want => bad";
 
 #[test]
-fn jobs_in_a_partition(rt: HostRuntime) {
+fn jobs_in_a_partition(rt: HostRuntime) -> Result<(), Fail> {
     let told = compared(rt.alloc(), Reads::Step, JOBS_IN);
-    wants(&rt, told, "13 lines agree");
+    wants(told, "13 lines agree")
 }
 
 const TURNS: &str = "turn 0 0 0 => turn 0 0 false
@@ -243,9 +246,9 @@ turn 0 1 2 failed failed => bad
 Turn 0 1 2 => bad";
 
 #[test]
-fn turns(rt: HostRuntime) {
+fn turns(rt: HostRuntime) -> Result<(), Fail> {
     let told = compared(rt.alloc(), Reads::Step, TURNS);
-    wants(&rt, told, "25 lines agree");
+    wants(told, "25 lines agree")
 }
 
 /// Whether the song that a line tells of has this URI, and how many tags; nothing where the line tells of

@@ -1,7 +1,9 @@
 //! Songs and tags.
-use crate::tables::{repeated, wants};
+use crate::tables::repeated;
 use mpd_text::{Song, TAG_NAMES, Tag, TagName};
 use std::alloc::{AllocError, Global};
+use std::test::Fail;
+use wanted::wants;
 
 /// The URI, the frames, and each tag after a bar.
 pub fn shown(alloc: Global, song: &Song) -> Result<String, AllocError> {
@@ -42,11 +44,11 @@ fn made_and_shown(
 }
 
 #[test]
-fn songs(rt: HostRuntime) {
+fn songs(rt: HostRuntime) -> Result<(), Fail> {
     let told = made_and_shown(rt.alloc(), "folder/b.wav", &[TagName::Title], "Bee", 16_000);
-    wants(&rt, told, "folder/b.wav 16000|Title=Bee");
+    wants(told, "folder/b.wav 16000|Title=Bee")?;
     let refused = made_and_shown(rt.alloc(), "a\n.wav", &[], "", 1);
-    wants(&rt, refused, "a newline");
+    wants(refused, "a newline")
 }
 
 /// What a song of six tags is shown as.
@@ -84,10 +86,9 @@ fn names_in_order(alloc: Global) -> Result<String, AllocError> {
 }
 
 #[test]
-fn tags_are_shown_in_one_order(rt: HostRuntime) {
+fn tags_are_shown_in_one_order(rt: HostRuntime) -> Result<(), Fail> {
     wants(
-        &rt,
         names_in_order(rt.alloc()),
         "Title|Artist|Album|Date|Genre|Comment|",
-    );
+    )
 }

@@ -1,7 +1,6 @@
 //! Tables of worked cases, with a line for each.
 use crate::{answers, quotes, script, words};
 use std::alloc::{AllocError, Global};
-use std::process::Abort;
 
 /// What reads the left side of a line of a table.
 #[derive(Clone, Copy)]
@@ -54,12 +53,4 @@ pub fn compared(alloc: Global, reads: Reads, table: &str) -> Result<String, Allo
 /// A text so many times.
 pub fn repeated(alloc: Global, text: &str, count: usize) -> Result<String, AllocError> {
     text.repeat(alloc, count)
-}
-
-/// Ends the test where a text is not the one that is wanted.
-pub fn wants<R: Abort>(rt: &R, told: Result<String, AllocError>, wanted: &str) {
-    match told {
-        Ok(text) => assert_eq!(*rt; text.as_str(), wanted),
-        Err(_) => panic!(*rt; "no memory"),
-    }
 }

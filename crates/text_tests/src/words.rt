@@ -1,7 +1,9 @@
 //! A line as words.
-use crate::tables::{Reads, compared, repeated, wants};
+use crate::tables::{Reads, compared, repeated};
 use mpd_text::{WordsFault, one_reading, some_reading, words};
 use std::alloc::{AllocError, Global};
+use std::test::Fail;
+use wanted::wants;
 
 /// The words with a bar after each.
 fn joined(alloc: Global, words: &[String]) -> Result<String, AllocError> {
@@ -37,9 +39,9 @@ add a\"b \"x => BadUnquoted
 add \"x\"y a\"b => NoSpaceAfterQuote";
 
 #[test]
-fn the_first_fault_of_words(rt: HostRuntime) {
+fn the_first_fault_of_words(rt: HostRuntime) -> Result<(), Fail> {
     let told = compared(rt.alloc(), Reads::Words, FAULTS);
-    wants(&rt, told, "13 lines agree");
+    wants(told, "13 lines agree")
 }
 
 /// How many words a line has; 0 where there is a fault.
@@ -67,11 +69,12 @@ fn too_many_words(alloc: Global, rest: &str) -> Result<String, AllocError> {
 }
 
 #[test]
-fn one_word_too_many(rt: HostRuntime) {
+fn one_word_too_many(rt: HostRuntime) -> Result<(), Fail> {
     assert!(rt; most_words(rt.alloc()) == Ok(65));
     for rest in [" x", " \"x\"y", " a\"b", " \""] {
-        wants(&rt, too_many_words(rt.alloc(), rest), "TooMany");
+        wants(too_many_words(rt.alloc(), rest), "TooMany")?;
     }
+    Ok(())
 }
 
 fn is_last(words: &[String], last: &str) -> bool {
@@ -119,9 +122,9 @@ const SEVERAL_BYTES: &str = "\u{eb}\u{20ac}\u{1f3b5} \u{eb} => \u{eb}\u{20ac}\u{
 \u{a0} => \u{a0}|";
 
 #[test]
-fn words_of_several_bytes_a_character(rt: HostRuntime) {
+fn words_of_several_bytes_a_character(rt: HostRuntime) -> Result<(), Fail> {
     let told = compared(rt.alloc(), Reads::Words, SEVERAL_BYTES);
-    wants(&rt, told, "3 lines agree");
+    wants(told, "3 lines agree")
 }
 
 #[test]

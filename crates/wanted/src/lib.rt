@@ -1,0 +1,34 @@
+//! What tests want to be told. A test that gives on what these give passes only where all is as wanted.
+#![tactic(auto)]
+
+ghost use Rattle.std.specs.Prelude.{◌≡◌, ◌≢◌, IfOk, IsOk, OnErr, OnOk, string_bytes};
+
+use std::alloc::AllocError;
+use std::test::Fail;
+
+/// Something is told, and it is what is wanted.
+pub fn wants<E: Drop>(told: Result<String, E>, wanted: &str) -> Result<(), Fail>
+    ensures told { OnOk result (IsOk told) }
+    ensures wanted { OnOk result (IfOk told (λ text. string_bytes text ≡ wanted.now)) }
+    ensures differs { OnErr result (IfOk told (λ text. string_bytes text ≢ wanted.now)) }
+{
+    let Ok(text) = told else {
+        return Err(Fail::new("a fault"));
+    };
+    if text.as_str() == wanted {
+        return Ok(());
+    }
+    Err(Fail::new(format_args!("{text}, and not {wanted}")))
+}
+
+/// The same of a text that is made.
+pub fn wants_made<E: Drop>(
+    told: Result<String, E>,
+    wanted: Result<String, AllocError>,
+) -> Result<(), Fail>
+    ensures told { OnOk result (IsOk told) }
+    ensures made { OnOk result (IsOk wanted) }
+    ensures wanted { OnOk result (IfOk told (λ text. IfOk wanted (λ made. string_bytes text ≡ string_bytes made))) }
+{
+    wants(told, wanted?.as_str())
+}
