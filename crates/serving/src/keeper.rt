@@ -16,7 +16,7 @@ use std::thread::{self, JoinHandle, Threads};
 use std::time::{Clock, Duration, Instant};
 use transitions::Next;
 
-/// How many milliseconds lie at least between two writes.
+/// How many milliseconds lie at least between two looks at the player.
 const PAUSE: u64 = 2_000;
 
 /// How many milliseconds pass at most in a pause until the end is seen.
@@ -121,21 +121,23 @@ fn keep<'h, L: Ledgers, R: Wait + Clock + Copy>(
     for _ in rt.forever() {
         // Asked before the last look, so that this sees all that was done until the end.
         let has_ended = house.has_ended(rt);
+        let next = moment_after(rt, Duration::from_millis(PAUSE));
         let is_kept = keeper.look();
         if has_ended {
             return;
         }
-        rest(rt, house);
+        rest(rt, house, &next);
         if is_kept {
             keeper.await_change();
         }
     }
 }
 
-/// Rests between two writes, or until the daemon ends.
-fn rest<L: Ledgers, R: Wait + Clock>(rt: &R, house: &House<L>) {
+/// Rests until the moment of the next look, or until the daemon ends. Where much else runs, sleeps last longer
+/// than they are to, so the clock ends the rest; their number does where it cannot be read.
+fn rest<L: Ledgers, R: Wait + Clock>(rt: &R, house: &House<L>, next: &Option<Instant>) {
     for _ in 0..PAUSE / LOOK {
-        if house.has_ended(rt) {
+        if house.has_ended(rt) || is_past(rt, next) {
             return;
         }
         thread::sleep(rt, Duration::from_millis(LOOK));
@@ -273,10 +275,7 @@ impl<'h, L: Ledgers, R: Wait + Clock + Copy> Keeper<'h, L, R> {
         if !self.plays {
             return None;
         }
-        match Instant::now(self.rt) {
-            Ok(now) => now.checked_add(Duration::from_secs(PLAYING)),
-            Err(_) => None,
-        }
+        moment_after(self.rt, Duration::from_secs(PLAYING))
     }
 
     /// Says a line of the client. None where there was no memory for it.
@@ -300,6 +299,14 @@ fn switch_back(kept: &mut Kept, named: [bool; 8]) {
         if let Some(true) = named.get(output.number as usize).copied() {
             output.is_on = true;
         }
+    }
+}
+
+/// The moment after so long a time, if the clock can be read.
+fn moment_after<K: Clock>(clock: &K, time: Duration) -> Option<Instant> {
+    match Instant::now(clock) {
+        Ok(now) => now.checked_add(time),
+        Err(_) => None,
     }
 }
 
