@@ -4,6 +4,7 @@ import socket
 import struct
 import subprocess
 import sys
+import threading
 import time
 
 HERE = os.path.dirname(os.path.abspath(__file__))
@@ -22,8 +23,12 @@ def program_of(path):
     return path
 
 
+# A child holds what other threads have open until it becomes its program: a port that is looked at here must not be among it.
+STARTS = threading.Lock()
+
+
 def free_port():
-    with socket.socket() as door:
+    with STARTS, socket.socket() as door:
         door.bind(('127.0.0.1', 0))
         return door.getsockname()[1]
 
@@ -115,7 +120,8 @@ class Process:
         self.port = port
         self.told = open(os.path.join(folder, 'told'), 'w+b')
         self.faults = open(os.path.join(folder, 'faults'), 'w+b')
-        self.process = subprocess.Popen(words, stdin=subprocess.DEVNULL, stdout=self.told, stderr=self.faults, env=environment)
+        with STARTS:
+            self.process = subprocess.Popen(words, stdin=subprocess.DEVNULL, stdout=self.told, stderr=self.faults, env=environment)
         if wait:
             self.wait_for_port()
 
