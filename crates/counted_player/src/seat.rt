@@ -13,10 +13,15 @@ use std::sync::ledger::{Blank, Book};
 pub struct NoSeat;
 
 /// A seat. Contracts see its number and how many events it made.
-#[derive(Drop)]
 pub struct Seat<L: Ledgers> {
     made: u64,
     mark: Mark<L>,
+}
+
+impl<L: Ledgers> Drop for Seat<L> {
+    fn drop(self) {
+        let Seat { made: _, mark: _ } = self;
+    }
 }
 
 impl<L: Ledgers> Model for Seat<L> {
@@ -65,12 +70,22 @@ impl<L: Ledgers> Seat<L> {
 }
 
 /// The books of the four seats. Contracts see their totals.
-#[derive(Drop)]
 pub struct SeatBooks<L: Ledgers> {
     first: Book<First<L>>,
     second: Book<Second<L>>,
     third: Book<Third<L>>,
     fourth: Book<Fourth<L>>,
+}
+
+impl<L: Ledgers> Drop for SeatBooks<L> {
+    fn drop(self) {
+        let SeatBooks {
+            first: _,
+            second: _,
+            third: _,
+            fourth: _,
+        } = self;
+    }
 }
 
 impl<L: Ledgers> Model for SeatBooks<L> {

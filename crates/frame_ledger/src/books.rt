@@ -13,7 +13,6 @@ pub struct Blanks {
 }
 
 /// For each quantity, a number for each output.
-#[derive(Drop)]
 pub struct Books<E: Ledger, W: Ledger, X: Ledger> {
     /// Frames that were given to the output's feeder.
     pub decoded: Tally<E>,
@@ -21,6 +20,16 @@ pub struct Books<E: Ledger, W: Ledger, X: Ledger> {
     pub written: Tally<W>,
     /// Frames that the output discarded.
     pub discarded: Tally<X>,
+}
+
+impl<E: Ledger, W: Ledger, X: Ledger> Drop for Books<E, W, X> {
+    fn drop(self) {
+        let Books {
+            decoded: _,
+            written: _,
+            discarded: _,
+        } = self;
+    }
 }
 
 /// The shares of those who drain an output.

@@ -13,11 +13,20 @@ pub struct AtLimit;
 const LIMIT: u64 = 0x7fff_ffff_ffff_ffff;
 
 /// A number for each output, beside a book whose total is their sum. Contracts see the numbers.
-#[derive(Drop)]
 pub struct Tally<L: Ledger> {
     numbers: Vec<u64>,
     total: u64,
     book: Book<L>,
+}
+
+impl<L: Ledger> Drop for Tally<L> {
+    fn drop(self) {
+        let Tally {
+            numbers: _,
+            total: _,
+            book: _,
+        } = self;
+    }
 }
 
 impl<L: Ledger> Model for Tally<L> {

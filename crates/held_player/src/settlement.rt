@@ -26,13 +26,23 @@ use std::sync::ledger::Share;
 
 /// What a settlement answered, with what it compared. That has no bytes, and contracts alone read it: it
 /// names the very ends and books, so that a refusal has to be theirs.
-#[derive(Drop)]
 pub struct Settlement<L: Ledgers> {
     pub result: Result<Settled, SettleFault>,
     pub end: Snapshot<FeederEnd>,
     pub drainer: Snapshot<Drainer>,
     /// The books before the fates that no turn told of were counted in them.
     pub books: Snapshot<Books<Decoded<L>, Written<L>, Discarded<L>>>,
+}
+
+impl<L: Ledgers> Drop for Settlement<L> {
+    fn drop(self) {
+        let Settlement {
+            result: _,
+            end: _,
+            drainer: _,
+            books: _,
+        } = self;
+    }
 }
 
 /// Shows that the books are open to whoever has a part of the written frames: once they are closed, the house

@@ -18,7 +18,6 @@ const NO_FATES: Fates = Fates {
 };
 
 /// Pops frames into its hand, and gives each its fate. No call waits, and only its making takes memory.
-#[derive(Drop)]
 pub struct Drainer {
     pub(crate) consumer: Consumer<CutFrame>,
     // The hand is the first `held` of these.
@@ -35,6 +34,20 @@ pub struct Drainer {
     ghost unreported_within: { (unreported.written ≤ totals.written) × (unreported.discarded ≤ totals.discarded) },
     ghost torn: { totals.torn < 4 },
     ghost hand_is: { take held slots.items ≡ drop (totals.written + totals.discarded) (received consumer) },
+}
+
+impl Drop for Drainer {
+    fn drop(self) {
+        let Drainer {
+            consumer: _,
+            slots: _,
+            held: _,
+            totals: _,
+            unreported: _,
+            failed: _,
+            outgoing: _,
+        } = self;
+    }
 }
 
 impl Drainer {

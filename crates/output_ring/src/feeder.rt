@@ -12,7 +12,6 @@ pub const MOST_FRAMES: usize = 1024;
 
 /// Takes blocks of frames, and moves them into the ring as it has room. No call waits, and only its making
 /// takes memory.
-#[derive(Drop)]
 pub struct Feeder {
     pub(crate) producer: Producer<CutFrame>,
     block: Vec<CutFrame>,
@@ -22,13 +21,32 @@ pub struct Feeder {
     ghost room: { 1024 ≤ vec_capacity block },
 }
 
+impl Drop for Feeder {
+    fn drop(self) {
+        let Feeder {
+            producer: _,
+            block: _,
+            sent: _,
+        } = self;
+    }
+}
+
 /// What is left of a feeder, with a token of all that it sent.
-#[derive(Drop)]
 pub struct FeederEnd {
     pub(crate) finished: Option<Finished<CutFrame>>,
     block: Vec<CutFrame>,
     sent: usize,
     ghost within: { sent ≤ vec_len block },
+}
+
+impl Drop for FeederEnd {
+    fn drop(self) {
+        let FeederEnd {
+            finished: _,
+            block: _,
+            sent: _,
+        } = self;
+    }
 }
 
 impl Feeder {

@@ -17,10 +17,18 @@ pub(crate) struct Torn {
 }
 
 // Room for the frames of a hand that are heard, and for their bytes.
-#[derive(Drop)]
 pub(crate) struct Outgoing {
     frames: Vec<Frame>,
     bytes: Vec<u8>,
+}
+
+impl Drop for Outgoing {
+    fn drop(self) {
+        let Outgoing {
+            frames: _,
+            bytes: _,
+        } = self;
+    }
 }
 
 impl Outgoing {
