@@ -1,4 +1,5 @@
-//! What tests want to be told. A test that gives on what these give passes only where all is as wanted.
+//! What tests want to be told. A test that returns what a call of these returns passes only where something
+//! was told and it is what is wanted.
 #![tactic(auto)]
 
 ghost use Rattle.std.specs.Prelude.{◌≡◌, ◌≢◌, IfOk, IsOk, OnErr, OnOk, string_bytes};
@@ -29,6 +30,7 @@ pub fn wants_made<E: Drop>(
     ensures told { OnOk result (IsOk told) }
     ensures made { OnOk result (IsOk wanted) }
     ensures wanted { OnOk result (IfOk told (λ text. IfOk wanted (λ made. string_bytes text ≡ string_bytes made))) }
+    ensures differs { OnErr result (IfOk told (λ text. IfOk wanted (λ made. string_bytes text ≢ string_bytes made))) }
 {
     wants(told, wanted?.as_str())
 }
