@@ -16,24 +16,22 @@ const PINGS: usize = 1_500;
 /// The bytes of the client line that is the longest.
 const LONG_LINE: usize = 16_000;
 
-fn push_song(all: &mut String, alloc: Global, song: u32) -> Result<(), AllocError> {
-    let line = format!(in alloc; "! song folder/{song}.wav 8000 \"Title=Song {song}\"\n")?;
-    all.push_str(line.as_str())
+fn push_song(all: &mut String, song: u32) -> Result<(), AllocError> {
+    all.write_fmt(format_args!("! song folder/{song}.wav 8000 \"Title=Song {song}\"\n"))
 }
 
-fn push_add(all: &mut String, alloc: Global, song: u32) -> Result<(), AllocError> {
-    let line = format!(in alloc; "1 add folder/{song}.wav\n")?;
-    all.push_str(line.as_str())
+fn push_add(all: &mut String, song: u32) -> Result<(), AllocError> {
+    all.write_fmt(format_args!("1 add folder/{song}.wav\n"))
 }
 
 /// A library of numbered songs, and entries that take them in turn.
 fn filling(alloc: Global) -> Result<String, AllocError> {
     let mut all = String::new(alloc);
     for song in 0..SONGS {
-        push_song(&mut all, alloc, song)?;
+        push_song(&mut all, song)?;
     }
     for entry in 0..ENTRIES {
-        push_add(&mut all, alloc, entry % SONGS)?;
+        push_add(&mut all, entry % SONGS)?;
     }
     Ok(all)
 }
@@ -47,17 +45,16 @@ fn says(alloc: Global) -> Result<String, AllocError> {
     format!(in alloc; "{filling}1 plchangesposid 0\n{pings}1 add {long}\n1 delete 0\n2 status\n")
 }
 
-fn push_row(all: &mut String, alloc: Global, place: u32) -> Result<(), AllocError> {
+fn push_row(all: &mut String, place: u32) -> Result<(), AllocError> {
     let id = place.saturating_add(1);
-    let rows = format!(in alloc; "1 cpos: {place}\n1 Id: {id}\n")?;
-    all.push_str(rows.as_str())
+    all.write_fmt(format_args!("1 cpos: {place}\n1 Id: {id}\n"))
 }
 
 /// What shows all entries: the one at each place has the id that is one above it.
 fn rows(alloc: Global) -> Result<String, AllocError> {
     let mut all = String::new(alloc);
     for place in 0..ENTRIES {
-        push_row(&mut all, alloc, place)?;
+        push_row(&mut all, place)?;
     }
     all.push_str("1 OK\n")?;
     Ok(all)

@@ -1,4 +1,5 @@
-//! Runs the worked script sessions and those that are made, and then lives one day of the whole daemon.
+//! Runs the worked script sessions, then those that the program makes itself since they are too long to be
+//! written down or their devices fail, and then lives one day of the whole daemon.
 //!
 //! All are one program, since nearly all that each is linked with is linked with the other, and a program is
 //! linked thrice in the gate: by its check and by two compilers.

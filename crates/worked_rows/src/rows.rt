@@ -8,8 +8,8 @@
 //! `\{TEXT*N}` for a text N times.
 
 use crate::row::Row;
+use crate::runs::run_between;
 use counted_devices::{FailAt, FailurePoint};
-use daemon_script::run_script;
 use std::{fs, io};
 
 /// The most row files.
@@ -94,10 +94,10 @@ fn passes(rt: &HostRuntime, text: &str) -> io::Result<Option<Passed>> {
 fn wanted_lines(rt: &HostRuntime, row: &Row, first: &[u8]) -> io::Result<Option<u64>> {
     let mut input = Vec::from_slice(rt.alloc(), first)?;
     input.extend_from_slice(row.input())?;
-    let mut reader = FailAt::new(input, FailurePoint::Never);
-    let mut writer = FailAt::new(Vec::new(rt.alloc()), FailurePoint::Never);
-    if run_script(rt.alloc(), &mut reader, &mut writer).is_err() {
-        return Ok(None);
+    let reader = FailAt::new(input, FailurePoint::Never);
+    let writer = FailAt::new(Vec::new(rt.alloc()), FailurePoint::Never);
+    match run_between(rt.alloc(), reader, writer) {
+        (Ok(()), written) => Ok(row.compare(written.bytes())),
+        (Err(_), _) => Ok(None),
     }
-    Ok(row.compare(writer.bytes()))
 }

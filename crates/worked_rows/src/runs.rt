@@ -1,7 +1,17 @@
-//! Runs of scripts that are texts, read from a device and written to one.
+//! Runs of scripts that are read from a device in memory and written to one.
 use counted_devices::{FailAt, FailurePoint};
 use daemon_script::{ScriptFault, run_script};
 use std::alloc::{AllocError, Global};
+
+/// Runs a script, and gives how that ended and the device that was written to.
+pub(crate) fn run_between(
+    alloc: Global,
+    mut reader: FailAt,
+    mut writer: FailAt,
+) -> (Result<(), ScriptFault>, FailAt) {
+    let ended = run_script(alloc, &mut reader, &mut writer);
+    (ended, writer)
+}
 
 fn device(alloc: Global, text: &str, point: FailurePoint) -> Result<FailAt, AllocError> {
     Ok(FailAt::new(Vec::from_slice(alloc, text.as_bytes())?, point))
@@ -30,10 +40,10 @@ pub(crate) fn run(
     read: FailurePoint,
     write: FailurePoint,
 ) -> Result<String, AllocError> {
-    let mut reader = device(alloc, input, read)?;
-    let mut writer = device(alloc, "", write)?;
-    let end = end_of(run_script(alloc, &mut reader, &mut writer));
-    told(alloc, end, writer.bytes())
+    let reader = device(alloc, input, read)?;
+    let writer = device(alloc, "", write)?;
+    let (ended, written) = run_between(alloc, reader, writer);
+    told(alloc, end_of(ended), written.bytes())
 }
 
 /// The same of a reader and a writer that do not fail.
