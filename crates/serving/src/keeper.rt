@@ -133,8 +133,8 @@ fn keep<'h, L: Ledgers, R: Wait + Clock + Copy>(
     }
 }
 
-/// Rests until the moment of the next look, or until the daemon ends. Where much else runs, sleeps last longer
-/// than they are to, so the clock ends the rest; their number does where it cannot be read.
+/// Rests until the moment of the next look, or until the daemon ends. The clock ends the rest, since sleeps last
+/// longer than they should where much else runs. Where there is no such moment, two seconds of sleeps end it.
 fn rest<L: Ledgers, R: Wait + Clock>(rt: &R, house: &House<L>, next: &Option<Instant>) {
     for _ in 0..PAUSE / LOOK {
         if house.has_ended(rt) || is_past(rt, next) {
