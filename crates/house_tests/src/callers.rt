@@ -76,21 +76,20 @@ fn both_add<L: Ledgers + Send + Sync, R: Threads + Wait + Sync>(
 }
 
 /// Adds how many events each of the two made.
-fn add_made(alloc: Global, made: (u64, u64), told: &mut String) -> Result<(), AllocError> {
+fn add_made(made: (u64, u64), told: &mut String) -> Result<(), AllocError> {
     let (first, second) = made;
-    told.push_str(format!(in alloc; "events made: {first} and {second}\n")?.as_str())
+    told.write_fmt(format_args!("events made: {first} and {second}\n"))
 }
 
 /// Adds whether a fourth seat is given and a fifth.
 fn add_seats<L: Ledgers>(
     rt: &impl Wait,
-    alloc: Global,
     house: &House<L>,
     told: &mut String,
 ) -> Result<(), AllocError> {
     let fourth = house.seat(rt).is_ok();
     let fifth = house.seat(rt).is_ok();
-    told.push_str(format!(in alloc; "a fourth seat: {fourth}, a fifth: {fifth}\n")?.as_str())
+    told.write_fmt(format_args!("a fourth seat: {fourth}, a fifth: {fifth}\n"))
 }
 
 /// Adds the events of two callers' seats, what a third client hears of the status, and which seats are left.
@@ -101,9 +100,9 @@ pub(crate) fn race<L: Ledgers + Send + Sync, R: Threads + Wait + Clock + Sync>(
     told: &mut String,
 ) -> Result<(), PartitionFault> {
     let made = both_add(rt, alloc, house)?;
-    add_made(alloc, made, told)?;
+    add_made(made, told)?;
     alone(rt, alloc, house, "comes 3\n3 status", told)?;
-    Ok(add_seats(rt, alloc, house, told)?)
+    Ok(add_seats(rt, house, told)?)
 }
 
 const WANTED: &str = "events made: 101 and 101

@@ -125,7 +125,7 @@ fn waking<L: Ledgers + Send + Sync, R: Threads + Wait + Clock + Sync>(
 ) -> Result<(), PartitionFault> {
     let is_there = woken(rt, alloc, house, waited, line)?;
     let waits = house.outbox(rt, 1).is_some();
-    told.push_str(format!(in alloc; "{line}: {is_there} {waits}\n")?.as_str())?;
+    told.write_fmt(format_args!("{line}: {is_there} {waits}\n"))?;
     Ok(())
 }
 

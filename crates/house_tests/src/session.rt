@@ -134,7 +134,7 @@ fn rests<L: Ledgers, R: Wait + Clock>(
     told: &mut String,
 ) -> Result<(), PartitionFault> {
     let is_seen = ends_rest(rt, alloc, house, seat, line)?;
-    told.push_str(format!(in alloc; "{line}: {is_seen}\n")?.as_str())?;
+    told.write_fmt(format_args!("{line}: {is_seen}\n"))?;
     Ok(())
 }
 
@@ -212,13 +212,9 @@ fn shows<L: Ledgers, R: Wait + Clock>(
 }
 
 /// Adds how many events were made with a seat.
-fn add_made<L: Ledgers>(
-    alloc: Global,
-    seat: &Seat<L>,
-    told: &mut String,
-) -> Result<(), AllocError> {
+fn add_made<L: Ledgers>(seat: &Seat<L>, told: &mut String) -> Result<(), AllocError> {
     let made = seat.made();
-    told.push_str(format!(in alloc; "events made: {made}\n")?.as_str())
+    told.write_fmt(format_args!("events made: {made}\n"))
 }
 
 /// Adds what is told at a step that is no news, by its first word: the clients of some numbers come and wait; a
@@ -238,7 +234,7 @@ fn acts<L: Ledgers, R: Wait + Clock>(
         "rest" => rests(rt, alloc, house, seat, rest, told),
         "list" => says_line(rt, alloc, house, seat, rest, true, told),
         "ends" => house.end(rt, seat),
-        "made" => Ok(add_made(alloc, seat, told)?),
+        "made" => Ok(add_made(seat, told)?),
         "show" => Ok(shows(rt, alloc, house, rest, told)?),
         _ => says_line(rt, alloc, house, seat, line, false, told),
     }

@@ -217,7 +217,7 @@ fn ids(course: &Course, alloc: Global) -> Result<String, AllocError> {
     for place in 0..course.queue.len() {
         if let Some(entry) = course.queue.get(place) {
             let id = entry.id;
-            all.push_str(format!(in alloc; " {id}")?.as_str())?;
+            all.write_fmt(format_args!(" {id}"))?;
         }
     }
     Ok(all)
@@ -236,7 +236,7 @@ fn queue_text(course: &Course, alloc: Global, version: u32) -> Result<String, Al
 fn changed_since(course: &Course, alloc: Global, version: u32) -> Result<String, AllocError> {
     let mut all = String::new(alloc);
     for place in &course.queue.changed_since(version)? {
-        all.push_str(format!(in alloc; " {place}")?.as_str())?;
+        all.write_fmt(format_args!(" {place}"))?;
     }
     Ok(all)
 }

@@ -16,7 +16,7 @@ fn in_windows(alloc: Global, uris: &str, steps: &str, wanted: &str) -> Result<St
     let mut all = String::new(alloc);
     for most in WINDOWS {
         if session_within(alloc, most, uris, steps)?.as_str() != wanted {
-            all.push_str(format!(in alloc; "in a window of {most}\n")?.as_str())?;
+            all.write_fmt(format_args!("in a window of {most}\n"))?;
         }
     }
     Ok(all)
@@ -41,7 +41,7 @@ fn with_folds(alloc: Global, uris: &str, steps: &str, wanted: &str) -> Result<St
     for place in 0..steps.lines().count() {
         let folded = with_fold(alloc, steps, place)?;
         if session_over(alloc, uris, folded.as_str())?.as_str() != wanted {
-            all.push_str(format!(in alloc; "with a fold before step {place}\n")?.as_str())?;
+            all.write_fmt(format_args!("with a fold before step {place}\n"))?;
         }
     }
     Ok(all)

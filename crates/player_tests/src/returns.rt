@@ -44,7 +44,7 @@ fn steps_of(alloc: Global, lines: &str) -> Result<String, AllocError> {
             steps.push_str(line)?;
             steps.push_str(";")?;
         } else {
-            steps.push_str(format!(in alloc; "1 {line}\n")?.as_str())?;
+            steps.write_fmt(format_args!("1 {line}\n"))?;
         }
     }
     Ok(steps)

@@ -242,7 +242,7 @@ fn entries(player: &Partition, alloc: Global) -> Result<String, AllocError> {
     };
     for place in 0..part.queue.len() {
         let (id, priority) = entry(&part.queue, place);
-        all.push_str(format!(in alloc; "id {id}, priority {priority}\n")?.as_str())?;
+        all.write_fmt(format_args!("id {id}, priority {priority}\n"))?;
     }
     Ok(all)
 }

@@ -287,7 +287,7 @@ show place 256";
 fn border_tells(alloc: Global) -> Result<String, AllocError> {
     let mut all = String::from_str(alloc, "ok 2 600 flips\nok 3 598 flips\n")?;
     for place in 255..598 {
-        all.push_str(format!(in alloc; " {place}")?.as_str())?;
+        all.write_fmt(format_args!(" {place}"))?;
     }
     all.push_str("\nok 4 598 flips\n 0 597\n0\nnowhere\n")?;
     Ok(all)

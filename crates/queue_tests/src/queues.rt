@@ -122,7 +122,7 @@ fn changed_since(queue: &Queue, version: u32) -> Result<Vec<usize>, AllocError> 
 pub fn changed(queue: &Queue, alloc: Global, version: u32) -> Result<String, AllocError> {
     let mut all = String::new(alloc);
     for place in &changed_since(queue, version)? {
-        all.push_str(format!(in alloc; " {place}")?.as_str())?;
+        all.write_fmt(format_args!(" {place}"))?;
     }
     Ok(all)
 }

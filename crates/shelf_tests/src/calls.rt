@@ -150,7 +150,7 @@ fn joined_entries(alloc: Global, entries: &[Entry]) -> Result<String, AllocError
     let mut all = String::new(alloc);
     for entry in entries {
         let (key, value) = (entry.key.as_str(), entry.value.as_str());
-        all.push_str(format!(in alloc; "{key}={value}|")?.as_str())?;
+        all.write_fmt(format_args!("{key}={value}|"))?;
     }
     Ok(all)
 }

@@ -62,7 +62,7 @@ fn numbered(alloc: Global, count: u32, more: usize) -> Result<UriList, AllocErro
     let rest = repeated(alloc, "u", more)?;
     let mut text = String::new(alloc);
     for number in 0..count {
-        text.push_str(format!(in alloc; "{number:05}{rest}\n")?.as_str())?;
+        text.write_fmt(format_args!("{number:05}{rest}\n"))?;
     }
     Ok(UriList::of_text(text))
 }
